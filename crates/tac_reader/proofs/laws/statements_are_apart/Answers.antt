@@ -1,0 +1,5 @@
+use Rattle.tac_reader.proofs.Apart.{statements_are_apart}
+use Rattle.tac_reader.proofs.laws.statements_are_apart.Goals as goal
+
+pub returns : goal.returns
+returns c = statements_are_apart

@@ -1,0 +1,53 @@
+-- What one wants to know of the definitions.
+use Rattle.std.specs.Prelude.{◌≡◌, ◌≢◌, ℕ, ◌<◌, ◌≤◌, true, List, flat_map, map, length, All, AllPairs, Some, None, slice_range}
+use Rattle.tac_reader.specs.Text.{lines}
+use Rattle.tac_reader.specs.Tokens.{word, Token, piece_of, rows, row_from}
+use Rattle.tac_reader.specs.Forms.{Slot, has_form, statements}
+use Rattle.tac_reader.specs.Sections.{sections, statements_of}
+use Rattle.tac_reader.specs.Programs.{Procedure, Program, program_of, start_of, stop_of}
+use Rattle.tac_reader.specs.Faults.{refusal_of, longest_text}
+use Rattle.tac_reader.specs.Listings.{listing_of}
+use Rattle.tac_reader.specs.declared.form.Form.{Form}
+use Rattle.tac_reader.specs.declared.program.Label.{Label}
+use Rattle.tac_reader.specs.declared.program.StmtKind.{StmtKind}
+
+-- The lines, one after another, are the text.
+abbrev pub LinesJoin : Type 0
+LinesJoin = (text : List ℕ) → flat_map (λ line. line) (lines text) ≡ text
+
+-- No words have two rows of the table of statements.
+abbrev pub NoWordsInBoth : Form × List Slot → Form × List Slot → Type 0
+NoWordsInBoth f g = (ts : List Token) → has_form f.1 ts ≡ true → has_form g.1 ts ≢ true
+
+abbrev pub StatementsAreApart : Type 0
+StatementsAreApart = AllPairs NoWordsInBoth statements
+
+-- The bytes from a token's start to its stop spell it, and are some.
+abbrev pub IsSpelled : List ℕ → Token → Type 0
+IsSpelled text t = (t.start < t.stop) × (t.stop ≤ length text) × (piece_of (slice_range text t.start t.stop) ≡ Some (word t.word))
+
+abbrev pub TokensAreSpelled : Type 0
+TokensAreSpelled = (text : List ℕ) → All (λ row. All (IsSpelled text) row.tokens) (rows text)
+
+-- The bytes of a statement's span have its tokens and nothing else.
+abbrev pub StatementsAreSpelled : Type 0
+StatementsAreSpelled =
+    (text : List ℕ)
+    → All (λ s. All (λ ts. row_from (start_of ts) 0 (slice_range text (start_of ts) (stop_of ts)) ≡ record { tokens = ts; bad = None }) (statements_of s.body)) (sections text)
+
+-- A procedure without its statements' spans.
+abbrev pub without_spans : Procedure → ℕ × List Label × List (List ℕ) × List StmtKind
+without_spans p = (p.name, p.labels, p.label_names, map (λ s. s.kind) p.statements)
+
+pub record SameButSpans (p q : Program) : Type 0 where
+  pub procedures : map without_spans p.procedures ≡ map without_spans q.procedures
+  pub procedure_names : p.procedure_names ≡ q.procedure_names
+  pub variable_names : p.variable_names ≡ q.variable_names
+
+-- The listing of a text's program, where it is within the limit of a text, is a text of the same program but for spans.
+pub record ReadsBack (text : List ℕ) : Type 0 where
+  pub accepted : refusal_of (listing_of (program_of text)) ≡ None
+  pub same : SameButSpans (program_of (listing_of (program_of text))) (program_of text)
+
+abbrev pub ListingsReadBack : Type 0
+ListingsReadBack = (text : List ℕ) → refusal_of text ≡ None → length (listing_of (program_of text)) ≤ longest_text → ReadsBack text

@@ -1,0 +1,9 @@
+pub mod Text
+pub mod Tokens
+pub mod Forms
+pub mod Sections
+pub mod Programs
+pub mod Faults
+pub mod Listings
+pub mod Examples
+pub mod Laws

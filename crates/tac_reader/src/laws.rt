@@ -1,0 +1,13 @@
+//! Laws of the definitions: each is the clause of a function without a body.
+
+ghost use Rattle.tac_reader.specs.Laws.{LinesJoin, StatementsAreApart};
+
+/// The lines of a text, one after another, are the text.
+pub fn lines_join()
+    ensures { LinesJoin }
+{}
+
+/// No words have two rows of the table of statements.
+pub fn statements_are_apart()
+    ensures { StatementsAreApart }
+{}
