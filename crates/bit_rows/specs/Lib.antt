@@ -1,0 +1,4 @@
+pub mod Words
+pub mod RowSet
+pub mod RowTable
+pub mod Slices
