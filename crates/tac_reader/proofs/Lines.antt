@@ -1,6 +1,7 @@
 -- Lines and the text that they make up.
 use Rattle.std.proofs.Common.{◌≡◌, ℕ, Bool, true, false, List, [], ◌∷◌, flat_map, refl, ap, ◌∙◌, ◌==◌, if◌then◌else◌}
-use Rattle.tac_reader.specs.Text.{lines, onto_first}
+use Rattle.std.specs.List.{onto_first}
+use Rattle.tac_reader.specs.Text.{lines}
 use Rattle.tac_reader.specs.Laws.{LinesJoin}
 
 joined : List (List ℕ) → List ℕ

@@ -1,10 +1,11 @@
 -- Why a text is no program, and where its first fault stands.
-use Rattle.std.specs.Prelude.{ℕ, Bool, true, false, ◌&&◌, ◌||◌, List, [], ◌∷◌, ◌++◌, flat_map, length, drop, take, Option, Some, None, is_some, nat_le, nat_lt, ◌==◌, if◌then◌else◌, codes}
+use Rattle.std.specs.Prelude.{ℕ, Bool, true, false, ◌&&◌, ◌||◌, List, [], ◌∷◌, ◌++◌, flat_map, length, drop, take, Option, Some, None, is_some, option_map, nat_le, nat_lt, ◌==◌, if◌then◌else◌, codes}
 use Rattle.tac_reader.specs.Text.{line_after, column_after}
 use Rattle.tac_reader.specs.Tokens.{name, number, fixed, Token, Row, rows, is_one_of}
 use Rattle.tac_reader.specs.Forms.{proc_form, end_form, has_form, labels_of, behind_labels, forms_for, some_form, first_wrong}
 use Rattle.tac_reader.specs.Sections.{Section, sections, titles, spelling_of, labels_in, statements_of, jumps_of, callees_of}
 use Rattle.tac_reader.specs.Programs.{names_in, stop_of}
+use Rattle.tac_reader.specs.declared.fault.Fault.{Fault}
 use Rattle.tac_reader.specs.declared.refusal.Refusal.{Refusal}
 use Rattle.tac_reader.specs.declared.refusal.RefusalKind.{RefusalKind}
 use Rattle.tac_reader.specs.declared.refusal.RefusalKind.TheVariants as kind
@@ -36,11 +37,6 @@ longest_text = 1048576
 
 abbrev pub most_procedures : ℕ
 most_procedures = 256
-
--- A fault, and the number of bytes before it.
-pub record Fault : Type 0 where
-  pub kind : RefusalKind
-  pub place : ℕ
 
 abbrev pub at : RefusalKind → ℕ → List Fault
 at kind place = record { kind = kind; place = place } ∷ []
@@ -93,7 +89,7 @@ first_by_place (f ∷ fs) = Some (earlier f (first_by_place fs))
 -- The tokens whose names stand earlier among them, and the tokens whose names are not among the known ones.
 abbrev pub repeated : RefusalKind → List (List ℕ) → List Token → List Fault
 repeated kind before [] = []
-repeated kind before (t ∷ ts) = (if is_one_of (spelling_of t) before then at kind t.start else []) ++ repeated kind (spelling_of t ∷ before) ts
+repeated kind before (t ∷ ts) = (if is_one_of (spelling_of t) before then at kind t.start else []) ++ repeated kind (before ++ spelling_of t ∷ []) ts
 
 abbrev pub unknown : RefusalKind → List Token → List Token → List Fault
 unknown kind known used = flat_map (λ t. if is_one_of (spelling_of t) (names_in known) then [] else at kind t.start) used
@@ -127,9 +123,8 @@ fault_of text =
       | false ↦ elim (first_by_place (line_faults false (length text) (rows text))) [ Some f ↦ Some f | None ↦ head_of (name_faults (sections text)) ]
     ]
 
+abbrev pub refusal_at : List ℕ → Fault → Refusal
+refusal_at text f = record { kind = f.kind; line = line_after (take f.place text); column = column_after (take f.place text) }
+
 abbrev pub refusal_of : List ℕ → Option Refusal
-refusal_of text =
-    elim (fault_of text) [
-      | None ↦ None
-      | Some f ↦ Some (record { kind = f.kind; line = line_after (take f.place text); column = column_after (take f.place text) })
-    ]
+refusal_of text = option_map (refusal_at text) (fault_of text)

@@ -7,3 +7,12 @@ pub mod Faults
 pub mod Listings
 pub mod Examples
 pub mod Laws
+pub mod Names
+pub mod Views
+pub mod Lexed
+pub mod Ranges
+pub mod Roles
+pub mod Built
+pub mod ReadFaults
+pub mod SectionViews
+pub mod Procedures

@@ -1,9 +1,10 @@
 -- The program of a text without faults. A variable, a procedure and a label are held by number, which is its place among their names.
 use Rattle.std.specs.Prelude.{ℕ, suc, ◌+◌, List, [], ◌∷◌, ◌++◌, map, flat_map, fold, length, take, Some, None, position, unwrap_or, find, bytes_eq, if◌then◌else◌, codes}
+use Rattle.std.specs.List.Sorted.{IsNonDecreasing}
 use Rattle.tac_reader.specs.Text.{line_after}
 use Rattle.tac_reader.specs.Tokens.{Word, name, number, fixed, Token, is_one_of}
 use Rattle.tac_reader.specs.Forms.{labels_of, behind_labels, statement_row}
-use Rattle.tac_reader.specs.Sections.{Section, sections, titles, bytes_of, spelling_of, statements_of, only_statement, labels_in, callees_of, variables_of}
+use Rattle.tac_reader.specs.Sections.{Section, sections, titles, bytes_of, spelling_of, statements_of, unless_empty, labels_in, callees_of, variables_of}
 use Rattle.tac_reader.specs.declared.form.Form.{Form}
 use Rattle.tac_reader.specs.declared.form.Form.TheVariants as form
 use Rattle.tac_reader.specs.declared.program.Op.{Op}
@@ -21,6 +22,10 @@ pub record Procedure : Type 0 where
   pub labels : List Label
   pub label_names : List (List ℕ)
   pub statements : List Stmt
+
+-- Labels in text order stand for places that do not fall.
+abbrev pub LabelsRise : List Label → Type 0
+LabelsRise labels = IsNonDecreasing (map (λ l. l.place) labels)
 
 -- A program: its procedures in text order with their names, and the names of its variables by first occurrence.
 pub record Program : Type 0 where
@@ -71,7 +76,8 @@ operators =
     ∷ op.Less ∷ op.LessEqual ∷ op.Greater ∷ op.GreaterEqual ∷ op.Equal ∷ op.NotEqual ∷ op.Tilde ∷ op.Bang ∷ []
 
 abbrev pub operator_of : Word → Op
-operator_of w = unwrap_or (find (λ o. bytes_eq (bytes_of w) (sign_of o)) operators) op.Plus
+operator_of (fixed s) = unwrap_or (find (λ o. bytes_eq s (sign_of o)) operators) op.Plus
+operator_of _ = op.Plus
 
 abbrev pub variable_of : Names → Word → ℕ
 variable_of names w = number_of names.variables (bytes_of w)
@@ -120,7 +126,7 @@ statement_of text names ts = record {
 -- The place of each label: how many statements of its procedure stand before it.
 abbrev pub label_places : ℕ → List (List Token) → List ℕ
 label_places place [] = []
-label_places place (line ∷ others) = map (λ t. place) (labels_of line) ++ label_places (place + length (only_statement (behind_labels line))) others
+label_places place (line ∷ others) = map (λ t. place) (labels_of line) ++ label_places (place + length (unless_empty (behind_labels line))) others
 
 abbrev pub labels_from : ℕ → List ℕ → List Label
 labels_from n [] = []

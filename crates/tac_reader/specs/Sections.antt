@@ -1,5 +1,5 @@
 -- A text's procedures by their tokens: what the names in it are compared on.
-use Rattle.std.specs.Prelude.{ℕ, Bool, true, false, List, [], ◌∷◌, map, flat_map, if◌then◌else◌}
+use Rattle.std.specs.Prelude.{ℕ, Bool, true, false, not, ◌||◌, take_while, List, [], ◌∷◌, ◌++◌, map, flat_map, if◌then◌else◌}
 use Rattle.tac_reader.specs.Tokens.{Word, name, number, fixed, Token, Row, rows}
 use Rattle.tac_reader.specs.Forms.{Slot, variable, operand, label, callee, has_form, proc_form, end_form, labels_of, behind_labels, cells_of, in_slot, is_name_word}
 
@@ -12,43 +12,40 @@ bytes_of (fixed s) = s
 abbrev pub spelling_of : Token → List ℕ
 spelling_of t = bytes_of t.word
 
--- A procedure's name, and its lines from `proc` to `end`, each by its tokens; lines without tokens are left out.
+-- The tokens of each line that has some.
+abbrev pub unless_empty : List Token → List (List Token)
+unless_empty [] = []
+unless_empty (t ∷ ts) = (t ∷ ts) ∷ []
+
+abbrev pub token_lines : List Row → List (List Token)
+token_lines rs = flat_map (λ row. unless_empty row.tokens) rs
+
+-- A procedure's name, and its lines, each by its tokens.
 pub record Section : Type 0 where
   pub title : Token
   pub body : List (List Token)
 
--- The lines up to the next `proc` or `end`, and the procedures from there on.
-abbrev pub Grouped : Type 0
-Grouped = List (List Token) × List Section
+abbrev pub is_inner : List Token → Bool
+is_inner line = not (has_form proc_form line || has_form end_form line)
 
-abbrev pub opened : List Token → Grouped → Grouped
-opened [] r = r
-opened (t ∷ []) r = r
-opened (t ∷ u ∷ ts) r = ([], record { title = u; body = r.0 } ∷ r.1)
+-- A section for each `proc` line: its name, and the lines up to the next `proc` or `end`.
+abbrev pub opened_by : List Token → List (List Token) → List Section
+opened_by (t ∷ u ∷ ts) others = record { title = u; body = take_while is_inner others } ∷ []
+opened_by _ others = []
 
-abbrev pub with_line : List Token → Grouped → Grouped
-with_line [] r = r
-with_line (t ∷ ts) r = ((t ∷ ts) ∷ r.0, r.1)
-
-abbrev pub grouped : List Row → Grouped
-grouped [] = ([], [])
-grouped (row ∷ others) =
-    let r : Grouped = grouped others in
-    if has_form proc_form row.tokens then opened row.tokens r else if has_form end_form row.tokens then ([], r.1) else with_line row.tokens r
+abbrev pub sections_in : List (List Token) → List Section
+sections_in [] = []
+sections_in (line ∷ others) = (if has_form proc_form line then opened_by line others else []) ++ sections_in others
 
 abbrev pub sections : List ℕ → List Section
-sections text = (grouped (rows text)).1
+sections text = sections_in (token_lines (rows text))
 
 abbrev pub titles : List Section → List Token
 titles ss = map (λ s. s.title) ss
 
--- The statement of a line, where it has one.
-abbrev pub only_statement : List Token → List (List Token)
-only_statement [] = []
-only_statement (t ∷ ts) = (t ∷ ts) ∷ []
-
+-- The statements of lines, each what stands behind the labels.
 abbrev pub statements_of : List (List Token) → List (List Token)
-statements_of body = flat_map (λ line. only_statement (behind_labels line)) body
+statements_of body = flat_map (λ line. unless_empty (behind_labels line)) body
 
 abbrev pub labels_in : Section → List Token
 labels_in s = flat_map labels_of s.body

@@ -1,24 +1,21 @@
 -- A text: its lines, and the line and column of a place in it.
-use Rattle.std.specs.Prelude.{ℕ, ◌+◌, List, [], ◌∷◌, length, ◌==◌, if◌then◌else◌}
+use Rattle.std.specs.Prelude.{ℕ, ◌+◌, Bool, not, List, [], ◌∷◌, length, count_by, take_while, reverse, ◌==◌, if◌then◌else◌}
+use Rattle.std.specs.List.{onto_first}
 
--- a byte put before the first line
-abbrev pub onto_first : ℕ → List (List ℕ) → List (List ℕ)
-onto_first b [] = (b ∷ []) ∷ []
-onto_first b (first ∷ others) = (b ∷ first) ∷ others
+abbrev pub is_line_end : ℕ → Bool
+is_line_end b = b == 10
 
--- The lines of a text. Each but the last ends with its line feed; the last is what follows the last line feed.
+abbrev pub no_line_end : ℕ → Bool
+no_line_end b = not (is_line_end b)
+
+-- The lines of a text. Each ends with its line feed, which the last one may lack.
 abbrev pub lines : List ℕ → List (List ℕ)
-lines [] = [] ∷ []
-lines (b ∷ bs) = if b == 10 then (b ∷ []) ∷ lines bs else onto_first b (lines bs)
-
-abbrev pub last_of : List (List ℕ) → List ℕ
-last_of [] = []
-last_of (x ∷ []) = x
-last_of (x ∷ y ∷ ys) = last_of (y ∷ ys)
+lines [] = []
+lines (b ∷ bs) = if is_line_end b then (b ∷ []) ∷ lines bs else onto_first b (lines bs)
 
 -- The line and the column of the place behind these bytes, both from 1, the column in bytes.
 abbrev pub line_after : List ℕ → ℕ
-line_after before = length (lines before)
+line_after before = 1 + count_by is_line_end before
 
 abbrev pub column_after : List ℕ → ℕ
-column_after before = 1 + length (last_of (lines before))
+column_after before = 1 + length (take_while no_line_end (reverse before))

@@ -1,7 +1,7 @@
 -- The tokens of a line, and its first byte that begins none.
-use Rattle.std.specs.Prelude.{ℕ, zero, suc, ◌+◌, ◌-◌, ◌*◌, Bool, false, not, ◌&&◌, ◌||◌, List, [], ◌∷◌, ◌++◌, length, take, Option, Some, None, nat_le, ◌==◌, if◌then◌else◌, codes, bytes_eq}
+use Rattle.std.specs.Prelude.{ℕ, zero, suc, ◌+◌, ◌-◌, ◌*◌, Bool, false, ◌&&◌, ◌||◌, List, [], ◌∷◌, ◌++◌, length, take, Option, Some, None, nat_le, ◌==◌, if◌then◌else◌, codes, bytes_eq, min}
 use Rattle.std.specs.List.{list_all, list_any}
-use Rattle.tac_reader.specs.Text.{lines}
+use Rattle.tac_reader.specs.Text.{lines, no_line_end}
 
 -- What a token is: a name, a number by its value, or one of the fixed words, which are the keywords and the signs.
 pub data Word : Type 0 where
@@ -40,9 +40,6 @@ abbrev pub is_name : List ℕ → Bool
 is_name [] = false
 is_name (b ∷ bs) = is_letter b && list_all is_name_byte bs
 
-abbrev pub no_line_end : ℕ → Bool
-no_line_end c = not (c == 10)
-
 abbrev pub is_comment : List ℕ → Bool
 is_comment [] = false
 is_comment (b ∷ bs) = b == 35 && list_all no_line_end bs
@@ -71,8 +68,9 @@ abbrev pub value_from : ℕ → List ℕ → ℕ
 value_from high [] = high
 value_from high (d ∷ ds) = value_from (10 * high + (d - 48)) ds
 
+-- The value of digits, up to one more than the largest number: no program has a larger one.
 abbrev pub value_of : List ℕ → ℕ
-value_of digits = value_from 0 digits
+value_of digits = min (value_from 0 digits) 9223372036854775808
 
 abbrev pub name_or_keyword : List ℕ → Piece
 name_or_keyword s = word (if is_one_of s keywords then fixed s else name s)

@@ -4,12 +4,31 @@
 //! what a program's listing is; `docs/LANGUAGE.md` tells the same in words.
 #![tactic(auto)]
 
+mod build;
+mod checks;
+mod cursor;
 pub mod examples;
+mod fault;
 mod form;
 pub mod laws;
+mod lex;
+mod lexed;
+mod line;
+mod listings;
+mod names;
+mod piece;
+mod procedure;
 mod program;
+mod reader;
 mod refusal;
+mod row;
+mod section;
+mod statement;
+#[cfg(test)]
+mod tests;
+mod token;
 
-pub use form::Form;
-pub use program::{Callees, Label, Op, Operand, Span, Stmt, StmtKind};
-pub use refusal::{Refusal, RefusalKind};
+pub use listings::listing;
+pub use program::{Callees, Label, Op, Operand, Proc, Program, Span, Stmt, StmtKind};
+pub use reader::read;
+pub use refusal::{OutOfMemory, ReadFault, Refusal, RefusalKind};

@@ -1,4 +1,8 @@
 // A program: procedures of statements, over names held by number.
+ghost use Rattle.std.specs.Prelude.{◌≡◌, ◌<◌, ◌≤◌, [], ◌∷◌, ◌++◌, length, slice_get, Some, IfSome};
+ghost use Rattle.tac_reader.specs.Programs.{LabelsRise, sign_of};
+
+use crate::names::NameTable;
 use arrayvec::ArrayVec;
 use std::marker::Model;
 
@@ -24,6 +28,34 @@ pub enum Op {
     NotEqual,
     Tilde,
     Bang,
+}
+
+impl Op {
+    /// How it is written.
+    pub fn sign(self) -> &'static [u8]
+        ensures { result.now ≡ sign_of self }
+    {
+        match self {
+            Op::Plus => b"+",
+            Op::Minus => b"-",
+            Op::Star => b"*",
+            Op::Slash => b"/",
+            Op::Percent => b"%",
+            Op::And => b"&",
+            Op::Or => b"|",
+            Op::Caret => b"^",
+            Op::ShiftLeft => b"<<",
+            Op::ShiftRight => b">>",
+            Op::Less => b"<",
+            Op::LessEqual => b"<=",
+            Op::Greater => b">",
+            Op::GreaterEqual => b">=",
+            Op::Equal => b"==",
+            Op::NotEqual => b"!=",
+            Op::Tilde => b"~",
+            Op::Bang => b"!",
+        }
+    }
 }
 
 /// What an operator, a condition or a `print` works on: a variable by its number, or a number of at
@@ -64,6 +96,32 @@ impl Model for Callees {
     ghost Value = { List ℕ };
 
     ghost view = { λ callees. callees.procedures.items };
+}
+
+impl Callees {
+    /// No procedures.
+    pub(crate) fn new() -> Self
+        ensures { result ≡ [] }
+    {
+        Callees {
+            procedures: ArrayVec::new(),
+        }
+    }
+
+    /// Puts a procedure last.
+    pub(crate) fn push(&mut self, procedure: u32)
+        requires { length self.old < 8 }
+        ensures { self.new ≡ self.old ++ procedure ∷ [] }
+    {
+        self.procedures.push(procedure);
+    }
+
+    /// The procedures by number, in the order of the text.
+    pub fn as_slice(&self) -> &[u32]
+        ensures { result.now ≡ self.now }
+    {
+        self.procedures.as_slice()
+    }
 }
 
 /// What a statement does: three-address code as in Aho, Lam, Sethi, Ullman, Compilers, 6.2, over
@@ -132,4 +190,156 @@ pub enum StmtKind {
 pub struct Stmt {
     pub kind: StmtKind,
     pub span: Span,
+}
+
+/// A procedure of a program: its number, its labels in text order, and its statements.
+#[derive(Debug, Drop)]
+pub struct Proc {
+    name: u32,
+    labels: Vec<Label>,
+    label_names: NameTable,
+    stmts: Vec<Stmt>,
+}
+
+impl Model for Proc {
+    ghost use Rattle.tac_reader.specs.Programs.{Procedure, LabelsRise};
+
+    ghost Value = { Procedure };
+
+    ghost view = { λ p. record { name = p.name; labels = p.labels.items; label_names = p.label_names; statements = p.stmts.items } };
+
+    ghost invariant = { λ p. LabelsRise p.labels.items };
+}
+
+impl Proc {
+    /// A procedure of these parts.
+    pub(crate) fn new(
+        name: u32,
+        labels: Vec<Label>,
+        label_names: NameTable,
+        stmts: Vec<Stmt>,
+    ) -> Self
+        requires { LabelsRise labels.items }
+        ensures { result ≡ record { name = name; labels = labels.items; label_names = label_names; statements = stmts.items } }
+    {
+        Proc {
+            name,
+            labels,
+            label_names,
+            stmts,
+        }
+    }
+
+    /// The procedure's number, which is its place among the program's procedures.
+    pub fn name(&self) -> u32
+        ensures { result ≡ self.now.name }
+    {
+        self.name
+    }
+
+    /// The labels in text order.
+    pub fn labels(&self) -> &[Label]
+        ensures labels { result.now ≡ self.now.labels }
+        ensures rise { LabelsRise result.now }
+    {
+        self.labels.as_slice()
+    }
+
+    /// The statements in text order.
+    pub fn stmts(&self) -> &[Stmt]
+        ensures { result.now ≡ self.now.statements }
+    {
+        self.stmts.as_slice()
+    }
+
+    /// The names of the labels, by number.
+    pub(crate) fn label_names(&self) -> &NameTable
+        ensures { result.now ≡ self.now.label_names }
+    {
+        &self.label_names
+    }
+}
+
+/// A program, as `read` makes it: its procedures in text order, and the names of everything that is
+/// held by number. Each jump leads to a label of its procedure, and each call to procedures that are
+/// there.
+#[derive(Debug, Drop)]
+pub struct Program {
+    procs: Vec<Proc>,
+    procedures: NameTable,
+    variables: NameTable,
+}
+
+impl Model for Program {
+    ghost use Rattle.tac_reader.specs.Programs.{Program};
+
+    ghost Value = { Program };
+
+    ghost view = { λ p. record { procedures = p.procs.items; procedure_names = p.procedures; variable_names = p.variables } };
+}
+
+impl Program {
+    /// A program of these parts.
+    pub(crate) fn new(procs: Vec<Proc>, procedures: NameTable, variables: NameTable) -> Self
+        ensures { result ≡ record { procedures = procs.items; procedure_names = procedures; variable_names = variables } }
+    {
+        Program {
+            procs,
+            procedures,
+            variables,
+        }
+    }
+
+    /// The procedures in text order.
+    pub fn procs(&self) -> &[Proc]
+        ensures { result.now ≡ self.now.procedures }
+    {
+        self.procs.as_slice()
+    }
+
+    /// How many variables there are.
+    pub fn variables(&self) -> u32
+        ensures { result ≡ length self.now.variable_names }
+    {
+        self.variables.len()
+    }
+
+    /// The name of the variable of this number.
+    pub fn variable(&self, variable: u32) -> &[u8]
+        requires { variable < length self.now.variable_names }
+        ensures { slice_get self.now.variable_names variable ≡ Some result.now }
+    {
+        self.variables.name(variable)
+    }
+
+    /// The name of the procedure of this number.
+    pub fn procedure(&self, procedure: u32) -> &[u8]
+        requires { procedure < length self.now.procedure_names }
+        ensures { slice_get self.now.procedure_names procedure ≡ Some result.now }
+    {
+        self.procedures.name(procedure)
+    }
+
+    /// The name of a label, by the numbers of its procedure and of the label in it.
+    pub fn label(&self, procedure: u32, label: u32) -> &[u8]
+        requires procedure { procedure < length self.now.procedures }
+        requires label { IfSome (slice_get self.now.procedures procedure) (λ p. label < length p.label_names) }
+        ensures { IfSome (slice_get self.now.procedures procedure) (λ p. slice_get p.label_names label ≡ Some result.now) }
+    {
+        self.procs[procedure as usize].label_names.name(label)
+    }
+
+    /// The names of the procedures, by number.
+    pub(crate) fn procedure_names(&self) -> &NameTable
+        ensures { result.now ≡ self.now.procedure_names }
+    {
+        &self.procedures
+    }
+
+    /// The names of the variables, by number.
+    pub(crate) fn variable_names(&self) -> &NameTable
+        ensures { result.now ≡ self.now.variable_names }
+    {
+        &self.variables
+    }
 }

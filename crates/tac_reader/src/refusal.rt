@@ -1,5 +1,14 @@
 // Why a text is no program, and where.
 
+ghost use Rattle.std.specs.Prelude.{◌≡◌};
+ghost use Rattle.tac_reader.specs.Faults.{number_of_kind};
+
+use std::fmt;
+use thiserror::Error;
+
+/// Memory was refused.
+pub use std::alloc::AllocError as OutOfMemory;
+
 /// Why a text is refused. `docs/LANGUAGE.md` has the place of each.
 #[derive(Clone, Copy, Debug, PartialEq, Eq)]
 pub enum RefusalKind {
@@ -31,6 +40,29 @@ pub enum RefusalKind {
     DuplicateCallee,
 }
 
+impl RefusalKind {
+    /// Its number.
+    pub fn number(self) -> u8
+        ensures { result ≡ number_of_kind self }
+    {
+        match self {
+            RefusalKind::BadByte => 1,
+            RefusalKind::NumberTooLarge => 2,
+            RefusalKind::NameTooLong => 3,
+            RefusalKind::Syntax => 4,
+            RefusalKind::Unclosed => 5,
+            RefusalKind::NoMain => 6,
+            RefusalKind::DuplicateProcedure => 7,
+            RefusalKind::DuplicateLabel => 8,
+            RefusalKind::UnknownLabel => 9,
+            RefusalKind::UnknownProcedure => 10,
+            RefusalKind::TextTooLong => 11,
+            RefusalKind::TooManyProcedures => 12,
+            RefusalKind::DuplicateCallee => 13,
+        }
+    }
+}
+
 /// Why a text is no program, and where its first fault stands: the line and the column from 1, the
 /// column in bytes.
 #[derive(Clone, Copy, Debug, PartialEq, Eq)]
@@ -38,4 +70,35 @@ pub struct Refusal {
     pub kind: RefusalKind,
     pub line: u32,
     pub column: u32,
+}
+
+impl fmt::Display for RefusalKind {
+    /// Its name.
+    fn fmt<W: fmt::Write>(&self, f: &mut fmt::Formatter<W>) -> fmt::Result {
+        write!(f, "{self:?}")
+    }
+}
+
+impl fmt::Display for Refusal {
+    fn fmt<W: fmt::Write>(&self, f: &mut fmt::Formatter<W>) -> fmt::Result {
+        write!(
+            f,
+            "{}:{}: refusal {}: {}",
+            self.line,
+            self.column,
+            self.kind.number(),
+            self.kind
+        )
+    }
+}
+
+/// Why a text was not read.
+#[derive(Debug, Drop, Error)]
+pub enum ReadFault {
+    /// The text is no program.
+    #[error("{0}")]
+    Refused(Refusal),
+    /// Memory was refused.
+    #[error("out of memory")]
+    OutOfMemory,
 }

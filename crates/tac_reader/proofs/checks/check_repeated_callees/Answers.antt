@@ -1,0 +1,19 @@
+use Rattle.std.proofs.Common.{◌∙◌, sym, [], List, flat_map}
+use Rattle.tac_reader.specs.Faults.{repeated}
+use Rattle.tac_reader.specs.Sections.{Section, callees_of, statements_of}
+use Rattle.tac_reader.specs.SectionViews.{section_view}
+use Rattle.tac_reader.specs.declared.fault.Fault.{Fault}
+use Rattle.tac_reader.specs.declared.refusal.RefusalKind.TheVariants.{DuplicateCallee}
+use Rattle.tac_reader.proofs.FirstFaults.{fault_past, fault_here}
+use Rattle.tac_reader.proofs.checks.check_repeated_callees.Goals as goal
+
+abbrev faults : Section → List Fault
+faults s = flat_map (λ c. repeated DuplicateCallee [] (callees_of c)) (statements_of s.body)
+
+pub returns-in-Some-clause-fault : goal.returns-in-Some-clause-fault
+returns-in-Some-clause-fault c =
+    fault_here faults (section_view c.args.text.now) c.args.sections.now c.loop-section.section-index _ _ c.in-Some.fault c.loop-section-test.true (sym c.in-Some.is ∙ c.in_ok-fault.ensures) c.loop-section.invariant
+
+pub loop-section-preserved : goal.loop-section-preserved
+loop-section-preserved c =
+    fault_past faults (section_view c.args.text.now) c.args.sections.now c.loop-section.section-index _ _ c.loop-section-test.true (sym c.in_default.is ∙ c.in_ok-fault.ensures) c.loop-section.invariant

@@ -1,0 +1,36 @@
+use Rattle.std.proofs.Common.{◌∙◌, sym, ap, length, drop, ◌++◌, List}
+use Rattle.tac_reader.specs.declared.token.Token.{Token}
+use Rattle.tac_reader.specs.Faults.{row_faults, line_faults, inside_after}
+use Rattle.tac_reader.specs.Lexed.{lexed_view, some_of}
+use Rattle.tac_reader.specs.Text.{lines}
+use Rattle.tac_reader.specs.Text.{lines}
+use Rattle.tac_reader.specs.Tokens.{Row, rows_from}
+use Rattle.tac_reader.specs.Views.{tokens_view}
+use Rattle.tac_reader.proofs.FirstFault.{none_first}
+use Rattle.tac_reader.proofs.FaultPlaces.{first_of_text, rows_step, no_fault_step}
+use Rattle.tac_reader.proofs.LexSteps.{lines_step, not_some, row_is}
+use Rattle.tac_reader.proofs.lex.lex.Goals as goal
+
+pub returns-in-Some-clause-fault : goal.returns-in-Some-clause-fault
+returns-in-Some-clause-fault c =
+    let line = c.line_stop-stop.ensures in
+    let row = row_is c.args.text.now c.loop-at.at c.line_stop-stop.result c.in_ok-bad.bad _ _ c.in_ok-bad.ensures.row (sym c.deref.ensures.value) in
+    first_of_text c.args.text.now c.loop-at.at c.line_stop-stop.result c.loop-at.inside _ c.in-Some.fault _ line.line line.after line.within row (sym c.row_fault.ensures ∙ c.in-Some.is) c.loop-at.invariant.faults
+
+pub loop-at-preserved : goal.loop-at-preserved
+loop-at-preserved c =
+    let text = c.args.text.now in
+    let at = c.loop-at.at in
+    let stop = c.line_stop-stop.result in
+    let inside = c.loop-at.inside in
+    let line = c.line_stop-stop.ensures in
+    let row : List Token → Row = λ ts. record { tokens = tokens_view text ts; bad = c.in_ok-bad.bad } in
+    let step = rows_step text at stop _ line.line line.after line.within c.in_ok-bad.ensures.row in
+    let none = ap (λ ts. row_faults inside (row ts)) (sym c.deref.ensures.value) ∙ none_first _ (sym c.row_fault.ensures ∙ not_some _ c.in_default.not-Some) in
+    let after = ap (λ ts. inside_after inside (row ts)) (sym c.deref-in-loop-at.ensures.value) ∙ c.inside_after-inside.ensures text c.in_ok-bad.bad in
+    let pushed = c.in_ok-push_line.ensures ∙ ap (λ ts. lexed_view c.loop-at.lexed ++ some_of ts) c.deref-in-loop-at-2.ensures.value in
+    record {
+      within = line.within;
+      faults = c.loop-at.invariant.faults ∙ ap (line_faults inside (length text)) step ∙ no_fault_step inside c.inside_after-inside.result (length text) (row c.read_row.new.row.items) (rows_from stop (lines (drop stop text))) none after;
+      lines = lines_step text (lexed_view c.loop-at.lexed) (lexed_view c.push_line.new.lexed) _ c.in_ok-bad.bad _ _ _ step pushed c.loop-at.invariant.lines;
+    }

@@ -1,0 +1,18 @@
+use Rattle.std.proofs.Common.{◌≡◌, ◌-◌, ◌≤◌, ◌++◌, false, length, drop}
+use Rattle.tac_reader.specs.Faults.{line_faults}
+use Rattle.tac_reader.specs.Lexed.{text_lines}
+use Rattle.tac_reader.specs.Sections.{token_lines}
+use Rattle.tac_reader.specs.Text.{lines}
+use Rattle.tac_reader.specs.Tokens.{rows, rows_from}
+use Rattle.tac_reader.proofs.lex.lex.Given as goal
+
+-- What is left of the text has the faults of the whole, and the lines so far before its own are the whole's.
+abbrev pub invariant-loop-at : goal.invariant-loop-at
+invariant-loop-at l = record {
+  within : l.at ≤ length l.text;
+  faults : line_faults false (length l.text) (rows l.text) ≡ line_faults l.inside (length l.text) (rows_from l.at (lines (drop l.at l.text)));
+  lines : text_lines l.text l.lexed ++ token_lines (rows_from l.at (lines (drop l.at l.text))) ≡ token_lines (rows l.text);
+}
+
+abbrev pub decreases-loop-at : goal.decreases-loop-at
+decreases-loop-at l = length l.text - l.at

@@ -1,0 +1,9 @@
+use Rattle.std.proofs.Common.{◌≡◌, drop, fold, flat_map}
+use Rattle.tac_reader.specs.Programs.{names_in, noted}
+use Rattle.tac_reader.specs.Sections.{only_name}
+use Rattle.tac_reader.specs.Views.{tokens_view}
+use Rattle.tac_reader.proofs.procedure.note_names.Given as goal
+
+-- The names of the other tokens are still to be noted.
+abbrev pub invariant-loop-token : goal.invariant-loop-token
+invariant-loop-token l = fold noted l.table (names_in (flat_map only_name (tokens_view l.text (drop l.token-index l.tokens)))) ≡ fold noted l.fn.table (names_in (flat_map only_name (tokens_view l.text l.tokens)))

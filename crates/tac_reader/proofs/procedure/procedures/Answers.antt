@@ -1,0 +1,16 @@
+use Rattle.std.proofs.Common.{◌∙◌, arith}
+use Rattle.std.specs.Vec.Iter.{into_iter_items}
+use Rattle.tac_reader.proofs.ProcedureRuns.{built_on, labels_left}
+use Rattle.tac_reader.proofs.procedure.procedures.Goals as goal
+
+pub loop-section-preserved : goal.loop-section-preserved
+loop-section-preserved c =
+    let text = c.args.text.now in
+    let sections = c.args.sections.now in
+    let index = c.loop-section.section-index in
+    record {
+      text = c.in_ok-procedure.ensures.text ∙ c.loop-section.invariant.text;
+      labels = labels_left text sections index c.next.result c.unwrap.result (into_iter_items c.loop-section.labels) (into_iter_items c.next.new.self) c.unwrap.ensures c.next.ensures.items c.loop-section.invariant.labels;
+      rest = built_on text c.loop-section.cursor c.args.tables.procedures.now c.args.tables.variables.now sections index _ c.loop-section.procs.items c.push.new.self.items c.in_ok-procedure.field-0 c.in_ok-number.number _
+          c.loop-section-test.true c.loop-section.invariant.text (omega (arith, c.in_ok-number.ensures, c.len.ensures, c.loop-section.procs.ok)) c.in_ok-procedure.ensures.procedure c.in_ok-push.ensures.items c.loop-section.invariant.rest;
+    }

@@ -1,0 +1,14 @@
+use Rattle.std.proofs.Common.{◌≡◌, ◌++◌, drop, map, length}
+use Rattle.std.specs.Vec.Iter.{into_iter_items}
+use Rattle.tac_reader.specs.Programs.{names_in, procedures_from}
+use Rattle.tac_reader.specs.SectionViews.{sections_view}
+use Rattle.tac_reader.specs.Sections.{labels_in}
+use Rattle.tac_reader.proofs.procedure.procedures.Given as goal
+
+-- The procedures so far and those of the other sections are all, and the other sections' labels are left.
+abbrev pub invariant-loop-section : goal.invariant-loop-section
+invariant-loop-section l = record {
+  text : l.cursor ≡ l.text;
+  labels : into_iter_items l.labels ≡ map (λ s. names_in (labels_in s)) (sections_view l.text (drop l.section-index l.sections));
+  rest : l.procs.items ++ procedures_from l.text l.tables.procedures.now l.tables.variables.now (length l.procs.items) (sections_view l.text (drop l.section-index l.sections)) ≡ procedures_from l.text l.tables.procedures.now l.tables.variables.now 0 (sections_view l.text l.sections);
+}

@@ -1,0 +1,13 @@
+use Rattle.std.proofs.Common.{◌≡◌, ◌++◌, ℕ, List, drop, map, flat_map, take, vec_len}
+use Rattle.tac_reader.specs.Forms.{cells_of, in_slot}
+use Rattle.tac_reader.specs.Roles.{role_test}
+use Rattle.tac_reader.specs.Sections.{statements_of}
+use Rattle.tac_reader.specs.Views.{tokens_view}
+use Rattle.tac_reader.proofs.section.section_cells.Given as goal
+
+-- The tokens so far and those of the other lines are all.
+abbrev pub invariant-loop-line : goal.invariant-loop-line
+invariant-loop-line l = record {
+  kept : take (vec_len l.fn.found) l.found.items ≡ l.fn.found.items;
+  rest : (text : List ℕ) → tokens_view text l.found.items ++ flat_map (λ statement. in_slot (role_test l.role) (cells_of statement)) (statements_of (map (λ line. tokens_view text line.now) (drop l.line-index l.lines))) ≡ tokens_view text l.fn.found.items ++ flat_map (λ statement. in_slot (role_test l.role) (cells_of statement)) (statements_of (map (λ line. tokens_view text line.now) l.lines));
+}

@@ -1,0 +1,11 @@
+-- Lines by the places of their tokens.
+use Rattle.std.specs.Prelude.{ℕ, ◌≤◌, List, All, map, slice_range}
+use Rattle.tac_reader.specs.declared.lexed.LineRange.{LineRange}
+use Rattle.tac_reader.specs.declared.token.Token.{Token}
+
+-- No line ends behind the n-th token.
+abbrev pub EndsWithin : ℕ → List LineRange → Type 0
+EndsWithin n lines = All (λ line. line.end ≤ n) lines
+
+abbrev pub range_views : List Token → List LineRange → List (List Token)
+range_views tokens lines = map (λ line. slice_range tokens line.first line.end) lines

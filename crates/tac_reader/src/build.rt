@@ -1,0 +1,119 @@
+// Statements by number: what a statement's tokens say, over tables of names.
+
+ghost use Rattle.std.specs.Prelude.{◌≡◌, ◌+◌, ◌*◌, ◌<◌, ◌≤◌, ◌^◌, ℕ, List, length, map, slice_get, slice_range, Some, IfOk, IfSome, take, count_by};
+ghost use Rattle.tac_reader.specs.Built.{names_view, word_nth, call_numbers};
+ghost use Rattle.tac_reader.specs.Programs.{number_of, operand_of, operator_of, kind_of, form_of as form_in, statement_of, start_of, stop_of as end_of};
+ghost use Rattle.tac_reader.specs.Sections.{bytes_of, callees_of};
+ghost use Rattle.tac_reader.specs.Text.{line_after};
+ghost use Rattle.tac_reader.specs.Views.{token_view, tokens_view};
+
+use crate::form::Form;
+use crate::line::stop_of;
+use crate::names::NameTable;
+use crate::piece::number_value;
+use crate::program::{Callees, Op, Operand, Span, Stmt, StmtKind};
+use crate::statement::{Role, cells, statement_form};
+use crate::token::{Token, TokenKind};
+use std::alloc::AllocError;
+
+/// The tables that the numbers in a procedure's statements are places in.
+#[derive(Clone, Copy)]
+pub struct Names<'a> {
+    pub procedures: &'a NameTable,
+    pub variables: &'a NameTable,
+    pub labels: &'a NameTable,
+}
+
+/// The number of a name, or 0 where it is not there.
+fn number(table: &NameTable, name: &[u8]) -> u32
+    ensures { result ≡ number_of table.now name.now }
+{
+    table.find(name).unwrap_or(0)
+}
+
+/// The number of the name that the token there spells.
+fn number_at(table: &NameTable, text: &[u8], tokens: &[Token], at: usize) -> u32
+    ensures { result ≡ number_of table.now (bytes_of (word_nth (tokens_view text.now tokens.now) at)) }
+{
+    match tokens.get(at) {
+        None => number(table, &[]),
+        Some(token) => number(table, token.spelling(text)),
+    }
+}
+
+/// The operand that stands there.
+fn operand_at(names: Names<'_>, text: &[u8], tokens: &[Token], at: usize) -> Operand
+    ensures { result ≡ operand_of (names_view names.entry) (word_nth (tokens_view text.now tokens.now) at) }
+{
+    match tokens.get(at) {
+        Some(token) => match token.kind {
+            TokenKind::Name => Operand::Variable(number(names.variables, token.bytes(text))),
+            TokenKind::Number => Operand::Number(number_value(token.bytes(text))),
+            _ => Operand::Number(0),
+        },
+        None => Operand::Number(0),
+    }
+}
+
+/// The operator that stands there.
+fn operator_at(tokens: &[Token], at: usize) -> Op
+    ensures { (text : List ℕ) → operator_of (word_nth (tokens_view text tokens.now) at) ≡ result }
+{
+    match tokens.get(at) {
+        Some(token) => match token.kind {
+            TokenKind::Operator(op) => op,
+            _ => Op::Plus,
+        },
+        None => Op::Plus,
+    }
+}
+
+/// What the tokens of a statement say; `callees` are a call's.
+pub fn kind(names: Names<'_>, text: &[u8], tokens: &[Token], callees: Callees) -> StmtKind
+    ensures { result ≡ kind_of (names_view names.entry) callees (form_in (tokens_view text.now tokens.now)) (map (λ t. t.word) (tokens_view text.now tokens.now)) }
+{
+    match statement_form(tokens) {
+        Some(Form::Copy) => StmtKind::Copy {
+            target: number_at(names.variables, text, tokens, 0),
+            value: operand_at(names, text, tokens, 2),
+        },
+        Some(Form::Unary) => StmtKind::Unary {
+            target: number_at(names.variables, text, tokens, 0),
+            op: operator_at(tokens, 2),
+            operand: operand_at(names, text, tokens, 3),
+        },
+        Some(Form::Binary) => StmtKind::Binary {
+            target: number_at(names.variables, text, tokens, 0),
+            left: operand_at(names, text, tokens, 2),
+            op: operator_at(tokens, 3),
+            right: operand_at(names, text, tokens, 4),
+        },
+        Some(Form::Jump) => StmtKind::Goto {
+            label: number_at(names.labels, text, tokens, 1),
+        },
+        Some(Form::Test) => StmtKind::If {
+            condition: operand_at(names, text, tokens, 1),
+            label: number_at(names.labels, text, tokens, 3),
+        },
+        Some(Form::NegatedTest) => StmtKind::IfFalse {
+            condition: operand_at(names, text, tokens, 1),
+            label: number_at(names.labels, text, tokens, 3),
+        },
+        Some(Form::Comparison) => StmtKind::IfCompare {
+            left: operand_at(names, text, tokens, 1),
+            op: operator_at(tokens, 2),
+            right: operand_at(names, text, tokens, 3),
+            label: number_at(names.labels, text, tokens, 5),
+        },
+        Some(Form::Call) => StmtKind::Call { callees },
+        Some(Form::Return) => StmtKind::Return,
+        Some(Form::Read) => StmtKind::Read {
+            target: number_at(names.variables, text, tokens, 1),
+        },
+        Some(Form::Print) => StmtKind::Print {
+            value: operand_at(names, text, tokens, 1),
+        },
+        Some(Form::Skip) => StmtKind::Skip,
+        None => StmtKind::Skip,
+    }
+}

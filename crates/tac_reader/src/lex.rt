@@ -1,0 +1,98 @@
+// The lines of a text by their tokens, or its first fault of a line.
+
+ghost use Rattle.std.specs.Prelude.{◌≡◌, ◌+◌, ◌<◌, ◌≤◌, ◌++◌, ℕ, List, Option, [], ◌∷◌, false, true, Some, None, length, drop, slice_range, IfOk, IfErr, OnOk, vec_len, map, IsTrue};
+ghost use Rattle.tac_reader.specs.Faults.{first_by_place, line_faults, inside_after as inside_behind, longest_text};
+ghost use Rattle.tac_reader.specs.Forms.{has_form, proc_form, end_form};
+ghost use Rattle.tac_reader.specs.Sections.{token_lines};
+ghost use Rattle.tac_reader.specs.Text.{lines};
+ghost use Rattle.tac_reader.specs.Tokens.{rows};
+ghost use Rattle.tac_reader.specs.Lexed.{lexed_view, some_of, text_lines, IfFault};
+ghost use Rattle.tac_reader.specs.Views.{tokens_view};
+
+use crate::fault::{Fault, Stop};
+use crate::form::{END, PROC, Walk, follow};
+use crate::lexed::{Lexed, LineRange};
+use crate::line::row_fault;
+use crate::piece::line_run;
+use crate::refusal::RefusalKind;
+use crate::row::read_row;
+use crate::token::Token;
+use std::alloc::{AllocError, Global};
+
+/// Where the line that begins at `start` ends, behind its line feed.
+fn line_stop(text: &[u8], start: usize) -> usize
+    requires { start < length text.now }
+    ensures line { lines (drop start text.now) ≡ slice_range text.now start result ∷ lines (drop result text.now) }
+    ensures after { start < result }
+    ensures within { result ≤ length text.now }
+{
+    let stop = start + line_run(&text[start..]);
+    if stop < text.len() { stop + 1 } else { stop }
+}
+
+/// Whether the line opens a procedure.
+pub fn is_proc(tokens: &[Token]) -> bool
+    ensures { (text : List ℕ) → has_form proc_form (tokens_view text tokens.now) ≡ result }
+{
+    matches!(follow(&PROC, tokens), Walk::Whole)
+}
+
+/// Whether the line closes a procedure.
+pub fn is_end(tokens: &[Token]) -> bool
+    ensures { (text : List ℕ) → has_form end_form (tokens_view text tokens.now) ≡ result }
+{
+    matches!(follow(&END, tokens), Walk::Whole)
+}
+
+/// Whether the next line stands inside a procedure.
+fn inside_after(inside: bool, tokens: &[Token]) -> bool
+    ensures { (text : List ℕ) (bad : Option ℕ) → inside_behind inside (record { tokens = tokens_view text tokens.now; bad = bad }) ≡ result }
+{
+    is_proc(tokens) || (inside && !is_end(tokens))
+}
+
+/// Puts a line last, where it has tokens.
+fn push_line(lexed: &mut Lexed, row: &[Token]) -> Result<(), AllocError>
+    ensures { OnOk result (lexed_view lexed.new ≡ lexed_view lexed.old ++ some_of row.now) }
+{
+    let first = lexed.tokens.len();
+    if !row.is_empty() {
+        lexed.tokens.extend_from_slice(row)?;
+        let end = lexed.tokens.len();
+        lexed.lines.push(LineRange { first, end })?;
+    }
+    Ok(())
+}
+
+/// The lines of a text that have tokens, where no line has a fault; else the first fault.
+pub fn lex(alloc: Global, text: &[u8]) -> Result<Lexed, Stop>
+    requires { length text.now ≤ longest_text }
+    ensures lines { IfOk result (λ lexed. text_lines text.now lexed ≡ token_lines (rows text.now)) }
+    ensures faultless { OnOk result (first_by_place (line_faults false (length text.now) (rows text.now)) ≡ None) }
+    ensures fault { IfErr result (IfFault (λ f. first_by_place (line_faults false (length text.now) (rows text.now)) ≡ Some f)) }
+{
+    let mut lexed = Lexed {
+        tokens: Vec::new(alloc),
+        lines: Vec::new(alloc),
+    };
+    let mut row = Vec::new(alloc);
+    let mut inside = false;
+    let mut at = 0;
+    while at < text.len() {
+        let stop = line_stop(text, at);
+        let bad = read_row(&mut row, text, at, stop)?;
+        if let Some(fault) = row_fault(inside, text, &row, bad) {
+            return Err(Stop::Fault(fault));
+        }
+        inside = inside_after(inside, &row);
+        push_line(&mut lexed, &row)?;
+        at = stop;
+    }
+    if inside {
+        return Err(Stop::Fault(Fault {
+            kind: RefusalKind::Unclosed,
+            place: text.len() as u32,
+        }));
+    }
+    Ok(lexed)
+}

@@ -1,0 +1,90 @@
+// Names by number: a table in which each name stands once, in the order in which they came.
+
+ghost use Rattle.std.specs.Prelude.{◌≡◌, ◌≢◌, ◌+◌, ◌<◌, ◌≤◌, ◌^◌, ◌↔◌, [], length, slice_get, Some, None, OnOk, OnErr, IfOk, IfSome, IfNone, not, position, bytes_eq, option_map};
+ghost use Rattle.tac_reader.specs.Tokens.{is_one_of};
+ghost use Rattle.tac_reader.specs.Listings.{name_at};
+ghost use Rattle.tac_reader.specs.Programs.{noted};
+
+use indexmap::IndexSet;
+use std::alloc::{AllocError, Global};
+use std::marker::Model;
+
+/// Names, each once, by number from 0. A table has at most `u32::MAX` of them.
+#[derive(Debug, Drop)]
+pub struct NameTable {
+    names: IndexSet<Vec<u8>>,
+}
+
+impl Model for NameTable {
+    ghost use Rattle.std.specs.Prelude.{List, ℕ, map, length, ◌<◌, ◌^◌};
+    ghost use Rattle.tac_reader.specs.Names.{texts};
+
+    ghost Value = { List (List ℕ) };
+
+    ghost view = { λ table. texts table.names.keys };
+
+    ghost invariant = { λ table. length table.names.keys < 2 ^ 32 };
+}
+
+impl NameTable {
+    pub fn new(alloc: Global) -> Self
+        ensures { result ≡ [] }
+    {
+        NameTable {
+            names: IndexSet::new(alloc),
+        }
+    }
+
+    /// How many names there are.
+    pub fn len(&self) -> u32
+        ensures { result ≡ length self.now }
+    {
+        self.names.len() as u32
+    }
+
+    /// The name of this number.
+    pub fn name(&self, number: u32) -> &[u8]
+        requires { number < length self.now }
+        ensures { slice_get self.now number ≡ Some result.now }
+    {
+        self.names.as_slice()[number as usize].as_slice()
+    }
+
+    /// The name of this number, or no bytes where it is none's.
+    pub fn name_or_empty(&self, number: u32) -> &[u8]
+        ensures { result.now ≡ name_at self.now number }
+    {
+        if number < self.len() {
+            self.name(number)
+        } else {
+            &[]
+        }
+    }
+
+    /// The number of a name, where it is there.
+    pub fn find(&self, name: &[u8]) -> Option<u32>
+        ensures number { result ≡ position (bytes_eq name.now) self.now }
+        ensures within { IfSome result (λ n. n < length self.now) }
+    {
+        match self.names.get_index_of(name) {
+            None => None,
+            Some(number) => Some(number as u32),
+        }
+    }
+
+    /// Puts a name last, unless it is there already; answers whether it was new.
+    pub fn insert(&mut self, alloc: Global, name: &[u8]) -> Result<bool, AllocError>
+        ensures noted { OnOk result (self.new ≡ noted self.old name.now) }
+        ensures new { IfOk result (λ new. new ≡ not (is_one_of name.now self.old)) }
+    {
+        if self.find(name).is_some() {
+            return Ok(false);
+        }
+        if self.len() == u32::MAX {
+            return Err(AllocError);
+        }
+        let owned = Vec::from_slice(alloc, name)?;
+        let _ = self.names.insert_full(owned)?;
+        Ok(true)
+    }
+}

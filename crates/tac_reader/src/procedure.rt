@@ -1,0 +1,264 @@
+// Procedures out of sections: their statements and labels by number, and the program.
+
+ghost use Rattle.std.specs.Prelude.{◌≡◌, ◌+◌, ◌*◌, ◌<◌, ◌≤◌, ◌^◌, ◌++◌, ℕ, List, length, map, fold, flat_map, IfOk, OnOk};
+ghost use Rattle.tac_reader.specs.Built.{names_view, call_numbers};
+ghost use Rattle.tac_reader.specs.Procedures.{labels_at};
+ghost use Rattle.tac_reader.specs.Programs.{label_places, labels_from, names_in, noted, procedure_of, procedures_from, start_of as start_in, statement_of, variables_in};
+ghost use Rattle.tac_reader.specs.SectionViews.{section_view, sections_view};
+ghost use Rattle.tac_reader.specs.Sections.{labels_in, only_name, statements_of};
+ghost use Rattle.tac_reader.specs.Views.{tokens_view};
+
+use crate::build::{Names, kind};
+use crate::cursor::LineCursor;
+use crate::line::{behind_labels, stop_of};
+use crate::names::NameTable;
+use crate::program::{Callees, Label, Proc, Program, Span, Stmt};
+use crate::section::{Section, section_cells};
+use crate::statement::{Role, cells};
+use crate::token::{Token, TokenKind};
+use std::alloc::{AllocError, Global};
+
+/// The names that the whole program shares.
+#[derive(Clone, Copy)]
+struct Tables<'a> {
+    procedures: &'a NameTable,
+    variables: &'a NameTable,
+}
+
+/// The procedures that a statement calls, by number. What `found` holds is lost.
+fn callees(
+    procedures: &NameTable,
+    text: &[u8],
+    tokens: &[Token],
+    found: &mut Vec<Token>,
+) -> Result<Callees, AllocError>
+    ensures { IfOk result (λ callees. callees ≡ call_numbers procedures.now (tokens_view text.now tokens.now)) }
+{
+    found.clear();
+    cells(found, Role::Callee, tokens)?;
+    let mut callees = Callees::new();
+    for token in &*found {
+        callees.push(procedures.find(token.spelling(text)).unwrap_or(0));
+    }
+    Ok(callees)
+}
+
+/// Where the first token starts.
+fn start_of(tokens: &[Token]) -> u32
+    ensures { (text : List ℕ) → start_in (tokens_view text tokens.now) ≡ result }
+{
+    match tokens.first() {
+        None => 0,
+        Some(token) => token.start,
+    }
+}
+
+/// What a statement's tokens say in the cursor's text, and where they stand. What `found` holds is
+/// lost.
+fn statement(
+    names: Names<'_>,
+    cursor: &mut LineCursor<'_>,
+    tokens: &[Token],
+    found: &mut Vec<Token>,
+) -> Result<Stmt, AllocError>
+    ensures statement { IfOk result (λ s. s ≡ statement_of cursor.old (names_view names.entry) (tokens_view cursor.old tokens.now)) }
+    ensures text { cursor.new ≡ cursor.old }
+{
+    let text = cursor.text();
+    let callees = callees(names.procedures, text, tokens, found)?;
+    let start = start_of(tokens);
+    let span = Span {
+        line: cursor.line_at(start),
+        start,
+        end: stop_of(tokens),
+    };
+    Ok(Stmt {
+        kind: kind(names, text, tokens, callees),
+        span,
+    })
+}
+
+/// How many lines have a statement.
+fn statement_count(lines: &[&[Token]]) -> usize
+    ensures { (text : List ℕ) → length (statements_of (map (λ line. tokens_view text line.now) lines.now)) ≡ result }
+{
+    let mut count = 0;
+    for line in lines {
+        if !behind_labels(line).is_empty() {
+            count += 1;
+        }
+    }
+    count
+}
+
+/// The statements of the lines. What `found` holds is lost.
+fn statements(
+    alloc: Global,
+    names: Names<'_>,
+    cursor: &mut LineCursor<'_>,
+    lines: &[&[Token]],
+    found: &mut Vec<Token>,
+) -> Result<Vec<Stmt>, AllocError>
+    ensures statements { IfOk result (λ stmts. stmts.items ≡ map (statement_of cursor.old (names_view names.entry)) (statements_of (map (λ line. tokens_view cursor.old line.now) lines.now))) }
+    ensures text { cursor.new ≡ cursor.old }
+{
+    let mut stmts = Vec::with_capacity(alloc, statement_count(lines))?;
+    for line in lines {
+        let tokens = behind_labels(line);
+        if !tokens.is_empty() {
+            stmts.push(statement(names, cursor, tokens, found)?)?;
+        }
+    }
+    Ok(stmts)
+}
+
+/// A count, in the width that programs count in.
+fn counted(count: usize) -> Result<u32, AllocError>
+    ensures { IfOk result (λ n. n ≡ count) }
+{
+    u32::try_from(count).map_err(|_| AllocError)
+}
+
+/// Appends so many labels for one place, numbered on.
+fn push_labels(labels: &mut Vec<Label>, count: usize, place: u32) -> Result<(), AllocError>
+    ensures { OnOk result (labels.new.items ≡ labels.old.items ++ labels_at (length labels.old.items) place count) }
+{
+    for _ in 0..count {
+        let name = counted(labels.len())?;
+        labels.push(Label { name, place })?;
+    }
+    Ok(())
+}
+
+/// The labels of the lines, of which there are so many: by number, each with its place.
+fn section_labels(alloc: Global, count: u32, lines: &[&[Token]]) -> Result<Vec<Label>, AllocError>
+    ensures { IfOk result (λ labels. (text : List ℕ) → labels.items ≡ labels_from 0 (label_places 0 (map (λ line. tokens_view text line.now) lines.now))) }
+{
+    let mut labels = Vec::with_capacity(alloc, count as usize)?;
+    let mut place = 0;
+    for line in lines {
+        let tokens = behind_labels(line);
+        push_labels(
+            &mut labels,
+            (line.len() - tokens.len()) / 2,
+            counted(place)?,
+        )?;
+        if !tokens.is_empty() {
+            place += 1;
+        }
+    }
+    Ok(labels)
+}
+
+/// A section's procedure, of this number, over tables of names; `labels` are its own. What `found`
+/// holds is lost.
+fn procedure(
+    alloc: Global,
+    tables: Tables<'_>,
+    number: u32,
+    section: Section<'_>,
+    labels: NameTable,
+    cursor: &mut LineCursor<'_>,
+    found: &mut Vec<Token>,
+) -> Result<Proc, AllocError>
+    requires { labels ≡ names_in (labels_in (section_view cursor.old section)) }
+    ensures procedure { IfOk result (λ p. p ≡ procedure_of cursor.old tables.entry.procedures.now tables.entry.variables.now number (section_view cursor.old section.entry)) }
+    ensures text { cursor.new ≡ cursor.old }
+{
+    let places = section_labels(alloc, labels.len(), section.lines)?;
+    let names = Names {
+        procedures: tables.procedures,
+        variables: tables.variables,
+        labels: &labels,
+    };
+    let stmts = statements(alloc, names, cursor, section.lines, found)?;
+    Ok(Proc::new(number, places, labels, stmts))
+}
+
+/// The procedures of the sections, each with its labels in `labels`.
+fn procedures(
+    alloc: Global,
+    tables: Tables<'_>,
+    text: &[u8],
+    sections: &[Section<'_>],
+    labels: Vec<NameTable>,
+) -> Result<Vec<Proc>, AllocError>
+    requires short { length text.now + 1 < 2 ^ 32 }
+    requires labels { labels.items ≡ map (λ s. names_in (labels_in s)) (sections_view text.now sections.now) }
+    ensures { IfOk result (λ procs. procs.items ≡ procedures_from text.now tables.entry.procedures.now tables.entry.variables.now 0 (sections_view text.now sections.now)) }
+{
+    let mut procs = Vec::with_capacity(alloc, sections.len())?;
+    let mut cursor = LineCursor::new(text);
+    let mut found = Vec::new(alloc);
+    let mut labels = labels.into_iter();
+    for section in sections {
+        let number = counted(procs.len())?;
+        procs.push(procedure(
+            alloc,
+            tables,
+            number,
+            *section,
+            labels.next().unwrap(),
+            &mut cursor,
+            &mut found,
+        )?)?;
+    }
+    Ok(procs)
+}
+
+/// The program of the sections, each with its labels in `labels`, over these procedures and
+/// variables. Fails where memory does.
+pub fn program(
+    alloc: Global,
+    text: &[u8],
+    sections: &[Section<'_>],
+    procedures: NameTable,
+    labels: Vec<NameTable>,
+    variables: NameTable,
+) -> Result<Program, AllocError>
+    requires short { length text.now + 1 < 2 ^ 32 }
+    requires labels { labels.items ≡ map (λ s. names_in (labels_in s)) (sections_view text.now sections.now) }
+    ensures { IfOk result (λ p. p ≡ record { procedures = procedures_from text.now procedures variables 0 (sections_view text.now sections.now); procedure_names = procedures; variable_names = variables }) }
+{
+    let tables = Tables {
+        procedures: &procedures,
+        variables: &variables,
+    };
+    let procs = self::procedures(alloc, tables, text, sections, labels)?;
+    Ok(Program::new(procs, procedures, variables))
+}
+
+/// Adds the names among the tokens.
+fn note_names(
+    alloc: Global,
+    table: &mut NameTable,
+    text: &[u8],
+    tokens: &[Token],
+) -> Result<(), AllocError>
+    ensures { OnOk result (table.new ≡ fold noted table.old (names_in (flat_map only_name (tokens_view text.now tokens.now)))) }
+{
+    for token in tokens {
+        if token.kind == TokenKind::Name {
+            let _ = table.insert(alloc, token.bytes(text))?;
+        }
+    }
+    Ok(())
+}
+
+/// The variables of the sections' statements, by first occurrence. Fails where memory does.
+pub fn variables(
+    alloc: Global,
+    text: &[u8],
+    sections: &[Section<'_>],
+) -> Result<NameTable, AllocError>
+    ensures { IfOk result (λ table. table ≡ variables_in (sections_view text.now sections.now)) }
+{
+    let mut table = NameTable::new(alloc);
+    let mut found = Vec::new(alloc);
+    for section in sections {
+        found.clear();
+        section_cells(&mut found, Role::Variable, section.lines)?;
+        note_names(alloc, &mut table, text, &found)?;
+    }
+    Ok(table)
+}

@@ -1,0 +1,131 @@
+// A text to its program, or to its refusal.
+
+ghost use Rattle.std.specs.Prelude.{◌≡◌, ◌+◌, ◌<◌, ◌≤◌, ◌^◌, Some, None, length, map, take, IfOk, IfErr, OnOk};
+ghost use Rattle.tac_reader.specs.Faults.{fault_of, head_of, longest_text, name_faults, refusal_of, refusal_at};
+ghost use Rattle.tac_reader.specs.Lexed.{IfFault};
+ghost use Rattle.tac_reader.specs.Programs.{names_in, program_of};
+ghost use Rattle.tac_reader.specs.ReadFaults.{IfRefused};
+ghost use Rattle.tac_reader.specs.Sections.{labels_in, titles};
+ghost use Rattle.tac_reader.specs.SectionViews.{sections_view};
+ghost use Rattle.tac_reader.specs.Text.{line_after, column_after};
+
+use crate::checks::{
+    check_callees, check_count, check_jumps, check_labels, check_main, check_procedures,
+    check_repeated_callees,
+};
+use crate::fault::{Fault, Stop};
+use crate::lex::lex;
+use crate::names::NameTable;
+use crate::procedure::{program, variables};
+use crate::program::Program;
+use crate::refusal::{ReadFault, Refusal, RefusalKind};
+use crate::section::{Section, sections, token_lines};
+use std::alloc::Global;
+
+/// The longest text, in bytes.
+const LONGEST_TEXT: usize = 1_048_576;
+
+/// The line of the place behind these bytes.
+fn line_of(before: &[u8]) -> u32
+    requires { length before.now < 2 ^ 31 }
+    ensures { result ≡ line_after before.now }
+{
+    1 + before.iter().filter(|byte| **byte == b'\n').count() as u32
+}
+
+/// Its column, in bytes.
+fn column_of(before: &[u8]) -> u32
+    requires { length before.now < 2 ^ 31 }
+    ensures { result ≡ column_after before.now }
+{
+    let mut column = 1;
+    for byte in before {
+        column = if *byte == b'\n' { 1 } else { column + 1 };
+    }
+    column
+}
+
+/// The refusal of a fault: its place as line and column.
+fn located(text: &[u8], fault: Fault) -> Refusal
+    requires { length text.now < 2 ^ 31 }
+    ensures { result ≡ refusal_at text.now fault }
+{
+    let place = text.len().min(fault.place as usize);
+    let before = &text[..place];
+    Refusal {
+        kind: fault.kind,
+        line: line_of(before),
+        column: column_of(before),
+    }
+}
+
+/// Stops at a fault.
+fn refuse(found: Option<Fault>) -> Result<(), Stop>
+    ensures ok { OnOk result (found ≡ None) }
+    ensures fault { IfErr result (IfFault (λ f. found ≡ Some f)) }
+{
+    match found {
+        None => Ok(()),
+        Some(fault) => Err(Stop::Fault(fault)),
+    }
+}
+
+/// The names of the procedures, and those of each procedure's labels; or the first fault of names.
+fn check_names(
+    alloc: Global,
+    text: &[u8],
+    sections: &[Section<'_>],
+) -> Result<(NameTable, Vec<NameTable>), Stop>
+    ensures faultless { OnOk result (head_of (name_faults (sections_view text.now sections.now)) ≡ None) }
+    ensures procedures { IfOk result (λ names. names.0 ≡ names_in (titles (sections_view text.now sections.now))) }
+    ensures labels { IfOk result (λ names. (names.1).items ≡ map (λ s. names_in (labels_in s)) (sections_view text.now sections.now)) }
+    ensures fault { IfErr result (IfFault (λ f. head_of (name_faults (sections_view text.now sections.now)) ≡ Some f)) }
+{
+    let procedures = check_procedures(alloc, text, sections)?;
+    let labels = check_labels(alloc, text, sections)?;
+    check_jumps(alloc, text, sections, &labels)?;
+    check_callees(alloc, text, sections, &procedures)?;
+    check_repeated_callees(alloc, text, sections)?;
+    refuse(check_main(&procedures))?;
+    refuse(check_count(sections))?;
+    Ok((procedures, labels))
+}
+
+/// The program of a text of no more than the longest, or its first fault.
+fn read_checked(alloc: Global, text: &[u8]) -> Result<Program, Stop>
+    requires { length text.now ≤ longest_text }
+    ensures accepted { OnOk result (fault_of text.now ≡ None) }
+    ensures program { IfOk result (λ p. p ≡ program_of text.now) }
+    ensures fault { IfErr result (IfFault (λ f. fault_of text.now ≡ Some f)) }
+{
+    let lexed = lex(alloc, text)?;
+    let lines = token_lines(alloc, &lexed)?;
+    let sections = sections(alloc, &lines)?;
+    let (procedures, labels) = check_names(alloc, text, &sections)?;
+    let variables = variables(alloc, text, &sections)?;
+    Ok(program(alloc, text, &sections, procedures, labels, variables)?)
+}
+
+/// Reads a program: three-address code with procedures, in the language of `docs/LANGUAGE.md`.
+///
+/// A text that is no program is refused with the kind of its first fault and its place, in the order
+/// of checks that the language has. `OutOfMemory` is answered only where memory was refused; nothing
+/// is kept of a text that was not read.
+pub fn read(alloc: Global, text: &[u8]) -> Result<Program, ReadFault>
+    ensures accepted { OnOk result (refusal_of text.now ≡ None) }
+    ensures program { IfOk result (λ p. p ≡ program_of text.now) }
+    ensures refused { IfErr result (IfRefused (λ r. refusal_of text.now ≡ Some r)) }
+{
+    if text.len() > LONGEST_TEXT {
+        return Err(ReadFault::Refused(Refusal {
+            kind: RefusalKind::TextTooLong,
+            line: 1,
+            column: 1,
+        }));
+    }
+    match read_checked(alloc, text) {
+        Ok(program) => Ok(program),
+        Err(Stop::Fault(fault)) => Err(ReadFault::Refused(located(text, fault))),
+        Err(Stop::OutOfMemory) => Err(ReadFault::OutOfMemory),
+    }
+}

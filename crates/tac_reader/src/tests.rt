@@ -1,0 +1,282 @@
+use crate::{Operand, ReadFault, Span, StmtKind, listing, read};
+use std::alloc::{AllocError, Global};
+use std::test::Fail;
+
+/// Every statement form.
+const FORMS: &[u8] =
+    b"proc main\r\nL:M: x=y+007 # seven\nz=- x\nx=~x\nx=!0\nx=x\nif x<3 goto L\nif x goto M\nifFalse 10 goto N\ngoto N\n\ncall f|main\nN: read y\nprint 18\nskip\nreturn\nend\nproc f\nx=1-2\nx=x*x\nx=x/y\nx=x%y\nx=x&y\nx=x|y\nx=x^y\nx=x<<y\nx=x>>y\nx=x<=y\nx=x>=y\nx=x==y\nx=x!=y\nx=x>y\nend";
+
+const FORMS_LISTING: &str =
+    "proc main\nL:\nM:\n  x = y + 7\n  z = -x\n  x = ~x\n  x = !0\n  x = x\n  if x < 3 goto L\n  if x goto M\n  ifFalse 10 goto N\n  goto N\n  call f | main\nN:\n  read y\n  print 18\n  skip\n  return\nend\nproc f\n  x = 1 - 2\n  x = x * x\n  x = x / y\n  x = x % y\n  x = x & y\n  x = x | y\n  x = x ^ y\n  x = x << y\n  x = x >> y\n  x = x <= y\n  x = x >= y\n  x = x == y\n  x = x != y\n  x = x > y\nend\n";
+
+const RECURSION: &[u8] =
+    b"proc main\nx = 1\ncall f\nprint x\nend\nproc f\nif x goto L\ncall f\nx = 2\nL:\nend\n";
+
+const SPACING: &[u8] = b"proc main # start\nL:M: x=y+007\nz=- x\nif x<3 goto L\nend\n";
+
+const NAME_64: &str = "nnnnnnnnnnnnnnnnnnnnnnnnnnnnnnnnnnnnnnnnnnnnnnnnnnnnnnnnnnnnnnnn";
+
+/// The listing of a program, or the message of why the text is none.
+fn answer(alloc: Global, text: &[u8]) -> Result<String, AllocError> {
+    match read(alloc, text) {
+        Ok(program) => Ok(String::from_utf8_lossy(alloc, listing(alloc, &program)?.as_slice())?),
+        Err(ReadFault::OutOfMemory) => Err(AllocError),
+        Err(fault) => fault.to_string(alloc),
+    }
+}
+
+#[test]
+fn refuses(rt: HostRuntime) -> Result<(), Fail> {
+    let alloc = rt.alloc();
+    let table: [(&[u8], &str); 24] = [
+        (b"", "1:1: refusal 6: NoMain"),
+        (b"proc main\nx = 12ab\nend\n", "2:7: refusal 4: Syntax"),
+        (
+            b"proc main\nA: A: skip\nend\n",
+            "2:4: refusal 8: DuplicateLabel",
+        ),
+        (b"9223372036854775808\n", "1:1: refusal 2: NumberTooLarge"),
+        (b"proc proc\nend\n", "1:6: refusal 4: Syntax"),
+        (
+            b"proc q\nend\nproc q\nend\n",
+            "3:6: refusal 7: DuplicateProcedure",
+        ),
+        (b"proc main\nx = 1\n", "3:1: refusal 5: Unclosed"),
+        (b"proc main\nx = 1", "2:6: refusal 5: Unclosed"),
+        (
+            b"proc main\nx = 9223372036854775808\nend\n",
+            "2:5: refusal 2: NumberTooLarge",
+        ),
+        (b"proc main\nx =\nend\n", "2:4: refusal 4: Syntax"),
+        (
+            b"proc main\ngoto A\ncall z\nA: A: skip\nend\n",
+            "4:4: refusal 8: DuplicateLabel",
+        ),
+        (b"proc main\ngoto M\nend\n", "2:6: refusal 9: UnknownLabel"),
+        (
+            b"proc main\ncall z\nend\n",
+            "2:6: refusal 10: UnknownProcedure",
+        ),
+        (
+            b"proc main\ncall main | main\nend\n",
+            "2:13: refusal 13: DuplicateCallee",
+        ),
+        (
+            b"proc main\ncall a|b|c|d|e|f|g|h|i\nend\n",
+            "2:21: refusal 4: Syntax",
+        ),
+        (b"proc main\ncall main |\nend\n", "2:12: refusal 4: Syntax"),
+        (b"proc main\nx = \0", "2:5: refusal 1: BadByte"),
+        (b"proc main\nx = \0\nend\n", "2:5: refusal 1: BadByte"),
+        (b"\r", "1:1: refusal 1: BadByte"),
+        (b"proc main\nend\r", "2:4: refusal 1: BadByte"),
+        (b"proc main\nx =\r", "2:4: refusal 1: BadByte"),
+        (b"proc main\nx = 1\rend\n", "2:6: refusal 1: BadByte"),
+        (b"proc main\nend\nx = 1\n", "3:1: refusal 4: Syntax"),
+        (b"proc q\nend\n", "1:1: refusal 6: NoMain"),
+    ];
+    for (text, want) in table {
+        assert_eq!(rt; answer(alloc, text)?.as_str(), want);
+    }
+    Ok(())
+}
+
+#[test]
+fn refuses_every_beginning_of_the_smallest(rt: HostRuntime) -> Result<(), Fail> {
+    let alloc = rt.alloc();
+    let table: [(usize, &str); 15] = [
+        (0, "1:1: refusal 6: NoMain"),
+        (1, "1:1: refusal 4: Syntax"),
+        (2, "1:1: refusal 4: Syntax"),
+        (3, "1:1: refusal 4: Syntax"),
+        (4, "1:5: refusal 4: Syntax"),
+        (5, "1:5: refusal 4: Syntax"),
+        (6, "1:7: refusal 5: Unclosed"),
+        (7, "1:8: refusal 5: Unclosed"),
+        (8, "1:9: refusal 5: Unclosed"),
+        (9, "1:10: refusal 5: Unclosed"),
+        (10, "2:1: refusal 5: Unclosed"),
+        (11, "2:2: refusal 4: Syntax"),
+        (12, "2:3: refusal 4: Syntax"),
+        (13, "proc main\nend\n"),
+        (14, "proc main\nend\n"),
+    ];
+    for (length, want) in table {
+        assert_eq!(rt;
+            answer(alloc, &b"proc main\nend\n"[..length.min(14)])?.as_str(),
+            want,
+            "at {length}"
+        );
+    }
+    Ok(())
+}
+
+#[test]
+fn refuses_long_names(rt: HostRuntime) -> Result<(), Fail> {
+    let alloc = rt.alloc();
+    let table = [
+        (
+            format!(in alloc; "n{NAME_64}\n")?,
+            "1:1: refusal 3: NameTooLong",
+        ),
+        (
+            format!(in alloc; "proc main\nx = n{NAME_64}\nend\n")?,
+            "2:5: refusal 3: NameTooLong",
+        ),
+        (
+            format!(in alloc; "proc main\nend\nproc n{NAME_64}\nend\n")?,
+            "3:6: refusal 3: NameTooLong",
+        ),
+        (
+            format!(in alloc; "proc main\nn{NAME_64} = 1\nend\n")?,
+            "2:1: refusal 3: NameTooLong",
+        ),
+    ];
+    for (text, want) in table {
+        assert_eq!(rt; answer(alloc, text.as_bytes())?.as_str(), want);
+    }
+    let text = format!(in alloc;
+        "proc main\n{NAME_64}:\n  {NAME_64} = 1\nend\nproc {NAME_64}\nend\n"
+    )?;
+    assert_eq!(rt; answer(alloc, text.as_bytes())?, text);
+    Ok(())
+}
+
+/// The procedure `main`, this many others, and the text behind them.
+fn procedures(alloc: Global, others: u32, last: &str) -> Result<String, AllocError> {
+    let mut text = format!(in alloc; "proc main\nend\n")?;
+    for p in 0..others {
+        write!(text, "proc p{p}\nend\n")?;
+    }
+    text.push_str(last)?;
+    Ok(text)
+}
+
+#[test]
+fn counts_procedures_and_bytes(rt: HostRuntime) -> Result<(), Fail> {
+    let alloc = rt.alloc();
+    let most = procedures(alloc, 255, "")?;
+    assert_eq!(rt; answer(alloc, most.as_bytes())?, most);
+    let over = procedures(alloc, 256, "")?;
+    assert_eq!(rt;
+        answer(alloc, over.as_bytes())?.as_str(),
+        "513:6: refusal 12: TooManyProcedures"
+    );
+    let mut text = procedures(alloc, 0, "")?;
+    for _ in 0..1_048_562 {
+        text.push('\n')?;
+    }
+    assert_eq!(rt;
+        answer(alloc, text.as_bytes())?.as_str(),
+        "proc main\nend\n"
+    );
+    text.push('\n')?;
+    assert_eq!(rt;
+        answer(alloc, text.as_bytes())?.as_str(),
+        "1:1: refusal 11: TextTooLong"
+    );
+    Ok(())
+}
+
+#[test]
+fn lists(rt: HostRuntime) -> Result<(), Fail> {
+    let alloc = rt.alloc();
+    let table: [(&[u8], &str); 7] = [
+        (FORMS, FORMS_LISTING),
+        (
+            b"proc main # start\nL:M: x=007\nend\n",
+            "proc main\nL:\nM:\n  x = 7\nend\n",
+        ),
+        (
+            SPACING,
+            "proc main\nL:\nM:\n  x = y + 7\n  z = -x\n  if x < 3 goto L\nend\n",
+        ),
+        (
+            b"proc main # \0 \r \xff\nend#\0\r\xff\n",
+            "proc main\nend\n",
+        ),
+        (
+            b"proc main # \xc3\xa9\xff\x80\nx = 1 #\xe2\x82\xac\n#\xfe\nend\n",
+            "proc main\n  x = 1\nend\n",
+        ),
+        (
+            b"proc main\r\nx = 1\r\n\r\nend\r\n",
+            "proc main\n  x = 1\nend\n",
+        ),
+        (
+            b"proc main\nx = 9223372036854775807\nend\n",
+            "proc main\n  x = 9223372036854775807\nend\n",
+        ),
+    ];
+    for (text, want) in table {
+        assert_eq!(rt; answer(alloc, text)?.as_str(), want);
+    }
+    Ok(())
+}
+
+/// Whether a text that is a program lists to a text that lists to itself.
+fn lists_to_itself(alloc: Global, text: &[u8]) -> Result<bool, AllocError> {
+    match read(alloc, text) {
+        Ok(program) => {
+            let first = listing(alloc, &program)?;
+            match read(alloc, first.as_slice()) {
+                Ok(program) => Ok(listing(alloc, &program)?.as_slice() == first.as_slice()),
+                Err(_) => Ok(false),
+            }
+        }
+        Err(ReadFault::OutOfMemory) => Err(AllocError),
+        Err(ReadFault::Refused(_)) => Ok(true),
+    }
+}
+
+#[test]
+fn reads_its_own_listings(rt: HostRuntime) -> Result<(), Fail> {
+    let alloc = rt.alloc();
+    for text in [FORMS, RECURSION, SPACING] {
+        for stop in 0..text.len() + 1 {
+            assert!(rt;
+                lists_to_itself(alloc, &text[..stop.min(text.len())])?,
+                "the first {stop} bytes"
+            );
+        }
+    }
+    Ok(())
+}
+
+#[test]
+fn numbers_and_spans(rt: HostRuntime) -> Result<(), Fail> {
+    let alloc = rt.alloc();
+    let Ok(program) = read(alloc, SPACING) else {
+        return Err(Fail::from("it was refused"));
+    };
+    assert_eq!(rt; program.variables(), 3);
+    for proc in program.procs() {
+        assert_eq!(rt; proc.name(), 0);
+        for (place, label) in proc.labels().iter().enumerate() {
+            assert_eq!(rt; (label.name as usize, label.place), (place, 0));
+        }
+        let spans: Vec<Span> = proc.stmts().iter().map(|stmt| stmt.span).collect(alloc)?;
+        assert_eq!(rt;
+            spans.as_slice(),
+            [
+                Span {
+                    line: 2,
+                    start: 23,
+                    end: 30
+                },
+                Span {
+                    line: 3,
+                    start: 31,
+                    end: 36
+                },
+                Span {
+                    line: 4,
+                    start: 37,
+                    end: 50
+                }
+            ]
+            .as_slice()
+        );
+    }
+    Ok(())
+}
