@@ -31,3 +31,9 @@ pub mod VariableRuns
 pub mod CursorLines
 pub mod LabelRuns
 pub mod StatementRuns
+pub mod Elements
+pub mod KnownNames
+pub mod FaultlessLines
+pub mod FaultlessStatements
+pub mod SoundStatements
+pub mod SoundPrograms

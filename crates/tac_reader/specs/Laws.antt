@@ -7,6 +7,7 @@ use Rattle.tac_reader.specs.Sections.{sections, statements_of}
 use Rattle.tac_reader.specs.Programs.{Procedure, Program, program_of, start_of, stop_of}
 use Rattle.tac_reader.specs.Faults.{refusal_of, longest_text}
 use Rattle.tac_reader.specs.Listings.{listing_of}
+use Rattle.tac_reader.specs.Sound.{IsSound}
 use Rattle.tac_reader.specs.declared.form.Form.{Form}
 use Rattle.tac_reader.specs.declared.program.Label.{Label}
 use Rattle.tac_reader.specs.declared.program.StmtKind.{StmtKind}
@@ -34,6 +35,10 @@ abbrev pub StatementsAreSpelled : Type 0
 StatementsAreSpelled =
     (text : List ℕ)
     → All (λ s. All (λ ts. row_from (start_of ts) 0 (slice_range text (start_of ts) (stop_of ts)) ≡ record { tokens = ts; bad = None }) (statements_of s.body)) (sections text)
+
+-- The program of a text that is not refused is sound.
+abbrev pub ProgramsAreSound : Type 0
+ProgramsAreSound = (text : List ℕ) → refusal_of text ≡ None → IsSound (program_of text)
 
 -- A procedure without its statements' spans.
 abbrev pub without_spans : Procedure → ℕ × List Label × List (List ℕ) × List StmtKind

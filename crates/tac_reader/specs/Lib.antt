@@ -6,6 +6,7 @@ pub mod Programs
 pub mod Faults
 pub mod Listings
 pub mod Examples
+pub mod Sound
 pub mod Laws
 pub mod Names
 pub mod Views

@@ -1,6 +1,6 @@
 //! Laws of the definitions: each is the clause of a function without a body.
 
-ghost use Rattle.tac_reader.specs.Laws.{LinesJoin, StatementsAreApart};
+ghost use Rattle.tac_reader.specs.Laws.{LinesJoin, ProgramsAreSound, StatementsAreApart};
 
 /// The lines of a text, one after another, are the text.
 pub fn lines_join()
@@ -10,4 +10,9 @@ pub fn lines_join()
 /// No words have two rows of the table of statements.
 pub fn statements_are_apart()
     ensures { StatementsAreApart }
+{}
+
+/// The program of a text that is not refused is sound: each number in it leads to what is there.
+pub fn programs_are_sound()
+    ensures { ProgramsAreSound }
 {}
