@@ -37,3 +37,7 @@ pub mod FaultlessLines
 pub mod FaultlessStatements
 pub mod SoundStatements
 pub mod SoundPrograms
+pub mod SpelledTokens
+pub mod EachLemmas
+pub mod CutRows
+pub mod SpelledStatements

@@ -31,7 +31,7 @@ row_none place (b ∷ bs) some e = ap (row_choice place bs) e
 pub length-range : (text : List ℕ) (a b : ℕ) → b ≤ length text → length (slice_range text a b) ≡ b - a
 length-range text a b h = length-take-le (b - a) (drop a text) (let e : length (drop a text) ≡ length text - a = length-drop a text in omega (arith, e, h))
 
-take-take : (n m : ℕ) (xs : List ℕ) → n ≤ m → take n (take m xs) ≡ take n xs
+pub take-take : (n m : ℕ) (xs : List ℕ) → n ≤ m → take n (take m xs) ≡ take n xs
 take-take zero m xs h = refl
 take-take (suc n) zero xs h = absurd (let never : ⊥ = omega (arith, h) in never)
 take-take (suc n) (suc m) [] h = refl
@@ -41,7 +41,7 @@ take-nil : (k : ℕ) → take k [] ≡ (let r : List ℕ = [] in r)
 take-nil zero = refl
 take-nil (suc k) = refl
 
-drop-take : (n m : ℕ) (xs : List ℕ) → drop n (take m xs) ≡ take (m - n) (drop n xs)
+pub drop-take : (n m : ℕ) (xs : List ℕ) → drop n (take m xs) ≡ take (m - n) (drop n xs)
 drop-take zero m xs = ap (λ k. take k xs) (let e : m ≡ m - 0 = omega arith in e)
 drop-take (suc n) zero xs = ap (λ k. take k (drop (suc n) xs)) (let e : 0 ≡ 0 - suc n = omega arith in e)
 drop-take (suc n) (suc m) [] = sym (take-nil (suc m - suc n))

@@ -1,6 +1,6 @@
 //! Laws of the definitions: each is the clause of a function without a body.
 
-ghost use Rattle.tac_reader.specs.Laws.{LinesJoin, ProgramsAreSound, StatementsAreApart};
+ghost use Rattle.tac_reader.specs.Laws.{LinesJoin, ProgramsAreSound, StatementsAreApart, StatementsAreSpelled, TokensAreSpelled};
 
 /// The lines of a text, one after another, are the text.
 pub fn lines_join()
@@ -15,4 +15,14 @@ pub fn statements_are_apart()
 /// The program of a text that is not refused is sound: each number in it leads to what is there.
 pub fn programs_are_sound()
     ensures { ProgramsAreSound }
+{}
+
+/// The bytes from a token's start to its stop spell it.
+pub fn tokens_are_spelled()
+    ensures { TokensAreSpelled }
+{}
+
+/// The bytes of a statement's span have its tokens and nothing else.
+pub fn statements_are_spelled()
+    ensures { StatementsAreSpelled }
 {}
