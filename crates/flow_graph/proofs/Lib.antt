@@ -1,7 +1,13 @@
 pub mod Complement
+pub mod EdgeLemmas
 pub mod ExampleLemmas
+pub mod GraphLaws
+pub mod MayForms
+pub mod Membership
 pub mod PathLemmas
+pub mod PointLemmas
 pub mod Reversal
 pub mod RunLemmas
 pub mod SameEdges
 pub mod Splitting
+pub mod Standing

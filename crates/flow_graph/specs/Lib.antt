@@ -1,5 +1,12 @@
+pub mod Analyses
+pub mod Edges
 pub mod Examples
 pub mod PathLaws
 pub mod Paths
+pub mod Points
+pub mod ProgramExamples
+pub mod ProgramLaws
 pub mod RunLaws
 pub mod Runs
+pub mod Transfers
+pub mod Universes

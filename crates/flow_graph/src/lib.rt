@@ -1,18 +1,35 @@
 //! Points, edges and paths of a program's flow graph, and the laws of their definitions.
 #![tactic(auto)]
 
+mod analysis;
 mod edge;
 mod examples;
+mod expression;
 mod laws;
+mod place;
+mod program_examples;
+mod program_laws;
 
+pub use analysis::Analysis;
 pub use edge::Edge;
 pub use examples::{
     backward_site_examples, doubtful_point_examples, endless_callee_examples,
     recursive_main_examples, recursive_procedure_examples, return_site_examples, reversal_examples,
     several_callees_examples, well_formed_examples,
 };
+pub use expression::Expr;
 pub use laws::{
     dead_assignments_are_safe, matched_returns_leave_their_callee, paths_join, paths_reverse,
     paths_split, runs_extend, same_edges_have_same_paths, transfers_complement,
     undoubted_points_finish, valid_paths_continue_as_runs,
+};
+pub use place::Place;
+pub use program_examples::{
+    avail_examples, busy_examples, live_examples, may_form_examples, number_examples,
+    point_examples, reach_examples, recursive_edges, several_callees_edges, shape_examples,
+    step_examples,
+};
+pub use program_laws::{
+    dead_variables_are_safe, edges_join_points, graphs_are_well_formed, points_are_places,
+    tables_are_may_forms,
 };

@@ -6,5 +6,6 @@ pub mod ExampleLemmas
 pub mod FiniteSearch
 pub mod Least
 pub mod Meet
+pub mod ProgramTables
 pub mod SolutionTests
 pub mod Sound

@@ -1,5 +1,9 @@
 -- What joins the least solution of the equations to the paths.
 use Rattle.std.specs.Prelude.{◌≡◌, ℕ, Bool, true, false, IsTrue, List, ◌++◌, ◌<◌, ◌⊎◌, ◌↔◌}
+use Rattle.tac_reader.specs.Programs.{Program}
+use Rattle.tac_reader.specs.Sound.{IsSound}
+use Rattle.flow_graph.specs.Analyses.{HasPathAt, IsInTable, is_must, may_shape, may_transfer}
+use Rattle.flow_graph.specs.declared.analysis.Analysis.{Analysis}
 use Rattle.flow_graph.specs.declared.edge.Edge.{Edge}
 use Rattle.flow_graph.specs.Paths.{Shape, Transfer, IsValidPath, IsBackwardValidPath, value_before, IsPathFromEntry, IsEnteringPath, value_after, is_kept_along, HasPath, SomePathHas, EveryPathHas, HasBackwardPath, SomeBackwardPathHas, EveryBackwardPathHas, IsWellFormed, AgreesOnSteps, reversed_shape, reversed_transfer, complemented_transfer}
 use Rattle.flow_graph.specs.Runs.{IsDoubtful, IsRun, CallsReturn}
@@ -136,3 +140,27 @@ EachUndoubtedRunExtends =
     (shape : Shape) (start finish : ℕ) (run : List Edge) → IsWellFormed shape → CallsReturn shape
     → ¬ (IsDoubtful shape start) → IsRun shape start run finish
     → (rest : List Edge) × IsBackwardValidPath shape (run ++ rest) start
+
+-- The tables of a program's four analyses are the least solutions of their may forms, complemented for a must analysis; and so
+-- are their flags.
+abbrev pub FlagsAreSolutions : Type 0
+FlagsAreSolutions =
+    (program : Program) (analysis : Analysis) (point : ℕ) → IsSound program
+    → HasFlag (may_shape program analysis) point ↔ HasPathAt program analysis point
+
+abbrev pub MayTablesAreSolutions : Type 0
+MayTablesAreSolutions =
+    (program : Program) (analysis : Analysis) (point bit : ℕ) → IsSound program → is_must analysis ≡ false
+    → IsInSolution (may_shape program analysis) (may_transfer program analysis bit) point ↔ IsInTable program analysis point bit
+
+abbrev pub MustTablesAreSolutions : Type 0
+MustTablesAreSolutions =
+    (program : Program) (analysis : Analysis) (point bit : ℕ) → IsSound program → is_must analysis ≡ true
+    → (¬ (IsInSolution (may_shape program analysis) (may_transfer program analysis bit) point)) ↔ IsInTable program analysis point bit
+
+-- The tables are decided at each point and bit: so a bit that is not in a must table is lacking on some valid path.
+abbrev pub TablesAreDecided : Type 0
+TablesAreDecided =
+    (program : Program) (analysis : Analysis) (point bit : ℕ) → IsSound program
+    → (HasPathAt program analysis point ⊎ (¬ (HasPathAt program analysis point)))
+    × (IsInTable program analysis point bit ⊎ (¬ (IsInTable program analysis point bit)))

@@ -1,4 +1,4 @@
-ghost use Rattle.gk_solve.specs.Laws.{SummariesArePaths, EntriesArePaths, SolutionIsMeet, ForwardMustIsComplement, BackwardFlagsAreReversed, BackwardMayIsReversed, BackwardMustIsReversedComplement, SolutionIsClosed, ReachedIsLeast, KeptIsLeast, MadeIsLeast, EnteredIsLeast, BroughtIsLeast, BitsAreApart, SolutionIsDecided, MeetsAreDecided, BackwardMeetsAreDecided, EachUndoubtedRunExtends};
+ghost use Rattle.gk_solve.specs.Laws.{SummariesArePaths, EntriesArePaths, SolutionIsMeet, ForwardMustIsComplement, BackwardFlagsAreReversed, BackwardMayIsReversed, BackwardMustIsReversedComplement, SolutionIsClosed, ReachedIsLeast, KeptIsLeast, MadeIsLeast, EnteredIsLeast, BroughtIsLeast, BitsAreApart, SolutionIsDecided, MeetsAreDecided, BackwardMeetsAreDecided, EachUndoubtedRunExtends, FlagsAreSolutions, MayTablesAreSolutions, MustTablesAreSolutions, TablesAreDecided};
 
 /// Reached, kept and made at a point: some matched path from its procedure's entry exists, keeps the bit, makes the bit.
 pub fn summaries_are_paths()
@@ -58,4 +58,13 @@ pub fn solution_is_decided()
 /// open calls and then its pending returns.
 pub fn each_undoubted_run_extends()
     ensures { EachUndoubtedRunExtends }
+{}
+
+/// The tables and flags of a program's four analyses are the least solutions of their may forms, for a must analysis the
+/// complement; and they are decided.
+pub fn tables_are_solutions()
+    ensures flags { FlagsAreSolutions }
+    ensures may { MayTablesAreSolutions }
+    ensures must { MustTablesAreSolutions }
+    ensures decided { TablesAreDecided }
 {}

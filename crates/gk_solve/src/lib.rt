@@ -11,5 +11,5 @@ pub use examples::{
 pub use laws::{
     backward_problems_are_reversed, bits_are_apart, each_undoubted_run_extends, entries_are_paths,
     forward_must_is_complement, solution_is_closed, solution_is_decided, solution_is_least,
-    solution_is_meet, summaries_are_paths,
+    solution_is_meet, summaries_are_paths, tables_are_solutions,
 };

@@ -1,0 +1,11 @@
+use Rattle.flow_graph.proofs.GraphLaws.{graphs_are_well_formed, may_forms_are_well_formed, calls_of_programs_return}
+use Rattle.flow_graph.proofs.program_laws.graphs_are_well_formed.Goals as goal
+
+pub returns-clause-graph : goal.returns-clause-graph
+returns-clause-graph c = graphs_are_well_formed
+
+pub returns-clause-may_forms : goal.returns-clause-may_forms
+returns-clause-may_forms c = may_forms_are_well_formed
+
+pub returns-clause-returns : goal.returns-clause-returns
+returns-clause-returns c = calls_of_programs_return

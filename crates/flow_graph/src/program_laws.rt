@@ -1,0 +1,35 @@
+//! Laws of every program's graph and of its four problems: each is the clause of a function without a body.
+
+ghost use Rattle.flow_graph.specs.ProgramLaws.{PlacesHavePoints, PointsHavePlaces, EdgesJoinPoints, GraphsAreWellFormed, MayFormsAreWellFormed, CallsOfProgramsReturn, LiveIsLiveness, FlagsAreMayForms, MayTablesAreMayForms, MustTablesAreMayForms, DeadVariablesAreSafe};
+
+/// Points and places are one to one.
+pub fn points_are_places()
+    ensures places { PlacesHavePoints }
+    ensures points { PointsHavePlaces }
+{}
+
+/// Edges join points, and each stands among those of the point that it leaves.
+pub fn edges_join_points()
+    ensures { EdgesJoinPoints }
+{}
+
+/// The graph of a program and its four may forms are well formed, and each call has its return.
+pub fn graphs_are_well_formed()
+    ensures graph { GraphsAreWellFormed }
+    ensures may_forms { MayFormsAreWellFormed }
+    ensures returns { CallsOfProgramsReturn }
+{}
+
+/// The tables and flags of the four analyses are those of their may forms.
+pub fn tables_are_may_forms()
+    ensures flags { FlagsAreMayForms }
+    ensures may { MayTablesAreMayForms }
+    ensures must { MustTablesAreMayForms }
+{}
+
+/// The analysis of live variables is liveness: where a point is not doubtful and a variable is not live there, no run
+/// from it reads the variable before writing it.
+pub fn dead_variables_are_safe()
+    ensures liveness { LiveIsLiveness }
+    ensures safe { DeadVariablesAreSafe }
+{}
