@@ -1,11 +1,16 @@
 pub mod Complement
+pub mod Counts
 pub mod EdgeLemmas
 pub mod ExampleLemmas
+pub mod ExpressionEquality
 pub mod GraphLaws
 pub mod MayForms
 pub mod Membership
+pub mod Noted
 pub mod PathLemmas
+pub mod PlaceTables
 pub mod PointLemmas
+pub mod Ranges
 pub mod Reversal
 pub mod RunLemmas
 pub mod SameEdges

@@ -1,9 +1,12 @@
 pub mod Analyses
 pub mod Edges
+pub mod Evaluated
 pub mod Examples
+pub mod Limits
 pub mod PathLaws
 pub mod Paths
 pub mod Points
+pub mod PointTables
 pub mod ProgramExamples
 pub mod ProgramLaws
 pub mod RunLaws

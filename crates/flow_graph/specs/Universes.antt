@@ -60,7 +60,7 @@ same_operator o p = bytes_eq (sign_of o) (sign_of p)
 
 abbrev pub same_expression : Expr → Expr → Bool
 same_expression (Unary o y) (Unary p z) = same_operator o p && same_operand y z
-same_expression (Binary x o y) (Binary u p v) = same_operator o p && (same_operand x u && same_operand y v)
+same_expression (Binary x o y) (Binary u p v) = same_operand x u && (same_operator o p && same_operand y v)
 same_expression _ _ = false
 
 -- the expressions of the statements, each once, by first occurrence in the text

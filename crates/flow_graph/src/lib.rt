@@ -5,10 +5,14 @@ mod analysis;
 mod edge;
 mod examples;
 mod expression;
+mod fault;
+mod graph;
 mod laws;
 mod place;
+mod points;
 mod program_examples;
 mod program_laws;
+mod universes;
 
 pub use analysis::Analysis;
 pub use edge::Edge;
@@ -18,6 +22,8 @@ pub use examples::{
     several_callees_examples, well_formed_examples,
 };
 pub use expression::Expr;
+pub use fault::GraphFault;
+pub use graph::Graph;
 pub use laws::{
     dead_assignments_are_safe, matched_returns_leave_their_callee, paths_join, paths_reverse,
     paths_split, runs_extend, same_edges_have_same_paths, transfers_complement,

@@ -8,7 +8,7 @@ use std::marker::Model;
 
 /// An operator, by its sign. Unary are `-`, `~` and `!`; comparisons are `<`, `<=`, `>`, `>=`, `==`
 /// and `!=`; all but `~` and `!` are binary.
-#[derive(Clone, Copy, Debug, PartialEq, Eq)]
+#[derive(Clone, Copy, Debug, PartialEq, Eq, Hash)]
 pub enum Op {
     Plus,
     Minus,
@@ -60,7 +60,7 @@ impl Op {
 
 /// What an operator, a condition or a `print` works on: a variable by its number, or a number of at
 /// most 9223372036854775807.
-#[derive(Clone, Copy, Debug, PartialEq, Eq)]
+#[derive(Clone, Copy, Debug, PartialEq, Eq, Hash)]
 pub enum Operand {
     Variable(u32),
     Number(u64),

@@ -1,0 +1,27 @@
+use std::alloc::AllocError;
+use thiserror::Error;
+
+/// Why a program has no graph.
+#[derive(Clone, Copy, Debug, Drop, PartialEq, Eq, Error)]
+pub enum GraphFault {
+    /// 21: the program has more than 16,384 points.
+    #[error("refusal 21: TooManyPoints")]
+    TooManyPoints,
+    /// 22: some analysis has more than 4,096 bits.
+    #[error("refusal 22: TooManyBits")]
+    TooManyBits,
+    /// Memory was refused.
+    #[error("out of memory")]
+    OutOfMemory,
+}
+
+impl From<AllocError> for GraphFault {
+    ghost use Rattle.std.specs.Prelude.{◌≡◌};
+    ghost use Rattle.flow_graph.specs.declared.fault.GraphFault.TheVariants as fault;
+
+    ghost from_gives = { λ _ e. e ≡ fault.OutOfMemory };
+
+    fn from(_no_memory: AllocError) -> GraphFault {
+        GraphFault::OutOfMemory
+    }
+}
