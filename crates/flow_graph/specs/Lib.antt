@@ -7,6 +7,7 @@ pub mod PathLaws
 pub mod Paths
 pub mod Points
 pub mod PointTables
+pub mod Problems
 pub mod ProgramExamples
 pub mod ProgramLaws
 pub mod RunLaws

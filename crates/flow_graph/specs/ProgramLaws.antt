@@ -1,11 +1,12 @@
 -- What is proved of the points, edges and problems of every program that can be read.
-use Rattle.std.specs.Prelude.{◌≡◌, ◌↔◌, ◌<◌, ◌≤◌, ℕ, true, false, length, Contains}
+use Rattle.std.specs.Prelude.{◌≡◌, ◌↔◌, ◌<◌, ◌≤◌, ℕ, if◌then◌else◌, true, false, length, Contains}
 use Rattle.tac_reader.specs.Programs.{Program}
 use Rattle.tac_reader.specs.Sound.{IsSound}
-use Rattle.flow_graph.specs.Analyses.{shape_of, transfer_of, accesses_of, HasPathAt, IsInTable, is_must, may_shape, may_transfer}
+use Rattle.flow_graph.specs.Analyses.{shape_of, transfer_of, accesses_of, HasPathAt, IsInTable, is_backward, is_must, may_shape, may_transfer}
 use Rattle.flow_graph.specs.Edges.{edges, edges_from}
 use Rattle.flow_graph.specs.Paths.{Edge, source_of, target_of, IsWellFormed, HasPath, SomePathHas}
 use Rattle.flow_graph.specs.Points.{point_count, point_of, place_of, end_place}
+use Rattle.flow_graph.specs.Problems.{MayForm, may_gens, may_kills, may_boundary}
 use Rattle.flow_graph.specs.Runs.{IsDoubtful, ReadsBeforeWriting, CallsReturn, IsLiveness}
 use Rattle.flow_graph.specs.Universes.{Analysis, Live}
 
@@ -74,3 +75,11 @@ DeadVariablesAreSafe =
     (program : Program) (point variable : ℕ) → IsSound program
     → ¬ (IsDoubtful (shape_of program) point) → ¬ (IsInTable program Live point variable)
     → ¬ (ReadsBeforeWriting (shape_of program) (accesses_of program variable) point)
+
+-- A step has, in the may form, the gen and kill of the statement at its beginning, or at its end where the edges are reversed.
+abbrev pub StepsHaveStatements : Type 0
+StepsHaveStatements =
+    (form : MayForm) (x y bit : ℕ)
+    → ((may_transfer form.program form.analysis bit).gen x y ≡ may_gens form (if is_backward form.analysis then y else x) bit)
+    × ((may_transfer form.program form.analysis bit).kill x y ≡ may_kills form (if is_backward form.analysis then y else x) bit)
+    × ((may_transfer form.program form.analysis bit).boundary ≡ may_boundary form bit)

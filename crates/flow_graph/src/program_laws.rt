@@ -1,6 +1,6 @@
 //! Laws of every program's graph and of its four problems: each is the clause of a function without a body.
 
-ghost use Rattle.flow_graph.specs.ProgramLaws.{PlacesHavePoints, PointsHavePlaces, EdgesJoinPoints, GraphsAreWellFormed, MayFormsAreWellFormed, CallsOfProgramsReturn, LiveIsLiveness, FlagsAreMayForms, MayTablesAreMayForms, MustTablesAreMayForms, DeadVariablesAreSafe};
+ghost use Rattle.flow_graph.specs.ProgramLaws.{PlacesHavePoints, PointsHavePlaces, EdgesJoinPoints, GraphsAreWellFormed, MayFormsAreWellFormed, CallsOfProgramsReturn, LiveIsLiveness, FlagsAreMayForms, MayTablesAreMayForms, MustTablesAreMayForms, DeadVariablesAreSafe, StepsHaveStatements};
 
 /// Points and places are one to one.
 pub fn points_are_places()
@@ -25,6 +25,7 @@ pub fn tables_are_may_forms()
     ensures flags { FlagsAreMayForms }
     ensures may { MayTablesAreMayForms }
     ensures must { MustTablesAreMayForms }
+    ensures steps { StepsHaveStatements }
 {}
 
 /// The analysis of live variables is liveness: where a point is not doubtful and a variable is not live there, no run

@@ -1,0 +1,23 @@
+-- What stands for a may form, and its gen and kill by the points of statements.
+use Rattle.std.specs.Prelude.{ℕ, Bool, not, ◌&&◌, if◌then◌else◌}
+use Rattle.tac_reader.specs.Programs.{Program}
+use Rattle.flow_graph.specs.Analyses.{is_must}
+use Rattle.flow_graph.specs.Transfers.{gens, kills, is_in_boundary}
+use Rattle.flow_graph.specs.Universes.{Analysis}
+
+-- the may form of an analysis of a program
+pub record MayForm : Type 0 where
+  pub program : Program
+  pub analysis : Analysis
+
+-- Whether the step of the statement at a point generates the bit in the may form, and whether it kills it; and whether the
+-- boundary has it. (A must analysis is complemented.)
+abbrev pub may_gens : MayForm → ℕ → ℕ → Bool
+may_gens form point bit =
+    if is_must form.analysis then kills form.program form.analysis point bit && not (gens form.program form.analysis point bit) else gens form.program form.analysis point bit
+
+abbrev pub may_kills : MayForm → ℕ → ℕ → Bool
+may_kills form point bit = if is_must form.analysis then gens form.program form.analysis point bit else kills form.program form.analysis point bit
+
+abbrev pub may_boundary : MayForm → ℕ → Bool
+may_boundary form bit = if is_must form.analysis then not (is_in_boundary form.program form.analysis bit) else is_in_boundary form.program form.analysis bit
