@@ -22,6 +22,7 @@ use Rattle.tac_reader.proofs.KnownNames.{Known, known_contained, none_repeated, 
 use Rattle.tac_reader.proofs.FaultlessLines.{Sound, IsFaultlessSection, AllFaultless, rows_spelled, lines_faultless, sections_faultless, name_lawful}
 use Rattle.tac_reader.proofs.FaultlessStatements.{IsFaultlessStatement, statements_faultless, all_labels_lawful}
 use Rattle.tac_reader.proofs.SoundStatements.{NamesAreKnown, statement_sound}
+use Rattle.tac_reader.proofs.ReadSteps.{program_is}
 
 -- Labels and procedures are numbered on from a number.
 labels_numbered : (n : ℕ) (places : List ℕ) (k : ℕ) (l : Label) → slice_get (labels_from n places) k ≡ Some l → l.name ≡ n + k
@@ -285,12 +286,16 @@ none_head [] e = refl
 none_head (f ∷ fs) e = absurd (cc e)
 
 -- The program of a text without a fault is sound.
-pub faultless_sound : (text : List ℕ) → fault_of text ≡ None → IsSound (program_of text)
+faultless_sound : (text : List ℕ) → fault_of text ≡ None → IsSound (program_of text)
 unfolding program_in
 faultless_sound text e =
     let h = no_faults text e in
     let faultless : AllFaultless false (token_lines (rows text)) = lines_faultless false (length text) (rows text) (rows_spelled 0 (lines text)) (none_first (line_faults false (length text) (rows text)) h.lines) in
     sections_sound text (sections text) (sections_faultless false (token_lines (rows text)) faultless) (no_name_faults (sections text) (none_head (name_faults (sections text)) h.names))
+
+-- The same of what the code makes of the text's sections.
+pub program_sound : (text : List ℕ) (ss : List Section) (procedures variables : List (List ℕ)) → ss ≡ sections text → procedures ≡ names_in (titles ss) → variables ≡ variables_in ss → fault_of text ≡ None → IsSound (record { procedures = procedures_from text procedures variables 0 ss; procedure_names = procedures; variable_names = variables })
+program_sound text ss procedures variables e f g none = subst IsSound (sym (program_is text ss procedures variables e f g)) (faultless_sound text none)
 
 pub programs_are_sound : ProgramsAreSound
 programs_are_sound text e = faultless_sound text (go (fault_of text) e) where

@@ -6,6 +6,7 @@ ghost use Rattle.tac_reader.specs.Procedures.{labels_at};
 ghost use Rattle.tac_reader.specs.Programs.{label_places, labels_from, names_in, noted, procedure_of, procedures_from, start_of as start_in, statement_of, variables_in};
 ghost use Rattle.tac_reader.specs.SectionViews.{section_view, sections_view};
 ghost use Rattle.tac_reader.specs.Sections.{labels_in, only_name, statements_of};
+ghost use Rattle.tac_reader.specs.Sound.{IsSound};
 ghost use Rattle.tac_reader.specs.Views.{tokens_view};
 
 use crate::build::{Names, kind};
@@ -218,6 +219,7 @@ pub fn program(
 ) -> Result<Program, AllocError>
     requires short { length text.now + 1 < 2 ^ 32 }
     requires labels { labels.items ≡ map (λ s. names_in (labels_in s)) (sections_view text.now sections.now) }
+    requires sound { IsSound (record { procedures = procedures_from text.now procedures variables 0 (sections_view text.now sections.now); procedure_names = procedures; variable_names = variables }) }
     ensures { IfOk result (λ p. p ≡ record { procedures = procedures_from text.now procedures variables 0 (sections_view text.now sections.now); procedure_names = procedures; variable_names = variables }) }
 {
     let tables = Tables {

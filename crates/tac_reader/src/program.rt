@@ -1,6 +1,7 @@
 // A program: procedures of statements, over names held by number.
 ghost use Rattle.std.specs.Prelude.{◌≡◌, ◌<◌, ◌≤◌, [], ◌∷◌, ◌++◌, length, slice_get, Some, IfSome};
 ghost use Rattle.tac_reader.specs.Programs.{LabelsRise, sign_of};
+ghost use Rattle.tac_reader.specs.Sound.{IsSound};
 
 use crate::names::NameTable;
 use arrayvec::ArrayVec;
@@ -118,7 +119,8 @@ impl Callees {
 
     /// The procedures by number, in the order of the text.
     pub fn as_slice(&self) -> &[u32]
-        ensures { result.now ≡ self.now }
+        ensures procedures { result.now ≡ self.now }
+        ensures few { length result.now ≤ 8 }
     {
         self.procedures.as_slice()
     }
@@ -261,8 +263,7 @@ impl Proc {
 }
 
 /// A program, as `read` makes it: its procedures in text order, and the names of everything that is
-/// held by number. Each jump leads to a label of its procedure, and each call to procedures that are
-/// there.
+/// held by number. Every program is sound: each number in it leads to what is there.
 #[derive(Debug, Drop)]
 pub struct Program {
     procs: Vec<Proc>,
@@ -272,15 +273,19 @@ pub struct Program {
 
 impl Model for Program {
     ghost use Rattle.tac_reader.specs.Programs.{Program};
+    ghost use Rattle.tac_reader.specs.Sound.{IsSound};
 
     ghost Value = { Program };
 
     ghost view = { λ p. record { procedures = p.procs.items; procedure_names = p.procedures; variable_names = p.variables } };
+
+    ghost invariant = { λ p. IsSound (record { procedures = p.procs.items; procedure_names = p.procedures; variable_names = p.variables }) };
 }
 
 impl Program {
     /// A program of these parts.
     pub(crate) fn new(procs: Vec<Proc>, procedures: NameTable, variables: NameTable) -> Self
+        requires { IsSound (record { procedures = procs.items; procedure_names = procedures; variable_names = variables }) }
         ensures { result ≡ record { procedures = procs.items; procedure_names = procedures; variable_names = variables } }
     {
         Program {
@@ -292,7 +297,8 @@ impl Program {
 
     /// The procedures in text order.
     pub fn procs(&self) -> &[Proc]
-        ensures { result.now ≡ self.now.procedures }
+        ensures procedures { result.now ≡ self.now.procedures }
+        ensures sound { IsSound self.now }
     {
         self.procs.as_slice()
     }

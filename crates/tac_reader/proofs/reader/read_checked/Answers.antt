@@ -4,6 +4,7 @@ use Rattle.tac_reader.specs.Programs.{names_in, variables_in}
 use Rattle.tac_reader.specs.Sections.{titles}
 use Rattle.tac_reader.specs.SectionViews.{sections_view}
 use Rattle.tac_reader.proofs.ReadSteps.{sections_are, text_fault, no_fault, program_is}
+use Rattle.tac_reader.proofs.SoundPrograms.{program_sound}
 use Rattle.tac_reader.proofs.reader.read_checked.Goals as goal
 
 pub returns-in_err-procedures-clause-fault : goal.returns-in_err-procedures-clause-fault
@@ -29,3 +30,13 @@ returns-clause-program c =
     let names = c.in_ok-procedures.ensures.procedures ∙ ap (λ x. names_in (titles (sections_view text x))) (c.deref-2.ensures.value ∙ sym c.deref-4.ensures.value) in
     let variables = c.in_ok-variables.ensures ∙ ap (λ x. variables_in (sections_view text x)) (c.deref-3.ensures.value ∙ sym c.deref-4.ensures.value) in
     c.in_ok-program.ensures ∙ program_is text (sections_view text c.deref-4.result.now) _ _ (ap (λ x. sections_view text x) c.deref-4.ensures.value ∙ ss) names variables
+
+pub program-requires-clause-sound : goal.program-requires-clause-sound
+program-requires-clause-sound c =
+    let text = c.args.text.now in
+    let ss = sections_are text c.in_ok-lexed.lexed _ _ _ (c.in_ok-sections.ensures text) c.deref.ensures.value c.in_ok-lines.ensures c.in_ok-lexed.ensures.lines in
+    let here = ap (λ x. sections_view text x) c.deref-2.ensures.value in
+    let names = c.in_ok-procedures.ensures.procedures ∙ ap (λ x. names_in (titles (sections_view text x))) (c.deref-2.ensures.value ∙ sym c.deref-4.ensures.value) in
+    let variables = c.in_ok-variables.ensures ∙ ap (λ x. variables_in (sections_view text x)) (c.deref-3.ensures.value ∙ sym c.deref-4.ensures.value) in
+    program_sound text (sections_view text c.deref-4.result.now) _ _ (ap (λ x. sections_view text x) c.deref-4.ensures.value ∙ ss) names variables
+    (no_fault text (sections_view text c.deref-2.result.now) c.requires c.in_ok-lexed.ensures.faultless (here ∙ ss) c.in_ok-procedures.ensures.faultless)
