@@ -6,7 +6,11 @@ ghost use Rattle.tac_reader.specs.Examples.{refused, procedures_before, word_fro
 ghost use Rattle.tac_reader.specs.Faults.{refusal_of};
 ghost use Rattle.tac_reader.specs.Listings.{listing_of};
 ghost use Rattle.tac_reader.specs.Programs.{program_of};
+ghost use Rattle.tac_reader.specs.Sound.{IsSound, IsSoundStatement};
 ghost use Rattle.tac_reader.specs.Tokens.{row_from, name, number, fixed};
+ghost use Rattle.tac_reader.specs.declared.program.Op.TheVariants.{Less, Plus, Tilde};
+ghost use Rattle.tac_reader.specs.declared.program.Operand.TheVariants.{Variable, Number};
+ghost use Rattle.tac_reader.specs.declared.program.StmtKind.TheVariants.{Copy, Unary, Binary, Goto, IfCompare, Call};
 ghost use Rattle.tac_reader.specs.declared.refusal.RefusalKind.TheVariants.{BadByte, NumberTooLarge, NameTooLong, Syntax, Unclosed, NoMain, DuplicateProcedure, DuplicateLabel, UnknownLabel, UnknownProcedure, TooManyProcedures, DuplicateCallee};
 
 /// Every beginning of the smallest program is refused at its place, until it is whole.
@@ -129,4 +133,28 @@ pub fn listings()
 /// Names are numbered by first occurrence, labels in their procedure, and a label stands for the next statement.
 pub fn numbers()
     ensures program { program_of (codes "proc main\nL: x = y\nM:end1:\nend\nproc p\nread z\nx = -7\nM: if y > z goto M\ncall p | main\nend\n") ≡ numbered_example }
+{}
+
+/// A statement is sound where all that it names is there, and not by one less.
+pub fn sound_statements()
+    ensures variables { IsSoundStatement 2 0 1 (Copy 0 (Variable 1)) }
+    ensures variable_missing { ¬ IsSoundStatement 1 0 1 (Copy 0 (Variable 1)) }
+    ensures target_missing { ¬ IsSoundStatement 0 0 1 (Copy 0 (Number 1)) }
+    ensures number_too_large { ¬ IsSoundStatement 1 0 1 (Copy 0 (Number 9223372036854775808)) }
+    ensures unary { IsSoundStatement 1 0 1 (Unary 0 Tilde (Number 9223372036854775807)) }
+    ensures no_unary { ¬ IsSoundStatement 1 0 1 (Unary 0 Plus (Number 1)) }
+    ensures no_binary { ¬ IsSoundStatement 1 0 1 (Binary 0 (Number 1) Tilde (Number 1)) }
+    ensures label { IsSoundStatement 0 1 1 (Goto 0) }
+    ensures label_missing { ¬ IsSoundStatement 0 1 1 (Goto 1) }
+    ensures comparison { IsSoundStatement 1 1 1 (IfCompare (Variable 0) Less (Number 3) 0) }
+    ensures no_comparison { ¬ IsSoundStatement 1 1 1 (IfCompare (Variable 0) Plus (Number 3) 0) }
+    ensures callees { IsSoundStatement 0 0 2 (Call (1 ∷ 0 ∷ [])) }
+    ensures callee_missing { ¬ IsSoundStatement 0 0 1 (Call (1 ∷ [])) }
+    ensures callee_twice { ¬ IsSoundStatement 0 0 2 (Call (1 ∷ 1 ∷ [])) }
+    ensures no_callee { ¬ IsSoundStatement 0 0 2 (Call []) }
+{}
+
+/// The worked program is sound.
+pub fn sound_programs()
+    ensures { IsSound numbered_example }
 {}
