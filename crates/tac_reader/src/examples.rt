@@ -154,7 +154,12 @@ pub fn sound_statements()
     ensures no_callee { ¬ IsSoundStatement 0 0 2 (Call []) }
 {}
 
-/// The worked program is sound.
+/// The worked program is sound, and with other names it is not.
 pub fn sound_programs()
-    ensures { IsSound numbered_example }
+    ensures numbered { IsSound numbered_example }
+    ensures variable_missing { ¬ IsSound (record numbered_example { variable_names = codes "x" ∷ codes "y" ∷ [] }) }
+    ensures variable_twice { ¬ IsSound (record numbered_example { variable_names = codes "x" ∷ codes "y" ∷ codes "x" ∷ [] }) }
+    ensures keyword { ¬ IsSound (record numbered_example { variable_names = codes "x" ∷ codes "if" ∷ codes "z" ∷ [] }) }
+    ensures no_main { ¬ IsSound (record numbered_example { procedure_names = codes "p" ∷ codes "q" ∷ [] }) }
+    ensures name_missing { ¬ IsSound (record numbered_example { procedure_names = codes "main" ∷ [] }) }
 {}
