@@ -41,3 +41,4 @@ pub mod SpelledTokens
 pub mod EachLemmas
 pub mod CutRows
 pub mod SpelledStatements
+pub mod FoundNames

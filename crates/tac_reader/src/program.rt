@@ -1,5 +1,5 @@
 // A program: procedures of statements, over names held by number.
-ghost use Rattle.std.specs.Prelude.{◌≡◌, ◌<◌, ◌≤◌, [], ◌∷◌, ◌++◌, length, slice_get, Some, IfSome};
+ghost use Rattle.std.specs.Prelude.{◌≡◌, ◌<◌, ◌≤◌, [], ◌∷◌, ◌++◌, codes, length, slice_get, Some, IfSome};
 ghost use Rattle.tac_reader.specs.Programs.{LabelsRise, sign_of};
 ghost use Rattle.tac_reader.specs.Sound.{IsSound};
 
@@ -301,6 +301,14 @@ impl Program {
         ensures sound { IsSound self.now }
     {
         self.procs.as_slice()
+    }
+
+    /// The number of the procedure `main`.
+    pub fn main(&self) -> u32
+        ensures within { result < length self.now.procedures }
+        ensures main { slice_get self.now.procedure_names result ≡ Some (codes "main") }
+    {
+        self.procedures.find(b"main").unwrap()
     }
 
     /// How many variables there are.
