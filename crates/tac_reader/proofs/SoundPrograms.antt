@@ -18,6 +18,7 @@ use Rattle.tac_reader.specs.declared.refusal.RefusalKind.{RefusalKind}
 use Rattle.tac_reader.specs.declared.refusal.RefusalKind.TheVariants as kind
 use Rattle.tac_reader.proofs.Elements.{each-append, each-map, each-from_map, each-flat_map, each-from_flat_map, each-weaker, each-both, no_left, no_right, no_parts, all_differ}
 use Rattle.tac_reader.proofs.FirstFault.{none_first}
+use Rattle.tac_reader.proofs.LabelRuns.{labels_rise}
 use Rattle.tac_reader.proofs.KnownNames.{Known, known_contained, none_repeated, each_once_known, each_once_differ, each_once_each}
 use Rattle.tac_reader.proofs.FaultlessLines.{Sound, IsFaultlessSection, AllFaultless, rows_spelled, lines_faultless, sections_faultless, name_lawful}
 use Rattle.tac_reader.proofs.FaultlessStatements.{IsFaultlessStatement, statements_faultless, all_labels_lawful}
@@ -83,6 +84,7 @@ module _ (text : List ℕ) (procedures variables : List (List ℕ)) where
         numbered = λ k l e. labels_numbered 0 places k l e ∙ (let zero_on : 0 + k ≡ k = omega arith in zero_on);
         named = count;
         placed = All-from_recursion (λ (l : Label). l.place ≤ length (map (statement_of text names) ss)) ls (labels_placed 0 (length (map (statement_of text names) ss)) places (places_within 0 (length (map (statement_of text names) ss)) s.body (omega (arith, size))));
+        rise = labels_rise ls s.body refl;
         lawful = All-from_recursion IsLawfulName names.labels (each-map IsLawfulName spelling_of (labels_in s) (all_labels_lawful s.body (h.faultless).lines));
         differ = all_differ names.labels (none_repeated kind.DuplicateLabel [] (labels_in s) h.labels_once).differ;
         statements = All-from_recursion (λ q. IsSoundStatement (length variables) (length ls) (length procedures) q.kind) (map (statement_of text names) ss)

@@ -2,7 +2,7 @@
 use Rattle.std.specs.Prelude.{◌≡◌, ◌≢◌, ℕ, ◌<◌, ◌≤◌, true, false, List, length, All, AllPairs, Contains, slice_get, codes}
 use Rattle.std.specs.Option.{ForSome}
 use Rattle.tac_reader.specs.Tokens.{is_name, is_one_of, keywords, unary_signs, binary_signs, comparison_signs}
-use Rattle.tac_reader.specs.Programs.{Procedure, Program, sign_of}
+use Rattle.tac_reader.specs.Programs.{Procedure, Program, LabelsRise, sign_of}
 use Rattle.tac_reader.specs.Faults.{largest_number, longest_name, most_procedures}
 use Rattle.tac_reader.specs.declared.program.Op.{Op}
 use Rattle.tac_reader.specs.declared.program.Operand.{Operand}
@@ -97,6 +97,8 @@ pub record IsSoundProcedure (variables procedures : ℕ) (p : Procedure) : Type 
   pub named : length p.label_names ≡ length p.labels
   -- each label stands for a statement or for the end
   pub placed : All (λ l. l.place ≤ length p.statements) p.labels
+  -- and none for one before that of an earlier label
+  pub rise : LabelsRise p.labels
   -- each name is one of the language
   pub lawful : All IsLawfulName p.label_names
   -- no two labels have one name
