@@ -31,7 +31,7 @@ abbrev pub IsSoundOperand : ℕ → Operand → Type 0
 IsSoundOperand variables (Variable v) = v < variables
 IsSoundOperand variables (Number n) = n ≤ largest_number
 
--- Whether an operator may stand in such a place.
+-- An operator that may stand in such a place.
 abbrev pub IsUnary : Op → Type 0
 IsUnary o = is_one_of (sign_of o) unary_signs ≡ true
 
@@ -42,24 +42,29 @@ abbrev pub IsComparison : Op → Type 0
 IsComparison o = is_one_of (sign_of o) comparison_signs ≡ true
 
 pub record IsSoundUnary (variables x : ℕ) (o : Op) (y : Operand) : Type 0 where
-  -- the target is a variable that is there
+  -- the target is there
   pub target : x < variables
   -- the operator is a unary one
   pub op : IsUnary o
+  -- its operand is sound
   pub operand : IsSoundOperand variables y
 
 pub record IsSoundBinary (variables x : ℕ) (y : Operand) (o : Op) (z : Operand) : Type 0 where
-  -- the target is a variable that is there
+  -- the target is there
   pub target : x < variables
+  -- the left operand is sound
   pub left : IsSoundOperand variables y
   -- the operator is a binary one
   pub op : IsBinary o
+  -- the right operand is sound
   pub right : IsSoundOperand variables z
 
 pub record IsSoundComparison (variables labels : ℕ) (y : Operand) (o : Op) (z : Operand) (l : ℕ) : Type 0 where
+  -- the left operand is sound
   pub left : IsSoundOperand variables y
   -- the operator is a comparison
   pub op : IsComparison o
+  -- the right operand is sound
   pub right : IsSoundOperand variables z
   -- the label is there
   pub label : l < labels
