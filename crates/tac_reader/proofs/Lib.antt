@@ -42,3 +42,4 @@ pub mod EachLemmas
 pub mod CutRows
 pub mod SpelledStatements
 pub mod FoundNames
+pub mod ProgramSizes

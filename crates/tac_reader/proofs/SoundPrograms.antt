@@ -1,5 +1,6 @@
 -- The program of a text that is not refused is sound.
 use Rattle.std.proofs.Common.{◌≡◌, ℕ, zero, suc, ◌+◌, ◌-◌, ◌≤◌, Bool, true, false, List, [], ◌∷◌, ◌++◌, map, flat_map, length, drop, refl, sym, ap, ◌∙◌, subst, arith, Option, Some, None, All, slice_get, option_map, if◌then◌else◌, nat_lt, length-append, length-drop, codes}
+use Rattle.std.proofs.lemmas.Bool.{ltb-false}
 use Rattle.std.proofs.lemmas.List.{length-map}
 use Rattle.std.proofs.lemmas.List.Elements.{All-from_recursion}
 use Rattle.std.specs.List.{AllByRecursion as Each}
@@ -22,6 +23,7 @@ use Rattle.tac_reader.proofs.LabelRuns.{labels_rise}
 use Rattle.tac_reader.proofs.KnownNames.{Known, known_contained, none_repeated, each_once_known, each_once_differ, each_once_each}
 use Rattle.tac_reader.proofs.FaultlessLines.{Sound, IsFaultlessSection, AllFaultless, rows_spelled, lines_faultless, sections_faultless, name_lawful}
 use Rattle.tac_reader.proofs.FaultlessStatements.{IsFaultlessStatement, statements_faultless, all_labels_lawful}
+use Rattle.tac_reader.proofs.ProgramSizes.{AreFew, sections_few, total, total_is}
 use Rattle.tac_reader.proofs.SoundStatements.{NamesAreKnown, statement_sound}
 use Rattle.tac_reader.proofs.ReadSteps.{program_is}
 
@@ -106,6 +108,16 @@ module _ (text : List ℕ) (procedures variables : List (List ℕ)) where
   length-procedures_from : (n : ℕ) (ss : List Section) → length (procedures_from text procedures variables n ss) ≡ length ss
   length-procedures_from n [] = refl
   length-procedures_from n (s ∷ ss) = ap suc (length-procedures_from (suc n) ss)
+
+  total_statements : (n : ℕ) (ss : List Section) → total (λ q. length q.statements) (procedures_from text procedures variables n ss) ≡ total (λ s. length (statements_of s.body)) ss
+  total_statements n [] = refl
+  total_statements n (s ∷ ss) =
+      let names : Names = record { procedures = procedures; variables = variables; labels = names_in (labels_in s) } in
+      omega (arith, length-map (statements_of s.body) (statement_of text names), total_statements (suc n) ss)
+
+  total_labels : (n : ℕ) (ss : List Section) → total (λ q. length q.labels) (procedures_from text procedures variables n ss) ≡ total (λ s. length (labels_in s)) ss
+  total_labels n [] = refl
+  total_labels n (s ∷ ss) = omega (arith, length-labels_from 0 (label_places 0 s.body), length-label_places 0 s.body, total_labels (suc n) ss)
 
 -- Names that are looked up are known.
 none_unknown : (kind : RefusalKind) (known used : List Token) → unknown kind known used ≡ [] → Each (λ t. Known (names_in known) (spelling_of t)) used
@@ -245,9 +257,9 @@ all_variables_lawful ss h =
     (each-weaker IsFaultlessSection (λ s. Each L (flat_map variables_of (statements_of s.body)))
     (λ s k. each-flat_map L variables_of (statements_of s.body) (each-weaker IsFaultlessStatement (λ ts. Each L (variables_of ts)) variables_lawful (statements_of s.body) (statements_faultless s.body k.lines))) ss h)))
 
-sections_sound : (text : List ℕ) (ss : List Section) → Each IsFaultlessSection ss → NoNameFaults ss → IsSound (program_in text ss)
+sections_sound : (text : List ℕ) (ss : List Section) → Each IsFaultlessSection ss → NoNameFaults ss → AreFew longest_text ss → IsSound (program_in text ss)
 unfolding program_in
-sections_sound text ss f h =
+sections_sound text ss f h few =
     let procedures : List (List ℕ) = names_in (titles ss) in
     let variables : List (List ℕ) = variables_in ss in
     let ps : List Procedure = procedures_from text procedures variables 0 ss in
@@ -261,27 +273,31 @@ sections_sound text ss f h =
       procedures_differ = all_differ procedures (none_repeated kind.DuplicateProcedure [] (titles ss) h.procedures).differ;
       variables_lawful = All-from_recursion IsLawfulName variables (all_variables_lawful ss f);
       variables_differ = all_differ variables (each_once_differ (names_in (variable_tokens ss)));
+      statements_few = omega (arith, few.statements, total_is (λ q. length q.statements) ps, total_statements text procedures variables 0 ss);
+      labels_few = omega (arith, few.labels, total_is (λ q. length q.labels) ps, total_labels text procedures variables 0 ss);
+      variables_few = few.variables;
       procedures = subst (λ n. All (IsSoundProcedure (length variables) n) ps) size
           (All-from_recursion (IsSoundProcedure (length variables) (length procedures)) ps (procedures_sound text procedures variables 0 ss (sections_lawful ss variables ss f h.each (variables_known ss))));
     }
 
 -- What a text without a fault shows.
 record HasNoFaults (text : List ℕ) : Type 0 where
+  short : length text ≤ longest_text
   lines : first_by_place (line_faults false (length text) (rows text)) ≡ None
   names : head_of (name_faults (sections text)) ≡ None
 
 no_faults : (text : List ℕ) → fault_of text ≡ None → HasNoFaults text
-no_faults text e = by_length (nat_lt longest_text (length text)) e where
-  by_line : (o : Option Fault) → first_by_place (line_faults false (length text) (rows text)) ≡ o → (elim o as (λ _. Option Fault) [ Some f ↦ Some f | None ↦ head_of (name_faults (sections text)) ]) ≡ None → HasNoFaults text
-  by_line (Some f) k h = absurd (cc h)
-  by_line None k h = record { lines = k; names = h }
+no_faults text e = by_length (nat_lt longest_text (length text)) refl e where
+  by_line : (o : Option Fault) → length text ≤ longest_text → first_by_place (line_faults false (length text) (rows text)) ≡ o → (elim o as (λ _. Option Fault) [ Some f ↦ Some f | None ↦ head_of (name_faults (sections text)) ]) ≡ None → HasNoFaults text
+  by_line (Some f) short k h = absurd (cc h)
+  by_line None short k h = record { short = short; lines = k; names = h }
 
-  by_length : (b : Bool) → (elim b as (λ _. Option Fault) [
+  by_length : (b : Bool) → nat_lt longest_text (length text) ≡ b → (elim b as (λ _. Option Fault) [
     | true ↦ Some (record { kind = kind.TextTooLong; place = 0 })
     | false ↦ elim (first_by_place (line_faults false (length text) (rows text))) as (λ _. Option Fault) [ Some f ↦ Some f | None ↦ head_of (name_faults (sections text)) ]
   ]) ≡ None → HasNoFaults text
-  by_length true h = absurd (cc h)
-  by_length false h = by_line (first_by_place (line_faults false (length text) (rows text))) refl h
+  by_length true t h = absurd (cc h)
+  by_length false t h = by_line (first_by_place (line_faults false (length text) (rows text))) (ltb-false longest_text (length text) t) refl h
 
 none_head : (fs : List Fault) → head_of fs ≡ None → fs ≡ []
 none_head [] e = refl
@@ -293,7 +309,9 @@ unfolding program_in
 faultless_sound text e =
     let h = no_faults text e in
     let faultless : AllFaultless false (token_lines (rows text)) = lines_faultless false (length text) (rows text) (rows_spelled 0 (lines text)) (none_first (line_faults false (length text) (rows text)) h.lines) in
+    let few = sections_few text in
     sections_sound text (sections text) (sections_faultless false (token_lines (rows text)) faultless) (no_name_faults (sections text) (none_head (name_faults (sections text)) h.names))
+    (record { statements = omega (arith, few.statements, h.short); labels = omega (arith, few.labels, h.short); variables = omega (arith, few.variables, h.short) })
 
 -- The same of what the code makes of the text's sections.
 pub program_sound : (text : List ℕ) (ss : List Section) (procedures variables : List (List ℕ)) → ss ≡ sections text → procedures ≡ names_in (titles ss) → variables ≡ variables_in ss → fault_of text ≡ None → IsSound (record { procedures = procedures_from text procedures variables 0 ss; procedure_names = procedures; variable_names = variables })

@@ -1,9 +1,9 @@
 -- What holds of every program that is read: each number in it leads to what is there.
-use Rattle.std.specs.Prelude.{◌≡◌, ◌≢◌, ℕ, ◌<◌, ◌≤◌, true, false, List, length, All, AllPairs, Contains, slice_get, codes}
+use Rattle.std.specs.Prelude.{◌≡◌, ◌≢◌, ℕ, ◌<◌, ◌≤◌, true, false, List, length, All, AllPairs, Contains, slice_get, sum_by, codes}
 use Rattle.std.specs.Option.{ForSome}
 use Rattle.tac_reader.specs.Tokens.{is_name, is_one_of, keywords, unary_signs, binary_signs, comparison_signs}
 use Rattle.tac_reader.specs.Programs.{Procedure, Program, LabelsRise, sign_of}
-use Rattle.tac_reader.specs.Faults.{largest_number, longest_name, most_procedures}
+use Rattle.tac_reader.specs.Faults.{largest_number, longest_name, longest_text, most_procedures}
 use Rattle.tac_reader.specs.declared.program.Op.{Op}
 use Rattle.tac_reader.specs.declared.program.Operand.{Operand}
 use Rattle.tac_reader.specs.declared.program.Operand.TheVariants.{Variable, Number}
@@ -128,5 +128,9 @@ pub record IsSound (p : Program) : Type 0 where
   pub variables_lawful : All IsLawfulName p.variable_names
   -- no two variables have one name
   pub variables_differ : AllDiffer p.variable_names
+  -- the statements, the labels and the variables are no more than the bytes of a text
+  pub statements_few : sum_by (λ q. length q.statements) p.procedures ≤ longest_text
+  pub labels_few : sum_by (λ q. length q.labels) p.procedures ≤ longest_text
+  pub variables_few : length p.variable_names ≤ longest_text
   -- each procedure keeps to what is there
   pub procedures : All (IsSoundProcedure (length p.variable_names) (length p.procedures)) p.procedures
