@@ -43,13 +43,13 @@ clashing s (exactly b) (name n) h l r = absurd (true≢false (sym r))
 clashing s (exactly b) (number n) h l r = absurd (true≢false (sym r))
 clashing s u w h l r = absurd (true≢false (sym h))
 
-abbrev apart : List Slot → List Slot → Bool
+abbrev pub apart : List Slot → List Slot → Bool
 apart [] [] = false
 apart [] (u ∷ us) = true
 apart (s ∷ ss) [] = true
 apart (s ∷ ss) (u ∷ us) = clash s u || apart ss us
 
-not_both : (f g : List Slot) (ts : List Token) → apart f g ≡ true → has_form f ts ≡ true → has_form g ts ≡ true → ⊥
+pub not_both : (f g : List Slot) (ts : List Token) → apart f g ≡ true → has_form f ts ≡ true → has_form g ts ≡ true → ⊥
 not_both [] [] ts h l r = absurd (true≢false (sym h))
 not_both [] (u ∷ us) [] h l r = absurd (true≢false (sym r))
 not_both [] (u ∷ us) (t ∷ ts) h l r = absurd (true≢false (sym l))

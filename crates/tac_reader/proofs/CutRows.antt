@@ -7,7 +7,7 @@ use Rattle.tac_reader.proofs.Places.{longest_front, ends_line, StandsIn, EachTok
 use Rattle.tac_reader.proofs.RowSteps.{row_some, row_none, take-take, drop-take}
 
 -- No longer front is a piece.
-pub longest_past : (n : ℕ) (s : List ℕ) (found : ℕ × Piece) → longest_of n s ≡ Some found → (k : ℕ) → found.0 < k → k ≤ n → piece_of (take k s) ≡ None
+longest_past : (n : ℕ) (s : List ℕ) (found : ℕ × Piece) → longest_of n s ≡ Some found → (k : ℕ) → found.0 < k → k ≤ n → piece_of (take k s) ≡ None
 longest_past zero s found e k low high = absurd (cc e)
 longest_past (suc n) s found e k low high = go (piece_of (take (suc n) s)) refl (λ h below. longest_past n s found h k low below) where
   same : (x y : ℕ × Piece) → ◌≡◌ {A = Option (ℕ × Piece)} (Some x) (Some y) → x ≡ y
@@ -27,7 +27,7 @@ longest_past (suc n) s found e k low high = go (piece_of (take (suc n) s)) refl 
       absurd (let never : ⊥ = omega (arith, size, low, high) in never)
 
 -- So it stays the longest where a line is cut off behind it.
-pub longest_cut : (m n : ℕ) (s : List ℕ) (p : Piece) → longest s ≡ Some (n, p) → n ≤ m → longest (take m s) ≡ Some (n, p)
+longest_cut : (m n : ℕ) (s : List ℕ) (p : Piece) → longest s ≡ Some (n, p) → n ≤ m → longest (take m s) ≡ Some (n, p)
 longest_cut m zero s p e h = absurd (let front = longest_front (length s) s (zero, p) e in let never : ⊥ = omega (arith, front.0) in never)
 longest_cut m (suc n) s p e h =
     let front = longest_front (length s) s (suc n, p) e in
@@ -35,7 +35,7 @@ longest_cut m (suc n) s p e h =
     longest_is (length (take m s)) n (take m s) p (omega (arith, size, h, front.1)) (ap piece_of (take-take (suc n) m s h) ∙ front.2)
     (λ k low high. ap piece_of (take-take k m s (omega (arith, high, size))) ∙ longest_past (length s) s (suc n, p) e k low (omega (arith, high, size)))
 
-pub row_cut_step : (place n end : ℕ) (p : Piece) (bs : List ℕ) → longest bs ≡ Some (n, p) → place + n ≤ end → row_from place zero (take (end - place) bs) ≡ before_row p place (place + n) (row_from (place + n) zero (take (end - (place + n)) (drop n bs)))
+row_cut_step : (place n end : ℕ) (p : Piece) (bs : List ℕ) → longest bs ≡ Some (n, p) → place + n ≤ end → row_from place zero (take (end - place) bs) ≡ before_row p place (place + n) (row_from (place + n) zero (take (end - (place + n)) (drop n bs)))
 row_cut_step place n end p bs e h =
     let front = longest_front (length bs) bs (n, p) e in
     let size : length (take (end - place) bs) ≡ min (end - place) (length bs) = length-take (end - place) bs in

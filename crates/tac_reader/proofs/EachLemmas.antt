@@ -16,9 +16,6 @@ module _ {X : Type 0} (P : X → Type 0) where
   each-weaker Q f [] h = tt
   each-weaker Q f (x ∷ xs) h = (f x h.0, each-weaker Q f xs h.1)
 
-  pub each-flat_map : {Y : Type 0} (Q : Y → Type 0) (f : X → List Y) → ((x : X) → P x → Each Q (f x)) → (xs : List X) → Each P xs → Each Q (flat_map f xs)
-  each-flat_map Q f g [] h = tt
-  each-flat_map Q f g (x ∷ xs) h = joined (f x) (g x h.0) (each-flat_map Q f g xs h.1) where
-    joined : (ys : List _) → Each Q ys → Each Q (flat_map f xs) → Each Q (ys ++ flat_map f xs)
-    joined [] a b = b
-    joined (y ∷ ys) a b = (a.0, joined ys a.1 b)
+pub each-flat_map : {X Y : Type 0} (P : X → Type 0) (Q : Y → Type 0) (f : X → List Y) → ((x : X) → P x → Each Q (f x)) → (xs : List X) → Each P xs → Each Q (flat_map f xs)
+each-flat_map P Q f g [] h = tt
+each-flat_map P Q f g (x ∷ xs) h = each-append Q (f x) (flat_map f xs) (g x h.0) (each-flat_map P Q f g xs h.1)

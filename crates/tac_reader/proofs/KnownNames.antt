@@ -2,11 +2,13 @@
 use Rattle.std.proofs.Common.{◌≡◌, ◌≢◌, ℕ, zero, suc, ◌+◌, ◌<◌, Bool, true, false, not, cond, ◌||◌, List, [], ◌∷◌, ◌++◌, map, fold, length, refl, sym, ap, ◌∙◌, subst, arith, Some, None, unwrap_or, bytes_eq, get_or, true≢false, one-add, if◌then◌else◌, Contains}
 use Rattle.std.proofs.lemmas.Bool.{lt-ltb, or_parts}
 use Rattle.std.proofs.lemmas.Slice.Eq.{bytes_eq-Decides}
+use Rattle.std.proofs.lemmas.Option.{unwrap_or-slice_get}
 use Rattle.std.specs.List.{AllByRecursion as Each, position_or_len}
 use Rattle.tac_reader.specs.Tokens.{Token, is_one_of}
 use Rattle.tac_reader.specs.Sections.{spelling_of}
 use Rattle.tac_reader.specs.Programs.{names_in, noted, number_of}
 use Rattle.tac_reader.specs.Faults.{at, repeated}
+use Rattle.tac_reader.specs.Listings.{name_at}
 use Rattle.tac_reader.specs.declared.fault.Fault.{Fault}
 use Rattle.tac_reader.specs.declared.refusal.RefusalKind.{RefusalKind}
 use Rattle.tac_reader.proofs.Elements.{each-append, each-weaker, no_left, no_right, Differ}
@@ -48,6 +50,14 @@ default : (names : List (List ℕ)) (n : ℕ) (a b : List ℕ) → n < length na
 default [] n a b h = absurd (let never : ⊥ = omega (arith, h) in never)
 default (x ∷ xs) zero a b h = refl
 default (x ∷ xs) (suc n) a b h = default xs n a b (omega (arith, h))
+
+-- The name of the number of a known name is the name.
+pub name_of_number : (names : List (List ℕ)) (s : List ℕ) → Known names s → name_at names (number_of names s) ≡ s
+name_of_number names s h =
+    unwrap_or-slice_get names (number_of names s) []
+    ∙ ap (λ n. get_or names n []) (number_is names s h)
+    ∙ default names (place names s) [] s (place_below names s h)
+    ∙ stands names s h
 
 -- Known names of one number are one name.
 pub same_number : (names : List (List ℕ)) (a b : List ℕ) → Known names a → Known names b → number_of names a ≡ number_of names b → a ≡ b

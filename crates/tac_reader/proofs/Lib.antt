@@ -43,3 +43,17 @@ pub mod CutRows
 pub mod SpelledStatements
 pub mod FoundNames
 pub mod ProgramSizes
+pub mod Decimals
+pub mod ReadWords
+pub mod Bare
+pub mod Cores
+pub mod CoreFaults
+pub mod Layouts
+pub mod StatementTexts
+pub mod ResolvedWords
+pub mod FineRows
+pub mod AcceptedTexts
+pub mod GoodSections
+pub mod ListingLines
+pub mod ListingSections
+pub mod RoundTrip

@@ -20,12 +20,12 @@ drop_next (suc n) [] ys b e = absurd (cc e)
 drop_next (suc n) (x ∷ xs) ys b e = drop_next n xs ys b e
 
 -- A range is a front of what stands from its start on.
-pub range_front : (text bs after : List ℕ) (place n : ℕ) → drop place text ≡ bs ++ after → n ≤ length bs → slice_range text place (place + n) ≡ take n bs
+range_front : (text bs after : List ℕ) (place n : ℕ) → drop place text ≡ bs ++ after → n ≤ length bs → slice_range text place (place + n) ≡ take n bs
 range_front text bs after place n e h =
     let size : (place + n) - place ≡ n = omega arith in
     (λ i. take (size i) (e i)) ∙ take-append-le n bs after h
 
-pub row_spelled : (text after : List ℕ) (place inside : ℕ) (bs : List ℕ) → drop place text ≡ bs ++ after → place + length bs ≤ length text → Each (IsSpelled text) (row_from place inside bs).tokens
+row_spelled : (text after : List ℕ) (place inside : ℕ) (bs : List ℕ) → drop place text ≡ bs ++ after → place + length bs ≤ length text → Each (IsSpelled text) (row_from place inside bs).tokens
 row_spelled text after place inside [] e h = tt
 row_spelled text after place (suc inside) (b ∷ bs) e h = row_spelled text after (suc place) inside bs (drop_next place text (bs ++ after) b e) (omega (arith, h))
 row_spelled text after place zero (b ∷ bs) e h =
@@ -46,7 +46,7 @@ drop_past text [] rest place e = ap (λ k. drop k text) (let n : place + 0 ≡ p
 drop_past text (b ∷ bs) rest place e =
     ap (λ k. drop k text) (let n : place + suc (length bs) ≡ suc place + length bs = omega arith in n) ∙ drop_past text bs rest (suc place) (drop_next place text (bs ++ rest) b e)
 
-pub rows_spelled : (text : List ℕ) (place : ℕ) (ls : List (List ℕ)) → drop place text ≡ flat_map (λ l. l) ls → place + length (flat_map (λ (l : List ℕ). l) ls) ≤ length text → Each (λ row. All (IsSpelled text) row.tokens) (rows_from place ls)
+rows_spelled : (text : List ℕ) (place : ℕ) (ls : List (List ℕ)) → drop place text ≡ flat_map (λ l. l) ls → place + length (flat_map (λ (l : List ℕ). l) ls) ≤ length text → Each (λ row. All (IsSpelled text) row.tokens) (rows_from place ls)
 rows_spelled text place [] e h = tt
 rows_spelled text place (l ∷ ls) e h =
     let size : length (l ++ flat_map (λ x. x) ls) ≡ length l + length (flat_map (λ (x : List ℕ). x) ls) = length-append l (flat_map (λ x. x) ls) in (

@@ -1,6 +1,6 @@
 //! Laws of the definitions: each is the clause of a function without a body.
 
-ghost use Rattle.tac_reader.specs.Laws.{LinesJoin, ProgramsAreSound, StatementsAreApart, StatementsAreSpelled, TokensAreSpelled};
+ghost use Rattle.tac_reader.specs.Laws.{LinesJoin, ListingsReadBack, ProgramsAreSound, StatementsAreApart, StatementsAreSpelled, TokensAreSpelled};
 
 /// The lines of a text, one after another, are the text.
 pub fn lines_join()
@@ -25,4 +25,10 @@ pub fn tokens_are_spelled()
 /// The bytes of a statement's span have its tokens and nothing else.
 pub fn statements_are_spelled()
     ensures { StatementsAreSpelled }
+{}
+
+/// The listing of a text's program, where it is within the limit of a text, is a text of the same
+/// program but for spans.
+pub fn listings_read_back()
+    ensures { ListingsReadBack }
 {}
