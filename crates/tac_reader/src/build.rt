@@ -6,6 +6,7 @@ ghost use Rattle.tac_reader.specs.Programs.{number_of, operand_of, operator_of, 
 ghost use Rattle.tac_reader.specs.Sections.{bytes_of, callees_of};
 ghost use Rattle.tac_reader.specs.Text.{line_after};
 ghost use Rattle.tac_reader.specs.Views.{token_view, tokens_view};
+ghost use Rattle.tac_reader.specs.declared.program.StmtKind.TheVariants.{Binary, IfCompare};
 
 use crate::form::Form;
 use crate::line::stop_of;
@@ -68,6 +69,30 @@ fn operator_at(tokens: &[Token], at: usize) -> Op
     }
 }
 
+/// What the tokens of a binary assignment say.
+fn binary(names: Names<'_>, text: &[u8], tokens: &[Token]) -> StmtKind
+    ensures { result ≡ Binary (number_of names.entry.variables.now (bytes_of (word_nth (tokens_view text.now tokens.now) 0))) (operand_of (names_view names.entry) (word_nth (tokens_view text.now tokens.now) 2)) (operator_of (word_nth (tokens_view text.now tokens.now) 3)) (operand_of (names_view names.entry) (word_nth (tokens_view text.now tokens.now) 4)) }
+{
+    StmtKind::Binary {
+        target: number_at(names.variables, text, tokens, 0),
+        left: operand_at(names, text, tokens, 2),
+        op: operator_at(tokens, 3),
+        right: operand_at(names, text, tokens, 4),
+    }
+}
+
+/// What the tokens of a comparison say.
+fn comparison(names: Names<'_>, text: &[u8], tokens: &[Token]) -> StmtKind
+    ensures { result ≡ IfCompare (operand_of (names_view names.entry) (word_nth (tokens_view text.now tokens.now) 1)) (operator_of (word_nth (tokens_view text.now tokens.now) 2)) (operand_of (names_view names.entry) (word_nth (tokens_view text.now tokens.now) 3)) (number_of names.entry.labels.now (bytes_of (word_nth (tokens_view text.now tokens.now) 5))) }
+{
+    StmtKind::IfCompare {
+        left: operand_at(names, text, tokens, 1),
+        op: operator_at(tokens, 2),
+        right: operand_at(names, text, tokens, 3),
+        label: number_at(names.labels, text, tokens, 5),
+    }
+}
+
 /// What the tokens of a statement say; `callees` are a call's.
 pub fn kind(names: Names<'_>, text: &[u8], tokens: &[Token], callees: Callees) -> StmtKind
     ensures { result ≡ kind_of (names_view names.entry) callees (form_in (tokens_view text.now tokens.now)) (map (λ t. t.word) (tokens_view text.now tokens.now)) }
@@ -82,12 +107,7 @@ pub fn kind(names: Names<'_>, text: &[u8], tokens: &[Token], callees: Callees) -
             op: operator_at(tokens, 2),
             operand: operand_at(names, text, tokens, 3),
         },
-        Some(Form::Binary) => StmtKind::Binary {
-            target: number_at(names.variables, text, tokens, 0),
-            left: operand_at(names, text, tokens, 2),
-            op: operator_at(tokens, 3),
-            right: operand_at(names, text, tokens, 4),
-        },
+        Some(Form::Binary) => binary(names, text, tokens),
         Some(Form::Jump) => StmtKind::Goto {
             label: number_at(names.labels, text, tokens, 1),
         },
@@ -99,12 +119,7 @@ pub fn kind(names: Names<'_>, text: &[u8], tokens: &[Token], callees: Callees) -
             condition: operand_at(names, text, tokens, 1),
             label: number_at(names.labels, text, tokens, 3),
         },
-        Some(Form::Comparison) => StmtKind::IfCompare {
-            left: operand_at(names, text, tokens, 1),
-            op: operator_at(tokens, 2),
-            right: operand_at(names, text, tokens, 3),
-            label: number_at(names.labels, text, tokens, 5),
-        },
+        Some(Form::Comparison) => comparison(names, text, tokens),
         Some(Form::Call) => StmtKind::Call { callees },
         Some(Form::Return) => StmtKind::Return,
         Some(Form::Read) => StmtKind::Read {

@@ -27,6 +27,7 @@ impl Model for NameTable {
 }
 
 impl NameTable {
+    /// A table of no names, which takes no memory until the first.
     pub fn new(alloc: Global) -> Self
         ensures { result ≡ [] }
     {

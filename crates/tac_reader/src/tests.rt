@@ -26,21 +26,12 @@ fn answer(alloc: Global, text: &[u8]) -> Result<String, AllocError> {
 }
 
 #[test]
-fn refuses(rt: HostRuntime) -> Result<(), Fail> {
+fn refuses_lines(rt: HostRuntime) -> Result<(), Fail> {
     let alloc = rt.alloc();
-    let table: [(&[u8], &str); 24] = [
-        (b"", "1:1: refusal 6: NoMain"),
+    let table: [(&[u8], &str); 10] = [
         (b"proc main\nx = 12ab\nend\n", "2:7: refusal 4: Syntax"),
-        (
-            b"proc main\nA: A: skip\nend\n",
-            "2:4: refusal 8: DuplicateLabel",
-        ),
         (b"9223372036854775808\n", "1:1: refusal 2: NumberTooLarge"),
         (b"proc proc\nend\n", "1:6: refusal 4: Syntax"),
-        (
-            b"proc q\nend\nproc q\nend\n",
-            "3:6: refusal 7: DuplicateProcedure",
-        ),
         (b"proc main\nx = 1\n", "3:1: refusal 5: Unclosed"),
         (b"proc main\nx = 1", "2:6: refusal 5: Unclosed"),
         (
@@ -48,6 +39,32 @@ fn refuses(rt: HostRuntime) -> Result<(), Fail> {
             "2:5: refusal 2: NumberTooLarge",
         ),
         (b"proc main\nx =\nend\n", "2:4: refusal 4: Syntax"),
+        (
+            b"proc main\ncall a|b|c|d|e|f|g|h|i\nend\n",
+            "2:21: refusal 4: Syntax",
+        ),
+        (b"proc main\ncall main |\nend\n", "2:12: refusal 4: Syntax"),
+        (b"proc main\nend\nx = 1\n", "3:1: refusal 4: Syntax"),
+    ];
+    for (text, want) in table {
+        assert_eq!(rt; answer(alloc, text)?.as_str(), want);
+    }
+    Ok(())
+}
+
+#[test]
+fn refuses_names(rt: HostRuntime) -> Result<(), Fail> {
+    let alloc = rt.alloc();
+    let table: [(&[u8], &str); 8] = [
+        (b"", "1:1: refusal 6: NoMain"),
+        (
+            b"proc main\nA: A: skip\nend\n",
+            "2:4: refusal 8: DuplicateLabel",
+        ),
+        (
+            b"proc q\nend\nproc q\nend\n",
+            "3:6: refusal 7: DuplicateProcedure",
+        ),
         (
             b"proc main\ngoto A\ncall z\nA: A: skip\nend\n",
             "4:4: refusal 8: DuplicateLabel",
@@ -61,19 +78,24 @@ fn refuses(rt: HostRuntime) -> Result<(), Fail> {
             b"proc main\ncall main | main\nend\n",
             "2:13: refusal 13: DuplicateCallee",
         ),
-        (
-            b"proc main\ncall a|b|c|d|e|f|g|h|i\nend\n",
-            "2:21: refusal 4: Syntax",
-        ),
-        (b"proc main\ncall main |\nend\n", "2:12: refusal 4: Syntax"),
+        (b"proc q\nend\n", "1:1: refusal 6: NoMain"),
+    ];
+    for (text, want) in table {
+        assert_eq!(rt; answer(alloc, text)?.as_str(), want);
+    }
+    Ok(())
+}
+
+#[test]
+fn refuses_bytes(rt: HostRuntime) -> Result<(), Fail> {
+    let alloc = rt.alloc();
+    let table: [(&[u8], &str); 6] = [
         (b"proc main\nx = \0", "2:5: refusal 1: BadByte"),
         (b"proc main\nx = \0\nend\n", "2:5: refusal 1: BadByte"),
         (b"\r", "1:1: refusal 1: BadByte"),
         (b"proc main\nend\r", "2:4: refusal 1: BadByte"),
         (b"proc main\nx =\r", "2:4: refusal 1: BadByte"),
         (b"proc main\nx = 1\rend\n", "2:6: refusal 1: BadByte"),
-        (b"proc main\nend\nx = 1\n", "3:1: refusal 4: Syntax"),
-        (b"proc q\nend\n", "1:1: refusal 6: NoMain"),
     ];
     for (text, want) in table {
         assert_eq!(rt; answer(alloc, text)?.as_str(), want);
@@ -240,6 +262,20 @@ fn reads_its_own_listings(rt: HostRuntime) -> Result<(), Fail> {
             );
         }
     }
+    Ok(())
+}
+
+#[test]
+fn names_by_number(rt: HostRuntime) -> Result<(), Fail> {
+    let alloc = rt.alloc();
+    let Ok(program) = read(alloc, SPACING) else {
+        return Err(Fail::from("it was refused"));
+    };
+    assert_eq!(rt; program.main(), 0);
+    assert_eq!(rt; program.procedure(0), b"main".as_slice());
+    assert_eq!(rt; program.variable(0), b"x".as_slice());
+    assert_eq!(rt; program.variable(2), b"z".as_slice());
+    assert_eq!(rt; program.label(0, 1), b"M".as_slice());
     Ok(())
 }
 

@@ -23,7 +23,7 @@ returns-in-Some-Binary c =
     let ts = tokens_view text c.args.tokens.now in
     let names = names_view c.args.names in
     let row = row_of ts (length c.args.tokens.now) c.statement_form.result c.in-Some-Binary.field-0 form.Binary (c.statement_form.ensures text) c.in-Some-Binary.is c.in-Some-Binary.field-0-is in
-    (λ i. stmt.Binary (c.number_at-in-Some-Binary.ensures i) (c.operand_at-in-Some-Binary.ensures i) (sym (c.operator_at-in-Some-Binary.ensures text) i) (c.operand_at-in-Some-Binary-2.ensures i))
+    c.binary.ensures
     ∙ binary_words names c.args.callees ts (row_length ts _ row)
     ∙ ap (λ f. kind_of names c.args.callees f (map (λ t. t.word) ts)) (sym (row_form ts _ row))
 
@@ -33,6 +33,6 @@ returns-in-Some-Comparison c =
     let ts = tokens_view text c.args.tokens.now in
     let names = names_view c.args.names in
     let row = row_of ts (length c.args.tokens.now) c.statement_form.result c.in-Some-Comparison.field-0 form.Comparison (c.statement_form.ensures text) c.in-Some-Comparison.is c.in-Some-Comparison.field-0-is in
-    (λ i. stmt.IfCompare (c.operand_at-in-Some-Comparison.ensures i) (sym (c.operator_at-in-Some-Comparison.ensures text) i) (c.operand_at-in-Some-Comparison-2.ensures i) (c.number_at-in-Some-Comparison.ensures i))
+    c.comparison.ensures
     ∙ comparison_words names c.args.callees ts (row_length ts _ row)
     ∙ ap (λ f. kind_of names c.args.callees f (map (λ t. t.word) ts)) (sym (row_form ts _ row))

@@ -1,0 +1,6 @@
+use Rattle.std.proofs.Common.{sym}
+use Rattle.tac_reader.specs.declared.program.StmtKind.TheVariants as stmt
+use Rattle.tac_reader.proofs.build.comparison.Goals as goal
+
+pub returns : goal.returns
+returns c = λ i. stmt.IfCompare (c.operand_at.ensures i) (sym (c.operator_at.ensures c.args.text.now) i) (c.operand_at-2.ensures i) (c.number_at.ensures i)
