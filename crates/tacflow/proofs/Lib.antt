@@ -1,0 +1,4 @@
+pub mod Buffers
+pub mod Entries
+pub mod Held
+pub mod Numbers

@@ -1,0 +1,40 @@
+-- What each fault of a run tells.
+use Rattle.std.specs.Prelude.{ℕ, Result, Err}
+use Rattle.tac_reader.specs.declared.refusal.Refusal.{Refusal}
+use Rattle.tac_reader.specs.declared.refusal.ReadFault.{ReadFault}
+use Rattle.tac_reader.specs.declared.refusal.ReadFault.TheVariants as read
+use Rattle.tacflow.specs.declared.fault.Fault.{Fault}
+use Rattle.tacflow.specs.declared.fault.Fault.TheVariants as fault
+
+-- The fault of a run for a fault of reading.
+abbrev pub fault_of_read : ReadFault → Fault
+fault_of_read (read.Refused r) = fault.Refused r
+fault_of_read read.OutOfMemory = fault.OutOfMemory
+
+-- A fact of the refusal, where the fault is one.
+abbrev pub WhereRefused : (Refusal → Type 0) → Fault → Type 0
+WhereRefused P (fault.Refused r) = P r
+WhereRefused P _ = Unit {0}
+
+-- A fact where the fault is of this kind.
+abbrev pub WhereNotYet : Type 0 → Fault → Type 0
+WhereNotYet P fault.NotYet = P
+WhereNotYet P _ = Unit {0}
+
+abbrev pub WhereWrite : Type 0 → Fault → Type 0
+WhereWrite P fault.Write = P
+WhereWrite P _ = Unit {0}
+
+-- A fact of each fault but that of the sink.
+abbrev pub UnlessWrite : Type 0 → Fault → Type 0
+UnlessWrite P fault.Write = Unit {0}
+UnlessWrite P _ = P
+
+-- How many faults of the source, and of the sink, an answer tells.
+abbrev pub read_faults_in : {T : Type 0} → Result T Fault → ℕ
+read_faults_in (Err fault.Read) = 1
+read_faults_in _ = 0
+
+abbrev pub write_faults_in : {T : Type 0} → Result T Fault → ℕ
+write_faults_in (Err fault.Write) = 1
+write_faults_in _ = 0

@@ -1,0 +1,8 @@
+pub mod Devices
+pub mod Faults
+pub mod FaultLines
+pub mod Ranges
+pub mod Runs
+pub mod Shows
+pub mod Commands
+pub mod Matches

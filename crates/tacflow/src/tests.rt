@@ -1,0 +1,580 @@
+// Values by hand: what small texts are told, what words name, and what faults of devices leave.
+
+use crate::fault::{Fault, fault_line};
+use crate::from_read::FromRead;
+use crate::options::{Options, Show};
+use crate::run::run;
+use crate::to_write::ToWrite;
+use std::alloc::Global;
+use std::io;
+use std::io::{ErrorKind, Read, Write};
+use std::process::Abort;
+use std::test::Fail;
+use tac_reader::{Refusal, RefusalKind};
+
+// Gives so many bytes a call at most, and after so many in all it fails.
+#[derive(Drop)]
+struct Pieces<'a> {
+    rest: &'a [u8],
+    piece: usize,
+    left: usize,
+    fault: ErrorKind,
+}
+
+impl Read for Pieces<'_> {
+    fn read(&mut self, buf: &mut [u8]) -> io::Result<usize> {
+        if self.left == 0 {
+            return Err(io::Error::from(self.fault));
+        }
+        let rest = self.rest;
+        let count = self.piece.min(self.left).min(rest.len()).min(buf.len());
+        buf[..count].copy_from_slice(&rest[..count]);
+        self.rest = &rest[count..];
+        self.left -= count;
+        Ok(count)
+    }
+}
+
+// Takes so many bytes a call at most, and after so many in all it fails, or takes none.
+#[derive(Drop)]
+struct Page {
+    taken: Vec<u8>,
+    piece: usize,
+    left: usize,
+    fault: Option<ErrorKind>,
+    flushes: bool,
+}
+
+impl Write for Page {
+    fn write(&mut self, bytes: &[u8]) -> io::Result<usize> {
+        if self.left == 0 {
+            return match self.fault {
+                Some(kind) => Err(io::Error::from(kind)),
+                None => Ok(0),
+            };
+        }
+        let count = self.piece.min(self.left).min(bytes.len());
+        self.taken.extend_from_slice(&bytes[..count])?;
+        self.left -= count;
+        Ok(count)
+    }
+
+    fn flush(&mut self) -> io::Result<()> {
+        if self.flushes {
+            Ok(())
+        } else {
+            Err(io::Error::from(ErrorKind::Other))
+        }
+    }
+}
+
+fn blank_page(alloc: Global) -> Page {
+    Page {
+        taken: Vec::new(alloc),
+        piece: usize::MAX,
+        left: usize::MAX,
+        fault: None,
+        flushes: true,
+    }
+}
+
+// The line of the fault, if there was one, and behind it what was written.
+fn told<R: Read + Drop>(
+    alloc: Global,
+    reader: R,
+    page: &mut Page,
+    show: Show,
+) -> Result<Vec<u8>, Fail> {
+    let options = Options::new(1, 64, show).ok_or("options")?;
+    let mut source = FromRead::new(reader);
+    let mut sink = ToWrite::new(&mut *page);
+    let mut line = match run(alloc, &mut source, &mut sink, options) {
+        Ok(()) => Vec::new(alloc),
+        Err(fault) => fault_line(alloc, &fault)?,
+    };
+    line.extend_from_slice(&page.taken)?;
+    Ok(line)
+}
+
+// The text is answered so, whole or byte by byte.
+fn check(rt: &(impl Abort + AllocGlobal), text: &[u8], answer: &[u8]) -> Result<(), Fail> {
+    let got = told(rt.alloc(), text, &mut blank_page(rt.alloc()), Show::List)?;
+    assert_eq!(rt; got.as_slice(), answer);
+    let slow = Pieces {
+        rest: text,
+        piece: 1,
+        left: usize::MAX,
+        fault: ErrorKind::Other,
+    };
+    let mut narrow = blank_page(rt.alloc());
+    narrow.piece = 1;
+    let got = told(rt.alloc(), slow, &mut narrow, Show::List)?;
+    assert_eq!(rt; got.as_slice(), answer);
+    Ok(())
+}
+
+fn check_all(rt: &(impl Abort + AllocGlobal), cases: &[(&str, &str)]) -> Result<(), Fail> {
+    for (text, answer) in cases {
+        check(rt, text.as_bytes(), answer.as_bytes())?;
+    }
+    Ok(())
+}
+
+#[test]
+fn refusals(rt: HostRuntime) -> Result<(), Fail> {
+    let cases = [
+        ("", "tacflow: 1:1: refusal 6: NoMain\n"),
+        ("proc main\nx = 1\n", "tacflow: 3:1: refusal 5: Unclosed\n"),
+        ("proc main\nx = 1", "tacflow: 2:6: refusal 5: Unclosed\n"),
+        ("proc main\nx =\nend\n", "tacflow: 2:4: refusal 4: Syntax\n"),
+        (
+            "proc main\nx = 12ab\nend\n",
+            "tacflow: 2:7: refusal 4: Syntax\n",
+        ),
+        ("proc proc\nend\n", "tacflow: 1:6: refusal 4: Syntax\n"),
+        (
+            "proc main\ncall main |\nend\n",
+            "tacflow: 2:12: refusal 4: Syntax\n",
+        ),
+        (
+            "proc main\ncall a|b|c|d|e|f|g|h|i\nend\n",
+            "tacflow: 2:21: refusal 4: Syntax\n",
+        ),
+        (
+            "9223372036854775808\n",
+            "tacflow: 1:1: refusal 2: NumberTooLarge\n",
+        ),
+        (
+            "proc main\nx = 9223372036854775808\nend\n",
+            "tacflow: 2:5: refusal 2: NumberTooLarge\n",
+        ),
+        (
+            "proc main\ngoto M\nend\n",
+            "tacflow: 2:6: refusal 9: UnknownLabel\n",
+        ),
+        (
+            "proc main\nA: A: skip\nend\n",
+            "tacflow: 2:4: refusal 8: DuplicateLabel\n",
+        ),
+        (
+            "proc main\ngoto A\ncall z\nA: A: skip\nend\n",
+            "tacflow: 4:4: refusal 8: DuplicateLabel\n",
+        ),
+        (
+            "proc main\ncall z\nend\n",
+            "tacflow: 2:6: refusal 10: UnknownProcedure\n",
+        ),
+        (
+            "proc main\ncall main | main\nend\n",
+            "tacflow: 2:13: refusal 13: DuplicateCallee\n",
+        ),
+        (
+            "proc q\nend\nproc q\nend\n",
+            "tacflow: 3:6: refusal 7: DuplicateProcedure\n",
+        ),
+    ];
+    check_all(&rt, cases.as_slice())
+}
+
+#[test]
+fn listings(rt: HostRuntime) -> Result<(), Fail> {
+    let cases = [
+        (
+            "proc main # start\nL:M: x=007\nend\n",
+            "proc main\nL:\nM:\n  x = 7\nend\n",
+        ),
+        (
+            "proc main # start\nL:M: x=y+007\nz=- x\nif x<3 goto L\nend\n",
+            "proc main\nL:\nM:\n  x = y + 7\n  z = -x\n  if x < 3 goto L\nend\n",
+        ),
+        (
+            "proc main\nx = 9223372036854775807\nend\n",
+            "proc main\n  x = 9223372036854775807\nend\n",
+        ),
+        (
+            "proc main\r\nx = 1\r\n\r\nend\r\n",
+            "proc main\n  x = 1\nend\n",
+        ),
+        (
+            "proc main # \u{e9}\nx = 1 #\u{20ac}\n#\u{1d11e}\nend\n",
+            "proc main\n  x = 1\nend\n",
+        ),
+        (
+            "proc main\ncall p|q\nend\nproc p\nend\nproc q\nend\n",
+            "proc main\n  call p | q\nend\nproc p\nend\nproc q\nend\n",
+        ),
+        (
+            "proc main\nx = 1\ncall f\nprint x\nend\nproc f\nif x goto L\ncall f\nx = 2\nL:\nend\n",
+            "proc main\n  x = 1\n  call f\n  print x\nend\nproc f\n  if x goto L\n  call f\n  x = 2\nL:\nend\n",
+        ),
+    ];
+    check_all(&rt, cases.as_slice())
+}
+
+// The beginnings of a small program, by their lengths.
+#[test]
+fn beginnings(rt: HostRuntime) -> Result<(), Fail> {
+    let text = "proc main\nend\n";
+    let answers = [
+        "tacflow: 1:1: refusal 6: NoMain\n",
+        "tacflow: 1:1: refusal 4: Syntax\n",
+        "tacflow: 1:1: refusal 4: Syntax\n",
+        "tacflow: 1:1: refusal 4: Syntax\n",
+        "tacflow: 1:5: refusal 4: Syntax\n",
+        "tacflow: 1:5: refusal 4: Syntax\n",
+        "tacflow: 1:7: refusal 5: Unclosed\n",
+        "tacflow: 1:8: refusal 5: Unclosed\n",
+        "tacflow: 1:9: refusal 5: Unclosed\n",
+        "tacflow: 1:10: refusal 5: Unclosed\n",
+        "tacflow: 2:1: refusal 5: Unclosed\n",
+        "tacflow: 2:2: refusal 4: Syntax\n",
+        "tacflow: 2:3: refusal 4: Syntax\n",
+        text,
+        text,
+    ];
+    for (length, answer) in answers.iter().enumerate() {
+        let bytes = text.as_bytes().get(..length).ok_or("a beginning")?;
+        check(&rt, bytes, answer.as_bytes())?;
+    }
+    Ok(())
+}
+
+#[test]
+fn bytes_that_are_no_text(rt: HostRuntime) -> Result<(), Fail> {
+    let bad = b"tacflow: 2:5: refusal 1: BadByte\n";
+    check(&rt, b"proc main\nx = \0", bad.as_slice())?;
+    check(&rt, b"proc main\nx = \0\nend\n", bad.as_slice())?;
+    check(&rt, b"\r", b"tacflow: 1:1: refusal 1: BadByte\n")?;
+    check(
+        &rt,
+        b"proc main\nend\r",
+        b"tacflow: 2:4: refusal 1: BadByte\n",
+    )?;
+    check(
+        &rt,
+        b"proc main # \0\r\xff\nend\n# \xff\r\0",
+        b"proc main\nend\n",
+    )
+}
+
+// The text with this many `n` between its parts.
+fn with_name(alloc: Global, before: &str, length: usize, after: &str) -> Result<Vec<u8>, Fail> {
+    let mut text = before.as_bytes().to_vec(alloc)?;
+    for _ in 0..length {
+        text.push(b'n')?;
+    }
+    text.extend_from_slice(after.as_bytes())?;
+    Ok(text)
+}
+
+#[test]
+fn lengths_of_names(rt: HostRuntime) -> Result<(), Fail> {
+    let cases = [
+        (
+            "proc main\n  ",
+            " = 1\nend\n",
+            "tacflow: 2:3: refusal 3: NameTooLong\n",
+        ),
+        (
+            "proc main\n",
+            ":\nend\n",
+            "tacflow: 2:1: refusal 3: NameTooLong\n",
+        ),
+        (
+            "proc main\n  x = ",
+            "\nend\n",
+            "tacflow: 2:7: refusal 3: NameTooLong\n",
+        ),
+        (
+            "proc main\nend\nproc ",
+            "\nend\n",
+            "tacflow: 3:6: refusal 3: NameTooLong\n",
+        ),
+    ];
+    for (before, after, refusal) in cases {
+        let longest = with_name(rt.alloc(), before, 64, after)?;
+        check(&rt, &longest, &longest)?;
+        let longer = with_name(rt.alloc(), before, 65, after)?;
+        check(&rt, &longer, refusal.as_bytes())?;
+    }
+    Ok(())
+}
+
+#[test]
+fn numbers_of_procedures(rt: HostRuntime) -> Result<(), Fail> {
+    let mut text = b"proc main\nend\n".to_vec(rt.alloc())?;
+    for number in 1..256 {
+        text.extend_from_slice(format!(in rt.alloc(); "proc q{number}\nend\n")?.as_bytes())?;
+    }
+    check(&rt, &text, &text)?;
+    text.extend_from_slice(b"proc q256\nend\n")?;
+    check(
+        &rt,
+        &text,
+        b"tacflow: 513:6: refusal 12: TooManyProcedures\n",
+    )
+}
+
+// A program of this many bytes, most of them empty lines.
+fn long_text(alloc: Global, length: usize) -> Result<Vec<u8>, Fail> {
+    let mut text = b"proc main\nend\n".to_vec(alloc)?;
+    for _ in text.len()..length {
+        text.push(b'\n')?;
+    }
+    Ok(text)
+}
+
+#[test]
+fn lengths_of_texts(rt: HostRuntime) -> Result<(), Fail> {
+    let longest = long_text(rt.alloc(), 1_048_576)?;
+    check(&rt, &longest, b"proc main\nend\n")?;
+    let longer = long_text(rt.alloc(), 1_048_577)?;
+    check(&rt, &longer, b"tacflow: 1:1: refusal 11: TextTooLong\n")?;
+    let much_longer = long_text(rt.alloc(), 1_200_000)?;
+    check(
+        &rt,
+        &much_longer,
+        b"tacflow: 1:1: refusal 11: TextTooLong\n",
+    )
+}
+
+// Nothing is pulled behind what is one byte too long.
+#[test]
+fn faults_behind_the_longest_text(rt: HostRuntime) -> Result<(), Fail> {
+    let text = long_text(rt.alloc(), 1_200_000)?;
+    let cases = [
+        (1_048_576, "tacflow: read fault\n"),
+        (1_048_577, "tacflow: 1:1: refusal 11: TextTooLong\n"),
+    ];
+    for (left, answer) in cases {
+        let reader = Pieces {
+            rest: &text,
+            piece: usize::MAX,
+            left,
+            fault: ErrorKind::Other,
+        };
+        let got = told(rt.alloc(), reader, &mut blank_page(rt.alloc()), Show::List)?;
+        assert_eq!(rt; got.as_slice(), answer.as_bytes());
+    }
+    Ok(())
+}
+
+#[test]
+fn kinds_that_are_not_answered(rt: HostRuntime) -> Result<(), Fail> {
+    for show in [
+        Show::Report,
+        Show::Reach,
+        Show::Live,
+        Show::Avail,
+        Show::Busy,
+    ] {
+        let got = told(
+            rt.alloc(),
+            b"proc main\nend\n".as_slice(),
+            &mut blank_page(rt.alloc()),
+            show,
+        )?;
+        assert_eq!(rt; got.as_slice(), b"tacflow: refusal 41: NotYet\n".as_slice());
+        let got = told(
+            rt.alloc(),
+            b"proc main\n".as_slice(),
+            &mut blank_page(rt.alloc()),
+            show,
+        )?;
+        assert_eq!(rt;
+            got.as_slice(),
+            b"tacflow: 2:1: refusal 5: Unclosed\n".as_slice()
+        );
+    }
+    Ok(())
+}
+
+#[test]
+fn faults_of_readers(rt: HostRuntime) -> Result<(), Fail> {
+    let text = b"proc main\nL: x = 1\nend\n";
+    for fault in [ErrorKind::Other, ErrorKind::Interrupted] {
+        for left in 0..text.len() {
+            let reader = Pieces {
+                rest: text,
+                piece: usize::MAX,
+                left,
+                fault,
+            };
+            let got = told(rt.alloc(), reader, &mut blank_page(rt.alloc()), Show::List)?;
+            assert_eq!(rt; got.as_slice(), b"tacflow: read fault\n".as_slice());
+        }
+    }
+    Ok(())
+}
+
+#[test]
+fn faults_of_writers(rt: HostRuntime) -> Result<(), Fail> {
+    let listing = b"proc main\nL:\n  x = 1\nend\n";
+    for fault in [Some(ErrorKind::Other), Some(ErrorKind::Interrupted), None] {
+        for left in 0..listing.len() {
+            let mut page = blank_page(rt.alloc());
+            page.left = left;
+            page.fault = fault;
+            let got = told(
+                rt.alloc(),
+                b"proc main\nL: x = 1\nend\n".as_slice(),
+                &mut page,
+                Show::List,
+            )?;
+            let beginning = listing.get(..left).ok_or("a beginning")?;
+            assert_eq!(rt; page.taken.as_slice(), beginning);
+            assert!(rt; got.as_slice().starts_with(b"tacflow: write fault\n"));
+        }
+    }
+    let mut page = blank_page(rt.alloc());
+    page.flushes = false;
+    let got = told(
+        rt.alloc(),
+        b"proc main\nL: x = 1\nend\n".as_slice(),
+        &mut page,
+        Show::List,
+    )?;
+    assert_eq!(rt; page.taken.as_slice(), listing.as_slice());
+    assert!(rt; got.as_slice().starts_with(b"tacflow: write fault\n"));
+    Ok(())
+}
+
+// With ample memory the listing, and where a growth is refused want of memory and nothing written.
+#[test]
+fn growths_refused(rt: HostRuntime) -> Result<(), Fail> {
+    let cases = [
+        (
+            "proc main\nx = 1\ncall f\nprint x\nend\nproc f\nif x goto L\ncall f\nx = 2\nL:\nend\n",
+            "proc main\n  x = 1\n  call f\n  print x\nend\nproc f\n  if x goto L\n  call f\n  x = 2\nL:\nend\n",
+        ),
+        (
+            "proc main\na = b + c\ncall p\nd = b + c\nend\nproc p\nif c goto L\nb = 1\nL:\nend\n",
+            "proc main\n  a = b + c\n  call p\n  d = b + c\nend\nproc p\n  if c goto L\n  b = 1\nL:\nend\n",
+        ),
+        (
+            "proc main # start\nL:M: x=y+007\nz=- x\nif x<3 goto L\nend\n",
+            "proc main\nL:\nM:\n  x = y + 7\n  z = -x\n  if x < 3 goto L\nend\n",
+        ),
+    ];
+    for (text, listing) in cases {
+        let options = Options::new(1, 64, Show::List).ok_or("options")?;
+        let Ok(taken) = Vec::with_capacity(rt.alloc(), 256) else {
+            return Ok(());
+        };
+        let mut page = Page {
+            taken,
+            piece: usize::MAX,
+            left: usize::MAX,
+            fault: None,
+            flushes: true,
+        };
+        let mut source = FromRead::new(text.as_bytes());
+        let answer = run(
+            rt.alloc(),
+            &mut source,
+            &mut ToWrite::new(&mut page),
+            options,
+        );
+        match answer {
+            Ok(()) => assert_eq!(rt; page.taken.as_slice(), listing.as_bytes()),
+            Err(Fault::OutOfMemory) => assert!(rt; page.taken.is_empty()),
+            Err(_) => return Err(Fail::from("another answer")),
+        }
+    }
+    Ok(())
+}
+
+#[test]
+fn lines_of_faults(rt: HostRuntime) -> Result<(), Fail> {
+    let kinds = [
+        (RefusalKind::BadByte, "1: BadByte"),
+        (RefusalKind::NumberTooLarge, "2: NumberTooLarge"),
+        (RefusalKind::NameTooLong, "3: NameTooLong"),
+        (RefusalKind::Syntax, "4: Syntax"),
+        (RefusalKind::Unclosed, "5: Unclosed"),
+        (RefusalKind::NoMain, "6: NoMain"),
+        (RefusalKind::DuplicateProcedure, "7: DuplicateProcedure"),
+        (RefusalKind::DuplicateLabel, "8: DuplicateLabel"),
+        (RefusalKind::UnknownLabel, "9: UnknownLabel"),
+        (RefusalKind::UnknownProcedure, "10: UnknownProcedure"),
+        (RefusalKind::TextTooLong, "11: TextTooLong"),
+        (RefusalKind::TooManyProcedures, "12: TooManyProcedures"),
+        (RefusalKind::DuplicateCallee, "13: DuplicateCallee"),
+    ];
+    for (kind, name) in kinds {
+        let fault = Fault::Refused(Refusal {
+            kind,
+            line: 10,
+            column: 4294967295,
+        });
+        let line = fault_line(rt.alloc(), &fault)?;
+        let wanted = format!(in rt.alloc(); "tacflow: 10:4294967295: refusal {name}\n")?;
+        assert_eq!(rt; line.as_slice(), wanted.as_bytes());
+        let shown = format!(in rt.alloc(); "tacflow: {fault}\n")?;
+        assert_eq!(rt; shown.as_bytes(), wanted.as_bytes());
+    }
+    let others = [
+        (Fault::NotYet, "tacflow: refusal 41: NotYet\n"),
+        (Fault::OutOfMemory, "tacflow: out of memory\n"),
+        (Fault::Read, "tacflow: read fault\n"),
+        (Fault::Write, "tacflow: write fault\n"),
+    ];
+    for (fault, wanted) in others {
+        let line = fault_line(rt.alloc(), &fault)?;
+        assert_eq!(rt; line.as_slice(), wanted.as_bytes());
+    }
+    Ok(())
+}
+
+#[test]
+fn ranges_of_options(rt: HostRuntime) {
+    for (workers, cut) in [(1, 1), (64, 4096), (1, 4096), (64, 1)] {
+        assert!(rt; Options::new(workers, cut, Show::List).is_some());
+    }
+    for (workers, cut) in [(0, 64), (65, 64), (1, 0), (1, 4097), (u32::MAX, 64)] {
+        assert!(rt; Options::new(workers, cut, Show::List).is_none());
+    }
+}
+
+#[test]
+fn words_that_are_taken(rt: HostRuntime) -> Result<(), Fail> {
+    let options = Options::from_words(rt.alloc(), &["tacflow"])?;
+    assert!(rt; options.workers == 1 && options.cut == 64 && options.show == Show::List);
+    let words = ["tacflow", "--workers", "64", "--cut=4096", "--show", "busy"];
+    let options = Options::from_words(rt.alloc(), words.as_slice())?;
+    assert!(rt; options.workers == 64 && options.cut == 4096 && options.show == Show::Busy);
+    let shows = [
+        ("report", Show::Report),
+        ("list", Show::List),
+        ("reach", Show::Reach),
+        ("live", Show::Live),
+        ("avail", Show::Avail),
+    ];
+    for (word, show) in shows {
+        let options = Options::from_words(rt.alloc(), &["tacflow", "--show", word])?;
+        assert!(rt; options.show == show);
+    }
+    Ok(())
+}
+
+#[test]
+fn words_that_are_refused(rt: HostRuntime) -> Result<(), Fail> {
+    let words = [
+        ["tacflow", "--workers", "0"],
+        ["tacflow", "--workers", "65"],
+        ["tacflow", "--workers", "x"],
+        ["tacflow", "--cut", "0"],
+        ["tacflow", "--cut", "4097"],
+        ["tacflow", "--show", "none"],
+        ["tacflow", "--show", "List"],
+        ["tacflow", "--show", ""],
+        ["tacflow", "--show=list", "more"],
+        ["tacflow", "--show=list", "--show=list"],
+        ["tacflow", "--cut=1", "--show"],
+        ["tacflow", "--cut=1", "--shown"],
+    ];
+    for words in words {
+        assert!(rt; Options::from_words(rt.alloc(), words.as_slice()).is_err());
+    }
+    Ok(())
+}
