@@ -1,15 +1,8 @@
 -- What each fault of a run tells.
 use Rattle.std.specs.Prelude.{ℕ, Result, Err}
 use Rattle.tac_reader.specs.declared.refusal.Refusal.{Refusal}
-use Rattle.tac_reader.specs.declared.refusal.ReadFault.{ReadFault}
-use Rattle.tac_reader.specs.declared.refusal.ReadFault.TheVariants as read
 use Rattle.tacflow.specs.declared.fault.Fault.{Fault}
 use Rattle.tacflow.specs.declared.fault.Fault.TheVariants as fault
-
--- The fault of a run for a fault of reading.
-abbrev pub fault_of_read : ReadFault → Fault
-fault_of_read (read.Refused r) = fault.Refused r
-fault_of_read read.OutOfMemory = fault.OutOfMemory
 
 -- A fact of the refusal, where the fault is one.
 abbrev pub WhereRefused : (Refusal → Type 0) → Fault → Type 0

@@ -60,7 +60,7 @@ fn workers_option<'a>(alloc: Global) -> Arg<'a>
         .action(ArgAction::Set)
         .value_parser(value_parser!(u32).range(1..=64))
         .default_value("1")
-        .help("How many workers solve an analysis, 1 to 64; the answer is the same")
+        .help("Workers that solve an analysis, 1 to 64; the answer is the same for each number")
 }
 
 fn cut_option<'a>(alloc: Global) -> Arg<'a>
@@ -73,7 +73,9 @@ fn cut_option<'a>(alloc: Global) -> Arg<'a>
         .action(ArgAction::Set)
         .value_parser(value_parser!(u32).range(1..=4096))
         .default_value("64")
-        .help("How many bits a worker takes at a time, 1 to 4096; the answer is the same")
+        .help(
+            "Bits that a worker solves at a time, 1 to 4096; the answer is the same for each number",
+        )
 }
 
 fn show_option<'a>(alloc: Global, kinds: &'a [PossibleValue<'a>]) -> Arg<'a>
