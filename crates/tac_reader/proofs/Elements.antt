@@ -1,5 +1,5 @@
 -- Facts of each element of a list, by recursion on it.
-use Rattle.std.proofs.Common.{◌≡◌, ◌≢◌, List, [], ◌∷◌, ◌++◌, map, flat_map, refl, arith}
+use Rattle.std.proofs.Common.{◌≡◌, ◌≢◌, ℕ, zero, suc, take, List, [], ◌∷◌, ◌++◌, map, flat_map, refl, arith}
 use Rattle.std.proofs.lemmas.List.Elements.{All-from_recursion}
 use Rattle.std.proofs.lemmas.List.Kept.{AllPairs-cons}
 use Rattle.std.specs.List.{AllByRecursion as Each}
@@ -17,6 +17,11 @@ module _ {A : Type 0} (P : A → Type 0) where
   pub each_right : (xs ys : List A) → Each P (xs ++ ys) → Each P ys
   each_right [] ys h = h
   each_right (x ∷ xs) ys h = each_right xs ys h.1
+
+  pub each-take : (n : ℕ) (xs : List A) → Each P xs → Each P (take n xs)
+  each-take zero xs h = tt
+  each-take (suc n) [] h = tt
+  each-take (suc n) (x ∷ xs) h = (h.0, each-take n xs h.1)
 
   pub each-weaker : (Q : A → Type 0) → ((x : A) → P x → Q x) → (xs : List A) → Each P xs → Each Q xs
   each-weaker Q weaker [] h = tt

@@ -1,5 +1,5 @@
 -- Lines without faults: their words, their forms, and the sections that they make.
-use Rattle.std.proofs.Common.{◌≡◌, ℕ, zero, suc, ◌+◌, ◌-◌, Bool, true, false, not, cond, ◌&&◌, ◌||◌, List, [], ◌∷◌, ◌++◌, flat_map, length, take, refl, sym, subst, Option, Some, None, is_some, true≢false, one-add, if◌then◌else◌, nat_lt, ◌≤◌, codes}
+use Rattle.std.proofs.Common.{◌≡◌, ℕ, zero, suc, ◌+◌, ◌-◌, Bool, true, false, not, cond, ◌&&◌, ◌||◌, List, [], ◌∷◌, ◌++◌, flat_map, length, take, refl, sym, subst, Option, Some, None, is_some, true≢false, one-add, if◌then◌else◌, nat_lt, ◌≤◌, ◌⊎◌, inl, inr, codes}
 use Rattle.std.proofs.lemmas.Bool.{and_parts, ltb-false}
 use Rattle.std.specs.List.{AllByRecursion as Each, prefix_len, take_while}
 use Rattle.tac_reader.specs.Tokens.{Word, name, number, fixed, Token, Piece, word, gap, Row, is_name, is_number, is_one_of, is_blank, is_comment, keywords, signs, piece_of, picked, name_or_keyword, number_piece, longest, longest_of, before_row, row_from, rows_from}
@@ -17,7 +17,7 @@ use Rattle.tac_reader.proofs.Elements.{each-append, no_left, no_right}
 abbrev IsSpelledWord : Word → Type 0
 IsSpelledWord (name s) = (is_name s ≡ true) × (is_one_of s keywords ≡ false)
 IsSpelledWord (number n) = Unit {0}
-IsSpelledWord (fixed s) = Unit {0}
+IsSpelledWord (fixed s) = (is_one_of s keywords ≡ true) ⊎ (is_one_of s signs ≡ true)
 
 abbrev IsSpelledPiece : Piece → Type 0
 IsSpelledPiece gap = Unit {0}
@@ -27,7 +27,7 @@ IsSpelledPiece (word w) = IsSpelledWord w
 abbrev pub IsSoundWord : Word → Type 0
 IsSoundWord (name s) = IsLawfulName s
 IsSoundWord (number n) = n ≤ largest_number
-IsSoundWord (fixed s) = Unit {0}
+IsSoundWord (fixed s) = (is_one_of s keywords ≡ true) ⊎ (is_one_of s signs ≡ true)
 
 abbrev pub Sound : Token → Type 0
 Sound t = IsSoundWord t.word
@@ -44,17 +44,17 @@ same_found a b e = cc
 named_spelled : (s : List ℕ) → is_name s ≡ true → IsSpelledPiece (name_or_keyword s)
 named_spelled s h = by_test (is_one_of s keywords) refl where
   by_test : (b : Bool) → is_one_of s keywords ≡ b → IsSpelledWord (if b then fixed s else name s)
-  by_test true e = tt
+  by_test true e = inl e
   by_test false e = (h, e)
 
 piece_spelled : (s : List ℕ) (p : Piece) → piece_of s ≡ Some p → IsSpelledPiece p
-piece_spelled s p e = go (is_name s) (is_number s) (is_one_of s signs) (is_blank s || is_comment s) refl e where
-  go : (a b c d : Bool) → is_name s ≡ a → picked a b c d s ≡ Some p → IsSpelledPiece p
-  go true b c d h k = subst IsSpelledPiece (same_piece (name_or_keyword s) p k) (named_spelled s h)
-  go false true c d h k = subst IsSpelledPiece (same_piece (number_piece s) p k) tt
-  go false false true d h k = subst IsSpelledPiece (same_piece (word (fixed s)) p k) tt
-  go false false false true h k = subst IsSpelledPiece (same_piece gap p k) tt
-  go false false false false h k = absurd (cc k)
+piece_spelled s p e = go (is_name s) (is_number s) (is_one_of s signs) (is_blank s || is_comment s) refl refl e where
+  go : (a b c d : Bool) → is_name s ≡ a → is_one_of s signs ≡ c → picked a b c d s ≡ Some p → IsSpelledPiece p
+  go true b c d h l k = subst IsSpelledPiece (same_piece (name_or_keyword s) p k) (named_spelled s h)
+  go false true c d h l k = subst IsSpelledPiece (same_piece (number_piece s) p k) tt
+  go false false true d h l k = subst IsSpelledPiece (same_piece (word (fixed s)) p k) (inr l)
+  go false false false true h l k = subst IsSpelledPiece (same_piece gap p k) tt
+  go false false false false h l k = absurd (cc k)
 
 longest_spelled : (n : ℕ) (bytes : List ℕ) (found : ℕ × Piece) → longest_of n bytes ≡ Some found → IsSpelledPiece found.1
 longest_spelled zero bytes found e = absurd (cc e)
@@ -92,7 +92,7 @@ word_sound (number n) start h e = by_test (nat_lt largest_number n) refl e where
   by_test : (b : Bool) → nat_lt largest_number n ≡ b → (if b then at kind.NumberTooLarge start else []) ≡ [] → n ≤ largest_number
   by_test true k none = absurd (cc none)
   by_test false k none = ltb-false largest_number n k
-word_sound (fixed s) start h e = tt
+word_sound (fixed s) start h e = h
 
 words_sound : (ts : List Token) → Each Spelled ts → flat_map word_fault ts ≡ [] → Each Sound ts
 words_sound [] h e = tt
@@ -128,7 +128,7 @@ row_faultless inside row h e =
     }
 
 -- Lines without faults, one after another.
-abbrev after : Bool → List Token → Bool
+abbrev pub after : Bool → List Token → Bool
 after inside line = if has_form proc_form line then true else if has_form end_form line then false else inside
 
 abbrev pub AllFaultless : Bool → List (List Token) → Type 0
@@ -151,6 +151,8 @@ abbrev pub Inner : List Token → Type 0
 Inner line = IsFaultless true line × (is_inner line ≡ true)
 
 pub record IsFaultlessSection (s : Section) : Type 0 where
+  pub named : is_name_word s.title.word ≡ true
+  pub word : Sound s.title
   pub title : IsLawfulName (spelling_of s.title)
   pub lines : Each Inner s.body
 
@@ -181,7 +183,8 @@ opened [] others e h k = tt
 opened (t ∷ []) others e h k = tt
 opened (t ∷ u ∷ ts) others e h k =
     let behind = and_parts (fills (key (codes "proc")) t.word) (is_name_word u.word && has_form [] ts) e in
-    (record { title = name_lawful u (and_parts (is_name_word u.word) (has_form [] ts) behind.1).0 h.1.0; lines = body_inner others k }, tt)
+    let named = (and_parts (is_name_word u.word) (has_form [] ts) behind.1).0 in
+    (record { named = named; word = h.1.0; title = name_lawful u named h.1.0; lines = body_inner others k }, tt)
 
 pub sections_faultless : (inside : Bool) (ls : List (List Token)) → AllFaultless inside ls → Each IsFaultlessSection (sections_in ls)
 sections_faultless inside [] h = tt

@@ -34,7 +34,7 @@ behind_sound (t ∷ u ∷ ts) h = by_test (has_form label_form (t ∷ u ∷ []))
   by_test true rest = rest
   by_test false rest = h
 
-no_labels : (line : List Token) → labels_of line ≡ [] → behind_labels line ≡ line
+pub no_labels : (line : List Token) → labels_of line ≡ [] → behind_labels line ≡ line
 no_labels [] e = refl
 no_labels (t ∷ []) e = refl
 no_labels (t ∷ u ∷ ts) e = by_test (has_form label_form (t ∷ u ∷ [])) e where
@@ -60,7 +60,7 @@ statement_form line t ts h e = go (labels_of line) refl (ap (some_form (forms_fo
   go (l ∷ ls) f k = k
   go [] f k = drop_end (has_form end_form (t ∷ ts)) (some_form statement_forms (t ∷ ts)) (ap (has_form end_form) (sym e ∙ no_labels line f) ∙ no_end line h.1) k
 
-line_statements : (line : List Token) → Inner line → Each IsFaultlessStatement (unless_empty (behind_labels line))
+pub line_statements : (line : List Token) → Inner line → Each IsFaultlessStatement (unless_empty (behind_labels line))
 line_statements line h = go (behind_labels line) refl where
   go : (ts : List Token) → behind_labels line ≡ ts → Each IsFaultlessStatement (unless_empty ts)
   go [] e = tt
@@ -75,7 +75,7 @@ all_labels_lawful body h =
     (each-weaker Inner (λ line. Each (λ t. IsLawfulName (spelling_of t)) (labels_of line)) (λ line k. labels_lawful line (k.0).words) body h)
 
 -- An operator is one of those that its place takes.
-each_tested : (p : List ℕ → Bool) (those : List (List ℕ)) (s : List ℕ) → list_all p those ≡ true → is_one_of s those ≡ true → p s ≡ true
+pub each_tested : (p : List ℕ → Bool) (those : List (List ℕ)) (s : List ℕ) → list_all p those ≡ true → is_one_of s those ≡ true → p s ≡ true
 each_tested p [] s h k = absurd (true≢false (sym k))
 each_tested p (x ∷ xs) s h k =
     let parts = and_parts (p x) (list_all p xs) h in

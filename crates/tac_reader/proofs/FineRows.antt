@@ -1,55 +1,32 @@
 -- Lines without faults, by their words.
-use Rattle.std.proofs.Common.{◌≡◌, ℕ, Bool, true, false, ◌&&◌, ◌||◌, List, [], ◌∷◌, ◌++◌, length, map, flat_map, refl, sym, ap, ◌∙◌, subst, Option, Some, None, is_some, nat_lt, append_assoc, true≢false, if◌then◌else◌}
+use Rattle.std.proofs.Common.{◌≡◌, ℕ, Bool, true, false, ◌&&◌, ◌||◌, List, [], ◌∷◌, ◌++◌, length, map, flat_map, refl, sym, ap, ◌∙◌, subst, Option, Some, None, is_some, append_assoc, true≢false, if◌then◌else◌}
 use Rattle.std.specs.List.{AllByRecursion as Each, list_any}
-use Rattle.std.proofs.lemmas.Bool.{or_right}
+use Rattle.std.proofs.lemmas.Bool.{le-ltb, or_right}
 use Rattle.tac_reader.specs.Tokens.{Word, name, number, fixed, Token, Row}
 use Rattle.tac_reader.specs.Forms.{Slot, fills, begins, has_form, proc_form, end_form, labels_of, behind_labels, forms_for, some_begins, some_form, first_wrong}
 use Rattle.tac_reader.specs.Programs.{stop_of}
-use Rattle.tac_reader.specs.Faults.{at, word_fault, bad_fault, form_fault, row_faults, line_faults, longest_name, largest_number}
+use Rattle.tac_reader.specs.Faults.{at, word_fault, bad_fault, row_faults, line_faults, longest_name, largest_number}
 use Rattle.tac_reader.specs.Views.{prefix_of, others_of}
 use Rattle.tac_reader.specs.declared.fault.Fault.{Fault}
 use Rattle.tac_reader.specs.declared.refusal.RefusalKind.TheVariants as kind
 use Rattle.tac_reader.proofs.Longest.{and_parts}
 use Rattle.tac_reader.proofs.LineForms.{judge}
-use Rattle.tac_reader.proofs.Bare.{bare, erased, all_erased, words_of, erased_words, has_form-erased, labels_of-erased, behind-erased}
+use Rattle.tac_reader.proofs.FaultlessLines.{IsSoundWord, Sound, IsFaultless, after}
+use Rattle.tac_reader.proofs.Bare.{bare, all_erased, words_of, erased_words, has_form-erased, labels_of-erased, behind-erased}
 
--- Faults of several parts.
-pub empty_parts : (xs ys : List Fault) → xs ++ ys ≡ [] → (xs ≡ []) × (ys ≡ [])
-empty_parts [] ys e = (refl, e)
-empty_parts (x ∷ xs) ys e = absurd (cc e)
+-- Where each part has no fault, the whole has none.
+empty_each : {X : Type 0} (f : X → List Fault) (xs : List X) → Each (λ x. f x ≡ []) xs → flat_map f xs ≡ []
+empty_each f [] h = refl
+empty_each f (x ∷ xs) h = λ i. h.0 i ++ empty_each f xs h.1 i
 
-module _ {X : Type 0} (f : X → List Fault) where
-  pub each_empty : (xs : List X) → flat_map f xs ≡ [] → Each (λ x. f x ≡ []) xs
-  each_empty [] e = tt
-  each_empty (x ∷ xs) e = let parts = empty_parts (f x) (flat_map f xs) e in (parts.0, each_empty xs parts.1)
+sound_fault : (w : Word) (start stop : ℕ) → IsSoundWord w → word_fault (record { word = w; start = start; stop = stop }) ≡ []
+sound_fault (name s) start stop h = ap (λ b. if b then at kind.NameTooLong start else []) (le-ltb longest_name (length s) h.short)
+sound_fault (number n) start stop h = ap (λ b. if b then at kind.NumberTooLarge start else []) (le-ltb largest_number n h)
+sound_fault (fixed s) start stop h = refl
 
-  empty_each : (xs : List X) → Each (λ x. f x ≡ []) xs → flat_map f xs ≡ []
-  empty_each [] h = refl
-  empty_each (x ∷ xs) h = λ i. h.0 i ++ empty_each xs h.1 i
-
--- Words without faults, and a form that all of them are.
-abbrev pub LineFine : Bool → List Token → Type 0
-LineFine inside ts = Each (λ t. word_fault t ≡ []) ts × (some_form (forms_for inside (prefix_of inside ts)) (others_of inside ts) ≡ true)
-
-judged_fine : (fs : List (List Slot)) (ts : List Token) (stop : ℕ) → judge fs ts false stop ≡ [] → some_form fs ts ≡ true
-judged_fine fs ts stop h = go (first_wrong fs [] ts) (some_form fs ts) h where
-  go : (o : Option Token) (b : Bool) → (elim o as (λ _. List Fault) [ Some t ↦ at kind.Syntax t.start | None ↦ (if b || false then [] else at kind.Syntax stop) ]) ≡ [] → b ≡ true
-  go (Some t) b e = absurd (cc e)
-  go None true e = refl
-  go None false e = absurd (cc e)
-
-pub line_fine : (inside : Bool) (row : Row) → row_faults inside row ≡ [] → (row.bad ≡ None) × LineFine inside row.tokens
-line_fine inside row h =
-    let outer = empty_parts (bad_fault row.bad ++ flat_map word_fault row.tokens) (form_fault inside row) h in
-    let inner = empty_parts (bad_fault row.bad) (flat_map word_fault row.tokens) outer.0 in
-    let none : row.bad ≡ None = no_bad row.bad inner.0 in
-    let judged : judge (forms_for inside (prefix_of inside row.tokens)) (others_of inside row.tokens) false (stop_of row.tokens) ≡ [] =
-    sym (ap (λ o. judge (forms_for inside (prefix_of inside row.tokens)) (others_of inside row.tokens) (is_some o) (stop_of row.tokens)) none) ∙ outer.1 in
-    (none, (each_empty word_fault row.tokens inner.1, judged_fine (forms_for inside (prefix_of inside row.tokens)) (others_of inside row.tokens) (stop_of row.tokens) judged))
-  where
-    no_bad : (o : Option ℕ) → bad_fault o ≡ [] → o ≡ None
-    no_bad None e = refl
-    no_bad (Some b) e = absurd (cc e)
+sound_faults : (ts : List Token) → Each Sound (all_erased ts) → Each (λ t. word_fault t ≡ []) ts
+sound_faults [] h = tt
+sound_faults (t ∷ ts) h = (sound_fault t.word t.start t.stop h.0, sound_faults ts h.1)
 
 -- Where all the tokens are a form, each front of them begins one.
 form_begins : (f : List Slot) (xs ys : List Token) → has_form f (xs ++ ys) ≡ true → begins f xs ≡ true
@@ -79,32 +56,6 @@ fine_judge fs ts cut stop h =
     ∙ ap (λ b. if b || cut then [] else at kind.Syntax stop) h
 
 -- The same of the tokens without their places.
-word_fault-erased : (t : Token) → word_fault (erased t) ≡ [] → word_fault t ≡ []
-word_fault-erased t h = go t.word h where
-  yes_no : (b : Bool) (k : _) → (if b then at k 0 else []) ≡ [] → (if b then at k t.start else []) ≡ []
-  yes_no true k e = absurd (cc e)
-  yes_no false k e = refl
-
-  go : (w : Word) → word_fault (bare w) ≡ [] → word_fault (record { word = w; start = t.start; stop = t.stop }) ≡ []
-  go (name s) e = yes_no (nat_lt longest_name (length s)) kind.NameTooLong e
-  go (number n) e = yes_no (nat_lt largest_number n) kind.NumberTooLarge e
-  go (fixed s) e = refl
-
-pub erased-word_fault : (t : Token) → word_fault t ≡ [] → word_fault (erased t) ≡ []
-erased-word_fault t h = go t.word h where
-  yes_no : (b : Bool) (k : _) → (if b then at k t.start else []) ≡ [] → (if b then at k 0 else []) ≡ []
-  yes_no true k e = absurd (cc e)
-  yes_no false k e = refl
-
-  go : (w : Word) → word_fault (record { word = w; start = t.start; stop = t.stop }) ≡ [] → word_fault (bare w) ≡ []
-  go (name s) e = yes_no (nat_lt longest_name (length s)) kind.NameTooLong e
-  go (number n) e = yes_no (nat_lt largest_number n) kind.NumberTooLarge e
-  go (fixed s) e = refl
-
-words_fine : (ts : List Token) → Each (λ t. word_fault t ≡ []) (all_erased ts) → Each (λ t. word_fault t ≡ []) ts
-words_fine [] h = tt
-words_fine (t ∷ ts) h = (word_fault-erased t h.0, words_fine ts h.1)
-
 some_form-erased : (fs : List (List Slot)) (ts : List Token) → some_form fs (all_erased ts) ≡ some_form fs ts
 some_form-erased fs ts = λ i. list_any (λ f. has_form-erased f ts i) fs
 
@@ -118,20 +69,17 @@ line_form-erased true ts =
     (λ i. some_form ((ap (forms_for true) (labels_of-erased ts) ∙ forms-erased (labels_of ts)) i) (behind-erased ts i))
     ∙ some_form-erased (forms_for true (labels_of ts)) (behind_labels ts)
 
-fine_row : (inside : Bool) (row : Row) → row.bad ≡ None → LineFine inside (all_erased row.tokens) → row_faults inside row ≡ []
+fine_row : (inside : Bool) (row : Row) → row.bad ≡ None → IsFaultless inside (all_erased row.tokens) → row_faults inside row ≡ []
 fine_row inside row none h =
     λ i.
     ap bad_fault none i
-    ++ empty_each word_fault row.tokens (words_fine row.tokens h.0) i
-    ++ fine_judge (forms_for inside (prefix_of inside row.tokens)) (others_of inside row.tokens) (is_some row.bad) (stop_of row.tokens) (sym (line_form-erased inside row.tokens) ∙ h.1) i
+    ++ empty_each word_fault row.tokens (sound_faults row.tokens h.words) i
+    ++ fine_judge (forms_for inside (prefix_of inside row.tokens)) (others_of inside row.tokens) (is_some row.bad) (stop_of row.tokens) (sym (line_form-erased inside row.tokens) ∙ h.form) i
 
 -- Lines one after another.
-abbrev pub after : Bool → List Token → Bool
-after inside ts = if has_form proc_form ts then true else if has_form end_form ts then false else inside
-
 abbrev pub LinesFine : Bool → List (List Word) → Type 0
 LinesFine inside [] = inside ≡ false
-LinesFine inside (ws ∷ wss) = LineFine inside (map bare ws) × LinesFine (after inside (map bare ws)) wss
+LinesFine inside (ws ∷ wss) = IsFaultless inside (map bare ws) × LinesFine (after inside (map bare ws)) wss
 
 after-erased : (inside : Bool) (ts : List Token) → after inside (all_erased ts) ≡ after inside ts
 after-erased inside ts = λ i. if has_form-erased proc_form ts i then true else if has_form-erased end_form ts i then false else inside
@@ -140,7 +88,7 @@ pub no_line_faults : (inside : Bool) (text_end : ℕ) (rs : List Row) → Each (
 no_line_faults true text_end [] h f = absurd (true≢false f)
 no_line_faults false text_end [] h f = refl
 no_line_faults inside text_end (row ∷ others) h f =
-    let fine : LineFine inside (all_erased row.tokens) = subst (LineFine inside) (sym (erased_words row.tokens)) f.0 in
+    let fine : IsFaultless inside (all_erased row.tokens) = subst (IsFaultless inside) (sym (erased_words row.tokens)) f.0 in
     let next : LinesFine (after inside row.tokens) (map (λ r. words_of r.tokens) others) =
     subst (λ b. LinesFine b (map (λ (r : Row). words_of r.tokens) others)) (ap (after inside) (sym (erased_words row.tokens)) ∙ after-erased inside row.tokens) f.1 in
     λ i. fine_row inside row h.0 fine i ++ no_line_faults (after inside row.tokens) text_end others h.1 next i

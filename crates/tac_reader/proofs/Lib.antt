@@ -38,7 +38,6 @@ pub mod FaultlessStatements
 pub mod SoundStatements
 pub mod SoundPrograms
 pub mod SpelledTokens
-pub mod EachLemmas
 pub mod CutRows
 pub mod SpelledStatements
 pub mod FoundNames
@@ -52,7 +51,6 @@ pub mod Layouts
 pub mod StatementTexts
 pub mod ResolvedWords
 pub mod FineRows
-pub mod AcceptedTexts
 pub mod GoodSections
 pub mod ListingLines
 pub mod ListingSections

@@ -1,6 +1,7 @@
 -- The lines of a listing, by their words.
 use Rattle.std.proofs.Common.{◌≡◌, ◌≢◌, ℕ, suc, ◌+◌, ◌<◌, ◌⊎◌, inl, inr, true, List, [], ◌∷◌, ◌++◌, length, map, flat_map, refl, sym, ap, ◌∙◌, subst, arith, None, codes, append_assoc, true≢false, if◌then◌else◌, ◌==◌, length-append}
 use Rattle.std.specs.List.{AllByRecursion as Each, list_all, onto_first}
+use Rattle.std.proofs.lemmas.List.{map-append}
 use Rattle.std.proofs.lemmas.Bool.Decides.{nat_tests}
 use Rattle.tac_reader.specs.Text.{is_line_end, no_line_end, lines}
 use Rattle.tac_reader.specs.Tokens.{Word, name, number, fixed, Token, Row, rows_from}
@@ -13,10 +14,10 @@ use Rattle.tac_reader.specs.declared.program.Stmt.{Stmt}
 use Rattle.tac_reader.proofs.Longest.{and_parts, not_true}
 use Rattle.tac_reader.proofs.Bare.{words_of}
 use Rattle.tac_reader.proofs.Cores.{kind_in}
-use Rattle.tac_reader.proofs.ReadWords.{spelled, Spellable, ReadsLine, line_word, line_blank, line_more, line_label}
+use Rattle.tac_reader.proofs.ReadWords.{spelled, ReadsLine, line_word, line_blank, line_more, line_label}
 use Rattle.tac_reader.proofs.Layouts.{filled, layout_reads, laid, statements_laid}
 use Rattle.tac_reader.proofs.ResolvedWords.{statement_written, row_has_form, row_passes}
-use Rattle.tac_reader.proofs.AcceptedTexts.{TokenFine}
+use Rattle.tac_reader.proofs.FaultlessLines.{IsSoundWord, Sound}
 use Rattle.tac_reader.proofs.GoodSections.{LabelGood, StatementGood, LineGood, SectionGood, names_for}
 
 -- What the lines of a text are read as, wherever it stands.
@@ -107,13 +108,13 @@ name_spelled (name s) h = refl
 name_spelled (number n) h = absurd (true≢false (sym h))
 name_spelled (fixed s) h = refl
 
-label_reads : (w : Word) → is_name_word w ≡ true → Spellable w → ReadsLine (bytes_of w ++ codes ":") (w ∷ fixed (codes ":") ∷ [])
-label_reads (name s) h k = line_label s k.0 k.1
+label_reads : (w : Word) → is_name_word w ≡ true → IsSoundWord w → ReadsLine (bytes_of w ++ codes ":") (w ∷ fixed (codes ":") ∷ [])
+label_reads (name s) h k = line_label s k
 label_reads (number n) h k = absurd (true≢false (sym h))
 label_reads (fixed s) h k = absurd (true≢false (sym h))
 
 module _ (text : List ℕ) (names : Names) (rest : List ℕ) where
-  -- Before the label, the names of all labels before it.
+  -- The labels of a line; those of the names `before` are listed already.
   labels_read : (ts : List Token) (p k : ℕ) (before others : List (List ℕ)) (qs : List ℕ) (stmts : List Stmt) (wss : List (List Word))
       → names.labels ≡ before ++ (names_in ts ++ others)
       → length before ≡ k
@@ -129,7 +130,7 @@ module _ (text : List ℕ) (names : Names) (rest : List ℕ) where
       let bytes : (x ++ codes ":") ++ 10 ∷ (more ++ rest) ≡ places_text names p (labels_from k (map (λ t. p) (t ∷ ts) ++ qs)) stmts ++ rest =
       split x more ∙ sym (ap (λ r. r ++ rest) (now_label names p k (labels_from (suc k) (map (λ t. p) ts ++ qs)) stmts ∙ ap (λ y. (y ++ codes ":\n") ++ more) this)) in
       subst (λ r. ReadsLines r (label_line t ∷ (map label_line ts ++ wss))) bytes
-      (first_line (x ++ codes ":") (more ++ rest) (label_line t) (map label_line ts ++ wss) (label_reads t.word (good.0).named ((good.0).fine).spells)
+      (first_line (x ++ codes ":") (more ++ rest) (label_line t) (map label_line ts ++ wss) (label_reads t.word (good.0).named (good.0).sound)
       (labels_read ts p (suc k) (before ++ x ∷ []) others qs stmts wss (e ∙ sym (append_assoc before (x ∷ []) (names_in ts ++ others))) longer good.1 later))
     where
       split : (x more : List ℕ) → (x ++ codes ":") ++ 10 ∷ (more ++ rest) ≡ ((x ++ codes ":\n") ++ more) ++ rest
@@ -138,11 +139,11 @@ module _ (text : List ℕ) (names : Names) (rest : List ℕ) where
   statement_reads : (ts : List Token) → StatementGood names ts → ReadsLine (statement_text names (kind_in names ts)) (words_of ts)
   statement_reads ts good =
       subst (λ l. ReadsLine l (words_of ts)) (sym (statement_written names ts good.row good.is_row good.resolved))
-      (layout_reads good.row.1 (words_of ts) (filled good.row.1 ts (row_has_form ts good.row good.is_row)) (each_word ts good.tokens) (row_passes (λ row. laid row.1) ts good.row statements_laid good.is_row))
+      (layout_reads good.row.1 (words_of ts) (filled good.row.1 ts (row_has_form ts good.row good.is_row)) (each_word ts good.words) (row_passes (λ row. laid row.1) ts good.row statements_laid good.is_row))
     where
-      each_word : (us : List Token) → Each TokenFine us → Each Spellable (words_of us)
+      each_word : (us : List Token) → Each Sound us → Each IsSoundWord (words_of us)
       each_word [] h = tt
-      each_word (u ∷ us) h = ((h.0).spells, each_word us h.1)
+      each_word (u ∷ us) h = (h.0, each_word us h.1)
 
   rest_read : (ts : List Token) (p k : ℕ) (others : List (List Token)) (wss : List (List Word))
       → (ts ≡ []) ⊎ StatementGood names ts
@@ -179,16 +180,12 @@ module _ (text : List ℕ) (names : Names) (rest : List ℕ) where
       subst (ReadsLines (places_text names p (labels_from k (label_places p (line ∷ others))) stmts ++ rest))
       (sym (append_assoc (map label_line (labels_of line)) (map words_of behind ++ normal others) wss ∙ ap (λ r. map label_line (labels_of line) ++ r) (append_assoc (map words_of behind) (normal others) wss)))
       (labels_read (labels_of line) p k before (names_in (flat_map labels_of others)) (label_places (p + length behind) others) stmts (map words_of behind ++ (normal others ++ wss))
-      (e ∙ ap (λ r. before ++ r) (names_parts (labels_of line) (flat_map labels_of others))) size (good.0).labels
+      (e ∙ ap (λ r. before ++ r) (map-append spelling_of (labels_of line) (flat_map labels_of others))) size (good.0).labels
       (λ j front f n. rest_read (behind_labels line) p j others (normal others ++ wss) (good.0).statement (λ q. body_reads others q j front wss f n good.1 h)))
-    where
-      names_parts : (ts us : List Token) → names_in (ts ++ us) ≡ names_in ts ++ names_in us
-      names_parts [] us = refl
-      names_parts (t ∷ ts) us = ap (λ r. spelling_of t ∷ r) (names_parts ts us)
 
 -- The whole listing.
 module _ (text : List ℕ) (procedures variables : List (List ℕ)) where
-  title_reads : (w : Word) → Spellable w → ReadsLine (codes "proc " ++ spelled w) (fixed (codes "proc") ∷ w ∷ [])
+  title_reads : (w : Word) → IsSoundWord w → ReadsLine (codes "proc " ++ spelled w) (fixed (codes "proc") ∷ w ∷ [])
   title_reads w h = line_more (fixed (codes "proc")) (spelled w) (w ∷ []) (inl refl) (line_word w h)
 
   pub listing_reads : (ss : List Section) (n : ℕ) (before : List (List ℕ)) → procedures ≡ before ++ names_in (titles ss) → length before ≡ n → Each (SectionGood procedures variables) ss → ReadsLines (flat_map (procedure_text procedures variables) (procedures_from text procedures variables n ss)) (section_lines ss)
@@ -205,7 +202,7 @@ module _ (text : List ℕ) (procedures variables : List (List ℕ)) where
       let ended : ReadsLines behind ((fixed (codes "end") ∷ []) ∷ section_lines ss) = first_line (codes "end") others (fixed (codes "end") ∷ []) (section_lines ss) (line_word (fixed (codes "end")) (inl refl)) later in
       let body : ReadsLines (places ++ behind) (normal s.body ++ ((fixed (codes "end") ∷ []) ∷ section_lines ss)) = body_reads text names behind s.body 0 0 [] ((fixed (codes "end") ∷ []) ∷ section_lines ss) refl refl (good.0).body ended in
       subst (λ r. ReadsLines r (section_lines (s ∷ ss))) (ap (λ y. (codes "proc " ++ y) ++ 10 ∷ (places ++ behind)) this ∙ split (codes "proc " ++ name_at procedures n) places others)
-      (first_line (codes "proc " ++ spelled s.title.word) (places ++ behind) (fixed (codes "proc") ∷ s.title.word ∷ []) (normal s.body ++ ((fixed (codes "end") ∷ []) ∷ section_lines ss)) (title_reads s.title.word (((good.0).title).fine).spells) body)
+      (first_line (codes "proc " ++ spelled s.title.word) (places ++ behind) (fixed (codes "proc") ∷ s.title.word ∷ []) (normal s.body ++ ((fixed (codes "end") ∷ []) ∷ section_lines ss)) (title_reads s.title.word ((good.0).title).sound) body)
     where
       split : (a b c : List ℕ) → a ++ 10 ∷ (b ++ (codes "end" ++ 10 ∷ c)) ≡ (a ++ codes "\n" ++ b ++ codes "end\n") ++ c
       split a b c = sym (append_assoc (a ++ codes "\n" ++ b) (codes "end\n") c ∙ append_assoc (a ++ codes "\n") b (codes "end\n" ++ c) ∙ append_assoc a (codes "\n") (b ++ (codes "end\n" ++ c)))

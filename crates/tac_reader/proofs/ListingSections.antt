@@ -7,15 +7,15 @@ use Rattle.tac_reader.specs.Tokens.{Word, name, number, fixed, Token}
 use Rattle.tac_reader.specs.Forms.{Slot, has_form, proc_form, end_form, label_form, statements, statement_forms, statement_row, labels_of, behind_labels, forms_for, some_form, is_name_word}
 use Rattle.tac_reader.specs.Sections.{Section, sections_in, statements_of, unless_empty, is_inner, opened_by}
 use Rattle.tac_reader.specs.Programs.{Names, label_places}
-use Rattle.tac_reader.specs.Faults.{word_fault}
 use Rattle.tac_reader.specs.declared.form.Form.{Form}
 use Rattle.tac_reader.proofs.Apart.{apart, not_both}
 use Rattle.tac_reader.proofs.Bare.{bare, erased, all_erased, words_of, erased_words, has_form-erased, statement_row-erased, labels_of-erased, behind-erased}
-use Rattle.tac_reader.proofs.EachLemmas.{each-append}
+use Rattle.tac_reader.proofs.Elements.{each-append}
 use Rattle.tac_reader.proofs.Cores.{core, erased_twice, each_twice}
-use Rattle.tac_reader.proofs.FineRows.{LineFine, LinesFine, after, erased-word_fault}
+use Rattle.tac_reader.proofs.FaultlessLines.{IsSoundWord, Sound, IsFaultless, after}
+use Rattle.tac_reader.proofs.FaultlessStatements.{no_labels}
+use Rattle.tac_reader.proofs.FineRows.{LinesFine}
 use Rattle.tac_reader.proofs.ResolvedWords.{row_has_form, row_passes}
-use Rattle.tac_reader.proofs.AcceptedTexts.{TokenFine, unlabelled}
 use Rattle.tac_reader.proofs.GoodSections.{LabelGood, StatementGood, LineGood, SectionGood, names_for}
 use Rattle.tac_reader.proofs.ListingLines.{label_line, normal, section_lines}
 
@@ -24,7 +24,7 @@ bare_lines wss = map (map bare) wss
 
 -- A line that neither opens nor closes a procedure.
 record Inner (ws : List Word) : Type 0 where
-  fine : LineFine true (map bare ws)
+  fine : IsFaultless true (map bare ws)
   no_proc : has_form proc_form (map bare ws) ≡ false
   no_end : has_form end_form (map bare ws) ≡ false
 
@@ -34,8 +34,8 @@ labelled (name s) h = (refl, refl)
 labelled (number n) h = absurd (true≢false (sym h))
 labelled (fixed s) h = absurd (true≢false (sym h))
 
-label_inner : (w : Word) → is_name_word w ≡ true → word_fault (bare w) ≡ [] → Inner (w ∷ fixed (codes ":") ∷ [])
-label_inner (name s) h f = record { fine = ((f, (refl, tt)), refl); no_proc = refl; no_end = refl }
+label_inner : (w : Word) → is_name_word w ≡ true → IsSoundWord w → Inner (w ∷ fixed (codes ":") ∷ [])
+label_inner (name s) h f = record { fine = record { words = (f, (inr refl, tt)); form = refl }; no_proc = refl; no_end = refl }
 label_inner (number n) h f = absurd (true≢false (sym h))
 label_inner (fixed s) h f = absurd (true≢false (sym h))
 
@@ -51,7 +51,7 @@ behind_unlabelled (t ∷ u ∷ ts) = go (has_form label_form (t ∷ u ∷ [])) r
 bare_unlabelled : (ts : List Token) → labels_of ts ≡ [] → (labels_of (map bare (words_of ts)) ≡ []) × (behind_labels (map bare (words_of ts)) ≡ all_erased ts)
 bare_unlabelled ts h = (
   ap labels_of (sym (erased_words ts)) ∙ labels_of-erased ts ∙ ap all_erased h,
-  ap behind_labels (sym (erased_words ts)) ∙ behind-erased ts ∙ ap all_erased (unlabelled ts h),
+  ap behind_labels (sym (erased_words ts)) ∙ behind-erased ts ∙ ap all_erased (no_labels ts h),
 )
 
 no_form : (ts : List Token) (row : Form × List Slot) (form : List Slot) → statement_row ts ≡ Some row → list_all (λ r. apart r.1 form) statements ≡ true → has_form form ts ≡ false
@@ -74,25 +74,25 @@ statement_inner names ts none good =
     let bares = bare_unlabelled ts none in
     let same : all_erased ts ≡ map bare (words_of ts) = erased_words ts in
     record {
-      fine = (
-        subst (Each (λ t. word_fault t ≡ [])) same (each_word ts good.tokens),
-        (λ i. some_form (forms_for true (bares.0 i)) (bares.1 i))
+      fine = record {
+        words = subst (Each Sound) same (each_word ts good.words);
+        form = (λ i. some_form (forms_for true (bares.0 i)) (bares.1 i))
             ∙ or_right (has_form [] (all_erased ts)) (has_form end_form (all_erased ts) || some_form statement_forms (all_erased ts))
-            (or_right (has_form end_form (all_erased ts)) (some_form statement_forms (all_erased ts)) (found_any (all_erased ts) statements good.row (statement_row-erased ts ∙ good.is_row))),
-      );
+            (or_right (has_form end_form (all_erased ts)) (some_form statement_forms (all_erased ts)) (found_any (all_erased ts) statements good.row (statement_row-erased ts ∙ good.is_row)));
+      };
       no_proc = sym (ap (has_form proc_form) same) ∙ has_form-erased proc_form ts ∙ no_form ts good.row proc_form good.is_row refl;
       no_end = sym (ap (has_form end_form) same) ∙ has_form-erased end_form ts ∙ no_form ts good.row end_form good.is_row refl;
     }
   where
-    each_word : (us : List Token) → Each TokenFine us → Each (λ t. word_fault t ≡ []) (all_erased us)
+    each_word : (us : List Token) → Each Sound us → Each Sound (all_erased us)
     each_word [] h = tt
-    each_word (u ∷ us) h = (erased-word_fault u (h.0).fault, each_word us h.1)
+    each_word (u ∷ us) h = (h.0, each_word us h.1)
 
 -- The lines of a section.
 module _ (names : Names) where
   labels_inner : (ts : List Token) → Each LabelGood ts → Each Inner (map label_line ts)
   labels_inner [] h = tt
-  labels_inner (t ∷ ts) h = (label_inner t.word (h.0).named (erased-word_fault t ((h.0).fine).fault), labels_inner ts h.1)
+  labels_inner (t ∷ ts) h = (label_inner t.word (h.0).named (h.0).sound, labels_inner ts h.1)
 
   behind_inner : (ts : List Token) → labels_of ts ≡ [] → (ts ≡ []) ⊎ StatementGood names ts → Each Inner (map words_of (unless_empty ts))
   behind_inner [] none good = tt
@@ -112,8 +112,8 @@ inner_fine (ws ∷ wss) others h k =
     let same : after true (map bare ws) ≡ true = λ i. if (h.0).no_proc i then true else if (h.0).no_end i then false else true in
     ((h.0).fine, subst (λ b. LinesFine b (wss ++ others)) (sym same) (inner_fine wss others h.1 k))
 
-proc_fine : (w : Word) → is_name_word w ≡ true → word_fault (bare w) ≡ [] → LineFine false (bare (fixed (codes "proc")) ∷ bare w ∷ [])
-proc_fine (name s) h f = ((refl, (f, tt)), refl)
+proc_fine : (w : Word) → is_name_word w ≡ true → IsSoundWord w → IsFaultless false (bare (fixed (codes "proc")) ∷ bare w ∷ [])
+proc_fine (name s) h f = record { words = (inl refl, (f, tt)); form = refl }
 proc_fine (number n) h f = absurd (true≢false (sym h))
 proc_fine (fixed s) h f = absurd (true≢false (sym h))
 
@@ -128,8 +128,8 @@ module _ (procedures variables : List (List ℕ)) where
   sections_lines_fine (s ∷ ss) h =
       let title : LabelGood s.title = (h.0).title in
       let opens = proc_opens s.title.word title.named in
-      let rest : LinesFine true ((fixed (codes "end") ∷ []) ∷ section_lines ss) = (((refl, tt), refl), sections_lines_fine ss h.1) in (
-        proc_fine s.title.word title.named (erased-word_fault s.title (title.fine).fault),
+      let rest : LinesFine true ((fixed (codes "end") ∷ []) ∷ section_lines ss) = (record { words = (inl refl, tt); form = refl }, sections_lines_fine ss h.1) in (
+        proc_fine s.title.word title.named title.sound,
         subst (λ b. LinesFine (if b then true else if has_form end_form (map bare (fixed (codes "proc") ∷ s.title.word ∷ [])) then false else false) (normal s.body ++ ((fixed (codes "end") ∷ []) ∷ section_lines ss))) (sym opens)
             (inner_fine (normal s.body) ((fixed (codes "end") ∷ []) ∷ section_lines ss) (normal_inner (names_for procedures variables s) s.body (h.0).body) rest),
       )

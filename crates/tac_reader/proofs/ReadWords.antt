@@ -1,16 +1,17 @@
 -- The words that the bytes of a line are read as.
-use Rattle.std.proofs.Common.{◌≡◌, ℕ, zero, suc, ◌+◌, ◌≤◌, ◌⊎◌, inl, inr, Bool, true, false, cond, not, ◌&&◌, ◌||◌, List, [], ◌∷◌, ◌++◌, length, take, map, decimal, refl, sym, ap, ◌∙◌, subst, Option, Some, None, eqb, bytes_eq, true≢false, one-add, append_assoc, if◌then◌else◌}
+use Rattle.std.proofs.Common.{◌≡◌, ℕ, zero, suc, ◌+◌, inl, inr, Bool, true, false, cond, not, ◌&&◌, ◌||◌, List, [], ◌∷◌, ◌++◌, length, take, map, decimal, refl, sym, ap, ◌∙◌, subst, Option, Some, None, eqb, true≢false, one-add, append_assoc, if◌then◌else◌}
 use Rattle.std.specs.List.{list_all, prefix_len}
-use Rattle.std.specs.Cmp.Lexicographic.{same_text}
 use Rattle.std.proofs.Math.Seq.{drop-append_seam, take-append_seam}
 use Rattle.std.proofs.lemmas.List.Folds.{list_all-append}
 use Rattle.tac_reader.specs.Text.{no_line_end}
 use Rattle.tac_reader.specs.Tokens.{Word, name, number, fixed, Piece, word, gap, Row, piece_of, picked, longest, before_row, row_from, is_letter, is_digit, is_name_byte, is_name, is_number, is_one_of, is_blank, keywords, signs, unary_signs, name_or_keyword, number_piece}
-use Rattle.tac_reader.specs.Faults.{largest_number}
+use Rattle.tac_reader.specs.Sound.{IsLawfulName}
 use Rattle.tac_reader.proofs.Longest.{first_fails, and_parts, not_true, differs, letter_longest}
 use Rattle.tac_reader.proofs.Pieces.{digit_longest, piece_of-other, one_longest, two_longest}
 use Rattle.tac_reader.proofs.Places.{longest_front, word_no_end}
 use Rattle.tac_reader.proofs.RowSteps.{row_some}
+use Rattle.tac_reader.proofs.FaultlessLines.{IsSoundWord}
+use Rattle.tac_reader.proofs.FaultlessStatements.{each_tested}
 use Rattle.tac_reader.proofs.Decimals.{is_number_decimal, value_of_decimal}
 
 -- What the bytes from a line's beginning on are read as, wherever the line stands.
@@ -62,14 +63,6 @@ number_longest (b ∷ t) rest h fails =
     digit_longest b (t ++ rest) parts.0
     ∙ ap (λ n. let o : Option (ℕ × Piece) = Some (suc n, number_piece (b ∷ take n (t ++ rest))) in o) (run_stops is_digit t rest parts.1 fails)
     ∙ ap (λ u. let o : Option (ℕ × Piece) = Some (suc (length t), number_piece (b ∷ u)) in o) (take-append_seam t rest)
-
--- What all of some texts pass, one of them does.
-pub one_of_passes : (test : List ℕ → Bool) (s : List ℕ) (ts : List (List ℕ)) → list_all test ts ≡ true → is_one_of s ts ≡ true → test s ≡ true
-one_of_passes test s [] all h = absurd (true≢false (sym h))
-one_of_passes test s (t ∷ ts) all h = go (bytes_eq s t) refl (and_parts (test t) (list_all test ts) all) (λ a k. one_of_passes test s ts a k) where
-  go : (b : Bool) → bytes_eq s t ≡ b → (test t ≡ true) × (list_all test ts ≡ true) → (list_all test ts ≡ true → is_one_of s ts ≡ true → test s ≡ true) → test s ≡ true
-  go true e parts later = ap test (same_text s t (sym e)) ∙ parts.0
-  go false e parts later = later parts.1 (sym (ap (λ b. b || is_one_of s ts) e) ∙ h)
 
 -- A sign that the byte behind it does not make longer.
 abbrev begins_no_run : ℕ → Bool
@@ -132,28 +125,23 @@ spelled (name s) = s
 spelled (number n) = decimal n
 spelled (fixed s) = s
 
-abbrev pub Spellable : Word → Type 0
-Spellable (name s) = (is_name s ≡ true) × (is_one_of s keywords ≡ false)
-Spellable (number n) = n ≤ largest_number
-Spellable (fixed s) = (is_one_of s keywords ≡ true) ⊎ (is_one_of s signs ≡ true)
-
 named : (s : List ℕ) (b : Bool) → is_one_of s keywords ≡ b → name_or_keyword s ≡ word (if b then fixed s else name s)
 named s b e = ap (λ t. word (if t then fixed s else name s)) e
 
 name_before : (s rest : List ℕ) (c : ℕ) → is_name_byte c ≡ false → is_name s ≡ true → is_one_of s keywords ≡ false → longest (s ++ c ∷ rest) ≡ Some (length s, word (name s))
 name_before s rest c part h k = name_longest s (c ∷ rest) h (ap not part) ∙ ap (λ p. let o : Option (ℕ × Piece) = Some (length s, p) in o) (named s false k)
 
-word_before : (w : Word) (rest : List ℕ) (c : ℕ) → Parts c → Spellable w → longest (spelled w ++ c ∷ rest) ≡ Some (length (spelled w), word w)
-word_before (name s) rest c part h = name_before s rest c part.no_name h.0 h.1
+word_before : (w : Word) (rest : List ℕ) (c : ℕ) → Parts c → IsSoundWord w → longest (spelled w ++ c ∷ rest) ≡ Some (length (spelled w), word w)
+word_before (name s) rest c part h = name_before s rest c part.no_name h.spelled h.not_reserved
 word_before (number n) rest c part h =
     number_longest (decimal n) (c ∷ rest) (is_number_decimal n h) (ap not (no_digit c part.no_name))
     ∙ ap (λ k. let o : Option (ℕ × Piece) = Some (length (decimal n), word (number k)) in o) (value_of_decimal n h)
 word_before (fixed s) rest c part (inl h) =
-    name_longest s (c ∷ rest) (one_of_passes is_name s keywords refl h) (ap not part.no_name)
+    name_longest s (c ∷ rest) (each_tested is_name keywords s refl h) (ap not part.no_name)
     ∙ ap (λ p. let o : Option (ℕ × Piece) = Some (length s, p) in o) (named s true h)
-word_before (fixed s) rest c part (inr h) = sign_longest c s rest (one_of_passes (alone c) s signs part.no_sign h) h
+word_before (fixed s) rest c part (inr h) = sign_longest c s rest (each_tested (alone c) signs s part.no_sign h) h
 
-word_piece : (w : Word) → Spellable w → piece_of (spelled w) ≡ Some (word w)
+word_piece : (w : Word) → IsSoundWord w → piece_of (spelled w) ≡ Some (word w)
 word_piece w h =
     let e = word_before w [] 10 parts_end h in
     let front = longest_front (length (spelled w ++ 10 ∷ [])) (spelled w ++ 10 ∷ []) (length (spelled w), word w) e in
@@ -176,7 +164,7 @@ line_end = reads_piece (10 ∷ []) [] gap [] refl no_bytes
 pub line_none : ReadsLine [] []
 line_none = record { no_end = refl; reads = line_end }
 
-pub line_word : (w : Word) → Spellable w → ReadsLine (spelled w) (w ∷ [])
+pub line_word : (w : Word) → IsSoundWord w → ReadsLine (spelled w) (w ∷ [])
 line_word w h = record {
   no_end = word_no_end (spelled w) w (word_piece w h);
   reads = reads_piece (spelled w) (10 ∷ []) (word w) [] (word_before w [] 10 parts_end h) line_end;
@@ -188,7 +176,7 @@ blank_longest rest = one_longest 32 refl refl refl rest gap (λ c h. piece_of-ot
 pub line_blank : (line : List ℕ) (ws : List Word) → ReadsLine line ws → ReadsLine (32 ∷ line) ws
 line_blank line ws h = record { no_end = h.no_end; reads = reads_piece (32 ∷ []) (line ++ 10 ∷ []) gap ws (blank_longest (line ++ 10 ∷ [])) h.reads }
 
-pub line_more : (w : Word) (line : List ℕ) (ws : List Word) → Spellable w → ReadsLine line ws → ReadsLine (spelled w ++ 32 ∷ line) (w ∷ ws)
+pub line_more : (w : Word) (line : List ℕ) (ws : List Word) → IsSoundWord w → ReadsLine line ws → ReadsLine (spelled w ++ 32 ∷ line) (w ∷ ws)
 line_more w line ws good h =
     let rest = line_blank line ws h in
     record {
@@ -197,12 +185,12 @@ line_more w line ws good h =
     }
 
 -- A label: a name, and a sign directly behind it.
-pub line_label : (s : List ℕ) → is_name s ≡ true → is_one_of s keywords ≡ false → ReadsLine (s ++ 58 ∷ []) (name s ∷ fixed (58 ∷ []) ∷ [])
-line_label s h k =
+pub line_label : (s : List ℕ) → IsLawfulName s → ReadsLine (s ++ 58 ∷ []) (name s ∷ fixed (58 ∷ []) ∷ [])
+line_label s h =
     let sign = line_word (fixed (58 ∷ [])) (inr refl) in
     record {
-      no_end = both_no_end s (58 ∷ []) (word_no_end s (name s) (word_piece (name s) (h, k))) sign.no_end;
-      reads = subst (λ bs. ReadsAs bs (name s ∷ fixed (58 ∷ []) ∷ [])) (sym (append_assoc s (58 ∷ []) (10 ∷ []))) (reads_piece s (58 ∷ 10 ∷ []) (word (name s)) (fixed (58 ∷ []) ∷ []) (name_before s (10 ∷ []) 58 refl h k) sign.reads);
+      no_end = both_no_end s (58 ∷ []) (word_no_end s (name s) (word_piece (name s) h)) sign.no_end;
+      reads = subst (λ bs. ReadsAs bs (name s ∷ fixed (58 ∷ []) ∷ [])) (sym (append_assoc s (58 ∷ []) (10 ∷ []))) (reads_piece s (58 ∷ 10 ∷ []) (word (name s)) (fixed (58 ∷ []) ∷ []) (name_before s (10 ∷ []) 58 refl h.spelled h.not_reserved) sign.reads);
     }
 
 -- A unary sign, directly before its operand.
@@ -216,8 +204,8 @@ unary_alone c h = let e : eqb c 61 ≡ false = differs is_name_byte c 61 h refl 
 pub line_unary : (s line : List ℕ) (ws : List Word) → is_one_of s unary_signs ≡ true → starts_word line ≡ true → ReadsLine line ws → ReadsLine (s ++ line) (fixed s ∷ ws)
 line_unary s [] ws h starts k = absurd (true≢false (sym starts))
 line_unary s (c ∷ cs) ws h starts k =
-    let sign : is_one_of s signs ≡ true = one_of_passes (λ t. is_one_of t signs) s unary_signs refl h in
+    let sign : is_one_of s signs ≡ true = each_tested (λ t. is_one_of t signs) unary_signs s refl h in
     record {
       no_end = both_no_end s (c ∷ cs) (word_no_end s (fixed s) (word_piece (fixed s) (inr sign))) k.no_end;
-      reads = subst (λ bs. ReadsAs bs (fixed s ∷ ws)) (sym (append_assoc s (c ∷ cs) (10 ∷ []))) (reads_piece s (c ∷ cs ++ 10 ∷ []) (word (fixed s)) ws (sign_longest c s (cs ++ 10 ∷ []) (one_of_passes (alone c) s unary_signs (unary_alone c starts) h) sign) k.reads);
+      reads = subst (λ bs. ReadsAs bs (fixed s ∷ ws)) (sym (append_assoc s (c ∷ cs) (10 ∷ []))) (reads_piece s (c ∷ cs ++ 10 ∷ []) (word (fixed s)) ws (sign_longest c s (cs ++ 10 ∷ []) (each_tested (alone c) unary_signs s (unary_alone c starts) h) sign) k.reads);
     }

@@ -1,11 +1,11 @@
 -- A statement of a form, with known names, is written as its words.
-use Rattle.std.proofs.Common.{◌≡◌, ℕ, Bool, true, false, cond, ◌||◌, List, [], ◌∷◌, ◌++◌, map, flat_map, find, refl, sym, ap, ◌∙◌, subst, Option, Some, None, bytes_eq, true≢false, if◌then◌else◌, unwrap_or}
+use Rattle.std.proofs.Common.{◌≡◌, ℕ, Bool, true, false, cond, ◌||◌, List, [], ◌∷◌, ◌++◌, map, flat_map, find, refl, sym, ap, ◌∙◌, subst, Option, Some, bytes_eq, true≢false, if◌then◌else◌, unwrap_or}
 use Rattle.std.specs.List.{AllByRecursion as Each, list_all}
 use Rattle.std.specs.Cmp.Lexicographic.{same_text}
 use Rattle.tac_reader.specs.Tokens.{Word, name, number, fixed, Token, is_one_of, binary_signs, unary_signs, comparison_signs}
-use Rattle.tac_reader.specs.Forms.{Slot, exactly, procedure, variable, operand, label, callee, binary, unary, comparison, fills, has_form, is_name_word, statements, statement_row, paired, cells_of, in_slot}
+use Rattle.tac_reader.specs.Forms.{Slot, exactly, procedure, variable, operand, label, callee, binary, unary, comparison, fills, has_form, is_name_word, some_form, statements, statement_row, paired, in_slot}
 use Rattle.tac_reader.specs.Sections.{bytes_of, spelling_of, is_label, is_callee, is_variable, only_name, callees_of}
-use Rattle.tac_reader.specs.Programs.{Names, operator_of, operators, sign_of, kind_of, names_in, number_of}
+use Rattle.tac_reader.specs.Programs.{Names, operator_of, operators, sign_of, kind_of, number_of}
 use Rattle.tac_reader.specs.Listings.{statement_text}
 use Rattle.tac_reader.specs.declared.form.Form.{Form}
 use Rattle.tac_reader.specs.declared.program.Op.{Op}
@@ -13,8 +13,9 @@ use Rattle.tac_reader.specs.declared.program.Op.TheVariants as op
 use Rattle.tac_reader.proofs.Longest.{and_parts}
 use Rattle.tac_reader.proofs.Bare.{words_of}
 use Rattle.tac_reader.proofs.Cores.{kind_in}
-use Rattle.tac_reader.proofs.KnownNames.{name_of_number}
-use Rattle.tac_reader.proofs.ReadWords.{one_of_passes}
+use Rattle.tac_reader.proofs.KnownNames.{Known, name_of_number}
+use Rattle.tac_reader.proofs.FaultlessStatements.{KnownVariable, KnownLabel, KnownProcedure, each_tested}
+use Rattle.tac_reader.proofs.SoundStatements.{cells_are}
 use Rattle.tac_reader.proofs.Layouts.{layout}
 use Rattle.tac_reader.proofs.StatementTexts.{Resolves, Resolved, callee_numbers, numbers_are, IsWritten, all_written}
 use Rattle.tac_reader.proofs.StatementWords.{row_form}
@@ -34,11 +35,20 @@ each_found P test (y ∷ ys) x h e = go (test y) refl e (λ k. each_found P test
 
 pub statement_written : (names : Names) (ts : List Token) (row : Form × List Slot) → statement_row ts ≡ Some row → Resolved names row.1 (words_of ts) → statement_text names (kind_in names ts) ≡ layout row.1 (words_of ts)
 statement_written names ts row e h =
-    let cells : cells_of ts ≡ paired row.1 ts = ap (λ o. elim o as (λ _. List (Slot × Token)) [ None ↦ [] | Some r ↦ paired r.1 ts ]) e in
     let numbers : map (λ t. number_of names.procedures (spelling_of t)) (callees_of ts) ≡ callee_numbers names.procedures row.1 (words_of ts) =
-    ap (λ cs. map (λ t. number_of names.procedures (spelling_of t)) (in_slot is_callee cs)) cells ∙ numbers_are names.procedures row.1 ts in
+    ap (λ cs. map (λ t. number_of names.procedures (spelling_of t)) (in_slot is_callee cs)) (cells_are ts row e) ∙ numbers_are names.procedures row.1 ts in
     (λ i. statement_text names (kind_of names (numbers i) (row_form ts row e i) (words_of ts)))
     ∙ (each_found (IsWritten names) (λ r. has_form r.1 ts) statements row (all_written names) e).0 (words_of ts) h
+
+-- The row of tokens that have some form of a statement.
+pub form_row : (ts : List Token) (rows : List (Form × List Slot)) → some_form (map (λ row. row.1) rows) ts ≡ true → (row : Form × List Slot) × (find (λ r. has_form r.1 ts) rows ≡ Some row)
+form_row ts [] h = absurd (true≢false (sym h))
+form_row ts (r ∷ rs) h = go (has_form r.1 ts) refl (form_row ts rs) where
+  go : (b : Bool) → has_form r.1 ts ≡ b → (some_form (map (λ row. row.1) rs) ts ≡ true → (row : Form × List Slot) × (find (λ q. has_form q.1 ts) rs ≡ Some row)) → (row : Form × List Slot) × (cond (has_form r.1 ts) (Some r) (find (λ q. has_form q.1 ts) rs) ≡ Some row)
+  go true e later = (r, ap (λ b. cond b (let o : Option (Form × List Slot) = Some r in o) (find (λ q. has_form q.1 ts) rs)) e)
+  go false e later =
+      let rest = later (sym (ap (λ b. b || some_form (map (λ row. row.1) rs) ts) e) ∙ h) in
+      (rest.0, ap (λ b. cond b (let o : Option (Form × List Slot) = Some r in o) (find (λ q. has_form q.1 ts) rs)) e ∙ rest.1)
 
 pub row_has_form : (ts : List Token) (row : Form × List Slot) → statement_row ts ≡ Some row → has_form row.1 ts ≡ true
 row_has_form ts row e = found (λ r. has_form r.1 ts) statements row e where
@@ -65,21 +75,21 @@ found_sign s (o ∷ os) h = go (bytes_eq s (sign_of o)) refl (found_sign s os) w
       ∙ later (sym (ap (λ c. c || is_one_of s (map sign_of os)) e) ∙ h)
 
 sign_back : (s : List ℕ) (those : List (List ℕ)) → list_all (λ t. is_one_of t (map sign_of operators)) those ≡ true → is_one_of s those ≡ true → sign_of (operator_of (fixed s)) ≡ s
-sign_back s those all h = found_sign s operators (one_of_passes (λ t. is_one_of t (map sign_of operators)) s those all h)
+sign_back s those all h = found_sign s operators (each_tested (λ t. is_one_of t (map sign_of operators)) those s all h)
 
 -- Known names.
-abbrev pub Known : Names → Slot → Word → Type 0
-Known names variable w = is_one_of (bytes_of w) names.variables ≡ true
-Known names operand w = is_name_word w ≡ true → is_one_of (bytes_of w) names.variables ≡ true
-Known names label w = is_one_of (bytes_of w) names.labels ≡ true
-Known names callee w = is_one_of (bytes_of w) names.procedures ≡ true
-Known names _ w = Unit {0}
+abbrev KnownIn : Names → Slot → Word → Type 0
+KnownIn names variable w = Known names.variables (bytes_of w)
+KnownIn names operand w = is_name_word w ≡ true → Known names.variables (bytes_of w)
+KnownIn names label w = Known names.labels (bytes_of w)
+KnownIn names callee w = Known names.procedures (bytes_of w)
+KnownIn names _ w = Unit {0}
 
 or_false : (a : Bool) → (a || false) ≡ true → a ≡ true
 or_false true h = refl
 or_false false h = h
 
-resolves : (names : Names) (s : Slot) (w : Word) → fills s w ≡ true → Known names s w → Resolves names s w
+resolves : (names : Names) (s : Slot) (w : Word) → fills s w ≡ true → KnownIn names s w → Resolves names s w
 resolves names (exactly k) (fixed u) f h = same_text u k (sym (or_false (bytes_eq u k) f))
 resolves names (exactly k) (name x) f h = absurd (true≢false (sym f))
 resolves names (exactly k) (number n) f h = absurd (true≢false (sym f))
@@ -107,47 +117,32 @@ resolves names comparison (name x) f h = absurd (true≢false (sym f))
 resolves names comparison (number n) f h = absurd (true≢false (sym f))
 
 -- A statement's names, as the lists of those that each kind of place holds.
-abbrev pub AllKnown : List (List ℕ) → List Token → Type 0
-AllKnown names ts = Each (λ x. is_one_of x names ≡ true) (names_in ts)
+module _ (names : Names) (t : Token) (us : List Token) where
+  first_name : (n : Bool) → Each (KnownVariable names) ((if n then t ∷ [] else []) ++ us) → (n ≡ true → KnownVariable names t) × Each (KnownVariable names) us
+  first_name true h = (λ e. h.0, h.1)
+  first_name false h = (λ e. absurd (true≢false (sym e)), h)
 
-pub record NamesKnown (names : Names) (slots : List Slot) (ts : List Token) : Type 0 where
-  pub labels : AllKnown names.labels (in_slot is_label (paired slots ts))
-  pub callees : AllKnown names.procedures (in_slot is_callee (paired slots ts))
-  pub variables : AllKnown names.variables (flat_map only_name (in_slot is_variable (paired slots ts)))
-
-module _ (names : Names) (t : Token) (vs : List Token) where
-  only_rest : AllKnown names.variables (flat_map only_name (t ∷ vs)) → AllKnown names.variables (flat_map only_name vs)
-  only_rest h = go (is_name_word t.word) h where
-    go : (b : Bool) → AllKnown names.variables ((if b then t ∷ [] else []) ++ flat_map only_name vs) → AllKnown names.variables (flat_map only_name vs)
-    go true k = k.1
-    go false k = k
-
-  only_first : AllKnown names.variables (flat_map only_name (t ∷ vs)) → is_name_word t.word ≡ true → is_one_of (spelling_of t) names.variables ≡ true
-  only_first h e =
-      let k : AllKnown names.variables ((if true then t ∷ [] else []) ++ flat_map only_name vs) = subst (λ b. AllKnown names.variables ((if b then t ∷ [] else []) ++ flat_map only_name vs)) e h in
-      k.0
-
-pub resolved : (names : Names) (slots : List Slot) (ts : List Token) → has_form slots ts ≡ true → NamesKnown names slots ts → Resolved names slots (words_of ts)
-resolved names [] [] f h = tt
-resolved names [] (t ∷ ts) f h = absurd (true≢false (sym f))
-resolved names (s ∷ ss) [] f h = absurd (true≢false (sym f))
-resolved names (s ∷ ss) (t ∷ ts) f h =
+pub resolved : (names : Names) (slots : List Slot) (ts : List Token) → has_form slots ts ≡ true → Each (KnownLabel names) (in_slot is_label (paired slots ts)) → Each (KnownProcedure names) (in_slot is_callee (paired slots ts)) → Each (KnownVariable names) (flat_map only_name (in_slot is_variable (paired slots ts))) → Resolved names slots (words_of ts)
+resolved names [] [] f ls cs vs = tt
+resolved names [] (t ∷ ts) f ls cs vs = absurd (true≢false (sym f))
+resolved names (s ∷ ss) [] f ls cs vs = absurd (true≢false (sym f))
+resolved names (s ∷ ss) (t ∷ ts) f ls cs vs =
     let parts = and_parts (fills s t.word) (has_form ss ts) f in
-    let both = split s parts.0 h.labels h.callees h.variables in
-    (resolves names s t.word parts.0 both.0, resolved names ss ts parts.1 both.1)
+    let known = split s parts.0 ls cs vs in
+    (resolves names s t.word parts.0 known.0, resolved names ss ts parts.1 known.1 known.2 known.3)
   where
     split : (p : Slot)
         → fills p t.word ≡ true
-        → AllKnown names.labels (in_slot is_label ((p, t) ∷ paired ss ts))
-        → AllKnown names.procedures (in_slot is_callee ((p, t) ∷ paired ss ts))
-        → AllKnown names.variables (flat_map only_name (in_slot is_variable ((p, t) ∷ paired ss ts)))
-        → Known names p t.word × NamesKnown names ss ts
-    split label g a b c = (a.0, record { labels = a.1; callees = b; variables = c })
-    split callee g a b c = (b.0, record { labels = a; callees = b.1; variables = c })
-    split variable g a b c = (only_first names t (in_slot is_variable (paired ss ts)) c g, record { labels = a; callees = b; variables = only_rest names t (in_slot is_variable (paired ss ts)) c })
-    split operand g a b c = (only_first names t (in_slot is_variable (paired ss ts)) c, record { labels = a; callees = b; variables = only_rest names t (in_slot is_variable (paired ss ts)) c })
-    split (exactly k) g a b c = (tt, record { labels = a; callees = b; variables = c })
-    split procedure g a b c = (tt, record { labels = a; callees = b; variables = c })
-    split binary g a b c = (tt, record { labels = a; callees = b; variables = c })
-    split unary g a b c = (tt, record { labels = a; callees = b; variables = c })
-    split comparison g a b c = (tt, record { labels = a; callees = b; variables = c })
+        → Each (KnownLabel names) (in_slot is_label ((p, t) ∷ paired ss ts))
+        → Each (KnownProcedure names) (in_slot is_callee ((p, t) ∷ paired ss ts))
+        → Each (KnownVariable names) (flat_map only_name (in_slot is_variable ((p, t) ∷ paired ss ts)))
+        → KnownIn names p t.word × Each (KnownLabel names) (in_slot is_label (paired ss ts)) × Each (KnownProcedure names) (in_slot is_callee (paired ss ts)) × Each (KnownVariable names) (flat_map only_name (in_slot is_variable (paired ss ts)))
+    split label g a b c = (a.0, a.1, b, c)
+    split callee g a b c = (b.0, a, b.1, c)
+    split variable g a b c = let rest = first_name names t (flat_map only_name (in_slot is_variable (paired ss ts))) (is_name_word t.word) c in (rest.0 g, a, b, rest.1)
+    split operand g a b c = let rest = first_name names t (flat_map only_name (in_slot is_variable (paired ss ts))) (is_name_word t.word) c in (rest.0, a, b, rest.1)
+    split (exactly k) g a b c = (tt, a, b, c)
+    split procedure g a b c = (tt, a, b, c)
+    split binary g a b c = (tt, a, b, c)
+    split unary g a b c = (tt, a, b, c)
+    split comparison g a b c = (tt, a, b, c)

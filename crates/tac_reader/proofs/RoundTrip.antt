@@ -8,13 +8,13 @@ use Rattle.tac_reader.specs.Programs.{names_in, variables_in, each_once, program
 use Rattle.tac_reader.specs.Faults.{line_faults, name_faults, first_by_place, head_of, refusal_of, refusal_at, longest_text}
 use Rattle.tac_reader.specs.Listings.{listing_of}
 use Rattle.tac_reader.specs.Laws.{SameButSpans, ListingsReadBack}
-use Rattle.tac_reader.proofs.EachLemmas.{each-append}
+use Rattle.tac_reader.proofs.Elements.{each-append}
 use Rattle.tac_reader.proofs.Bare.{bare, all_erased, words_of, erased_words}
 use Rattle.tac_reader.proofs.Cores.{core, cores-erased, core_titles, core_variables, title_names, variable_names, outlines, outlines_are}
 use Rattle.tac_reader.proofs.CoreFaults.{no_faults_by_core}
 use Rattle.tac_reader.proofs.NameFaults.{name_fault}
 use Rattle.tac_reader.proofs.FineRows.{LinesFine, no_line_faults}
-use Rattle.tac_reader.proofs.AcceptedTexts.{no_faults}
+use Rattle.tac_reader.proofs.SoundPrograms.{no_faults, none_head, none_refused}
 use Rattle.tac_reader.proofs.GoodSections.{SectionGood, sections_good}
 use Rattle.tac_reader.proofs.ListingLines.{ReadsLines, label_line, normal, section_lines, listing_reads}
 use Rattle.tac_reader.proofs.ListingSections.{bare_lines, sections_lines_fine, cores_listed}
@@ -77,7 +77,7 @@ module _ (text listing : List ℕ) (accepted : refusal_of text ≡ None) (reads 
   not_refused h =
       let lines_none : line_faults false (length listing) (rows listing) ≡ [] =
       no_line_faults false (length listing) (rows listing) (reads.whole 0) (subst (LinesFine false) (sym (reads.words 0)) (sections_lines_fine (names_in (titles ss)) (variables_in ss) ss good)) in
-      let names_none : name_faults us ≡ [] = no_faults_by_core ss us same_cores (no_faults text accepted).1 in
+      let names_none : name_faults us ≡ [] = no_faults_by_core ss us same_cores (none_head (name_faults (sections text)) (no_faults text (none_refused text accepted)).names) in
       ap (option_map (refusal_at listing)) (name_fault listing h (ap first_by_place lines_none) ∙ ap head_of names_none)
 
   same_program : SameButSpans (program_of listing) (program_of text)

@@ -9,7 +9,7 @@ use Rattle.tac_reader.specs.Tokens.{Token, rows, is_one_of}
 use Rattle.tac_reader.specs.Forms.{labels_of, behind_labels, paired, in_slot, cells_of, is_name_word, Slot, statement_row}
 use Rattle.tac_reader.specs.Sections.{Section, sections, token_lines, titles, spelling_of, unless_empty, statements_of, labels_in, is_variable, callees_of, jumps_of, only_name, variables_of}
 use Rattle.tac_reader.specs.Programs.{Names, Procedure, Program, names_in, statement_of, label_places, labels_from, procedure_of, procedures_from, variables_in, program_of}
-use Rattle.tac_reader.specs.Faults.{at, repeated, unknown, jumps_in, callees_in, name_faults, head_of, fault_of, refusal_at, first_by_place, line_faults, longest_text, most_procedures}
+use Rattle.tac_reader.specs.Faults.{at, repeated, unknown, jumps_in, callees_in, name_faults, head_of, fault_of, refusal_of, refusal_at, first_by_place, line_faults, longest_text, most_procedures}
 use Rattle.tac_reader.specs.Laws.{ProgramsAreSound}
 use Rattle.tac_reader.specs.Sound.{IsLawfulName, IsSoundStatement, IsSoundProcedure, IsSound}
 use Rattle.tac_reader.specs.declared.fault.Fault.{Fault}
@@ -21,7 +21,7 @@ use Rattle.tac_reader.proofs.Elements.{each-append, each-map, each-from_map, eac
 use Rattle.tac_reader.proofs.FirstFault.{none_first}
 use Rattle.tac_reader.proofs.LabelRuns.{labels_rise}
 use Rattle.tac_reader.proofs.KnownNames.{Known, known_contained, none_repeated, each_once_known, each_once_differ, each_once_each}
-use Rattle.tac_reader.proofs.FaultlessLines.{Sound, IsFaultlessSection, AllFaultless, rows_spelled, lines_faultless, sections_faultless, name_lawful}
+use Rattle.tac_reader.proofs.FaultlessLines.{Sound, IsFaultlessSection, rows_spelled, lines_faultless, sections_faultless, name_lawful}
 use Rattle.tac_reader.proofs.FaultlessStatements.{IsFaultlessStatement, statements_faultless, all_labels_lawful}
 use Rattle.tac_reader.proofs.ProgramSizes.{AreFew, sections_few, total, total_is}
 use Rattle.tac_reader.proofs.SoundStatements.{NamesAreKnown, statement_sound}
@@ -65,10 +65,10 @@ labels_placed n end [] h = tt
 labels_placed n end (p ∷ ps) h = (h.0, labels_placed (suc n) end ps h.1)
 
 -- What is known of each section of a text without faults: of a section among others, by the names of these.
-record IsLawfulSection (procedures variables : List (List ℕ)) (s : Section) : Type 0 where
-  faultless : IsFaultlessSection s
-  labels_once : repeated kind.DuplicateLabel [] (labels_in s) ≡ []
-  known : Each (λ ts. NamesAreKnown (record { procedures = procedures; variables = variables; labels = names_in (labels_in s) }) ts) (statements_of s.body)
+pub record IsLawfulSection (procedures variables : List (List ℕ)) (s : Section) : Type 0 where
+  pub faultless : IsFaultlessSection s
+  pub labels_once : repeated kind.DuplicateLabel [] (labels_in s) ≡ []
+  pub known : Each (λ ts. NamesAreKnown (record { procedures = procedures; variables = variables; labels = names_in (labels_in s) }) ts) (statements_of s.body)
 
 module _ (text : List ℕ) (procedures variables : List (List ℕ)) where
   procedure_sound : (n : ℕ) (s : Section) → IsLawfulSection procedures variables s → IsSoundProcedure (length variables) (length procedures) (procedure_of text procedures variables n s)
@@ -281,12 +281,12 @@ sections_sound text ss f h few =
     }
 
 -- What a text without a fault shows.
-record HasNoFaults (text : List ℕ) : Type 0 where
-  short : length text ≤ longest_text
-  lines : first_by_place (line_faults false (length text) (rows text)) ≡ None
-  names : head_of (name_faults (sections text)) ≡ None
+pub record HasNoFaults (text : List ℕ) : Type 0 where
+  pub short : length text ≤ longest_text
+  pub lines : first_by_place (line_faults false (length text) (rows text)) ≡ None
+  pub names : head_of (name_faults (sections text)) ≡ None
 
-no_faults : (text : List ℕ) → fault_of text ≡ None → HasNoFaults text
+pub no_faults : (text : List ℕ) → fault_of text ≡ None → HasNoFaults text
 no_faults text e = by_length (nat_lt longest_text (length text)) refl e where
   by_line : (o : Option Fault) → length text ≤ longest_text → first_by_place (line_faults false (length text) (rows text)) ≡ o → (elim o as (λ _. Option Fault) [ Some f ↦ Some f | None ↦ head_of (name_faults (sections text)) ]) ≡ None → HasNoFaults text
   by_line (Some f) short k h = absurd (cc h)
@@ -299,26 +299,39 @@ no_faults text e = by_length (nat_lt longest_text (length text)) refl e where
   by_length true t h = absurd (cc h)
   by_length false t h = by_line (first_by_place (line_faults false (length text) (rows text))) (ltb-false longest_text (length text) t) refl h
 
-none_head : (fs : List Fault) → head_of fs ≡ None → fs ≡ []
+pub none_head : (fs : List Fault) → head_of fs ≡ None → fs ≡ []
 none_head [] e = refl
 none_head (f ∷ fs) e = absurd (cc e)
+
+-- Its sections.
+text_faultless : (text : List ℕ) → HasNoFaults text → Each IsFaultlessSection (sections text)
+text_faultless text h =
+    sections_faultless false (token_lines (rows text)) (lines_faultless false (length text) (rows text) (rows_spelled 0 (lines text)) (none_first (line_faults false (length text) (rows text)) h.lines))
+
+text_names : (text : List ℕ) → HasNoFaults text → NoNameFaults (sections text)
+text_names text h = no_name_faults (sections text) (none_head (name_faults (sections text)) h.names)
+
+pub text_lawful : (text : List ℕ) → HasNoFaults text → Each (IsLawfulSection (names_in (titles (sections text))) (variables_in (sections text))) (sections text)
+text_lawful text h = let ss : List Section = sections text in sections_lawful ss (variables_in ss) ss (text_faultless text h) (text_names text h).each (variables_known ss)
 
 -- The program of a text without a fault is sound.
 faultless_sound : (text : List ℕ) → fault_of text ≡ None → IsSound (program_of text)
 unfolding program_in
 faultless_sound text e =
     let h = no_faults text e in
-    let faultless : AllFaultless false (token_lines (rows text)) = lines_faultless false (length text) (rows text) (rows_spelled 0 (lines text)) (none_first (line_faults false (length text) (rows text)) h.lines) in
     let few = sections_few text in
-    sections_sound text (sections text) (sections_faultless false (token_lines (rows text)) faultless) (no_name_faults (sections text) (none_head (name_faults (sections text)) h.names))
+    sections_sound text (sections text) (text_faultless text h) (text_names text h)
     (record { statements = omega (arith, few.statements, h.short); labels = omega (arith, few.labels, h.short); variables = omega (arith, few.variables, h.short) })
 
 -- The same of what the code makes of the text's sections.
 pub program_sound : (text : List ℕ) (ss : List Section) (procedures variables : List (List ℕ)) → ss ≡ sections text → procedures ≡ names_in (titles ss) → variables ≡ variables_in ss → fault_of text ≡ None → IsSound (record { procedures = procedures_from text procedures variables 0 ss; procedure_names = procedures; variable_names = variables })
 program_sound text ss procedures variables e f g none = subst IsSound (sym (program_is text ss procedures variables e f g)) (faultless_sound text none)
 
-pub programs_are_sound : ProgramsAreSound
-programs_are_sound text e = faultless_sound text (go (fault_of text) e) where
+pub none_refused : (text : List ℕ) → refusal_of text ≡ None → fault_of text ≡ None
+none_refused text e = go (fault_of text) e where
   go : (o : Option Fault) → option_map (refusal_at text) o ≡ None → o ≡ None
   go None k = refl
   go (Some f) k = absurd (cc k)
+
+pub programs_are_sound : ProgramsAreSound
+programs_are_sound text e = faultless_sound text (none_refused text e)

@@ -134,7 +134,7 @@ has_row Q ts (r ∷ rs) h e = by_test (has_form r.1 ts) refl e (has_row Q ts rs 
       let rest = later m in
       record { row = rest.row; found = ap (λ b. cond b (let o : Option TableRow = Some r in o) (find (λ q. has_form q.1 ts) rs)) k ∙ rest.found; form = rest.form; holds = rest.holds }
 
-cells_are : (ts : List Token) (row : TableRow) → statement_row ts ≡ Some row → cells_of ts ≡ paired row.1 ts
+pub cells_are : (ts : List Token) (row : TableRow) → statement_row ts ≡ Some row → cells_of ts ≡ paired row.1 ts
 cells_are ts row e = ap (λ o. elim o as (λ _. List (Slot × Token)) [ None ↦ [] | Some r ↦ paired r.1 ts ]) e
 
 -- The names in a statement are known, and no procedure is listed twice.

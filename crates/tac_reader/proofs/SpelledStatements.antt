@@ -11,7 +11,7 @@ use Rattle.tac_reader.specs.Programs.{start_of, stop_of}
 use Rattle.tac_reader.specs.Laws.{StatementsAreSpelled}
 use Rattle.tac_reader.proofs.Places.{EachToken, StandsIn, row_in, ends_line}
 use Rattle.tac_reader.proofs.Lines.{lines_join}
-use Rattle.tac_reader.proofs.EachLemmas.{each-append, each-take, each-weaker, each-flat_map}
+use Rattle.tac_reader.proofs.Elements.{each-append, each-take, each-weaker, each-flat_map}
 use Rattle.tac_reader.proofs.SpelledTokens.{row_choice, drop_next, drop_past}
 use Rattle.tac_reader.proofs.CutRows.{end_of, IsCut, row_cut}
 
@@ -95,8 +95,8 @@ pub statements_are_spelled : StatementsAreSpelled
 statements_are_spelled text =
     let P : List Token → Type 0 = IsAlone text in
     let each_row = rows_tails text 0 (lines text) (sym (lines_join text)) in
-    let each_line : Each (EachTail P) (token_lines (rows text)) = each-flat_map (λ (row : Row). EachTail P row.tokens) (EachTail P) (λ row. unless_empty row.tokens) (λ row. some_line P row.tokens) (rows text) each_row in
+    let each_line : Each (EachTail P) (token_lines (rows text)) = each-flat_map (EachTail P) (λ row. unless_empty row.tokens) (rows text) (each-weaker (λ (row : Row). EachTail P row.tokens) (λ row. Each (EachTail P) (unless_empty row.tokens)) (λ row. some_line P row.tokens) (rows text) each_row) in
     All-from_recursion (λ s. All P (statements_of s.body)) (sections text)
     (each-weaker (λ (s : Section). Each (EachTail P) s.body) (λ s. All P (statements_of s.body))
-    (λ s h. All-from_recursion P (statements_of s.body) (each-flat_map (EachTail P) P (λ line. unless_empty (behind_labels line)) (λ line k. some_tail P (behind_labels line) (behind_tail P line k)) s.body h))
+    (λ s h. All-from_recursion P (statements_of s.body) (each-flat_map P (λ line. unless_empty (behind_labels line)) s.body (each-weaker (EachTail P) (λ line. Each P (unless_empty (behind_labels line))) (λ line k. some_tail P (behind_labels line) (behind_tail P line k)) s.body h)))
     (sections text) (section_tails P (token_lines (rows text)) each_line))

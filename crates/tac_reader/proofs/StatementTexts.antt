@@ -10,7 +10,7 @@ use Rattle.tac_reader.specs.Listings.{name_at, operand_text, binary_text, goto_t
 use Rattle.tac_reader.specs.declared.form.Form.{Form}
 use Rattle.tac_reader.specs.declared.form.Form.TheVariants as form
 use Rattle.tac_reader.proofs.Longest.{and_parts}
-use Rattle.tac_reader.proofs.EachLemmas.{each-append}
+use Rattle.tac_reader.proofs.Elements.{each-append}
 use Rattle.tac_reader.proofs.Bare.{words_of}
 use Rattle.tac_reader.proofs.ReadWords.{spelled}
 use Rattle.tac_reader.proofs.Layouts.{layout}
