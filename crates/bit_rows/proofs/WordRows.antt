@@ -5,7 +5,7 @@ use Rattle.std.proofs.lemmas.Bool.{cases_lt, cases_eq, cases_Bool, both_ways, an
 use Rattle.std.specs.List.{refill}
 use Rattle.std.specs.Bool.{MatchBool}
 use Rattle.bit_rows.specs.Words.{has_bit, words_have, word_count, range_mask, MaskLiesWithin, AreRowWords, IsTrimmed, CombinesPlaces, MapsPlaces, SamePlaces}
-use Rattle.bit_rows.specs.RowSet.{RowSet, hi_of, contains, set_of, empty_set, with_bit, with_word, union, intersection, difference, complement}
+use Rattle.bit_rows.specs.RowSet.{RowSet, HasRange, hi_of, contains, set_of, empty_set, with_bit, with_word, union, intersection, difference, complement}
 use Rattle.bit_rows.proofs.WordBits.{has_bit-zero, has_bit-or, has_bit-mask_inside, has_bit-mask_below, has_bit-mask_above, has_bit-shifted_same, has_bit-shifted_other, same_words}
 use Rattle.bit_rows.proofs.RowSets.{lo-set_of, hi_of-set_of, contains-set_of, contains-below, contains-above, same_set_of, set_of-contains}
 
@@ -102,6 +102,16 @@ HoldSet-refill {s} {lo} {hi} xs ys h same =
 pub HoldSet-moved : {s : RowSet} {lo hi : ℕ} {xs : List ℕ} → HoldSet s lo hi xs → (low high : ℕ) → lo ≡ low → hi ≡ high → HoldSet s low high xs
 HoldSet-moved {s} {lo} {hi} {xs} h low high p q =
     subst (λ (a : ℕ). HoldSet s a high xs) p (subst (λ (b : ℕ). HoldSet s lo b xs) q h)
+
+-- two rows of one range, as they are lent: both in that range, and of as many words
+pub HoldSet-alike : {s t : RowSet} {lo hi low high : ℕ} {words others xs ys : List ℕ} → HoldSet s lo hi words → HoldSet t low high others → HasRange t s.lo (hi_of s) → xs ≡ words → ys ≡ others
+    → HoldSet s lo hi xs × HoldSet t lo hi ys × (length xs ≡ length ys)
+HoldSet-alike {s} {t} {lo} {hi} {low} {high} {words} {others} {xs} {ys} h k range p q =
+    let there : HoldSet t lo hi others = HoldSet-moved k lo hi (omega (arith, range.lo, HoldSet-lo h, HoldSet-lo k)) (omega (arith, range.hi, HoldSet-hi h, HoldSet-hi k)) in (
+      subst (λ (zs : List ℕ). HoldSet s lo hi zs) (sym p) h,
+      subst (λ (zs : List ℕ). HoldSet t lo hi zs) (sym q) there,
+      ap length p ∙ h.well_formed.count ∙ sym there.well_formed.count ∙ sym (ap length q),
+    )
 
 -- words that are cleared outside lo..hi, and inside it are the values of a test
 module _ (lo hi : ℕ) (old words : List ℕ) (f : ℕ → Bool) (ordered : lo ≤ hi) (count : length words ≡ word_count lo hi) (trimmed : IsTrimmed lo hi old words) (places : (k i : ℕ) → k < length words → i < 64 → has_bit (get_or old k 0) i ≡ f (64 * (lo / 64 + k) + i)) where
