@@ -7,6 +7,7 @@ pub mod GraphLaws
 pub mod MayForms
 pub mod Membership
 pub mod Noted
+pub mod NumberListLemmas
 pub mod PathLemmas
 pub mod PlaceTables
 pub mod PointLemmas
@@ -14,5 +15,7 @@ pub mod Ranges
 pub mod Reversal
 pub mod RunLemmas
 pub mod SameEdges
+pub mod SiteLemmas
 pub mod Splitting
+pub mod SuccessorLemmas
 pub mod Standing

@@ -2,7 +2,9 @@ pub mod Analyses
 pub mod Edges
 pub mod Evaluated
 pub mod Examples
+pub mod Labels
 pub mod Limits
+pub mod NumberLists
 pub mod PathLaws
 pub mod Paths
 pub mod Points
@@ -12,5 +14,6 @@ pub mod ProgramExamples
 pub mod ProgramLaws
 pub mod RunLaws
 pub mod Runs
+pub mod Sites
 pub mod Transfers
 pub mod Universes

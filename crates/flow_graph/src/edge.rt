@@ -12,3 +12,15 @@ pub enum Edge {
     /// From a callee's end to the point after the call at `site`.
     Ret { site: u32, from: u32, to: u32 },
 }
+
+/// The step from point 0 to itself: what a small vector's unused places hold.
+impl Default for Edge {
+    ghost use Rattle.std.specs.Prelude.{◌≡◌};
+    ghost use Rattle.flow_graph.specs.declared.edge.Edge.TheVariants.{Step};
+
+    ghost is_default = { λ edge. edge ≡ Step 0 0 };
+
+    fn default() -> Self {
+        Edge::Step { from: 0, to: 0 }
+    }
+}

@@ -9,6 +9,7 @@ use crate::expression::Expr;
 use crate::fault::GraphFault;
 use crate::place::Place;
 use crate::points::Points;
+use crate::sites::call_sites;
 use crate::universes::{definitions, expressions};
 use indexmap::IndexSet;
 use std::alloc::Global;
@@ -25,16 +26,19 @@ const MOST_BITS: usize = 4_096;
 /// `Reach` is a definition, one of `Live` a variable, one of `Avail` and `Busy` an expression.
 #[derive(Drop)]
 pub struct Graph<'p> {
-    points: Points<'p>,
+    pub(crate) points: Points<'p>,
     definitions: Vec<(u32, Option<u32>)>,
     expressions: IndexSet<Expr>,
     evaluated: Vec<Option<u32>>,
+    pub(crate) sites: Vec<Vec<u32>>,
 }
 
 impl<'p> Model for Graph<'p> {
     ghost use Rattle.std.specs.Prelude.{◌≡◌};
     ghost use Rattle.flow_graph.specs.Evaluated.{AreEvaluated};
     ghost use Rattle.flow_graph.specs.Limits.{HasFewBits};
+    ghost use Rattle.flow_graph.specs.NumberLists.{contents};
+    ghost use Rattle.flow_graph.specs.Sites.{AreSites};
     ghost use Rattle.flow_graph.specs.Universes.{definitions as definitions_of, expressions as expressions_of};
     ghost use Rattle.tac_reader.specs.Programs.{Program};
 
@@ -45,7 +49,8 @@ impl<'p> Model for Graph<'p> {
     ghost invariant = { λ graph. HasFewBits graph.points
         × (graph.definitions.items ≡ definitions_of graph.points)
         × (graph.expressions.keys ≡ expressions_of graph.points)
-        × AreEvaluated graph.points graph.evaluated.items };
+        × AreEvaluated graph.points graph.evaluated.items
+        × AreSites graph.points (contents graph.sites.items) };
 }
 
 impl<'p> Graph<'p> {
@@ -66,11 +71,13 @@ impl<'p> Graph<'p> {
             return Err(GraphFault::TooManyBits);
         }
         let (expressions, evaluated) = expressions(alloc, &points)?;
+        let sites = call_sites(alloc, &points)?;
         Ok(Graph {
             points,
             definitions,
             expressions,
             evaluated,
+            sites,
         })
     }
 

@@ -8,10 +8,13 @@ mod expression;
 mod fault;
 mod graph;
 mod laws;
+mod number_lists;
 mod place;
 mod points;
 mod program_examples;
 mod program_laws;
+mod sites;
+mod succ;
 mod universes;
 
 pub use analysis::Analysis;
@@ -39,3 +42,4 @@ pub use program_laws::{
     dead_variables_are_safe, edges_join_points, graphs_are_well_formed, points_are_places,
     tables_are_may_forms,
 };
+pub use std::alloc::AllocError as OutOfMemory;

@@ -4,6 +4,7 @@ ghost use Rattle.std.specs.Prelude.{◌≡◌, ◌≢◌, ◌+◌, ◌<◌, ◌�
 ghost use Rattle.flow_graph.specs.Limits.{HasFewPoints, HasManyPoints};
 ghost use Rattle.flow_graph.specs.PointTables.{AreFirstPoints, AreProcedures};
 ghost use Rattle.flow_graph.specs.Points.{end_place, place_of, point_count, point_of, statement_at};
+ghost use Rattle.tac_reader.specs.Sound.{IsSound};
 ghost use Rattle.flow_graph.specs.declared.fault.GraphFault.TheVariants.{TooManyPoints, TooManyBits};
 
 use crate::fault::GraphFault;
@@ -142,7 +143,9 @@ impl<'p> Points<'p> {
     /// The statement before which a point stands, or none at a procedure's end.
     pub fn stmt(&self, point: u32) -> Option<&'p Stmt>
         requires { point < point_count self.now }
-        ensures { option_copied result ≡ statement_at self.now point }
+        ensures stmt { option_copied result ≡ statement_at self.now point }
+        ensures sound { IsSound self.now }
+        ensures few { HasFewPoints self.now }
     {
         let place = self.place(point);
         let procedure = &self.program.procs()[place.procedure as usize];

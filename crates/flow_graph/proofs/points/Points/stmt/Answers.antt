@@ -11,15 +11,15 @@ pub bounds-procs-place : goal.bounds-procs-place
 bounds-procs-place c =
     let there : (place_of c.args.self.now c.args.point).procedure < length c.args.self.now.procedures = (points_have_places c.args.self.now c.args.point c.requires).procedure in
     let same : c.place-place.result.procedure ≡ (place_of c.args.self.now c.args.point).procedure = ap (λ (at : Place). at.procedure) c.place-place.ensures in
-    let procs : c.procs.result.now ≡ c.args.self.now.procedures = c.procs.ensures ∙ ap (λ (p : Program). p.procedures) c.self.view_is in
+    let procs : c.procs.result.now ≡ c.args.self.now.procedures = c.procs.ensures.procedures ∙ ap (λ (p : Program). p.procedures) c.self.view_is in
     rw (same, procs) there
 
-pub returns : goal.returns
-returns c =
+pub returns-clause-stmt : goal.returns-clause-stmt
+returns-clause-stmt c =
     let at : Place = place_of c.args.self.now c.args.point in
     let place : IsPlaceOf c.args.self.now c.args.point = points_have_places c.args.self.now c.args.point c.requires in
     let same : c.place-place.result ≡ at = c.place-place.ensures in
-    let procs : c.procs.result.now ≡ c.args.self.now.procedures = c.procs.ensures ∙ ap (λ (p : Program). p.procedures) c.self.view_is in
+    let procs : c.procs.result.now ≡ c.args.self.now.procedures = c.procs.ensures.procedures ∙ ap (λ (p : Program). p.procedures) c.self.view_is in
     let element : slice_get c.args.self.now.procedures at.procedure ≡ Some c.index-procs-place.result =
     slice_get_read c.args.self.now.procedures _ at.procedure c.index-procs-place.result refl place.procedure
     (c.index-procs-place.is ∙ ap₂ (λ xs i. get_or xs i c.index-procs-place.result) procs (ap (λ (at : Place). at.procedure) same)) in

@@ -1,0 +1,27 @@
+// Tables of lists of numbers.
+
+ghost use Rattle.std.specs.Prelude.{◌≡◌, ◌<◌, [], length, IfOk, OnOk};
+ghost use Rattle.flow_graph.specs.NumberLists.{AreLists, contents, with_last};
+
+use std::alloc::{AllocError, Global};
+
+/// So many empty lists.
+pub fn empty_lists(alloc: Global, count: usize) -> Result<Vec<Vec<u32>>, AllocError>
+    ensures { IfOk result (λ lists. AreLists (contents lists.items) count (λ _. [])) }
+{
+    let mut lists = Vec::with_capacity(alloc, count)?;
+    for _ in 0..count {
+        lists.push(Vec::new(alloc))?;
+    }
+    Ok(lists)
+}
+
+/// Puts a number last in the list of an index.
+pub fn put_last(lists: &mut Vec<Vec<u32>>, index: u32, number: u32) -> Result<(), AllocError>
+    requires { index < length (contents lists.old.items) }
+    ensures { OnOk result (contents lists.new.items ≡ with_last (contents lists.old.items) index number) }
+{
+    let list = &mut lists[index as usize];
+    list.push(number)?;
+    Ok(())
+}
