@@ -124,11 +124,7 @@ fn statement_edges(
     ensures { IfOk result (λ edges. edges.items ≡ edges_of points.now point kind.now) }
 {
     match kind {
-        StmtKind::Goto { label } => Ok(one_step(
-            alloc,
-            point,
-            label_target(points, point, *label),
-        )),
+        StmtKind::Goto { label } => Ok(one_step(alloc, point, label_target(points, point, *label))),
         StmtKind::If { label, .. } => Ok(test_steps(
             alloc,
             point,
@@ -153,11 +149,7 @@ fn statement_edges(
 impl<'p> Graph<'p> {
     /// The edges out of a point: those of its statement, or at a procedure's end one return for each call site, in the
     /// order of points.
-    pub fn succ(
-        &self,
-        alloc: Global,
-        point: u32,
-    ) -> Result<SmallVec<Edge, 2, Global>, OutOfMemory>
+    pub fn succ(&self, alloc: Global, point: u32) -> Result<SmallVec<Edge, 2, Global>, OutOfMemory>
         requires { point < point_count self.now }
         ensures { IfOk result (λ edges. edges.items ≡ edges_from self.now point) }
     {
