@@ -4,6 +4,7 @@ pub mod EdgeLemmas
 pub mod ExampleLemmas
 pub mod ExpressionEquality
 pub mod GraphLaws
+pub mod LeadingLemmas
 pub mod MayForms
 pub mod Membership
 pub mod Noted
@@ -17,5 +18,6 @@ pub mod RunLemmas
 pub mod SameEdges
 pub mod SiteLemmas
 pub mod Splitting
+pub mod SourceLemmas
 pub mod SuccessorLemmas
 pub mod Standing

@@ -3,6 +3,7 @@ pub mod Edges
 pub mod Evaluated
 pub mod Examples
 pub mod Labels
+pub mod Leading
 pub mod Limits
 pub mod NumberLists
 pub mod PathLaws

@@ -2,6 +2,7 @@ ghost use Rattle.std.specs.Prelude.{◌≡◌, ◌+◌, ◌<◌, ◌≤◌, leng
 ghost use Rattle.flow_graph.specs.Limits.{HasFewBits, HasFewPoints, HasManyBits, HasManyPoints};
 ghost use Rattle.flow_graph.specs.Points.{end_place, place_of, point_count, point_of, statement_at};
 ghost use Rattle.flow_graph.specs.Universes.{bits, definitions as definitions_of, evaluated_at, expressions as expressions_of};
+ghost use Rattle.tac_reader.specs.Sound.{IsSound};
 ghost use Rattle.flow_graph.specs.declared.fault.GraphFault.TheVariants.{TooManyBits, TooManyPoints};
 
 use crate::analysis::Analysis;
@@ -92,6 +93,7 @@ impl<'p> Graph<'p> {
     pub fn points(&self) -> u32
         ensures count { result ≡ point_count self.now }
         ensures few { HasFewPoints self.now }
+        ensures sound { IsSound self.now }
     {
         self.points.count()
     }

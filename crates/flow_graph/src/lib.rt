@@ -8,6 +8,7 @@ mod expression;
 mod fault;
 mod graph;
 mod laws;
+mod leads;
 mod number_lists;
 mod place;
 mod points;

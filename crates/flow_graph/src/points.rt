@@ -28,6 +28,7 @@ impl<'p> Model for Points<'p> {
     ghost use Rattle.flow_graph.specs.Limits.{HasFewPoints};
     ghost use Rattle.flow_graph.specs.PointTables.{AreFirstPoints, AreProcedures};
     ghost use Rattle.tac_reader.specs.Programs.{Program};
+    ghost use Rattle.tac_reader.specs.Sound.{IsSound};
 
     ghost Value = { Program };
 
@@ -35,12 +36,14 @@ impl<'p> Model for Points<'p> {
 
     ghost invariant = { λ points. HasFewPoints points.program.now
         × AreFirstPoints points.program.now points.firsts.items
-        × AreProcedures points.program.now points.procedures.items };
+        × AreProcedures points.program.now points.procedures.items
+        × IsSound points.program.now };
 }
 
 /// Whether there are not too many points.
 fn has_few_points(program: &Program) -> bool
-    ensures { IsTrue result ↔ HasFewPoints program.now }
+    ensures sound { IsSound program.now }
+    ensures few { IsTrue result ↔ HasFewPoints program.now }
 {
     let procs = program.procs();
     let mut count = 0;
@@ -115,6 +118,7 @@ impl<'p> Points<'p> {
     pub fn count(&self) -> u32
         ensures count { result ≡ point_count self.now }
         ensures few { HasFewPoints self.now }
+        ensures sound { IsSound self.now }
     {
         self.procedures.len() as u32
     }
