@@ -1,5 +1,5 @@
 -- What the derived equality of expressions says
-use Rattle.std.proofs.Common.{◌≡◌, Bool, true, false, ◌&&◌, nat_eq, refl, sym, ap, ◌∙◌, subst, rules}
+use Rattle.std.proofs.Common.{◌≡◌, Bool, true, false, ◌&&◌, nat_eq, refl, sym, ap, ap₂, ◌∙◌, subst, rules, arith}
 use denote.Enum.Bare.{sameb, same_true, same_false}
 use Rattle.std.proofs.lemmas.Slice.Eq.{bytes_eq-Decides}
 use Rattle.tac_reader.specs.Programs.{sign_of, operator_of}
@@ -9,7 +9,7 @@ use Rattle.tac_reader.specs.declared.program.Op.{Op}
 use Rattle.tac_reader.specs.declared.program.Op.TheVariants as op
 use Rattle.tac_reader.specs.declared.program.Operand.{Operand}
 use Rattle.tac_reader.specs.declared.program.Operand.TheVariants.{Variable, Number}
-use Rattle.flow_graph.specs.Universes.{Expr, Unary, Binary, same_expression, same_operator}
+use Rattle.flow_graph.specs.Universes.{Expr, Unary, Binary, same_expression, same_operand, same_operator}
 use Rattle.flow_graph.specs.contracts.expression.ExprPartialEq.TheImpl as derived
 
 -- the sign of an operator tells the operator
@@ -78,3 +78,28 @@ equal_is_same (Unary o a) (Unary p b) = one o p a b
 equal_is_same (Binary a o u) (Binary b p v) = two o p a b u v
 equal_is_same (Unary o a) (Binary b p v) = refl
 equal_is_same (Binary a o u) (Unary p b) = refl
+
+same_operators : (o p : Op) → same_operator o p ≡ true → o ≡ p
+same_operators o p same = sym (sign_tells o) ∙ ap (λ s. operator_of (fixed s)) ((bytes_eq-Decides (sign_of o) (sign_of p)).0 same) ∙ sign_tells p
+
+same_operands : (a b : Operand) → same_operand a b ≡ true → a ≡ b
+same_operands (Variable x) (Variable y) same = ap Variable (let e : x ≡ y = grind arith in e)
+same_operands (Number m) (Number n) same = ap Number (let e : m ≡ n = grind arith in e)
+same_operands (Variable x) (Number n) same = absurd (cc same)
+same_operands (Number m) (Variable y) same = absurd (cc same)
+
+both : (s t : Bool) → (s && t) ≡ true → (s ≡ true) × (t ≡ true)
+both true t is = (refl, is)
+both false t is = absurd (cc is)
+
+-- two that are the same expression are equal
+pub same_is_equal : (x y : Expr) → same_expression x y ≡ true → x ≡ y
+same_is_equal (Unary o a) (Unary p b) same =
+    let (first, second) = both (same_operator o p) (same_operand a b) same in
+    ap₂ Unary (same_operators o p first) (same_operands a b second)
+same_is_equal (Binary a o u) (Binary b p v) same =
+    let (first, rest) = both (same_operand a b) (same_operator o p && same_operand u v) same in
+    let (second, third) = both (same_operator o p) (same_operand u v) rest in
+    ap₂ (λ c q. Binary c q u) (same_operands a b first) (same_operators o p second) ∙ ap (Binary b p) (same_operands u v third)
+same_is_equal (Unary o a) (Binary b p v) same = absurd (cc same)
+same_is_equal (Binary a o u) (Unary p b) same = absurd (cc same)

@@ -1,5 +1,5 @@
 -- The search backwards from the marked points
-use Rattle.std.proofs.Common.{◌≡◌, ◌≢◌, ◌⊎◌, ◌↔◌, inl, inr, ℕ, zero, suc, ◌+◌, ◌<◌, ◌≤◌, Bool, true, false, List, [], ◌∷◌, ◌++◌, length, get_or, set, fold, sum_by, All, Contains, nat_eq, if◌then◌else◌, refl, sym, ap, ◌∙◌, subst, arith, Vec, length-append, length-set, get_or-set_same, get_or-set_other}
+use Rattle.std.proofs.Common.{◌≡◌, ◌≢◌, ◌⊎◌, inl, inr, ℕ, suc, ◌+◌, ◌<◌, ◌≤◌, Bool, true, false, List, [], ◌∷◌, ◌++◌, length, get_or, set, fold, sum_by, All, Contains, nat_eq, if◌then◌else◌, refl, sym, ap, ◌∙◌, subst, arith, Vec, length-append, length-set, get_or-set_same, get_or-set_other}
 use Rattle.std.specs.List.{filter, range_with_len}
 use Rattle.std.proofs.lemmas.Bool.{cases_lt}
 use Rattle.std.proofs.lemmas.List.{get_or_past, get_or-map, length-map}
@@ -8,10 +8,9 @@ use Rattle.std.proofs.lemmas.List.Sums.{sum_by-set}
 use Rattle.tac_reader.specs.Programs.{Program}
 use Rattle.tac_reader.specs.Sound.{IsSound}
 use Rattle.flow_graph.specs.Analyses.{shape_of}
-use Rattle.flow_graph.specs.Edges.{edges}
 use Rattle.flow_graph.specs.Leading.{AreSources, LeadsTo, TellLeading, sources_of, Search, search_of, with_known}
 use Rattle.flow_graph.specs.NumberLists.{contents}
-use Rattle.flow_graph.specs.Paths.{Edge, IsPath, source_of, target_of}
+use Rattle.flow_graph.specs.Paths.{Edge, IsPath, target_of}
 use Rattle.flow_graph.specs.Points.{point_count}
 use Rattle.flow_graph.proofs.Membership.{Contains-first, Contains-later, Contains-nil, Contains-cons, Contains-one, Contains-in_range, Contains-range}
 use Rattle.flow_graph.proofs.SourceLemmas.{HasEdge, get_or_any, sources_have_edges, edges_have_sources}

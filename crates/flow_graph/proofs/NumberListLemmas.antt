@@ -1,5 +1,5 @@
 -- Tables of lists of numbers, one number longer
-use Rattle.std.proofs.Common.{◌≡◌, ◌≢◌, ◌⊎◌, ℕ, zero, suc, ◌+◌, ◌<◌, ◌≤◌, Bool, true, false, ◌||◌, List, [], ◌∷◌, ◌++◌, length, get_or, set, fold, All, AllPairs, nat_eq, if◌then◌else◌, refl, sym, ap, ◌∙◌, subst, append_assoc, append-nil, arith, get_or-set_same, get_or-set_other, length-set, Vec}
+use Rattle.std.proofs.Common.{◌≡◌, ◌≢◌, ℕ, suc, ◌+◌, ◌<◌, Bool, true, false, ◌||◌, List, [], ◌∷◌, ◌++◌, length, get_or, set, fold, All, AllPairs, nat_eq, if◌then◌else◌, refl, sym, ap, ◌∙◌, subst, append-nil, arith, get_or-set_same, get_or-set_other, length-set, Vec}
 use Rattle.std.specs.List.{list_any, filter, range_with_len}
 use Rattle.std.proofs.lemmas.List.{map-set, get_or-map}
 use Rattle.std.proofs.lemmas.List.Elements.{filter-append}

@@ -1,25 +1,20 @@
 -- The edges out of a point, as the code finds them
-use Rattle.std.proofs.Common.{◌≡◌, ℕ, zero, suc, ◌<◌, ◌≤◌, Bool, true, false, List, [], ◌∷◌, ◌++◌, length, map, flat_map, get_or, All, Contains, Option, Some, None, option_map, option_and_then, slice_get, unwrap_or, if◌then◌else◌, refl, sym, ap, ap₂, ◌∙◌, subst, arith, Vec}
+use Rattle.std.proofs.Common.{◌≡◌, ℕ, zero, suc, ◌<◌, ◌≤◌, Bool, true, false, List, [], ◌∷◌, ◌++◌, length, map, flat_map, get_or, All, Some, None, option_map, slice_get, unwrap_or, if◌then◌else◌, refl, sym, ap, ap₂, ◌∙◌, subst, arith, Vec}
 use Rattle.std.specs.List.{filter}
 use Rattle.std.proofs.lemmas.List.{get_or-map, length-map}
 use Rattle.std.proofs.lemmas.List.FromFn.{get_or-range_with_len, length-range_with_len}
 use Rattle.std.proofs.lemmas.Option.{slice_get_read}
 use Rattle.tac_reader.specs.Programs.{Procedure, Program}
-use Rattle.tac_reader.specs.Sound.{IsSound, IsSoundProcedure}
-use Rattle.tac_reader.specs.declared.program.Label.{Label}
 use Rattle.tac_reader.specs.declared.program.Stmt.{Stmt}
-use Rattle.tac_reader.specs.declared.program.StmtKind.{StmtKind}
-use Rattle.tac_reader.specs.declared.program.StmtKind.TheVariants as kind
-use Rattle.flow_graph.specs.Edges.{label_point, calls, return_to, returns_of, edges_from, edges_of}
+use Rattle.flow_graph.specs.Edges.{calls, returns_of, edges_from, edges_of}
 use Rattle.flow_graph.specs.Labels.{labels_at}
 use Rattle.flow_graph.specs.NumberLists.{contents}
 use Rattle.flow_graph.specs.Paths.{Edge, Ret}
-use Rattle.flow_graph.specs.Points.{Place, points, procedure_at, end_place, end_point, kind_at, point_count, point_of, statement_at}
+use Rattle.flow_graph.specs.Points.{points, procedure_at, end_place, end_point, kind_at, point_count, point_of, statement_at}
 use Rattle.flow_graph.specs.ProgramLaws.{IsPlaceOf}
 use Rattle.flow_graph.specs.Sites.{AreSites, sites_of}
 use Rattle.flow_graph.proofs.EdgeLemmas.{at_end}
 use Rattle.flow_graph.proofs.PointLemmas.{places_have_points, points_have_places}
-use Rattle.flow_graph.proofs.Standing.{All-slice_get, slice_get_some, Stands}
 
 -- the procedure of a point, as it is read
 pub record Reads (program : Program) (point : ℕ) (p : Procedure) : Type 0 where

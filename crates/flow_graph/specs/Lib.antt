@@ -1,5 +1,7 @@
 pub mod Analyses
+pub mod BitTables
 pub mod Edges
+pub mod Effects
 pub mod Evaluated
 pub mod Examples
 pub mod Labels
@@ -8,8 +10,8 @@ pub mod Limits
 pub mod NumberLists
 pub mod PathLaws
 pub mod Paths
-pub mod Points
 pub mod PointTables
+pub mod Points
 pub mod Problems
 pub mod ProgramExamples
 pub mod ProgramLaws

@@ -4,6 +4,7 @@ ghost use Rattle.flow_graph.specs.Points.{end_place, place_of, point_count, poin
 ghost use Rattle.flow_graph.specs.Universes.{bits, definitions as definitions_of, evaluated_at, expressions as expressions_of};
 ghost use Rattle.tac_reader.specs.Sound.{IsSound};
 ghost use Rattle.flow_graph.specs.declared.fault.GraphFault.TheVariants.{TooManyBits, TooManyPoints};
+ghost use Rattle.tac_reader.specs.Sound.{IsSound};
 
 use crate::analysis::Analysis;
 use crate::expression::Expr;
@@ -131,7 +132,8 @@ impl<'p> Graph<'p> {
     /// The statement before which a point stands; none at a procedure's end.
     pub fn stmt(&self, point: u32) -> Option<&'p Stmt>
         requires { point < point_count self.now }
-        ensures { option_copied result ≡ statement_at self.now point }
+        ensures stmt { option_copied result ≡ statement_at self.now point }
+        ensures sound { IsSound self.now }
     {
         self.points.stmt(point)
     }

@@ -2,7 +2,11 @@
 #![tactic(auto)]
 
 mod analysis;
+mod bit_table;
+mod directed_edges;
 mod edge;
+mod effect;
+mod effects;
 mod examples;
 mod expression;
 mod fault;
@@ -12,11 +16,13 @@ mod leads;
 mod number_lists;
 mod place;
 mod points;
+mod problem;
 mod program_examples;
 mod program_laws;
 mod sites;
 mod succ;
 mod universes;
+mod words;
 
 pub use analysis::Analysis;
 pub use edge::Edge;
@@ -34,6 +40,7 @@ pub use laws::{
     undoubted_points_finish, valid_paths_continue_as_runs,
 };
 pub use place::Place;
+pub use problem::Problem;
 pub use program_examples::{
     avail_examples, busy_examples, live_examples, may_form_examples, number_examples,
     point_examples, reach_examples, recursive_edges, several_callees_edges, shape_examples,

@@ -1,4 +1,4 @@
-use Rattle.std.proofs.Common.{◌≡◌, ◌<◌, ◌∙◌, List, ℕ, length, fold, All, sym, ap, subst, arith}
+use Rattle.std.proofs.Common.{◌<◌, ◌∙◌, List, ℕ, length, fold, All, sym, ap, subst, arith}
 use Rattle.tac_reader.specs.Sound.{IsSound}
 use Rattle.flow_graph.specs.NumberLists.{contents, with_last}
 use Rattle.flow_graph.specs.Points.{point_count}

@@ -1,4 +1,4 @@
-use Rattle.std.proofs.Common.{◌<◌, length, take, ap, ◌∙◌, arith}
+use Rattle.std.proofs.Common.{length, take, ap, ◌∙◌, arith}
 use Rattle.flow_graph.specs.NumberLists.{contents}
 use Rattle.flow_graph.proofs.NumberListLemmas.{length-put}
 use Rattle.flow_graph.proofs.sites.put_site.Goals as goal

@@ -1,4 +1,4 @@
-use Rattle.std.proofs.Common.{rules, ◌≡◌, ◌<◌, ℕ, List, length, get_or, ap, ◌∙◌, arith}
+use Rattle.std.proofs.Common.{rules, ◌≡◌, ◌<◌, List, length, get_or, ap, ◌∙◌, arith}
 use Rattle.tac_reader.specs.Programs.{Program, Procedure}
 use Rattle.flow_graph.specs.Points.{Place, procedure_at}
 use Rattle.flow_graph.proofs.PointLemmas.{points_have_places}

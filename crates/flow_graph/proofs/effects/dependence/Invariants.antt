@@ -1,0 +1,13 @@
+use Rattle.std.proofs.Common.{◌≡◌, ◌+◌, ◌*◌, ◌/◌, ◌<◌, ◌&&◌, ℕ, length, nat_lt}
+use Rattle.flow_graph.specs.BitTables.{table_has}
+use Rattle.flow_graph.specs.Effects.{depends}
+use Rattle.flow_graph.specs.Universes.{bits}
+use Rattle.flow_graph.proofs.effects.dependence.Given as goal
+
+abbrev pub invariant-loop-bit : goal.invariant-loop-bit
+invariant-loop-bit l = record {
+  width : l.table.width ≡ (bits l.fn.graph l.fn.analysis + 63) / 64;
+  count : length l.table.words.items ≡ length l.fn.graph.variable_names * l.table.width;
+  each : (r b : ℕ) → r < length l.fn.graph.variable_names → b / 64 < l.table.width
+      → table_has l.table.words.items l.table.width r b ≡ (nat_lt b l.bit && depends l.fn.graph l.fn.analysis r b);
+}

@@ -1,0 +1,22 @@
+use Rattle.std.proofs.Common.{Bool, false, true, ◌≡◌, ◌||◌, refl, sym, ap, ◌∙◌}
+use Rattle.flow_graph.specs.Effects.{marks, owns_numbered}
+use Rattle.flow_graph.proofs.OwnBits.{expression_is_own}
+use Rattle.flow_graph.proofs.effects.own_bits.Goals as goal
+
+alone : (t : Bool) → (t || false) ≡ t
+alone true = refl
+alone false = refl
+
+pub returns-in-Avail : goal.returns-in-Avail
+returns-in-Avail c bit =
+    alone (marks c.evaluated.result bit)
+    ∙ ap (λ n. marks n bit) c.evaluated.ensures
+    ∙ expression_is_own c.args.graph.now c.args.point bit
+    ∙ ap (λ a. owns_numbered c.args.graph.now a c.args.number c.args.point bit) (sym c.in-Avail.is)
+
+pub returns-in-Busy : goal.returns-in-Busy
+returns-in-Busy c bit =
+    alone (marks c.evaluated-in-Busy.result bit)
+    ∙ ap (λ n. marks n bit) c.evaluated-in-Busy.ensures
+    ∙ expression_is_own c.args.graph.now c.args.point bit
+    ∙ ap (λ a. owns_numbered c.args.graph.now a c.args.number c.args.point bit) (sym c.in-Busy.is)

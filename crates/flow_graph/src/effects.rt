@@ -1,0 +1,193 @@
+// What each statement of a program does with the bits of an analysis.
+
+ghost use Rattle.std.specs.List.{list_any};
+ghost use Rattle.std.specs.Prelude.{◌≡◌, ◌*◌, ◌/◌, ◌<◌, ◌≤◌, ◌&&◌, ◌||◌, ℕ, IfOk, IfSome, length, nat_eq, option_map};
+ghost use Rattle.flow_graph.specs.BitTables.{table_has};
+ghost use Rattle.flow_graph.specs.Effects.{AreEffects, IsDependence, IsNumberedEffect, depends, marks, owns_numbered};
+ghost use Rattle.flow_graph.specs.Points.{point_count};
+ghost use Rattle.flow_graph.specs.Transfers.{has_operand, is_variable, operands_of, reads};
+ghost use Rattle.flow_graph.specs.Universes.{bits, target_at};
+
+use crate::analysis::Analysis;
+use crate::bit_table::BitTable;
+use crate::effect::Effect;
+use crate::expression::Expr;
+use crate::graph::Graph;
+use crate::universes::target;
+use std::alloc::{AllocError, Global};
+use tac_reader::{Operand, StmtKind};
+
+/// The variable that an operand is.
+fn variable(operand: Operand) -> Option<u32>
+    ensures { (x : ℕ) → marks result x ≡ is_variable x operand }
+{
+    match operand {
+        Operand::Variable(variable) => Some(variable),
+        Operand::Number(_) => None,
+    }
+}
+
+/// The variables that a statement reads.
+fn read_variables(kind: &StmtKind) -> (Option<u32>, Option<u32>)
+    ensures { (x : ℕ) → (marks result.0 x || marks result.1 x) ≡ list_any (is_variable x) (operands_of kind.now) }
+{
+    match kind {
+        StmtKind::Copy { value, .. } => (variable(*value), None),
+        StmtKind::Unary { operand, .. } => (variable(*operand), None),
+        StmtKind::Binary { left, right, .. } => (variable(*left), variable(*right)),
+        StmtKind::If { condition, .. } => (variable(*condition), None),
+        StmtKind::IfFalse { condition, .. } => (variable(*condition), None),
+        StmtKind::IfCompare { left, right, .. } => (variable(*left), variable(*right)),
+        StmtKind::Print { value } => (variable(*value), None),
+        _ => (None, None),
+    }
+}
+
+/// The variables that are operands of an expression.
+fn operand_variables(expression: Expr) -> (Option<u32>, Option<u32>)
+    ensures { (x : ℕ) → (marks result.0 x || marks result.1 x) ≡ has_operand expression x }
+{
+    match expression {
+        Expr::Unary(_, operand) => (variable(operand), None),
+        Expr::Binary(left, _, right) => (variable(left), variable(right)),
+    }
+}
+
+/// The variables that a bit depends on.
+fn bit_variables(graph: &Graph<'_>, analysis: Analysis, bit: u32) -> (Option<u32>, Option<u32>)
+    requires { bit < bits graph.now analysis }
+    ensures { (x : ℕ) → (marks result.0 x || marks result.1 x) ≡ depends graph.now analysis x bit }
+{
+    match analysis {
+        Analysis::Reach => (Some(graph.definition(bit).0), None),
+        Analysis::Live => (Some(bit), None),
+        Analysis::Avail => operand_variables(graph.expression(bit)),
+        Analysis::Busy => operand_variables(graph.expression(bit)),
+    }
+}
+
+/// The variable that the statement at a point writes.
+fn written_variable(graph: &Graph<'_>, point: u32) -> Option<u32>
+    requires { point < point_count graph.now }
+    ensures target { result ≡ target_at graph.now point }
+    ensures within { IfSome result (λ x. x < length graph.now.variable_names) }
+{
+    match graph.stmt(point) {
+        None => None,
+        Some(stmt) => target(&stmt.kind),
+    }
+}
+
+/// The variables that the statement at a point reads.
+fn variables_read(graph: &Graph<'_>, point: u32) -> (Option<u32>, Option<u32>)
+    requires { point < point_count graph.now }
+    ensures { (x : ℕ) → (marks result.0 x || marks result.1 x) ≡ reads graph.now point x }
+{
+    match graph.stmt(point) {
+        None => (None, None),
+        Some(stmt) => read_variables(&stmt.kind),
+    }
+}
+
+/// This number, if a variable is written.
+fn definition_number(written: Option<u32>, number: u32) -> Option<u32>
+    ensures { result ≡ option_map (λ x. number) written }
+{
+    match written {
+        None => None,
+        Some(_) => Some(number),
+    }
+}
+
+/// The own bits of the statement at a point, where the next definition has this number.
+fn own_bits(
+    graph: &Graph<'_>,
+    analysis: Analysis,
+    number: u32,
+    point: u32,
+) -> (Option<u32>, Option<u32>)
+    requires { point < point_count graph.now }
+    ensures { (bit : ℕ) → (marks result.0 bit || marks result.1 bit) ≡ owns_numbered graph.now analysis number point bit }
+{
+    match analysis {
+        Analysis::Reach => (
+            definition_number(written_variable(graph, point), number),
+            None,
+        ),
+        Analysis::Live => variables_read(graph, point),
+        Analysis::Avail => (graph.evaluated(point), None),
+        Analysis::Busy => (graph.evaluated(point), None),
+    }
+}
+
+/// What the statement at a point does, where the next definition has this number.
+fn effect(graph: &Graph<'_>, analysis: Analysis, number: u32, point: u32) -> Effect
+    requires { point < point_count graph.now }
+    ensures { IsNumberedEffect graph.now analysis number point result }
+{
+    let (first, second) = own_bits(graph, analysis, number, point);
+    Effect {
+        first,
+        second,
+        written: written_variable(graph, point),
+    }
+}
+
+/// What the statement at each point does.
+pub(crate) fn effects(
+    alloc: Global,
+    graph: &Graph<'_>,
+    analysis: Analysis,
+) -> Result<Vec<Effect>, AllocError>
+    ensures { IfOk result (λ v. AreEffects graph.now analysis v.items) }
+{
+    let mut effects = Vec::with_capacity(alloc, graph.points() as usize)?;
+    // The dummies come first, one for each variable.
+    let mut number = graph.bits(Analysis::Live);
+    for point in 0..graph.points() {
+        let effect = effect(graph, analysis, number, point);
+        effects.push(effect)?;
+        match effect.written {
+            Some(_) => number += 1,
+            None => {},
+        }
+    }
+    Ok(effects)
+}
+
+/// Sets a bit of a row, if there is such a row.
+fn mark(table: &mut BitTable, rows: u32, row: Option<u32>, bit: u32)
+    requires rows { rows * table.old.width ≤ length table.old.words.items }
+    requires bit { bit / 64 < table.old.width }
+    ensures width { table.new.width ≡ table.old.width }
+    ensures count { length table.new.words.items ≡ length table.old.words.items }
+    ensures bits { (r b : ℕ) → r < rows → b / 64 < table.old.width → table_has table.new.words.items table.new.width r b ≡ (table_has table.old.words.items table.old.width r b || (marks row r && nat_eq b bit)) }
+{
+    match row {
+        Some(row) => {
+            if row < rows {
+                table.set(row, bit);
+            }
+        },
+        None => {},
+    }
+}
+
+/// The bits that depend on each variable.
+pub(crate) fn dependence(
+    alloc: Global,
+    graph: &Graph<'_>,
+    analysis: Analysis,
+) -> Result<BitTable, AllocError>
+    ensures { IfOk result (λ t. IsDependence graph.now analysis t.words.items t.width) }
+{
+    let rows = graph.program().variables();
+    let bits = graph.bits(analysis);
+    let mut table = BitTable::blank(alloc, rows, bits)?;
+    for bit in 0..bits {
+        let (first, second) = bit_variables(graph, analysis, bit);
+        mark(&mut table, rows, first, bit);
+        mark(&mut table, rows, second, bit);
+    }
+    Ok(table)
+}

@@ -1,0 +1,241 @@
+ghost use Rattle.std.specs.Prelude.{◌≡◌, ◌+◌, ◌*◌, ◌<◌, ℕ, false, IfOk, IfSome, length, option_map, unwrap_or};
+ghost use Rattle.bit_rows.specs.Words.{has_bit};
+ghost use Rattle.flow_graph.specs.Analyses.{is_must, main_procedure, may_shape};
+ghost use Rattle.flow_graph.specs.Effects.{depends};
+ghost use Rattle.flow_graph.specs.Limits.{HasFewBits, HasFewPoints};
+ghost use Rattle.flow_graph.specs.Points.{end_point, point_count, procedure_at};
+ghost use Rattle.flow_graph.specs.Problems.{IsWordOf, may_boundary, may_gens, may_kills};
+ghost use Rattle.flow_graph.specs.Universes.{bits as bits_of};
+ghost use Rattle.tac_reader.specs.Sound.{IsSound};
+
+use crate::OutOfMemory;
+use crate::analysis::Analysis;
+use crate::bit_table::BitTable;
+use crate::directed_edges::{directed_edges, is_backward};
+use crate::edge::Edge;
+use crate::effect::Effect;
+use crate::effects::{dependence, effects};
+use crate::graph::Graph;
+use crate::words::{full_word, generated, killed, own_word};
+use std::alloc::Global;
+use std::marker::Model;
+
+/// The may form of an analysis: the forward problem, in which a path has a bit where some edge has put it in, by which the
+/// analysis is solved. A backward analysis has its edges turned round, and an analysis over every path its sets complemented.
+#[derive(Drop)]
+pub struct Problem<'g, 'p> {
+    graph: &'g Graph<'p>,
+    analysis: Analysis,
+    edges: Vec<Edge>,
+    effects: Vec<Effect>,
+    dependence: BitTable,
+}
+
+impl<'g, 'p> Model for Problem<'g, 'p> {
+    ghost use Rattle.flow_graph.specs.Problems.{MayForm};
+
+    ghost Value = { MayForm };
+
+    ghost use Rattle.std.specs.Prelude.{◌≡◌};
+    ghost use Rattle.flow_graph.specs.Analyses.{may_shape};
+    ghost use Rattle.flow_graph.specs.Effects.{AreEffects, IsDependence};
+
+    ghost view = { λ problem. record { program = problem.graph.now; analysis = problem.analysis } };
+
+    ghost invariant = { λ problem. AreEffects problem.graph.now problem.analysis problem.effects.items
+        × IsDependence problem.graph.now problem.analysis problem.dependence.words.items problem.dependence.width
+        × (problem.edges.items ≡ (may_shape problem.graph.now problem.analysis).edges) };
+}
+
+impl<'g, 'p> Problem<'g, 'p> {
+    /// The may form of an analysis of a graph's program.
+    pub fn of(alloc: Global, graph: &'g Graph<'p>, analysis: Analysis) -> Result<Self, OutOfMemory>
+        ensures { IfOk result (λ problem. problem ≡ record { program = graph.now; analysis = analysis }) }
+    {
+        let edges = directed_edges(alloc, graph, analysis)?;
+        let effects = effects(alloc, graph, analysis)?;
+        let dependence = dependence(alloc, graph, analysis)?;
+        Ok(Problem {
+            graph,
+            analysis,
+            edges,
+            effects,
+            dependence,
+        })
+    }
+
+    /// The procedure at whose entry the problem begins: the number of `main`.
+    pub fn root(&self) -> u32
+        ensures number { result ≡ main_procedure self.now.program }
+        ensures there { result < length self.now.program.procedures }
+    {
+        let program = self.graph.program();
+        // Its contract tells that no two procedures have one name.
+        let _ = program.procs();
+        program.main()
+    }
+
+    /// How many procedures there are: at most 256.
+    pub fn procedures(&self) -> u32
+        ensures count { result ≡ length self.now.program.procedures }
+        ensures sound { IsSound self.now.program }
+    {
+        self.graph.program().procs().len() as u32
+    }
+
+    /// The last point of a procedure.
+    fn end(&self, procedure: u32) -> u32
+        requires { procedure < length self.now.program.procedures }
+        ensures { result ≡ end_point self.now.program procedure }
+    {
+        let procs = self.graph.program().procs();
+        let stmts = procs[procedure as usize].stmts();
+        self.graph.point(procedure, stmts.len() as u32)
+    }
+
+    /// The point at which a procedure is entered: its last, where the analysis goes backwards.
+    pub fn entry(&self, procedure: u32) -> u32
+        requires { procedure < length self.now.program.procedures }
+        ensures { result ≡ (may_shape self.now.program self.now.analysis).entry procedure }
+    {
+        if is_backward(self.analysis) {
+            self.end(procedure)
+        } else {
+            self.graph.point(procedure, 0)
+        }
+    }
+
+    /// The point at which a procedure is left: its first, where the analysis goes backwards.
+    pub fn exit(&self, procedure: u32) -> u32
+        requires { procedure < length self.now.program.procedures }
+        ensures { result ≡ (may_shape self.now.program self.now.analysis).exit procedure }
+    {
+        if is_backward(self.analysis) {
+            self.graph.point(procedure, 0)
+        } else {
+            self.end(procedure)
+        }
+    }
+
+    /// The procedure of a point.
+    pub fn procedure(&self, point: u32) -> u32
+        requires { point < point_count self.now.program }
+        ensures { result ≡ procedure_at self.now.program point }
+    {
+        self.graph.place(point).procedure
+    }
+
+    /// The edges, each turned round where the analysis goes backwards, in the order of the points that they leave in the
+    /// graph.
+    pub fn edges(&self) -> &[Edge]
+        ensures { result.now ≡ (may_shape self.now.program self.now.analysis).edges }
+    {
+        self.edges.as_slice()
+    }
+
+    /// How many points there are: at most 16,384.
+    pub fn points(&self) -> u32
+        ensures count { result ≡ point_count self.now.program }
+        ensures few { HasFewPoints self.now.program }
+    {
+        self.graph.points()
+    }
+
+    /// How many bits there are: at most 4,096.
+    pub fn bits(&self) -> u32
+        ensures count { result ≡ bits_of self.now.program self.now.analysis }
+        ensures few { HasFewBits self.now.program }
+    {
+        self.graph.bits(self.analysis)
+    }
+
+    /// Whether the sets are complemented: whether the analysis is over every path.
+    pub fn complements(&self) -> bool
+        ensures { result ≡ is_must self.now.analysis }
+    {
+        match self.analysis {
+            Analysis::Reach => false,
+            Analysis::Live => false,
+            Analysis::Avail => true,
+            Analysis::Busy => true,
+        }
+    }
+
+    /// The word of the bits that depend on the variable, if one is written. What stands past the last bit is not told.
+    fn touched_word(&self, written: Option<u32>, word: u32) -> u64
+        requires { IfSome written (λ x. x < length self.now.program.variable_names) }
+        ensures { (k : ℕ) → k < 64 → 64 * word + k < bits_of self.now.program self.now.analysis → has_bit result k ≡ unwrap_or (option_map (λ x. depends self.now.program self.now.analysis x (64 * word + k)) written) false }
+    {
+        match written {
+            None => 0,
+            Some(variable) => self.dependence.word(variable, word),
+        }
+    }
+
+    /// The bits that the step of the statement at a point generates, by words.
+    pub fn gen_word(&self, point: u32, word: u32) -> u64
+        requires { point < point_count self.now.program }
+        ensures { IsWordOf (may_gens self.now point) (bits_of self.now.program self.now.analysis) word result }
+    {
+        let effect = self.effects[point as usize];
+        let own = own_word(effect, word);
+        let touched = self.touched_word(effect.written, word);
+        generated(self.analysis, own, touched) & full_word(self.bits(), word)
+    }
+
+    /// The bits that the step of the statement at a point kills, by words.
+    pub fn kill_word(&self, point: u32, word: u32) -> u64
+        requires { point < point_count self.now.program }
+        ensures { IsWordOf (may_kills self.now point) (bits_of self.now.program self.now.analysis) word result }
+    {
+        let effect = self.effects[point as usize];
+        let own = own_word(effect, word);
+        let touched = self.touched_word(effect.written, word);
+        killed(self.analysis, own, touched) & full_word(self.bits(), word)
+    }
+
+    /// Whether the step of the statement at a point generates a bit.
+    pub fn gens(&self, point: u32, bit: u32) -> bool
+        requires point { point < point_count self.now.program }
+        requires bit { bit < bits_of self.now.program self.now.analysis }
+        ensures { result ≡ may_gens self.now point bit }
+    {
+        (self.gen_word(point, bit / 64) >> (bit % 64)) & 1 == 1
+    }
+
+    /// Whether the step of the statement at a point kills a bit.
+    pub fn kills(&self, point: u32, bit: u32) -> bool
+        requires point { point < point_count self.now.program }
+        requires bit { bit < bits_of self.now.program self.now.analysis }
+        ensures { result ≡ may_kills self.now point bit }
+    {
+        (self.kill_word(point, bit / 64) >> (bit % 64)) & 1 == 1
+    }
+
+    /// The bits of the boundary by words. What stands past the last bit is not told.
+    fn boundary_places(&self, word: u32) -> u64
+        ensures { (k : ℕ) → k < 64 → has_bit result k ≡ may_boundary self.now (64 * word + k) }
+    {
+        match self.analysis {
+            Analysis::Reach => full_word(self.graph.program().variables(), word),
+            Analysis::Live => 0,
+            Analysis::Avail => u64::MAX,
+            Analysis::Busy => u64::MAX,
+        }
+    }
+
+    /// The bits that hold where the problem begins, by words.
+    pub fn boundary_word(&self, word: u32) -> u64
+        ensures { IsWordOf (may_boundary self.now) (bits_of self.now.program self.now.analysis) word result }
+    {
+        self.boundary_places(word) & full_word(self.bits(), word)
+    }
+
+    /// Whether a bit holds where the problem begins.
+    pub fn in_boundary(&self, bit: u32) -> bool
+        requires { bit < bits_of self.now.program self.now.analysis }
+        ensures { result ≡ may_boundary self.now bit }
+    {
+        (self.boundary_word(bit / 64) >> (bit % 64)) & 1 == 1
+    }
+}

@@ -1,0 +1,61 @@
+// Words of sets of bits.
+
+ghost use Rattle.std.specs.Prelude.{◌≡◌, ◌+◌, ◌*◌, ◌<◌, ℕ, nat_lt};
+ghost use Rattle.bit_rows.specs.Words.{has_bit};
+ghost use Rattle.flow_graph.specs.Effects.{effect_owns, gen_from, kill_from, marks};
+
+use crate::analysis::Analysis;
+use crate::effect::Effect;
+
+/// The word of the bits below `bits`.
+pub(crate) fn full_word(bits: u32, word: u32) -> u64
+    ensures { (k : ℕ) → k < 64 → has_bit result k ≡ nat_lt (64 * word + k) bits }
+{
+    let count = u64::from(bits).saturating_sub(64 * u64::from(word));
+    if count < 64 {
+        (1 << count) - 1
+    } else {
+        u64::MAX
+    }
+}
+
+/// The word of a single bit, or of none.
+fn mark_word(mark: Option<u32>, word: u32) -> u64
+    ensures { (k : ℕ) → k < 64 → has_bit result k ≡ marks mark (64 * word + k) }
+{
+    match mark {
+        None => 0,
+        Some(bit) => { if bit / 64 == word { 1 << (bit % 64) } else { 0 } },
+    }
+}
+
+/// The word of a statement's own bits.
+pub(crate) fn own_word(effect: Effect, word: u32) -> u64
+    ensures { (k : ℕ) → k < 64 → has_bit result k ≡ effect_owns effect (64 * word + k) }
+{
+    mark_word(effect.first, word) | mark_word(effect.second, word)
+}
+
+/// What is generated, of what is the statement's own and what it touches.
+pub(crate) fn generated(analysis: Analysis, own: u64, touched: u64) -> u64
+    ensures { (k : ℕ) → k < 64 → has_bit result k ≡ gen_from analysis (has_bit own k) (has_bit touched k) }
+{
+    match analysis {
+        Analysis::Reach => own,
+        Analysis::Live => own,
+        Analysis::Avail => touched,
+        Analysis::Busy => touched & !own,
+    }
+}
+
+/// What is killed, of what is the statement's own and what it touches.
+pub(crate) fn killed(analysis: Analysis, own: u64, touched: u64) -> u64
+    ensures { (k : ℕ) → k < 64 → has_bit result k ≡ kill_from analysis (has_bit own k) (has_bit touched k) }
+{
+    match analysis {
+        Analysis::Reach => touched & !own,
+        Analysis::Live => touched,
+        Analysis::Avail => own & !touched,
+        Analysis::Busy => own,
+    }
+}
