@@ -121,7 +121,7 @@ fn check_all(rt: &(impl Abort + AllocGlobal), cases: &[(&str, &str)]) -> Result<
 }
 
 #[test]
-fn refusals(rt: HostRuntime) -> Result<(), Fail> {
+fn refused_lines(rt: HostRuntime) -> Result<(), Fail> {
     let cases = [
         ("", "tacflow: 1:1: refusal 6: NoMain\n"),
         ("proc main\nx = 1\n", "tacflow: 3:1: refusal 5: Unclosed\n"),
@@ -148,6 +148,13 @@ fn refusals(rt: HostRuntime) -> Result<(), Fail> {
             "proc main\nx = 9223372036854775808\nend\n",
             "tacflow: 2:5: refusal 2: NumberTooLarge\n",
         ),
+    ];
+    check_all(&rt, cases.as_slice())
+}
+
+#[test]
+fn refused_names(rt: HostRuntime) -> Result<(), Fail> {
+    let cases = [
         (
             "proc main\ngoto M\nend\n",
             "tacflow: 2:6: refusal 9: UnknownLabel\n",
