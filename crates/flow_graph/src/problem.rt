@@ -3,6 +3,7 @@ ghost use Rattle.bit_rows.specs.Words.{has_bit};
 ghost use Rattle.flow_graph.specs.Analyses.{is_must, main_procedure, may_shape};
 ghost use Rattle.flow_graph.specs.Effects.{depends};
 ghost use Rattle.flow_graph.specs.Limits.{HasFewBits, HasFewPoints};
+ghost use Rattle.flow_graph.specs.Paths.{IsWellFormed};
 ghost use Rattle.flow_graph.specs.Points.{end_point, point_count, procedure_at};
 ghost use Rattle.flow_graph.specs.Problems.{IsWordOf, may_boundary, may_gens, may_kills};
 ghost use Rattle.flow_graph.specs.Universes.{bits as bits_of};
@@ -33,18 +34,19 @@ pub struct Problem<'g, 'p> {
 
 impl<'g, 'p> Model for Problem<'g, 'p> {
     ghost use Rattle.flow_graph.specs.Problems.{MayForm};
-
-    ghost Value = { MayForm };
-
     ghost use Rattle.std.specs.Prelude.{◌≡◌};
     ghost use Rattle.flow_graph.specs.Analyses.{may_shape};
     ghost use Rattle.flow_graph.specs.Effects.{AreEffects, IsDependence};
+    ghost use Rattle.flow_graph.specs.Paths.{IsWellFormed};
+
+    ghost Value = { MayForm };
 
     ghost view = { λ problem. record { program = problem.graph.now; analysis = problem.analysis } };
 
     ghost invariant = { λ problem. AreEffects problem.graph.now problem.analysis problem.effects.items
         × IsDependence problem.graph.now problem.analysis problem.dependence.words.items problem.dependence.width
-        × (problem.edges.items ≡ (may_shape problem.graph.now problem.analysis).edges) };
+        × (problem.edges.items ≡ (may_shape problem.graph.now problem.analysis).edges)
+        × IsWellFormed (may_shape problem.graph.now problem.analysis) };
 }
 
 impl<'g, 'p> Problem<'g, 'p> {
@@ -52,6 +54,8 @@ impl<'g, 'p> Problem<'g, 'p> {
     pub fn of(alloc: Global, graph: &'g Graph<'p>, analysis: Analysis) -> Result<Self, OutOfMemory>
         ensures { IfOk result (λ problem. problem ≡ record { program = graph.now; analysis = analysis }) }
     {
+        // Its contract tells that the program is sound.
+        let _ = graph.program().procs();
         let edges = directed_edges(alloc, graph, analysis)?;
         let effects = effects(alloc, graph, analysis)?;
         let dependence = dependence(alloc, graph, analysis)?;
@@ -126,9 +130,10 @@ impl<'g, 'p> Problem<'g, 'p> {
     }
 
     /// The edges, each turned round where the analysis goes backwards, in the order of the points that they leave in the
-    /// graph.
+    /// graph. They fit together with entries, exits and procedures, as the laws over paths want it.
     pub fn edges(&self) -> &[Edge]
-        ensures { result.now ≡ (may_shape self.now.program self.now.analysis).edges }
+        ensures edges { result.now ≡ (may_shape self.now.program self.now.analysis).edges }
+        ensures well_formed { IsWellFormed (may_shape self.now.program self.now.analysis) }
     {
         self.edges.as_slice()
     }
