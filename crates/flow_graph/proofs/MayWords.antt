@@ -3,9 +3,10 @@ use Rattle.std.proofs.Common.{◌≡◌, ℕ, ◌+◌, ◌*◌, ◌/◌, ◌%◌
 use Rattle.std.proofs.lemmas.Bool.{cases_lt, and_right}
 use Rattle.std.proofs.lemmas.Nat.Bits.{shr_and_one}
 use Rattle.bit_rows.specs.Words.{has_bit}
-use Rattle.bit_rows.proofs.WordBits.{has_bit-and}
+use Rattle.bit_rows.proofs.WordBits.{has_bit-and, same_words}
 use Rattle.tac_reader.specs.Programs.{Program}
 use Rattle.flow_graph.specs.Effects.{IsEffect, depends, effect_owns, gen_from, kill_from, owns, touches}
+use Rattle.flow_graph.specs.ProgramLaws.{WordsTellBits, WordsAreTheirBits}
 use Rattle.flow_graph.specs.Problems.{IsWordOf, MayForm, may_gens, may_kills}
 use Rattle.flow_graph.specs.Transfers.{has_operand, is_made_at}
 use Rattle.flow_graph.specs.Universes.{Analysis, Reach, Live, Avail, Busy, Definition, Expr, bits, definitions, expression_at, expressions, same_expression, target_at}
@@ -105,14 +106,20 @@ is_word test bits word value full values limit k within = has_bit-and value full
         let is : nat_lt (64 * word + k) bits ≡ false = grind arith in
         and_right (has_bit value k) (nat_lt (64 * word + k) bits) is ∙ ap (λ t. t && test (64 * word + k)) (sym is)
 
--- a bit that is read from its word
-pub bit_of_word : (test : ℕ → Bool) (bits bit value : ℕ) → bit < bits → IsWordOf test bits (bit / 64) value → nat_eq (bit_and (value / 2 ^ (bit % 64)) 1) 1 ≡ test bit
-unfolding has_bit
-bit_of_word test bits bit value below is =
+pub words_tell_bits : WordsTellBits
+words_tell_bits test bits bit value below is =
     let place : bit % 64 < 64 = omega arith in
     let back : 64 * (bit / 64) + bit % 64 ≡ bit = omega arith in
     let there : nat_lt bit bits ≡ true = grind arith in
-    ap (λ x. eqb x 1) (shr_and_one value (bit % 64)) ∙ is (bit % 64) place ∙ ap (λ n. nat_lt n bits && test n) back ∙ ap (λ t. t && test bit) there
+    is (bit % 64) place ∙ ap (λ n. nat_lt n bits && test n) back ∙ ap (λ t. t && test bit) there
+
+pub words_are_their_bits : WordsAreTheirBits
+words_are_their_bits test bits word value other fits other_fits is other_is = same_words value other fits other_fits (λ k within. is k within ∙ sym (other_is k within))
+
+-- a bit that is read from its word
+pub bit_of_word : (test : ℕ → Bool) (bits bit value : ℕ) → bit < bits → IsWordOf test bits (bit / 64) value → nat_eq (bit_and (value / 2 ^ (bit % 64)) 1) 1 ≡ test bit
+unfolding has_bit
+bit_of_word test bits bit value below is = ap (λ x. eqb x 1) (shr_and_one value (bit % 64)) ∙ words_tell_bits test bits bit value below is
 
 -- what a statement's own bits and those that it touches make of its words
 module _ (form : MayForm) (point word : ℕ) (e : Effect) (known : IsEffect form.program form.analysis point e) (own touched value full : ℕ)

@@ -1,12 +1,13 @@
 -- What is proved of the points, edges and problems of every program that can be read.
-use Rattle.std.specs.Prelude.{◌≡◌, ◌↔◌, ◌<◌, ◌≤◌, ℕ, if◌then◌else◌, true, false, length, Contains}
+use Rattle.std.specs.Prelude.{◌≡◌, ◌↔◌, ◌/◌, ◌%◌, ◌^◌, ◌<◌, ◌≤◌, ℕ, Bool, if◌then◌else◌, true, false, length, Contains}
+use Rattle.bit_rows.specs.Words.{has_bit}
 use Rattle.tac_reader.specs.Programs.{Program}
 use Rattle.tac_reader.specs.Sound.{IsSound}
 use Rattle.flow_graph.specs.Analyses.{shape_of, transfer_of, accesses_of, HasPathAt, IsInTable, is_backward, is_must, may_shape, may_transfer}
 use Rattle.flow_graph.specs.Edges.{edges, edges_from}
 use Rattle.flow_graph.specs.Paths.{Edge, source_of, target_of, IsWellFormed, HasPath, SomePathHas}
 use Rattle.flow_graph.specs.Points.{point_count, point_of, place_of, end_place}
-use Rattle.flow_graph.specs.Problems.{MayForm, may_gens, may_kills, may_boundary}
+use Rattle.flow_graph.specs.Problems.{IsWordOf, MayForm, may_gens, may_kills, may_boundary}
 use Rattle.flow_graph.specs.Runs.{IsDoubtful, ReadsBeforeWriting, CallsReturn, IsLiveness}
 use Rattle.flow_graph.specs.Universes.{Analysis, Live}
 
@@ -83,3 +84,12 @@ StepsHaveStatements =
     → ((may_transfer form.program form.analysis bit).gen x y ≡ may_gens form (if is_backward form.analysis then y else x) bit)
     × ((may_transfer form.program form.analysis bit).kill x y ≡ may_kills form (if is_backward form.analysis then y else x) bit)
     × ((may_transfer form.program form.analysis bit).boundary ≡ may_boundary form bit)
+
+-- A word of a set tells each bit of it that is there, and is told by them.
+abbrev pub WordsTellBits : Type 0
+WordsTellBits = (test : ℕ → Bool) (bits bit value : ℕ) → bit < bits → IsWordOf test bits (bit / 64) value → has_bit value (bit % 64) ≡ test bit
+
+abbrev pub WordsAreTheirBits : Type 0
+WordsAreTheirBits =
+    (test : ℕ → Bool) (bits word value other : ℕ) → value < 2 ^ 64 → other < 2 ^ 64
+    → IsWordOf test bits word value → IsWordOf test bits word other → value ≡ other

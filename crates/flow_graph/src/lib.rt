@@ -48,6 +48,9 @@ pub use program_examples::{
 };
 pub use program_laws::{
     dead_variables_are_safe, edges_join_points, graphs_are_well_formed, points_are_places,
-    tables_are_may_forms,
+    tables_are_may_forms, words_tell_bits,
 };
 pub use std::alloc::AllocError as OutOfMemory;
+
+#[cfg(test)]
+mod problem_tests;

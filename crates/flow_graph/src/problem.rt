@@ -114,10 +114,10 @@ impl<'g, 'p> Problem<'g, 'p> {
         requires { procedure < length self.now.program.procedures }
         ensures { result ≡ (may_shape self.now.program self.now.analysis).exit procedure }
     {
-        if is_backward(self.analysis) {
-            self.graph.point(procedure, 0)
-        } else {
+        if !is_backward(self.analysis) {
             self.end(procedure)
+        } else {
+            self.graph.point(procedure, 0)
         }
     }
 

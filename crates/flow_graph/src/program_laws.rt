@@ -1,6 +1,6 @@
 //! Laws of every program's graph and of its four problems: each is the clause of a function without a body.
 
-ghost use Rattle.flow_graph.specs.ProgramLaws.{PlacesHavePoints, PointsHavePlaces, EdgesJoinPoints, GraphsAreWellFormed, MayFormsAreWellFormed, CallsOfProgramsReturn, LiveIsLiveness, FlagsAreMayForms, MayTablesAreMayForms, MustTablesAreMayForms, DeadVariablesAreSafe, StepsHaveStatements};
+ghost use Rattle.flow_graph.specs.ProgramLaws.{PlacesHavePoints, PointsHavePlaces, EdgesJoinPoints, GraphsAreWellFormed, MayFormsAreWellFormed, CallsOfProgramsReturn, LiveIsLiveness, FlagsAreMayForms, MayTablesAreMayForms, MustTablesAreMayForms, DeadVariablesAreSafe, StepsHaveStatements, WordsTellBits, WordsAreTheirBits};
 
 /// Points and places are one to one.
 pub fn points_are_places()
@@ -33,4 +33,10 @@ pub fn tables_are_may_forms()
 pub fn dead_variables_are_safe()
     ensures liveness { LiveIsLiveness }
     ensures safe { DeadVariablesAreSafe }
+{}
+
+/// A word of a set tells each of its bits, and the bits tell the word.
+pub fn words_tell_bits()
+    ensures bits { WordsTellBits }
+    ensures word { WordsAreTheirBits }
 {}
