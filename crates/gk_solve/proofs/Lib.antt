@@ -4,6 +4,7 @@ pub mod Decided
 pub mod Entries
 pub mod ExampleLemmas
 pub mod FiniteSearch
+pub mod FrameLemmas
 pub mod Least
 pub mod Meet
 pub mod ProgramTables

@@ -2,14 +2,18 @@
 #![tactic(auto)]
 
 mod examples;
+mod frame;
 mod laws;
+mod reach;
 
 pub use examples::{
     backward_site_examples, endless_callee_examples, recursion_examples, return_site_examples,
     several_callees_examples,
 };
+pub use frame::Frame;
 pub use laws::{
     backward_problems_are_reversed, bits_are_apart, each_undoubted_run_extends, entries_are_paths,
     forward_must_is_complement, solution_is_closed, solution_is_decided, solution_is_least,
     solution_is_meet, summaries_are_paths, tables_are_solutions,
 };
+pub use reach::{entered, reached};

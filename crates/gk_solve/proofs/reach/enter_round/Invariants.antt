@@ -1,0 +1,16 @@
+use Rattle.std.proofs.Common.{◌≡◌, ◌<◌, ◌≤◌, get_or, false, ℕ, length}
+use Rattle.flow_graph.specs.declared.edge.Edge.TheVariants.{Step}
+use Rattle.gk_solve.specs.Equations.{Entered}
+use Rattle.gk_solve.specs.Shapes.{IsProgress, FlagsGrow, AreSound, IsEntryClosedAt, unset_flags, place_of}
+use Rattle.gk_solve.proofs.reach.enter_round.Given as goal
+
+abbrev pub ghost-enter_edge : goal.ghost-enter_edge
+ghost-enter_edge g a = g.shape
+
+abbrev pub invariant-loop-k : goal.invariant-loop-k
+invariant-loop-k g l = record {
+  progress : IsProgress unset_flags l.changed l.fn.flags l.flags;
+  grows : FlagsGrow l.fn.flags l.flags;
+  closed : l.changed ≡ false → (k : ℕ) → k < l.k → IsEntryClosedAt g.shape l.reached l.flags (get_or l.edges (place_of l.frame.backward (length l.edges) k) (Step 0 0));
+  sound : AreSound (Entered g.shape) l.fn.flags → AreSound (Entered g.shape) l.flags;
+}

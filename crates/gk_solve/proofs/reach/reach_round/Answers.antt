@@ -1,0 +1,12 @@
+use Rattle.std.proofs.Common.{◌<◌, ℕ, Contains, length, arith, subst}
+use Rattle.flow_graph.specs.declared.edge.Edge.TheVariants.{Step}
+use Rattle.gk_solve.specs.Shapes.{IsReachClosedAt}
+use Rattle.gk_solve.proofs.FrameLemmas.{everywhere}
+use Rattle.gk_solve.proofs.reach.reach_round.Goals as goal
+
+pub returns-clause-closed : goal.returns-clause-closed
+returns-clause-closed g c unchanged edge there =
+    let frame = c.args.frame.now in
+    let each = λ (k : ℕ) (within : k < length frame.edges.now). c.loop-k.invariant.closed unchanged k (omega arith) in
+    everywhere (IsReachClosedAt g.shape frame.backward c.loop-k.flags) frame.backward frame.edges.now (Step 0 0) each edge
+    (subst (λ edges. Contains edges edge) c.requires.0.same_edges there)
