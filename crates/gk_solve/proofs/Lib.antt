@@ -10,3 +10,4 @@ pub mod Meet
 pub mod ProgramTables
 pub mod SolutionTests
 pub mod Sound
+pub mod WordLemmas

@@ -1,3 +1,4 @@
 pub mod Equations
 pub mod Laws
 pub mod Shapes
+pub mod Words

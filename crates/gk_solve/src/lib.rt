@@ -5,6 +5,8 @@ mod examples;
 mod frame;
 mod laws;
 mod reach;
+mod word;
+mod word_frame;
 
 pub use examples::{
     backward_site_examples, endless_callee_examples, recursion_examples, return_site_examples,
@@ -17,3 +19,5 @@ pub use laws::{
     solution_is_meet, summaries_are_paths, tables_are_solutions,
 };
 pub use reach::{entered, reached};
+pub use word::{kept, made};
+pub use word_frame::WordFrame;

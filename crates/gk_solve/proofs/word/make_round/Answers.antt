@@ -1,0 +1,13 @@
+use Rattle.std.proofs.Common.{◌<◌, ℕ, Contains, length, arith, subst}
+use Rattle.flow_graph.specs.declared.edge.Edge.TheVariants.{Step}
+use Rattle.gk_solve.specs.Words.{IsMakeClosedAt}
+use Rattle.gk_solve.proofs.FrameLemmas.{everywhere}
+use Rattle.gk_solve.proofs.word.make_round.Goals as goal
+
+pub returns-clause-closed : goal.returns-clause-closed
+returns-clause-closed g c unchanged edge there =
+    let frame = c.args.frame.now in
+    let edges = frame.frame.now.edges.now in
+    let each = λ (k : ℕ) (within : k < length edges). c.loop-k.invariant.closed unchanged k (omega arith) in
+    everywhere (IsMakeClosedAt g.problem frame.frame.now.backward frame.reached.now c.args.kept.now c.loop-k.made) frame.frame.now.backward edges (Step 0 0) each edge
+    (subst (λ es. Contains es edge) c.requires.0.is_frame.same_edges there)
