@@ -6,7 +6,7 @@ use Rattle.flow_graph.specs.declared.edge.Edge.{Edge}
 use Rattle.flow_graph.specs.declared.edge.Edge.TheVariants.{Step, Call, Ret}
 use Rattle.flow_graph.specs.Paths.{Shape, IsEdge, source_of, target_of}
 use Rattle.gk_solve.specs.Equations.{CallsAt, ReturnsTo, Reached, entry_is_reached, reached_by_step, reached_by_call, Entered, entered_by_call, root_is_entered}
-use Rattle.gk_solve.specs.Shapes.{IsShape, IsFlagged, AreSound, AreExactly, after_site, place_of, IsReachClosedAt, IsEntryClosedAt}
+use Rattle.gk_solve.specs.Shapes.{IsShape, IsProgress, IsFlagged, AreSound, AreExactly, after_site, place_of, IsReachClosedAt, IsEntryClosedAt}
 use Rattle.gk_solve.proofs.Least.{reached_least, entered_least}
 
 module _ {shape : Shape} {backward : Bool} {root : ℕ} {entries exits procedures : List ℕ} {edges : List Edge} (is : IsShape shape backward root entries exits procedures edges) {edge : Edge} (there : IsEdge shape edge) where
@@ -83,3 +83,15 @@ all_entered {shape = shape} is reached flags exact closed root p entered = enter
       call = λ site x q call caller at_x. subst (IsFlagged flags) (is.formed.entry_inside q call.0) (closed (Call site x (shape.entry q)) call.1 caller ((exact x).1 at_x));
     }
     entered
+
+-- a step that leaves less room, after any others
+pub progress_more : {Table : Type 0} (room : Table → ℕ) (old mid new : Table) (before : Bool) → IsProgress room before old mid → IsProgress room true mid new → IsProgress room true old new
+progress_more room old mid new before first second = record { same = λ e. absurd (cc e); less = λ e. by_before before first }
+  where
+    by_before : (b : Bool) → IsProgress room b old mid → room new < room old
+    by_before true p = let one : room mid < room old = p.less refl in let two : room new < room mid = second.less refl in omega arith
+    by_before false p = subst (λ table. room new < room table) (p.same refl) (second.less refl)
+
+-- a step that changes nothing, after any others
+pub progress_still : {Table : Type 0} (room : Table → ℕ) (old mid new : Table) (before : Bool) → IsProgress room before old mid → IsProgress room false mid new → IsProgress room before old new
+progress_still room old mid new before first second = subst (IsProgress room before old) (sym (second.same refl)) first

@@ -1,4 +1,5 @@
 pub mod Backward
+pub mod BroughtLemmas
 pub mod Complete
 pub mod Decided
 pub mod Entries

@@ -1,6 +1,7 @@
 //! The summary equations of a gen-kill problem, and what joins their least solution to the paths.
 #![tactic(auto)]
 
+mod bring;
 mod examples;
 mod frame;
 mod laws;
@@ -8,6 +9,7 @@ mod reach;
 mod word;
 mod word_frame;
 
+pub use bring::{brought, solution_word};
 pub use examples::{
     backward_site_examples, endless_callee_examples, recursion_examples, return_site_examples,
     several_callees_examples,
