@@ -1,12 +1,12 @@
 -- What is brought to procedures across one edge, and the solution by its words
-use Rattle.std.proofs.Common.{◌≡◌, ◌<◌, ◌⊎◌, inl, inr, ◌&&◌, ◌||◌, ◌↔◌, length, get_or, true, false, Bool, ℕ, List, sym, ◌∙◌, subst, ap}
+use Rattle.std.proofs.Common.{◌≡◌, ◌<◌, ◌⊎◌, inl, inr, ◌&&◌, ◌||◌, ◌↔◌, get_or, true, Bool, ℕ, List, sym, ◌∙◌, subst}
 use Rattle.std.proofs.lemmas.Bool.{false≢true}
 use Rattle.bit_rows.specs.Words.{has_bit}
 use Rattle.bit_rows.proofs.WordBits.{has_bit-zero}
 use Rattle.flow_graph.specs.declared.edge.Edge.{Edge}
-use Rattle.flow_graph.specs.declared.edge.Edge.TheVariants.{Step, Call, Ret}
-use Rattle.flow_graph.specs.Paths.{Shape, IsEdge}
-use Rattle.gk_solve.specs.Equations.{CallsAt, Reached, entry_is_reached, reached_by_step, reached_by_call, kept_at_entry, kept_by_step, kept_by_call, made_by_step, made_before_step, made_by_callee, made_before_call, Entered, root_is_entered, entered_by_call, brought_by_boundary, brought_where_made, brought_where_kept, IsInSolution}
+use Rattle.flow_graph.specs.declared.edge.Edge.TheVariants.{Call}
+use Rattle.flow_graph.specs.Paths.{IsEdge}
+use Rattle.gk_solve.specs.Equations.{CallsAt, Reached, entry_is_reached, reached_by_step, reached_by_call, kept_at_entry, kept_by_step, kept_by_call, made_by_step, made_before_step, made_by_callee, made_before_call, Entered, root_is_entered, entered_by_call, brought_where_made, brought_where_kept, IsInSolution}
 use Rattle.gk_solve.specs.Shapes.{IsFlagged}
 use Rattle.gk_solve.specs.Words.{WordProblem, IsWordFrame, HasBit, AreSoundWords, AreExactlyWords, AreSummaries, IsKept, IsMade, IsBrought, IsBringClosedAt}
 use Rattle.gk_solve.specs.declared.word_frame.WordFrame.{WordFrame}

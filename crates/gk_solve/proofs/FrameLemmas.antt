@@ -1,11 +1,11 @@
 -- What a shape's lists say of one edge, and the families across it
-use Rattle.std.proofs.Common.{◌≡◌, ◌<◌, ◌≤◌, ◌+◌, ◌-◌, ◌⊎◌, inl, inr, length, get_or, true, false, Bool, ℕ, List, arith, refl, sym, ◌∙◌, subst, ap, All, Contains}
+use Rattle.std.proofs.Common.{◌≡◌, ◌<◌, ◌-◌, ◌⊎◌, inl, inr, length, get_or, true, false, Bool, ℕ, List, arith, refl, sym, subst, Contains}
 use Rattle.std.proofs.lemmas.List.{get_or_default}
 use Rattle.std.proofs.lemmas.List.Elements.{All-contains}
 use Rattle.flow_graph.specs.declared.edge.Edge.{Edge}
 use Rattle.flow_graph.specs.declared.edge.Edge.TheVariants.{Step, Call, Ret}
 use Rattle.flow_graph.specs.Paths.{Shape, IsEdge, source_of, target_of}
-use Rattle.gk_solve.specs.Equations.{CallsAt, ReturnsTo, Reached, entry_is_reached, reached_by_step, reached_by_call, Entered, entered_by_call, root_is_entered}
+use Rattle.gk_solve.specs.Equations.{CallsAt, ReturnsTo, Reached, entry_is_reached, reached_by_step, reached_by_call, Entered, entered_by_call}
 use Rattle.gk_solve.specs.Shapes.{IsShape, IsProgress, IsFlagged, AreSound, AreExactly, after_site, place_of, IsReachClosedAt, IsEntryClosedAt}
 use Rattle.gk_solve.proofs.Least.{reached_least, entered_least}
 

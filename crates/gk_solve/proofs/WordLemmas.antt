@@ -1,13 +1,12 @@
 -- The bits of words, and the families across one edge
-use Rattle.std.proofs.Common.{◌≡◌, ◌≢◌, ◌<◌, ◌≤◌, ◌+◌, ◌-◌, ◌^◌, ◌⊎◌, inl, inr, ◌&&◌, ◌||◌, not, length, get_or, set, true, false, Bool, ℕ, List, arith, refl, sym, ◌∙◌, subst, ap, sum_by, nat_eq}
-use Rattle.std.proofs.lemmas.Nat.{le_or_l}
+use Rattle.std.proofs.Common.{◌≡◌, ◌<◌, ◌+◌, ◌-◌, ◌^◌, ◌⊎◌, inl, inr, ◌&&◌, ◌||◌, not, length, get_or, set, true, false, Bool, ℕ, List, arith, refl, sym, ◌∙◌, subst, ap, nat_eq}
 use Rattle.std.proofs.lemmas.Bool.{cases_eq}
 use Rattle.std.proofs.lemmas.List.{get_or-set_same, get_or-set_other, set-get_or}
 use Rattle.std.proofs.lemmas.List.Sums.{sum_by-set}
 use Rattle.bit_rows.specs.Words.{has_bit}
 use Rattle.flow_graph.specs.declared.edge.Edge.{Edge}
 use Rattle.flow_graph.specs.declared.edge.Edge.TheVariants.{Step, Call, Ret}
-use Rattle.flow_graph.specs.Paths.{Shape, IsEdge}
+use Rattle.flow_graph.specs.Paths.{IsEdge}
 use Rattle.gk_solve.specs.Equations.{CallsAt, ReturnsTo, Reached, Kept, kept_at_entry, kept_by_step, kept_by_call, made_by_step, made_before_step, made_by_callee, made_before_call, entry_is_reached, reached_by_step, reached_by_call}
 use Rattle.gk_solve.specs.Shapes.{IsProgress, IsFlagged, after_site}
 use Rattle.gk_solve.specs.Words.{WordProblem, IsWordFrame, HasBit, WordsGrow, AreSoundWords, AreExactlyWords, IsKept, IsMade, IsKeepClosedAt, IsMakeClosedAt, room_of_words, statement_of}

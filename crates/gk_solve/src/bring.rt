@@ -4,7 +4,7 @@ ghost use Rattle.bit_rows.specs.Words.{has_bit};
 ghost use Rattle.flow_graph.specs.Paths.{IsEdge};
 ghost use Rattle.gk_solve.specs.Equations.{IsInSolution};
 ghost use Rattle.gk_solve.specs.Shapes.{IsProgress};
-ghost use Rattle.gk_solve.specs.Words.{WordProblem, IsWordFrame, HasBit, WordsGrow, AreSoundWords, AreExactlyWords, AreSummaries, IsBrought, IsBringClosedAt, room_of_words};
+ghost use Rattle.gk_solve.specs.Words.{WordProblem, IsWordFrame, WordsGrow, AreSoundWords, AreExactlyWords, AreSummaries, IsBrought, IsBringClosedAt, room_of_words};
 
 use crate::reach::{place, procedure_at};
 use crate::word::{add, new_or_kept};

@@ -1,5 +1,5 @@
 // The flags of points and procedures, by rounds over the edges.
-ghost use Rattle.std.specs.Prelude.{◌≡◌, ◌<◌, ◌↔◌, ◌⊎◌, ℕ, false, length};
+ghost use Rattle.std.specs.Prelude.{◌≡◌, ◌<◌, ◌⊎◌, ℕ, false, length};
 ghost use Rattle.flow_graph.specs.Paths.{Shape, IsEdge};
 ghost use Rattle.gk_solve.specs.Equations.{Reached, Entered};
 ghost use Rattle.gk_solve.specs.Shapes.{IsFrame, IsProgress, IsFlagged, FlagsGrow, AreSound, AreExactly, IsReachClosedAt, IsEntryClosedAt, unset_flags, after_site, place_of};

@@ -1,12 +1,11 @@
-// What is kept, made and brought, for the 64 bits of a word at once.
-ghost use Rattle.std.specs.Prelude.{◌≡◌, ◌<◌, ◌^◌, ◌⊎◌, ◌↔◌, ◌&&◌, ◌||◌, not, ℕ, true, false, length};
+// What is kept and made, for the 64 bits of a word at once.
+ghost use Rattle.std.specs.Prelude.{◌≡◌, ◌<◌, ◌^◌, ◌⊎◌, ◌&&◌, ◌||◌, not, ℕ, true, false, length};
 ghost use Rattle.bit_rows.specs.Words.{has_bit};
 ghost use Rattle.flow_graph.specs.Paths.{IsEdge};
-ghost use Rattle.gk_solve.specs.Equations.{IsInSolution};
 ghost use Rattle.gk_solve.specs.Shapes.{IsProgress};
-ghost use Rattle.gk_solve.specs.Words.{WordProblem, IsWordFrame, HasBit, WordsGrow, AreSoundWords, AreExactlyWords, IsKept, IsMade, AreSummaries, IsKeepClosedAt, IsMakeClosedAt, IsBringClosedAt, room_of_words, statement_of};
+ghost use Rattle.gk_solve.specs.Words.{WordProblem, IsWordFrame, HasBit, WordsGrow, AreSoundWords, AreExactlyWords, IsKept, IsMade, IsKeepClosedAt, IsMakeClosedAt, room_of_words, statement_of};
 
-use crate::reach::{callee_exit, place, procedure_at, return_point};
+use crate::reach::{callee_exit, place, return_point};
 use crate::word_frame::WordFrame;
 use flow_graph::Edge;
 

@@ -1,4 +1,4 @@
-use Rattle.std.proofs.Common.{◌<◌, length, arith}
+use Rattle.std.proofs.Common.{arith}
 use Rattle.gk_solve.specs.Words.{IsBrought}
 use Rattle.gk_solve.proofs.FrameLemmas.{ends}
 use Rattle.gk_solve.proofs.WordLemmas.{sound_words_more}

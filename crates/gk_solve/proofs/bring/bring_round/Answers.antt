@@ -1,4 +1,4 @@
-use Rattle.std.proofs.Common.{◌<◌, ℕ, Contains, length, get_or, arith, refl, sym, ◌∙◌, subst, below_more}
+use Rattle.std.proofs.Common.{◌<◌, ℕ, Contains, length, get_or, arith, sym, ◌∙◌, subst, below_more}
 use Rattle.flow_graph.specs.declared.edge.Edge.TheVariants.{Step}
 use Rattle.gk_solve.specs.Shapes.{IsProgress, place_of}
 use Rattle.gk_solve.specs.Words.{IsBringClosedAt, room_of_words}
@@ -17,7 +17,7 @@ loop-k-preserved g c =
       | then-bring_edge w ↦ record {
         progress = subst (λ b. IsProgress room_of_words b old new) (sym w.changed-is)
             (progress_more room_of_words old mid new c.loop-k.changed c.loop-k.invariant.progress
-                (subst (λ b. IsProgress room_of_words b mid new) w.if-bring_edge.true c.bring_edge.ensures.progress));
+            (subst (λ b. IsProgress room_of_words b mid new) w.if-bring_edge.true c.bring_edge.ensures.progress));
         grows = λ x k had. c.bring_edge.ensures.grows x k (c.loop-k.invariant.grows x k had);
         closed = λ unchanged. absurd (cc (unchanged, w.changed-is));
         sound = λ sound. c.bring_edge.ensures.sound (c.loop-k.invariant.sound sound);
@@ -25,13 +25,13 @@ loop-k-preserved g c =
       | else-bring_edge w ↦ record {
         progress = subst (λ b. IsProgress room_of_words b old new) (sym w.changed-is)
             (progress_still room_of_words old mid new c.loop-k.changed c.loop-k.invariant.progress
-                (subst (λ b. IsProgress room_of_words b mid new) w.if-bring_edge.false c.bring_edge.ensures.progress));
+            (subst (λ b. IsProgress room_of_words b mid new) w.if-bring_edge.false c.bring_edge.ensures.progress));
         grows = λ x k had. c.bring_edge.ensures.grows x k (c.loop-k.invariant.grows x k had);
         closed = λ unchanged. below_more _ _
             (λ k h. subst (λ words. IsBringClosedAt g.problem frame.reached.now c.args.entered.now c.args.kept.now c.args.made.now words (get_or edges (place_of frame.frame.now.backward (length edges) k) (Step 0 0)))
-                (sym (c.bring_edge.ensures.progress.same w.if-bring_edge.false)) (c.loop-k.invariant.closed (sym w.changed-is ∙ unchanged) k h))
+            (sym (c.bring_edge.ensures.progress.same w.if-bring_edge.false)) (c.loop-k.invariant.closed (sym w.changed-is ∙ unchanged) k h))
             (subst (λ n. IsBringClosedAt g.problem frame.reached.now c.args.entered.now c.args.kept.now c.args.made.now new (get_or edges n (Step 0 0)))
-                c.place.ensures.is_place (c.bring_edge.ensures.closed w.if-bring_edge.false));
+            c.place.ensures.is_place (c.bring_edge.ensures.closed w.if-bring_edge.false));
         sound = λ sound. c.bring_edge.ensures.sound (c.loop-k.invariant.sound sound);
       }
     ]

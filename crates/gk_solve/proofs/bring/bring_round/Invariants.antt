@@ -1,4 +1,4 @@
-use Rattle.std.proofs.Common.{◌≡◌, ◌<◌, ◌≤◌, get_or, false, ℕ, length}
+use Rattle.std.proofs.Common.{◌≡◌, ◌<◌, get_or, false, ℕ, length}
 use Rattle.flow_graph.specs.declared.edge.Edge.TheVariants.{Step}
 use Rattle.gk_solve.specs.Shapes.{IsProgress, place_of}
 use Rattle.gk_solve.specs.Words.{IsBrought, AreSoundWords, IsBringClosedAt, WordsGrow, room_of_words}

@@ -1,4 +1,4 @@
-use Rattle.std.proofs.Common.{◌≡◌, ◌<◌, true, ℕ}
+use Rattle.std.proofs.Common.{◌≡◌, true, ℕ}
 use Rattle.bit_rows.specs.Words.{has_bit}
 use Rattle.gk_solve.specs.Words.{IsBrought, AreSoundWords, HasBit, room_of_words}
 use Rattle.gk_solve.proofs.bring.brought.Given as goal

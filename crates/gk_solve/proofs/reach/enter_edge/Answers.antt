@@ -1,7 +1,6 @@
-use Rattle.std.proofs.Common.{◌<◌, length, arith, subst, sym}
+use Rattle.std.proofs.Common.{arith, subst, sym}
 use Rattle.gk_solve.specs.Equations.{Entered}
 use Rattle.gk_solve.proofs.FrameLemmas.{ends, entered_across_call, sound_more}
-use Rattle.gk_solve.specs.Shapes.{IsFlagged}
 use Rattle.gk_solve.proofs.reach.enter_edge.Goals as goal
 
 pub procedure_at-caller-requires : goal.procedure_at-caller-requires

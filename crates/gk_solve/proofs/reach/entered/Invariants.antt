@@ -1,4 +1,3 @@
-use Rattle.std.proofs.Common.{◌≡◌, ◌<◌, length, ℕ}
 use Rattle.gk_solve.specs.Equations.{Entered}
 use Rattle.gk_solve.specs.Shapes.{IsFlagged, AreSound, unset_flags}
 use Rattle.gk_solve.proofs.reach.entered.Given as goal

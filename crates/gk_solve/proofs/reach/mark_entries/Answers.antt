@@ -1,4 +1,4 @@
-use Rattle.std.proofs.Common.{◌<◌, length, arith, subst, sym, below_more}
+use Rattle.std.proofs.Common.{◌<◌, arith, subst, sym, below_more}
 use Rattle.gk_solve.specs.Equations.{Reached, entry_is_reached}
 use Rattle.gk_solve.specs.Shapes.{IsFlagged}
 use Rattle.gk_solve.proofs.FrameLemmas.{sound_more}

@@ -1,4 +1,4 @@
-use Rattle.std.proofs.Common.{◌≡◌, ◌<◌, get_or, false, ℕ}
+use Rattle.std.proofs.Common.{◌<◌, get_or, ℕ}
 use Rattle.gk_solve.specs.Equations.{Reached}
 use Rattle.gk_solve.specs.Shapes.{IsFlagged, AreSound}
 use Rattle.gk_solve.proofs.reach.mark_entries.Given as goal

@@ -1,4 +1,4 @@
-use Rattle.std.proofs.Common.{◌<◌, length, arith, subst, sym}
+use Rattle.std.proofs.Common.{arith}
 use Rattle.gk_solve.specs.Equations.{Reached}
 use Rattle.gk_solve.proofs.FrameLemmas.{ends, return_in_range, reached_across_step, reached_across_call, sound_more}
 use Rattle.gk_solve.proofs.reach.reach_edge.Goals as goal

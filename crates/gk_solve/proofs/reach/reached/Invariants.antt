@@ -1,4 +1,4 @@
-use Rattle.std.proofs.Common.{◌≡◌, ◌<◌, length, ℕ}
+use Rattle.std.proofs.Common.{◌<◌, ℕ}
 use Rattle.gk_solve.specs.Equations.{Reached}
 use Rattle.gk_solve.specs.Shapes.{IsFlagged, AreSound, unset_flags}
 use Rattle.gk_solve.proofs.reach.reached.Given as goal

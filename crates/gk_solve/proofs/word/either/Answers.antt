@@ -1,4 +1,4 @@
-use Rattle.std.proofs.Common.{◌≡◌, ◌<◌, ◌≤◌, ◌⊎◌, inl, inr, ℕ, bit_or, arith}
+use Rattle.std.proofs.Common.{inl, inr, bit_or, arith}
 use Rattle.std.proofs.lemmas.Nat.{le_or_l, or_lt}
 use Rattle.std.proofs.lemmas.Bool.{cases_eq}
 use Rattle.bit_rows.proofs.WordBits.{has_bit-or}

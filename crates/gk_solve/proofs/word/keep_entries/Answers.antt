@@ -1,4 +1,4 @@
-use Rattle.std.proofs.Common.{◌<◌, length, arith, subst, sym, below_more}
+use Rattle.std.proofs.Common.{◌<◌, arith, subst, sym, below_more}
 use Rattle.bit_rows.proofs.WordBits.{has_bit-max}
 use Rattle.gk_solve.specs.Equations.{kept_at_entry}
 use Rattle.gk_solve.specs.Words.{IsKept, HasBit}

@@ -1,4 +1,4 @@
-use Rattle.std.proofs.Common.{◌≡◌, ◌<◌, get_or, false, ℕ}
+use Rattle.std.proofs.Common.{◌<◌, get_or, ℕ}
 use Rattle.gk_solve.specs.Words.{IsKept, AreSoundWords, HasBit}
 use Rattle.gk_solve.proofs.word.keep_entries.Given as goal
 

@@ -1,4 +1,4 @@
-use Rattle.std.proofs.Common.{◌≡◌, ◌<◌, length, ℕ}
+use Rattle.std.proofs.Common.{◌<◌, ℕ}
 use Rattle.gk_solve.specs.Words.{IsKept, AreSoundWords, HasBit, room_of_words}
 use Rattle.gk_solve.proofs.word.kept.Given as goal
 

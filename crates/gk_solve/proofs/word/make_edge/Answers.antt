@@ -1,4 +1,4 @@
-use Rattle.std.proofs.Common.{◌<◌, length, arith, subst, sym, ◌∙◌}
+use Rattle.std.proofs.Common.{arith}
 use Rattle.gk_solve.specs.Words.{IsMade}
 use Rattle.gk_solve.proofs.FrameLemmas.{ends, return_in_range}
 use Rattle.gk_solve.proofs.WordLemmas.{sound_words_more, statement_in_range, step_make_sound, step_make_closed, call_make_sound, call_make_closed}
