@@ -52,5 +52,3 @@ pub use program_laws::{
 };
 pub use std::alloc::AllocError as OutOfMemory;
 
-#[cfg(test)]
-mod problem_tests;
