@@ -51,4 +51,3 @@ pub use program_laws::{
     tables_are_may_forms, words_tell_bits,
 };
 pub use std::alloc::AllocError as OutOfMemory;
-
