@@ -58,5 +58,9 @@ procedure_text procedures variables p =
     let names : Names = record { procedures = procedures; variables = variables; labels = p.label_names } in
     codes "proc " ++ name_at procedures p.name ++ codes "\n" ++ places_text names 0 p.labels p.statements ++ codes "end\n"
 
+-- the names that stand for the numbers in an expression: no label does
+abbrev pub names_of : Program → Names
+names_of p = record { procedures = p.procedure_names; variables = p.variable_names; labels = [] }
+
 abbrev pub listing_of : Program → List ℕ
 listing_of p = flat_map (procedure_text p.procedure_names p.variable_names) p.procedures

@@ -28,7 +28,7 @@ mod statement;
 mod tests;
 mod token;
 
-pub use listings::listing;
+pub use listings::{listing, write_binary_expression, write_unary_expression};
 pub use program::{Callees, Label, Op, Operand, Proc, Program, Span, Stmt, StmtKind};
 pub use reader::read;
 pub use refusal::{OutOfMemory, ReadFault, Refusal, RefusalKind};

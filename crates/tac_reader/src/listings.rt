@@ -1,7 +1,7 @@
 // The listing of a program: its text in one fixed layout.
 
 ghost use Rattle.std.specs.Prelude.{◌≡◌, ◌++◌, ◌≤◌, codes, filter, nat_lt, All, IfOk, OnOk};
-ghost use Rattle.tac_reader.specs.Listings.{name_at, operand_text, binary_text, goto_text, callees_text, statement_text, labels_text, places_text, procedure_text, listing_of};
+ghost use Rattle.tac_reader.specs.Listings.{name_at, names_of, operand_text, binary_text, unary_text, goto_text, callees_text, statement_text, labels_text, places_text, procedure_text, listing_of};
 ghost use Rattle.tac_reader.specs.Programs.{LabelsRise};
 
 use crate::names::NameTable;
@@ -65,6 +65,45 @@ pub fn listing(alloc: Global, program: &Program) -> Result<Vec<u8>, AllocError>
         write_procedure(&mut text, program, proc)?;
     }
     Ok(text)
+}
+
+/// Writes a unary expression of a program last, as its listing has it: the operator directly before its operand. Fails only
+/// where memory runs out.
+pub fn write_unary_expression(
+    text: &mut Vec<u8>,
+    program: &Program,
+    op: Op,
+    operand: Operand,
+) -> Result<(), AllocError>
+    ensures { OnOk result (text.new.items ≡ text.old.items ++ unary_text (names_of program.now) op operand) }
+{
+    write_sign(text, &names_outside(program), op, operand)
+}
+
+/// Writes a binary expression of a program last, as its listing has it: one blank on each side of the operator. Fails only
+/// where memory runs out.
+pub fn write_binary_expression(
+    text: &mut Vec<u8>,
+    program: &Program,
+    left: Operand,
+    op: Op,
+    right: Operand,
+) -> Result<(), AllocError>
+    ensures { OnOk result (text.new.items ≡ text.old.items ++ binary_text (names_of program.now) left op right) }
+{
+    write_operation(text, &names_outside(program), left, op, right)
+}
+
+// The names of a program; an expression has no label, so that any table serves for them.
+fn names_outside<'a>(program: &'a Program) -> Names<'a>
+    ensures procedures { result.procedures ≡ program.now.procedure_names }
+    ensures variables { result.variables ≡ program.now.variable_names }
+{
+    Names {
+        procedures: program.procedure_names(),
+        variables: program.variable_names(),
+        labels: program.variable_names(),
+    }
 }
 
 fn write_procedure(text: &mut Vec<u8>, program: &Program, proc: &Proc) -> Result<(), AllocError>
@@ -194,8 +233,7 @@ fn write_unary(
         ++ statement_text names.now (StmtKind.Unary target op operand)) }
 {
     write_target(text, names, target)?;
-    text.extend_from_slice(op.sign())?;
-    write_operand(text, names, operand)
+    write_sign(text, names, op, operand)
 }
 
 fn write_binary(
@@ -281,6 +319,19 @@ fn write_target(text: &mut Vec<u8>, names: &Names<'_>, target: u32) -> Result<()
 {
     text.extend_from_slice(names.variable(target))?;
     text.extend_from_slice(b" = ")
+}
+
+// An operator before its operand.
+fn write_sign(
+    text: &mut Vec<u8>,
+    names: &Names<'_>,
+    op: Op,
+    operand: Operand,
+) -> Result<(), AllocError>
+    ensures { OnOk result (text.new.items ≡ text.old.items ++ unary_text names.now op operand) }
+{
+    text.extend_from_slice(op.sign())?;
+    write_operand(text, names, operand)
 }
 
 // An operator between its operands.
