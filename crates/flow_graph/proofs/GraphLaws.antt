@@ -1,7 +1,8 @@
 -- Every program's graph is well formed, and its live variables are liveness
-use Rattle.std.proofs.Common.{◌≡◌, ℕ, suc, ◌<◌, Bool, true, List, [], ◌∷◌, length, Option, Some, None, option_map, slice_get, unwrap_or, position, Contains, nat_eq, codes, bytes_eq, refl, sym, ap, ◌∙◌, subst, arith}
+use Rattle.std.proofs.Common.{◌≡◌, ℕ, suc, ◌<◌, Bool, true, List, [], ◌∷◌, length, map, Option, Some, None, option_map, slice_get, unwrap_or, position, Contains, nat_eq, codes, bytes_eq, refl, sym, ap, ◌∙◌, subst, arith}
 use Rattle.std.specs.List.{list_any}
 use Rattle.std.proofs.lemmas.List.Quantifiers.{position-Some}
+use Rattle.std.proofs.lemmas.Map.Views.{Contains-from_any}
 use Rattle.std.proofs.lemmas.Option.{slice_get_past}
 use Rattle.tac_reader.specs.Programs.{Program}
 use Rattle.tac_reader.specs.Sound.{IsSound}
@@ -9,16 +10,16 @@ use Rattle.tac_reader.specs.declared.program.Stmt.{Stmt}
 use Rattle.tac_reader.specs.declared.program.StmtKind.{StmtKind}
 use Rattle.tac_reader.specs.declared.program.StmtKind.TheVariants as kind
 use Rattle.flow_graph.specs.Analyses.{main_procedure, shape_of, transfer_of, accesses_of}
-use Rattle.flow_graph.specs.Edges.{callees_of, calls, edges_of, edges_from, edges, return_to, returns_of}
+use Rattle.flow_graph.specs.Edges.{callees_of, callees_at, calls, edges_of, edges_from, edges, return_to, returns_of}
 use Rattle.flow_graph.specs.Paths.{Edge, Step, Call, Ret, source_of, target_of, IsEdge}
 use Rattle.flow_graph.specs.Points.{Place, points, procedure_at, kind_at, statements_of, end_place, end_point, entry_point, point_count}
-use Rattle.flow_graph.specs.ProgramLaws.{EdgesJoinPoints, GraphsAreWellFormed, MayFormsAreWellFormed, CallsOfProgramsReturn, LiveIsLiveness, DeadVariablesAreSafe}
+use Rattle.flow_graph.specs.ProgramLaws.{EdgesJoinPoints, GraphsAreWellFormed, MayFormsAreWellFormed, CallsOfProgramsReturn, CallsReturnBehindSites, ReturnsHaveCallsAtSites, LiveIsLiveness, DeadVariablesAreSafe}
 use Rattle.flow_graph.specs.Transfers.{reads, operands_of, is_variable}
 use Rattle.flow_graph.specs.Universes.{Reach, Live, Avail, Busy}
 use Rattle.flow_graph.proofs.EdgeLemmas.{IsIn, IsFrom, a_step, a_call, a_return, in_procedure, next_in, edges_are, leaves}
 use Rattle.flow_graph.proofs.Membership.{Contains-flat_map, Contains-range, Contains-first}
 use Rattle.flow_graph.proofs.PointLemmas.{places_have_points, points_have_places}
-use Rattle.flow_graph.proofs.Reversal.{reversed_is_well_formed}
+use Rattle.flow_graph.proofs.Reversal.{reversed_is_well_formed, Contains-map}
 use Rattle.flow_graph.proofs.RunLemmas.{dead_is_safe}
 use Rattle.flow_graph.proofs.Standing.{stands}
 
@@ -169,6 +170,37 @@ pub calls_of_programs_return : CallsOfProgramsReturn
 calls_of_programs_return program sound site x y is_edge =
     let (below, there, call) = call_enters program sound site x y is_edge in
     (suc site, has_return program site (procedure_at program y) below there call.calling)
+
+-- each procedure that the statement at a site may call has a call there
+pub has_call : (program : Program) (site procedure : ℕ) → site < point_count program → calls program site procedure ≡ true
+    → Contains (edges program) (Call site site (entry_point program procedure))
+has_call program site procedure below calling =
+    let edge : Edge = Call site site (entry_point program procedure) in
+    let enter = λ (callee : ℕ). Call site site (entry_point program callee) in
+    let (callees, is) = a_site_calls program site procedure calling in
+    let listed : callees_at program site ≡ callees = ap (λ o. unwrap_or (option_map callees_of o) []) is in
+    let among : Contains callees procedure = Contains-from_any {eq = nat_eq} (λ x y same. grind arith) procedure callees (sym (ap (list_any (nat_eq procedure)) listed) ∙ calling) in
+    let from : edges_from program site ≡ map enter callees =
+    ap (λ k. elim k [ Some k ↦ edges_of program site k | None ↦ returns_of program (procedure_at program site) ]) is in
+    leaves program site edge below (subst (λ es. Contains es edge) (sym from) (Contains-map enter callees procedure among))
+
+pub calls_return_behind_sites : CallsReturnBehindSites
+calls_return_behind_sites program site x y z sound is_call =
+    let (below, there, call) = call_enters program sound site x y is_call in
+    let last : ℕ = end_point program (procedure_at program y) in
+    let behind : Contains (edges program) (Ret site last (suc site)) = has_return program site (procedure_at program y) below there call.calling in (
+      (λ is_return. (return_leaves program sound site last z is_return).1.after),
+      (λ same. subst (λ w. Contains (edges program) (Ret site last w)) (sym same) behind),
+    )
+
+pub returns_have_calls_at_sites : ReturnsHaveCallsAtSites
+returns_have_calls_at_sites program site x y z sound is_return =
+    let (there, return) = return_leaves program sound site x y is_return in
+    let first : ℕ = entry_point program (procedure_at program x) in
+    let at : Contains (edges program) (Call site site first) = has_call program site (procedure_at program x) return.below return.calling in (
+      (λ is_call. (call_enters program sound site z first is_call).2.at_site),
+      (λ same. subst (λ w. Contains (edges program) (Call site w first)) (sym same) at),
+    )
 
 reads_of : (program : Program) (point variable : ℕ) (k : Option StmtKind) → kind_at program point ≡ k
     → reads program point variable ≡ list_any (is_variable variable) (unwrap_or (option_map operands_of k) [])

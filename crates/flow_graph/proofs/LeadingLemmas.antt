@@ -1,10 +1,11 @@
 -- The search backwards from the marked points
-use Rattle.std.proofs.Common.{◌≡◌, ◌≢◌, ◌⊎◌, inl, inr, ℕ, suc, ◌+◌, ◌<◌, ◌≤◌, Bool, true, false, List, [], ◌∷◌, ◌++◌, length, get_or, set, fold, sum_by, All, Contains, nat_eq, if◌then◌else◌, refl, sym, ap, ◌∙◌, subst, arith, Vec, length-append, length-set, get_or-set_same, get_or-set_other}
+use Rattle.std.proofs.Common.{◌≡◌, ◌≢◌, ◌⊎◌, inl, inr, ℕ, suc, ◌+◌, ◌<◌, ◌≤◌, Bool, true, false, List, [], ◌∷◌, ◌++◌, length, get_or, set, fold, sum_by, All, Contains, nat_eq, if◌then◌else◌, refl, sym, ap, ◌∙◌, subst, arith, length-append, length-set, get_or-set_same, get_or-set_other}
 use Rattle.std.specs.List.{filter, range_with_len}
 use Rattle.std.proofs.lemmas.Bool.{cases_lt}
 use Rattle.std.proofs.lemmas.List.{get_or_past, get_or-map, length-map}
 use Rattle.std.proofs.lemmas.List.Elements.{Contains-append_left, Contains-append_right, Contains-append_cases}
 use Rattle.std.proofs.lemmas.List.Sums.{sum_by-set}
+use Rattle.smallvec.specs.SmallVec.{SmallVec}
 use Rattle.tac_reader.specs.Programs.{Program}
 use Rattle.tac_reader.specs.Sound.{IsSound}
 use Rattle.flow_graph.specs.Analyses.{shape_of}
@@ -196,11 +197,11 @@ one_looked_at program marked known work point new sound searches become = record
         ]
 
 -- what stands in the table of sources
-pub reads_sources : {A : Type 0} (program : Program) (lists : List (Vec ℕ A)) (point : ℕ) (list : Vec ℕ A) (sources : List ℕ) → AreSources program (contents lists)
+pub reads_sources : (program : Program) (lists : List (SmallVec ℕ)) (point : ℕ) (list : SmallVec ℕ) (sources : List ℕ) → AreSources program (contents lists)
     → point < point_count program → list ≡ get_or lists point list → sources ≡ list.items → sources ≡ sources_of program point
-reads_sources {A} program lists point list sources are below read is =
-    let there : point < length lists = omega (arith, are.count, length-map lists (λ (list : Vec ℕ A). list.items)) in
-    is ∙ ap (λ (list : Vec ℕ A). list.items) read ∙ sym (get_or-map (λ (list : Vec ℕ A). list.items) lists point list [] there) ∙ are.each point [] below
+reads_sources program lists point list sources are below read is =
+    let there : point < length lists = omega (arith, are.count, length-map lists (λ (list : SmallVec ℕ). list.items)) in
+    is ∙ ap (λ (list : SmallVec ℕ). list.items) read ∙ sym (get_or-map (λ (list : SmallVec ℕ). list.items) lists point list [] there) ∙ are.each point [] below
 
 pub sources_are_points : (program : Program) → IsSound program → (point : ℕ) → All (λ x. x < point_count program) (sources_of program point)
 sources_are_points program sound point k d inside =

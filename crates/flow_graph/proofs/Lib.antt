@@ -1,6 +1,7 @@
 pub mod Boundaries
 pub mod Complement
 pub mod Counts
+pub mod DefinitionRanges
 pub mod DirectedEdges
 pub mod EdgeLemmas
 pub mod EffectSteps

@@ -1,8 +1,9 @@
 -- Tables of lists of numbers, one number longer
-use Rattle.std.proofs.Common.{◌≡◌, ◌≢◌, ℕ, suc, ◌+◌, ◌<◌, Bool, true, false, ◌||◌, List, [], ◌∷◌, ◌++◌, length, get_or, set, fold, All, AllPairs, nat_eq, if◌then◌else◌, refl, sym, ap, ◌∙◌, subst, append-nil, arith, get_or-set_same, get_or-set_other, length-set, Vec}
+use Rattle.std.proofs.Common.{◌≡◌, ◌≢◌, ℕ, suc, ◌+◌, ◌<◌, Bool, true, false, ◌||◌, List, [], ◌∷◌, ◌++◌, length, get_or, set, fold, All, AllPairs, nat_eq, if◌then◌else◌, refl, sym, ap, ◌∙◌, subst, append-nil, arith, get_or-set_same, get_or-set_other, length-set}
 use Rattle.std.specs.List.{list_any, filter, range_with_len}
 use Rattle.std.proofs.lemmas.List.{map-set, get_or-map}
 use Rattle.std.proofs.lemmas.List.Elements.{filter-append}
+use Rattle.smallvec.specs.SmallVec.{SmallVec}
 use Rattle.flow_graph.specs.NumberLists.{contents, with_last, AreLists}
 use Rattle.flow_graph.proofs.Ranges.{range_more}
 
@@ -27,11 +28,11 @@ put_lists lists many list_of index x are below = record {
         get_or-set_other lists index k (get_or lists index [] ++ x ∷ []) d other ∙ are.each k d inside ∙ sym (append-nil (list_of k))
 
 -- a list of the table that is written is the list that was read, one number longer
-pub contents-put : {A : Type 0} (lists : List (Vec ℕ A)) (index x : ℕ) (old new : Vec ℕ A) → index < length lists → old ≡ get_or lists index old → new.items ≡ old.items ++ x ∷ []
+pub contents-put : (lists : List (SmallVec ℕ)) (index x : ℕ) (old new : SmallVec ℕ) → index < length lists → old ≡ get_or lists index old → new.items ≡ old.items ++ x ∷ []
     → contents (set lists index new) ≡ with_last (contents lists) index x
-contents-put {A} lists index x old new below read is =
-    map-set (λ (list : Vec ℕ A). list.items) lists index new
-    ∙ ap (λ xs. set (contents lists) index xs) (is ∙ ap (λ xs. xs ++ x ∷ []) (ap (λ (list : Vec ℕ A). list.items) read ∙ sym (get_or-map (λ (list : Vec ℕ A). list.items) lists index old [] below)))
+contents-put lists index x old new below read is =
+    map-set (λ (list : SmallVec ℕ). list.items) lists index new
+    ∙ ap (λ xs. set (contents lists) index xs) (is ∙ ap (λ xs. xs ++ x ∷ []) (ap (λ (list : SmallVec ℕ). list.items) read ∙ sym (get_or-map (λ (list : SmallVec ℕ). list.items) lists index old [] below)))
 
 -- there are as many lists
 pub length-put : (lists : List (List ℕ)) (x : ℕ) (indices : List ℕ) → length (fold (λ known k. with_last known k x) lists indices) ≡ length lists

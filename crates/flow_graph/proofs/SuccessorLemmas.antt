@@ -1,9 +1,10 @@
 -- The edges out of a point, as the code finds them
-use Rattle.std.proofs.Common.{◌≡◌, ℕ, zero, suc, ◌<◌, ◌≤◌, Bool, true, false, List, [], ◌∷◌, ◌++◌, length, map, flat_map, get_or, All, Some, None, option_map, slice_get, unwrap_or, if◌then◌else◌, refl, sym, ap, ap₂, ◌∙◌, subst, arith, Vec}
+use Rattle.std.proofs.Common.{◌≡◌, ℕ, zero, suc, ◌<◌, ◌≤◌, Bool, true, false, List, [], ◌∷◌, ◌++◌, length, map, flat_map, get_or, All, Some, None, option_map, slice_get, unwrap_or, if◌then◌else◌, refl, sym, ap, ap₂, ◌∙◌, subst, arith}
 use Rattle.std.specs.List.{filter}
 use Rattle.std.proofs.lemmas.List.{get_or-map, length-map}
 use Rattle.std.proofs.lemmas.List.FromFn.{get_or-range_with_len, length-range_with_len}
 use Rattle.std.proofs.lemmas.Option.{slice_get_read}
+use Rattle.smallvec.specs.SmallVec.{SmallVec}
 use Rattle.tac_reader.specs.Programs.{Procedure, Program}
 use Rattle.tac_reader.specs.declared.program.Stmt.{Stmt}
 use Rattle.flow_graph.specs.Edges.{calls, returns_of, edges_from, edges_of}
@@ -98,13 +99,13 @@ pub record SitesRead (program : Program) (point : ℕ) (sites : List ℕ) : Type
   pub few : All (λ site. site < point_count program) sites
   pub returns : statement_at program point ≡ None → map (λ site. Ret site point (suc site)) sites ≡ edges_from program point
 
-pub reads_sites : {A : Type 0} (program : Program) (lists : List (Vec ℕ A)) (point procedure : ℕ) (list : Vec ℕ A) (sites : List ℕ) → AreSites program (contents lists)
+pub reads_sites : (program : Program) (lists : List (SmallVec ℕ)) (point procedure : ℕ) (list : SmallVec ℕ) (sites : List ℕ) → AreSites program (contents lists)
     → point < point_count program → procedure ≡ procedure_at program point → list ≡ get_or lists procedure list → sites ≡ list.items → SitesRead program point sites
-reads_sites {A} program lists point procedure list sites are below same read is =
+reads_sites program lists point procedure list sites are below same read is =
     let place : IsPlaceOf program point = points_have_places program point below in
-    let there : procedure < length lists = omega (arith, same, place.procedure, are.count, length-map lists (λ (list : Vec ℕ A). list.items)) in
+    let there : procedure < length lists = omega (arith, same, place.procedure, are.count, length-map lists (λ (list : SmallVec ℕ). list.items)) in
     let found : sites ≡ sites_of program (procedure_at program point) =
-    is ∙ ap (λ (list : Vec ℕ A). list.items) read ∙ sym (get_or-map (λ (list : Vec ℕ A). list.items) lists procedure list [] there)
+    is ∙ ap (λ (list : SmallVec ℕ). list.items) read ∙ sym (get_or-map (λ (list : SmallVec ℕ). list.items) lists procedure list [] there)
     ∙ are.each procedure [] (omega (arith, same, place.procedure)) ∙ ap (sites_of program) same in
     record {
       few = subst (All (λ site. site < point_count program)) (sym found) (sites_are_points program (procedure_at program point));

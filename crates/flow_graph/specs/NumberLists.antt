@@ -1,8 +1,9 @@
 -- Tables of lists of numbers: the list of each index.
-use Rattle.std.specs.Prelude.{◌≡◌, ◌<◌, ℕ, List, [], ◌∷◌, ◌++◌, length, map, get_or, slice_set, Vec}
+use Rattle.std.specs.Prelude.{◌≡◌, ◌<◌, ℕ, List, [], ◌∷◌, ◌++◌, length, map, get_or, slice_set}
+use Rattle.smallvec.specs.SmallVec.{SmallVec}
 
 -- the lists that a table holds
-abbrev pub contents : {A : Type 0} → List (Vec ℕ A) → List (List ℕ)
+abbrev pub contents : List (SmallVec ℕ) → List (List ℕ)
 contents lists = map (λ list. list.items) lists
 
 -- the table with one number more at the end of a list

@@ -1,12 +1,12 @@
 -- What is proved of the points, edges and problems of every program that can be read.
-use Rattle.std.specs.Prelude.{◌≡◌, ◌↔◌, ◌/◌, ◌%◌, ◌^◌, ◌<◌, ◌≤◌, ℕ, Bool, if◌then◌else◌, true, false, length, Contains}
+use Rattle.std.specs.Prelude.{◌≡◌, ◌↔◌, ◌/◌, ◌%◌, ◌^◌, ◌<◌, ◌≤◌, ℕ, suc, Bool, if◌then◌else◌, true, false, length, Contains}
 use Rattle.bit_rows.specs.Words.{has_bit}
 use Rattle.tac_reader.specs.Programs.{Program}
 use Rattle.tac_reader.specs.Sound.{IsSound}
 use Rattle.flow_graph.specs.Analyses.{shape_of, transfer_of, accesses_of, HasPathAt, IsInTable, is_backward, is_must, may_shape, may_transfer}
 use Rattle.flow_graph.specs.Edges.{edges, edges_from}
-use Rattle.flow_graph.specs.Paths.{Edge, source_of, target_of, IsWellFormed, HasPath, SomePathHas}
-use Rattle.flow_graph.specs.Points.{point_count, point_of, place_of, end_place}
+use Rattle.flow_graph.specs.Paths.{Edge, Call, Ret, source_of, target_of, IsWellFormed, HasPath, SomePathHas}
+use Rattle.flow_graph.specs.Points.{point_count, point_of, place_of, end_place, end_point, entry_point, procedure_at}
 use Rattle.flow_graph.specs.Problems.{IsWordOf, MayForm, may_gens, may_kills, may_boundary}
 use Rattle.flow_graph.specs.Runs.{IsDoubtful, ReadsBeforeWriting, CallsReturn, IsLiveness}
 use Rattle.flow_graph.specs.Universes.{Analysis, Live}
@@ -46,6 +46,17 @@ MayFormsAreWellFormed = (program : Program) (analysis : Analysis) → IsSound pr
 -- each call has its return
 abbrev pub CallsOfProgramsReturn : Type 0
 CallsOfProgramsReturn = (program : Program) → IsSound program → CallsReturn (shape_of program)
+
+-- A call returns to the point after its site and to no other; and what returns to a site was called there and nowhere else.
+abbrev pub CallsReturnBehindSites : Type 0
+CallsReturnBehindSites =
+    (program : Program) (site x y z : ℕ) → IsSound program → Contains (edges program) (Call site x y)
+    → Contains (edges program) (Ret site (end_point program (procedure_at program y)) z) ↔ (z ≡ suc site)
+
+abbrev pub ReturnsHaveCallsAtSites : Type 0
+ReturnsHaveCallsAtSites =
+    (program : Program) (site x y z : ℕ) → IsSound program → Contains (edges program) (Ret site x y)
+    → Contains (edges program) (Call site z (entry_point program (procedure_at program x))) ↔ (z ≡ site)
 
 -- live variables are those that some backward valid path reads before writing
 abbrev pub LiveIsLiveness : Type 0

@@ -1,6 +1,6 @@
 -- What the bits of each analysis stand for, and how they are numbered: definitions for reaching definitions, variables for
 -- live variables, expressions for available and for very busy expressions (Aho, Lam, Sethi, Ullman, 2nd edition, 9.2 and 9.5).
-use Rattle.std.specs.Prelude.{ℕ, Bool, false, ◌&&◌, List, [], ◌∷◌, ◌++◌, map, flat_map, fold, length, Option, Some, None, option_and_then, position, nat_eq, if◌then◌else◌, bytes_eq}
+use Rattle.std.specs.Prelude.{ℕ, ◌<◌, Bool, IfSome, false, ◌&&◌, List, [], ◌∷◌, ◌++◌, map, flat_map, fold, length, Option, Some, None, option_and_then, position, nat_eq, if◌then◌else◌, bytes_eq}
 use Rattle.std.specs.List.{list_any, range_with_len}
 use Rattle.tac_reader.specs.Programs.{Program, sign_of}
 use Rattle.tac_reader.specs.declared.program.Op.{Op}
@@ -12,7 +12,7 @@ pub use Rattle.flow_graph.specs.declared.expression.Expr.{Expr}
 pub use Rattle.flow_graph.specs.declared.expression.Expr.TheVariants.{Unary, Binary}
 pub use Rattle.flow_graph.specs.declared.analysis.Analysis.{Analysis}
 pub use Rattle.flow_graph.specs.declared.analysis.Analysis.TheVariants.{Reach, Live, Avail, Busy}
-use Rattle.flow_graph.specs.Points.{points, kind_at}
+use Rattle.flow_graph.specs.Points.{points, point_count, kind_at}
 
 -- the variable that a statement defines
 abbrev pub target_of : StmtKind → Option ℕ
@@ -39,6 +39,11 @@ dummies program = map (λ x. (x, None)) (range_with_len 0 (length program.variab
 
 abbrev pub definitions : Program → List Definition
 definitions program = dummies program ++ flat_map (definition_at program) (points program)
+
+-- it is of a variable of the program, and its statement stands at a point of the program
+pub record IsDefinitionIn (program : Program) (definition : Definition) : Type 0 where
+  pub variable : definition.0 < length program.variable_names
+  pub point : IfSome definition.1 (λ point. point < point_count program)
 
 -- the expression that a statement evaluates: the right side of a unary or binary assignment
 abbrev pub expression_of : StmtKind → Option Expr

@@ -1,7 +1,7 @@
 ghost use Rattle.std.specs.Prelude.{◌≡◌, ◌+◌, ◌<◌, ◌≤◌, length, slice_get, Some, IfOk, OnOk, IsErrOf, option_copied};
 ghost use Rattle.flow_graph.specs.Limits.{HasFewBits, HasFewPoints, HasManyBits, HasManyPoints};
 ghost use Rattle.flow_graph.specs.Points.{end_place, place_of, point_count, point_of, statement_at};
-ghost use Rattle.flow_graph.specs.Universes.{bits, definitions as definitions_of, evaluated_at, expressions as expressions_of};
+ghost use Rattle.flow_graph.specs.Universes.{IsDefinitionIn, bits, definitions as definitions_of, evaluated_at, expressions as expressions_of};
 ghost use Rattle.tac_reader.specs.Sound.{IsSound};
 ghost use Rattle.flow_graph.specs.declared.fault.GraphFault.TheVariants.{TooManyBits, TooManyPoints};
 ghost use Rattle.tac_reader.specs.Sound.{IsSound};
@@ -9,6 +9,7 @@ ghost use Rattle.tac_reader.specs.Sound.{IsSound};
 use crate::analysis::Analysis;
 use crate::expression::Expr;
 use crate::fault::GraphFault;
+use crate::number_lists::NumberList;
 use crate::place::Place;
 use crate::points::Points;
 use crate::sites::call_sites;
@@ -32,7 +33,7 @@ pub struct Graph<'p> {
     definitions: Vec<(u32, Option<u32>)>,
     expressions: IndexSet<Expr>,
     evaluated: Vec<Option<u32>>,
-    pub(crate) sites: Vec<Vec<u32>>,
+    pub(crate) sites: Vec<NumberList>,
 }
 
 impl<'p> Model for Graph<'p> {
@@ -142,8 +143,11 @@ impl<'p> Graph<'p> {
     /// variable's value at the beginning.
     pub fn definition(&self, bit: u32) -> (u32, Option<u32>)
         requires { bit < length (definitions_of self.now) }
-        ensures { slice_get (definitions_of self.now) bit ≡ Some result }
+        ensures definition { slice_get (definitions_of self.now) bit ≡ Some result }
+        ensures there { IsDefinitionIn self.now result }
     {
+        // Its contract tells that the program is sound.
+        let _ = self.program().procs();
         self.definitions[bit as usize]
     }
 

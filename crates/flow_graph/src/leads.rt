@@ -10,7 +10,7 @@ ghost use Rattle.flow_graph.specs.Points.{point_count};
 use crate::OutOfMemory;
 use crate::edge::Edge;
 use crate::graph::Graph;
-use crate::number_lists::{empty_lists, put_last};
+use crate::number_lists::{NumberList, empty_lists, put_last};
 use std::alloc::{AllocError, Global};
 
 /// The point to which an edge leads.
@@ -25,7 +25,7 @@ fn target(edge: Edge) -> u32
 }
 
 /// Puts the point that some edges leave last in the list of each point to which one leads.
-fn put_source(lists: &mut Vec<Vec<u32>>, edges: &[Edge], source: u32) -> Result<(), AllocError>
+fn put_source(lists: &mut Vec<NumberList>, edges: &[Edge], source: u32) -> Result<(), AllocError>
     requires { All (λ edge. target_of edge < length (contents lists.old.items)) edges.now }
     ensures { OnOk result (contents lists.new.items ≡ fold (λ known edge. with_last known (target_of edge) source) (contents lists.old.items) edges.now) }
 {
@@ -36,7 +36,7 @@ fn put_source(lists: &mut Vec<Vec<u32>>, edges: &[Edge], source: u32) -> Result<
 }
 
 /// For each point the points from which an edge leads to it.
-fn sources(alloc: Global, graph: &Graph<'_>) -> Result<Vec<Vec<u32>>, OutOfMemory>
+fn sources(alloc: Global, graph: &Graph<'_>) -> Result<Vec<NumberList>, OutOfMemory>
     ensures { IfOk result (λ lists. AreSources graph.now (contents lists.items)) }
 {
     let count = graph.points();

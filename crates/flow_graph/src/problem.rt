@@ -1,6 +1,6 @@
 ghost use Rattle.std.specs.Prelude.{◌≡◌, ◌+◌, ◌*◌, ◌<◌, ℕ, false, IfOk, IfSome, length, option_map, unwrap_or};
 ghost use Rattle.bit_rows.specs.Words.{has_bit};
-ghost use Rattle.flow_graph.specs.Analyses.{is_must, main_procedure, may_shape};
+ghost use Rattle.flow_graph.specs.Analyses.{is_backward as is_backward_of, is_must, main_procedure, may_shape};
 ghost use Rattle.flow_graph.specs.Effects.{depends};
 ghost use Rattle.flow_graph.specs.Limits.{HasFewBits, HasFewPoints};
 ghost use Rattle.flow_graph.specs.Paths.{IsWellFormed};
@@ -152,6 +152,13 @@ impl<'g, 'p> Problem<'g, 'p> {
         ensures few { HasFewBits self.now.program }
     {
         self.graph.bits(self.analysis)
+    }
+
+    /// Whether the edges are turned round: whether the analysis goes backwards.
+    pub fn reverses(&self) -> bool
+        ensures { result ≡ is_backward_of self.now.analysis }
+    {
+        is_backward(self.analysis)
     }
 
     /// Whether the sets are complemented: whether the analysis is over every path.

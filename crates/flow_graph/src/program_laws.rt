@@ -1,6 +1,6 @@
 //! Laws of every program's graph and of its four problems: each is the clause of a function without a body.
 
-ghost use Rattle.flow_graph.specs.ProgramLaws.{PlacesHavePoints, PointsHavePlaces, EdgesJoinPoints, GraphsAreWellFormed, MayFormsAreWellFormed, CallsOfProgramsReturn, LiveIsLiveness, FlagsAreMayForms, MayTablesAreMayForms, MustTablesAreMayForms, DeadVariablesAreSafe, StepsHaveStatements, WordsTellBits, WordsAreTheirBits};
+ghost use Rattle.flow_graph.specs.ProgramLaws.{PlacesHavePoints, PointsHavePlaces, EdgesJoinPoints, GraphsAreWellFormed, MayFormsAreWellFormed, CallsOfProgramsReturn, CallsReturnBehindSites, ReturnsHaveCallsAtSites, LiveIsLiveness, FlagsAreMayForms, MayTablesAreMayForms, MustTablesAreMayForms, DeadVariablesAreSafe, StepsHaveStatements, WordsTellBits, WordsAreTheirBits};
 
 /// Points and places are one to one.
 pub fn points_are_places()
@@ -13,11 +13,13 @@ pub fn edges_join_points()
     ensures { EdgesJoinPoints }
 {}
 
-/// The graph of a program and its four may forms are well formed, and each call has its return.
+/// The graph of a program and its four may forms are well formed, each call has its return, and sites tell both.
 pub fn graphs_are_well_formed()
     ensures graph { GraphsAreWellFormed }
     ensures may_forms { MayFormsAreWellFormed }
     ensures returns { CallsOfProgramsReturn }
+    ensures behind { CallsReturnBehindSites }
+    ensures at { ReturnsHaveCallsAtSites }
 {}
 
 /// The tables and flags of the four analyses are those of their may forms.

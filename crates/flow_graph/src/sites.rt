@@ -6,7 +6,7 @@ ghost use Rattle.flow_graph.specs.NumberLists.{contents, with_last};
 ghost use Rattle.flow_graph.specs.Points.{point_count};
 ghost use Rattle.flow_graph.specs.Sites.{AreSites};
 
-use crate::number_lists::{empty_lists, put_last};
+use crate::number_lists::{NumberList, empty_lists, put_last};
 use crate::points::Points;
 use std::alloc::{AllocError, Global};
 use tac_reader::StmtKind;
@@ -26,7 +26,7 @@ fn callees<'p>(points: &Points<'p>, point: u32) -> &'p [u32]
 }
 
 /// Puts a call site last in the list of each procedure that it may call.
-fn put_site(lists: &mut Vec<Vec<u32>>, callees: &[u32], site: u32) -> Result<(), AllocError>
+fn put_site(lists: &mut Vec<NumberList>, callees: &[u32], site: u32) -> Result<(), AllocError>
     requires { All (λ procedure. procedure < length (contents lists.old.items)) callees.now }
     ensures { OnOk result (contents lists.new.items ≡ fold (λ known procedure. with_last known procedure site) (contents lists.old.items) callees.now) }
 {
@@ -37,7 +37,7 @@ fn put_site(lists: &mut Vec<Vec<u32>>, callees: &[u32], site: u32) -> Result<(),
 }
 
 /// The call sites of each procedure, in the order of points.
-pub fn call_sites(alloc: Global, points: &Points<'_>) -> Result<Vec<Vec<u32>>, AllocError>
+pub fn call_sites(alloc: Global, points: &Points<'_>) -> Result<Vec<NumberList>, AllocError>
     ensures { IfOk result (λ sites. AreSites points.now (contents sites.items)) }
 {
     let procs = points.program().procs();

@@ -79,7 +79,7 @@ fn call_edges(
     requires { All (λ callee. callee < length points.now.procedures) callees.now }
     ensures { IfOk result (λ edges. edges.items ≡ map (λ callee. Call point point (entry_point points.now callee)) callees.now) }
 {
-    let mut edges = SmallVec::new(alloc);
+    let mut edges = SmallVec::with_capacity(alloc, callees.len())?;
     for callee in callees {
         edges.push(Edge::Call {
             site: point,
@@ -99,7 +99,7 @@ fn return_edges(
     requires { All (λ site. site < most_points) sites.now }
     ensures { IfOk result (λ edges. edges.items ≡ map (λ site. Ret site point (suc site)) sites.now) }
 {
-    let mut edges = SmallVec::new(alloc);
+    let mut edges = SmallVec::with_capacity(alloc, sites.len())?;
     for site in sites {
         edges.push(Edge::Ret {
             site: *site,

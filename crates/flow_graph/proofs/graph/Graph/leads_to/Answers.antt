@@ -18,21 +18,21 @@ index-requires c =
 pub know_all-requires : goal.know_all-requires
 know_all-requires c =
     let inside = looked_at_inside c.args.self.now c.args.marked.now c.loop-point.known.items c.loop-point.work.items c.pop.new.self.items c.in-Some.point c.loop-point.invariant c.in-Some.ensures.items in
-    let sources = reads_sources c.args.self.now c.in_ok-lists.lists.items c.in-Some.point c.index.result.now c.as_slice.result.now c.in_ok-lists.ensures inside c.index.ensures c.as_slice.ensures.value in
+    let sources = reads_sources c.args.self.now c.in_ok-lists.lists.items c.in-Some.point c.index.result.now c.as_slice.result.now c.in_ok-lists.ensures inside c.index.ensures c.as_slice.ensures in
     subst (λ xs. All (λ point. point < length c.loop-point.known.items) xs) (sym sources)
     (λ k d below. omega (arith, sources_are_points c.args.self.now c.points.ensures.sound c.in-Some.point k d below, c.loop-point.invariant.count))
 
 pub loop-point-smaller : goal.loop-point-smaller
 loop-point-smaller c =
     let inside = looked_at_inside c.args.self.now c.args.marked.now c.loop-point.known.items c.loop-point.work.items c.pop.new.self.items c.in-Some.point c.loop-point.invariant c.in-Some.ensures.items in
-    let sources = reads_sources c.args.self.now c.in_ok-lists.lists.items c.in-Some.point c.index.result.now c.as_slice.result.now c.in_ok-lists.ensures inside c.index.ensures c.as_slice.ensures.value in
+    let sources = reads_sources c.args.self.now c.in_ok-lists.lists.items c.in-Some.point c.index.result.now c.as_slice.result.now c.in_ok-lists.ensures inside c.index.ensures c.as_slice.ensures in
     (step_taken c.args.self.now c.args.marked.now c.loop-point.known.items c.loop-point.work.items c.pop.new.self.items c.in-Some.point c.as_slice.result.now
     (search_of c.know_all.new.known.items c.know_all.new.work.items) c.points.ensures.sound c.loop-point.invariant c.in-Some.ensures.items sources c.in_ok-know_all.ensures).smaller
 
 pub loop-point-preserved : goal.loop-point-preserved
 loop-point-preserved c =
     let inside = looked_at_inside c.args.self.now c.args.marked.now c.loop-point.known.items c.loop-point.work.items c.pop.new.self.items c.in-Some.point c.loop-point.invariant c.in-Some.ensures.items in
-    let sources = reads_sources c.args.self.now c.in_ok-lists.lists.items c.in-Some.point c.index.result.now c.as_slice.result.now c.in_ok-lists.ensures inside c.index.ensures c.as_slice.ensures.value in
+    let sources = reads_sources c.args.self.now c.in_ok-lists.lists.items c.in-Some.point c.index.result.now c.as_slice.result.now c.in_ok-lists.ensures inside c.index.ensures c.as_slice.ensures in
     (step_taken c.args.self.now c.args.marked.now c.loop-point.known.items c.loop-point.work.items c.pop.new.self.items c.in-Some.point c.as_slice.result.now
     (search_of c.know_all.new.known.items c.know_all.new.work.items) c.points.ensures.sound c.loop-point.invariant c.in-Some.ensures.items sources c.in_ok-know_all.ensures).searches
 

@@ -20,7 +20,7 @@ pub return_edges-requires : goal.return_edges-requires
 return_edges-requires c =
     let below : c.args.point < point_count c.self.inside.points = subst (λ (p : Program). c.args.point < point_count p) (sym c.self.view_is) c.requires in
     let same : c.place-procedure.result.procedure ≡ procedure_at c.self.inside.points c.args.point = ap (λ (at : Place). at.procedure) c.place-procedure.ensures in
-    let sites = reads_sites c.self.inside.points c.self.inside.sites.items c.args.point c.place-procedure.result.procedure c.index.result.now c.as_slice.result.now c.self.invariant.4 below same c.index.ensures c.as_slice.ensures.value in
+    let sites = reads_sites c.self.inside.points c.self.inside.sites.items c.args.point c.place-procedure.result.procedure c.index.result.now c.as_slice.result.now c.self.invariant.4 below same c.index.ensures c.as_slice.ensures in
     let few : point_count c.self.inside.points ≤ 16384 = c.stmt.ensures.few in
     λ k d inside. omega (arith, sites.few k d inside, few)
 
@@ -28,6 +28,6 @@ pub returns-in-None : goal.returns-in-None
 returns-in-None c =
     let below : c.args.point < point_count c.self.inside.points = subst (λ (p : Program). c.args.point < point_count p) (sym c.self.view_is) c.requires in
     let same : c.place-procedure.result.procedure ≡ procedure_at c.self.inside.points c.args.point = ap (λ (at : Place). at.procedure) c.place-procedure.ensures in
-    let sites = reads_sites c.self.inside.points c.self.inside.sites.items c.args.point c.place-procedure.result.procedure c.index.result.now c.as_slice.result.now c.self.invariant.4 below same c.index.ensures c.as_slice.ensures.value in
+    let sites = reads_sites c.self.inside.points c.self.inside.sites.items c.args.point c.place-procedure.result.procedure c.index.result.now c.as_slice.result.now c.self.invariant.4 below same c.index.ensures c.as_slice.ensures in
     subst (λ (p : Program). IfOk c.return_edges.result (λ edges. edges.items ≡ edges_from p c.args.point)) c.self.view_is
     (subst (λ (es : List Edge). IfOk c.return_edges.result (λ edges. edges.items ≡ es)) (sites.returns (sym c.in-None.ensures.stmt)) c.return_edges.ensures)
