@@ -6,9 +6,11 @@ pub mod Entries
 pub mod ExampleLemmas
 pub mod FiniteSearch
 pub mod FrameLemmas
+pub mod FrameListLemmas
 pub mod Least
 pub mod Meet
 pub mod ProgramTables
+pub mod SliceLemmas
 pub mod SolutionTests
 pub mod Sound
 pub mod WordLemmas

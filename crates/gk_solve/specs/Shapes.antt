@@ -32,7 +32,7 @@ abbrev pub IsFrame : Shape → Frame → Type 0
 IsFrame shape frame =
     IsShape shape frame.backward frame.root frame.entries.now frame.exits.now frame.procedures.now frame.edges.now
 
--- the place that comes k-th when the edges are gone over in the problem's direction
+-- the place that comes k-th when the edges are gone over, from the last one where they are gone over backward
 abbrev pub place_of : Bool → ℕ → ℕ → ℕ
 place_of backward count k = if backward then count - 1 - k else k
 

@@ -47,13 +47,14 @@ fn bring_edge(
     }
 }
 
-// Goes over all edges once, and answers whether that added anything.
+// Goes over all edges once, one way or the other, and answers whether that added anything.
 fn bring_round(
     frame: &WordFrame,
     entered: &[bool],
     kept: &[u64],
     made: &[u64],
     brought: &mut [u64],
+    backward: bool,
 ) -> bool
     ghost problem: { WordProblem }
     requires frame { IsWordFrame problem frame.now }
@@ -67,7 +68,7 @@ fn bring_round(
     let edges = frame.frame.edges;
     let mut changed = false;
     for k in 0..edges.len() {
-        let edge = edges[place(frame.frame.backward, edges.len(), k)];
+        let edge = edges[place(backward, edges.len(), k)];
         if bring_edge(frame, entered, kept, made, brought, edge) {
             changed = true;
         }
@@ -86,7 +87,10 @@ pub fn brought(frame: &WordFrame, entered: &[bool], kept: &[u64], made: &[u64], 
     ensures { AreExactlyWords (IsBrought problem) brought.new }
 {
     add(brought, frame.frame.root as usize, frame.boundary);
-    'rounds: while bring_round(frame, entered, kept, made, brought) {}
+    let mut backward = frame.frame.backward;
+    'rounds: while bring_round(frame, entered, kept, made, brought, backward) {
+        backward = !backward;
+    }
 }
 
 /// The word of the solution at a point.

@@ -4,10 +4,14 @@
 mod bring;
 mod examples;
 mod frame;
+mod frame_lists;
 mod laws;
 mod reach;
+mod slice_words;
+mod solver;
 mod word;
 mod word_frame;
+mod word_tables;
 
 pub use bring::{brought, solution_word};
 pub use examples::{
@@ -21,5 +25,7 @@ pub use laws::{
     solution_is_meet, summaries_are_paths, tables_are_solutions,
 };
 pub use reach::{entered, reached};
+pub use solver::solve;
+pub use std::alloc::AllocError as OutOfMemory;
 pub use word::{kept, made};
 pub use word_frame::WordFrame;

@@ -18,7 +18,7 @@ pub(crate) fn return_point(backward: bool, site: u32) -> usize
     }
 }
 
-/// The place that comes `k`-th when `count` edges are gone over in the problem's direction.
+/// The place that comes `k`-th when `count` edges are gone over, from the last one where they are gone over `backward`.
 pub(crate) fn place(backward: bool, count: usize, k: usize) -> usize
     requires { k < count }
     ensures is_place { result ≡ place_of backward count k }
@@ -83,8 +83,66 @@ fn reach_edge(frame: &Frame, flags: &mut [bool], edge: Edge) -> bool
     }
 }
 
-// Goes over all edges once, and answers whether that set anything.
-fn reach_round(frame: &Frame, flags: &mut [bool]) -> bool
+// The place of an edge that needs the point to which this one leads, if one is told.
+fn next_place(frame: &Frame, edge: Edge) -> Option<usize> {
+    let point = match edge {
+        Edge::Step { to, .. } => to as usize,
+        Edge::Call { site, .. } => return_point(frame.backward, site),
+        Edge::Ret { to, .. } => to as usize,
+    };
+    frame.onward.get(point).copied()
+}
+
+/// Whether the edge at a place leads to one that a round has gone over before it.
+pub(crate) fn leads_back(frame: &Frame, edge: Edge, at: usize, backward: bool) -> bool {
+    match next_place(frame, edge) {
+        Some(next) => (next < at) != backward,
+        None => false,
+    }
+}
+
+/// An edge that needs the point to which this one leads, or this one, where none is told.
+pub(crate) fn next_edge(frame: &Frame, edge: Edge) -> Edge
+    ghost shape: { Shape }
+    requires frame { IsFrame shape frame.now }
+    requires there { IsEdge shape edge }
+    ensures { IsEdge shape result }
+{
+    match next_place(frame, edge) {
+        Some(next) => match frame.edges.get(next) {
+            Some(next) => *next,
+            None => edge,
+        },
+        None => edge,
+    }
+}
+
+// Sets what one edge gives, and where it leads back, what the edges give onward from it, one at each point, as long as that
+// is anything. Answers whether it was.
+fn reach_along(frame: &Frame, flags: &mut [bool], edge: Edge, at: usize, backward: bool) -> bool
+    ghost shape: { Shape }
+    requires frame { IsFrame shape frame.now }
+    requires count { length flags.now ≡ length frame.now.procedures.now }
+    requires there { IsEdge shape edge }
+    ensures progress { IsProgress unset_flags result flags.old flags.new }
+    ensures grows { FlagsGrow flags.old flags.new }
+    ensures closed { result ≡ false → IsReachClosedAt shape frame.now.backward flags.new edge }
+    ensures sound { AreSound (Reached shape) flags.old → AreSound (Reached shape) flags.new }
+{
+    if !reach_edge(frame, flags, edge) {
+        return false;
+    }
+    if leads_back(frame, edge, at, backward) {
+        let mut last = next_edge(frame, edge);
+        'along: while reach_edge(frame, flags, last) {
+            last = next_edge(frame, last);
+        }
+    }
+    true
+}
+
+// Goes over all edges once, one way or the other, and answers whether that set anything.
+fn reach_round(frame: &Frame, flags: &mut [bool], backward: bool) -> bool
     ghost shape: { Shape }
     requires frame { IsFrame shape frame.now }
     requires count { length flags.now ≡ length frame.now.procedures.now }
@@ -96,8 +154,8 @@ fn reach_round(frame: &Frame, flags: &mut [bool]) -> bool
     let edges = frame.edges;
     let mut changed = false;
     for k in 0..edges.len() {
-        let edge = edges[place(frame.backward, edges.len(), k)];
-        if reach_edge(frame, flags, edge) {
+        let at = place(backward, edges.len(), k);
+        if reach_along(frame, flags, edges[at], at, backward) {
             changed = true;
         }
     }
@@ -127,7 +185,10 @@ pub fn reached(frame: &Frame, flags: &mut [bool])
     ensures { AreExactly (Reached shape) flags.new }
 {
     mark_entries(frame, flags);
-    'rounds: while reach_round(frame, flags) {}
+    let mut backward = frame.backward;
+    'rounds: while reach_round(frame, flags, backward) {
+        backward = !backward;
+    }
 }
 
 /// The procedure of a point.
@@ -169,8 +230,8 @@ fn enter_edge(frame: &Frame, reached: &[bool], flags: &mut [bool], edge: Edge) -
     }
 }
 
-// Goes over all edges once, and answers whether that set anything.
-fn enter_round(frame: &Frame, reached: &[bool], flags: &mut [bool]) -> bool
+// Goes over all edges once, one way or the other, and answers whether that set anything.
+fn enter_round(frame: &Frame, reached: &[bool], flags: &mut [bool], backward: bool) -> bool
     ghost shape: { Shape }
     requires frame { IsFrame shape frame.now }
     requires points { length reached.now ≡ length frame.now.procedures.now }
@@ -184,7 +245,7 @@ fn enter_round(frame: &Frame, reached: &[bool], flags: &mut [bool]) -> bool
     let edges = frame.edges;
     let mut changed = false;
     for k in 0..edges.len() {
-        let edge = edges[place(frame.backward, edges.len(), k)];
+        let edge = edges[place(backward, edges.len(), k)];
         if enter_edge(frame, reached, flags, edge) {
             changed = true;
         }
@@ -204,5 +265,8 @@ pub fn entered(frame: &Frame, reached: &[bool], flags: &mut [bool])
     ensures { AreExactly (Entered shape) flags.new }
 {
     mark(flags, frame.root as usize);
-    'rounds: while enter_round(frame, reached, flags) {}
+    let mut backward = frame.backward;
+    'rounds: while enter_round(frame, reached, flags, backward) {
+        backward = !backward;
+    }
 }

@@ -5,7 +5,7 @@ ghost use Rattle.flow_graph.specs.Paths.{IsEdge};
 ghost use Rattle.gk_solve.specs.Shapes.{IsProgress};
 ghost use Rattle.gk_solve.specs.Words.{WordProblem, IsWordFrame, HasBit, WordsGrow, AreSoundWords, AreExactlyWords, IsKept, IsMade, IsKeepClosedAt, IsMakeClosedAt, room_of_words, statement_of};
 
-use crate::reach::{callee_exit, place, return_point};
+use crate::reach::{callee_exit, leads_back, next_edge, place, return_point};
 use crate::word_frame::WordFrame;
 use flow_graph::Edge;
 
@@ -101,8 +101,32 @@ fn keep_edge(frame: &WordFrame, kept: &mut [u64], edge: Edge) -> bool
     }
 }
 
-// Goes over all edges once, and answers whether that added anything.
-fn keep_round(frame: &WordFrame, kept: &mut [u64]) -> bool
+// Adds what one edge keeps, and where it leads back, what the edges keep onward from it, one at each point, as long as that adds
+// something. Answers whether some of it was missing.
+fn keep_along(frame: &WordFrame, kept: &mut [u64], edge: Edge, at: usize, backward: bool) -> bool
+    ghost problem: { WordProblem }
+    requires frame { IsWordFrame problem frame.now }
+    requires count { length kept.now ≡ length frame.now.frame.now.procedures.now }
+    requires there { IsEdge problem.shape edge }
+    ensures progress { IsProgress room_of_words result kept.old kept.new }
+    ensures grows { WordsGrow kept.old kept.new }
+    ensures closed { result ≡ false → IsKeepClosedAt problem frame.now.frame.now.backward frame.now.reached.now kept.new edge }
+    ensures sound { AreSoundWords (IsKept problem) kept.old → AreSoundWords (IsKept problem) kept.new }
+{
+    if !keep_edge(frame, kept, edge) {
+        return false;
+    }
+    if leads_back(frame.frame, edge, at, backward) {
+        let mut last = next_edge(frame.frame, edge);
+        'along: while keep_edge(frame, kept, last) {
+            last = next_edge(frame.frame, last);
+        }
+    }
+    true
+}
+
+// Goes over all edges once, one way or the other, and answers whether that added anything.
+fn keep_round(frame: &WordFrame, kept: &mut [u64], backward: bool) -> bool
     ghost problem: { WordProblem }
     requires frame { IsWordFrame problem frame.now }
     requires count { length kept.now ≡ length frame.now.frame.now.procedures.now }
@@ -114,8 +138,8 @@ fn keep_round(frame: &WordFrame, kept: &mut [u64]) -> bool
     let edges = frame.frame.edges;
     let mut changed = false;
     for k in 0..edges.len() {
-        let edge = edges[place(frame.frame.backward, edges.len(), k)];
-        if keep_edge(frame, kept, edge) {
+        let at = place(backward, edges.len(), k);
+        if keep_along(frame, kept, edges[at], at, backward) {
             changed = true;
         }
     }
@@ -145,7 +169,10 @@ pub fn kept(frame: &WordFrame, kept: &mut [u64])
     ensures { AreExactlyWords (IsKept problem) kept.new }
 {
     keep_entries(frame, kept);
-    'rounds: while keep_round(frame, kept) {}
+    let mut backward = frame.frame.backward;
+    'rounds: while keep_round(frame, kept, backward) {
+        backward = !backward;
+    }
 }
 
 // Adds what one edge makes, and answers whether some of it was missing.
@@ -183,8 +210,40 @@ fn make_edge(frame: &WordFrame, kept: &[u64], made: &mut [u64], edge: Edge) -> b
     }
 }
 
-// Goes over all edges once, and answers whether that added anything.
-fn make_round(frame: &WordFrame, kept: &[u64], made: &mut [u64]) -> bool
+// Adds what one edge makes, and where it leads back, what the edges make onward from it, one at each point, as long as that adds
+// something. Answers whether some of it was missing.
+fn make_along(
+    frame: &WordFrame,
+    kept: &[u64],
+    made: &mut [u64],
+    edge: Edge,
+    at: usize,
+    backward: bool,
+) -> bool
+    ghost problem: { WordProblem }
+    requires frame { IsWordFrame problem frame.now }
+    requires kept_count { length kept.now ≡ length frame.now.frame.now.procedures.now }
+    requires count { length made.now ≡ length frame.now.frame.now.procedures.now }
+    requires there { IsEdge problem.shape edge }
+    ensures progress { IsProgress room_of_words result made.old made.new }
+    ensures grows { WordsGrow made.old made.new }
+    ensures closed { result ≡ false → IsMakeClosedAt problem frame.now.frame.now.backward frame.now.reached.now kept.now made.new edge }
+    ensures sound { AreSoundWords (IsKept problem) kept.now → AreSoundWords (IsMade problem) made.old → AreSoundWords (IsMade problem) made.new }
+{
+    if !make_edge(frame, kept, made, edge) {
+        return false;
+    }
+    if leads_back(frame.frame, edge, at, backward) {
+        let mut last = next_edge(frame.frame, edge);
+        'along: while make_edge(frame, kept, made, last) {
+            last = next_edge(frame.frame, last);
+        }
+    }
+    true
+}
+
+// Goes over all edges once, one way or the other, and answers whether that added anything.
+fn make_round(frame: &WordFrame, kept: &[u64], made: &mut [u64], backward: bool) -> bool
     ghost problem: { WordProblem }
     requires frame { IsWordFrame problem frame.now }
     requires kept_count { length kept.now ≡ length frame.now.frame.now.procedures.now }
@@ -197,8 +256,8 @@ fn make_round(frame: &WordFrame, kept: &[u64], made: &mut [u64]) -> bool
     let edges = frame.frame.edges;
     let mut changed = false;
     for k in 0..edges.len() {
-        let edge = edges[place(frame.frame.backward, edges.len(), k)];
-        if make_edge(frame, kept, made, edge) {
+        let at = place(backward, edges.len(), k);
+        if make_along(frame, kept, made, edges[at], at, backward) {
             changed = true;
         }
     }
@@ -216,5 +275,8 @@ pub fn made(frame: &WordFrame, kept: &[u64], made: &mut [u64])
     requires sound { AreSoundWords (IsMade problem) made.now }
     ensures { AreExactlyWords (IsMade problem) made.new }
 {
-    'rounds: while make_round(frame, kept, made) {}
+    let mut backward = frame.frame.backward;
+    'rounds: while make_round(frame, kept, made, backward) {
+        backward = !backward;
+    }
 }

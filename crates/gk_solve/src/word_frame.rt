@@ -1,6 +1,7 @@
 use crate::frame::Frame;
 
 /// A frame with its reached points, and 64 bits of each statement's gen and kill.
+#[derive(Drop)]
 pub struct WordFrame<'a> {
     /// The procedures, points and edges.
     pub frame: &'a Frame<'a>,

@@ -28,7 +28,7 @@ loop-k-preserved g c =
             (subst (λ b. IsProgress room_of_words b mid new) w.if-bring_edge.false c.bring_edge.ensures.progress));
         grows = λ x k had. c.bring_edge.ensures.grows x k (c.loop-k.invariant.grows x k had);
         closed = λ unchanged. below_more _ _
-            (λ k h. subst (λ words. IsBringClosedAt g.problem frame.reached.now c.args.entered.now c.args.kept.now c.args.made.now words (get_or edges (place_of frame.frame.now.backward (length edges) k) (Step 0 0)))
+            (λ k h. subst (λ words. IsBringClosedAt g.problem frame.reached.now c.args.entered.now c.args.kept.now c.args.made.now words (get_or edges (place_of c.args.backward (length edges) k) (Step 0 0)))
             (sym (c.bring_edge.ensures.progress.same w.if-bring_edge.false)) (c.loop-k.invariant.closed (sym w.changed-is ∙ unchanged) k h))
             (subst (λ n. IsBringClosedAt g.problem frame.reached.now c.args.entered.now c.args.kept.now c.args.made.now new (get_or edges n (Step 0 0)))
             c.place.ensures.is_place (c.bring_edge.ensures.closed w.if-bring_edge.false));
@@ -41,5 +41,5 @@ returns-clause-closed g c unchanged edge there =
     let frame = c.args.frame.now in
     let edges = frame.frame.now.edges.now in
     let each = λ (k : ℕ) (within : k < length edges). c.loop-k.invariant.closed unchanged k (omega arith) in
-    everywhere (IsBringClosedAt g.problem frame.reached.now c.args.entered.now c.args.kept.now c.args.made.now c.loop-k.brought) frame.frame.now.backward edges (Step 0 0) each edge
+    everywhere (IsBringClosedAt g.problem frame.reached.now c.args.entered.now c.args.kept.now c.args.made.now c.loop-k.brought) c.args.backward edges (Step 0 0) each edge
     (subst (λ es. Contains es edge) c.requires.0.is_frame.same_edges there)

@@ -11,6 +11,6 @@ abbrev pub invariant-loop-k : goal.invariant-loop-k
 invariant-loop-k g l = record {
   progress : IsProgress room_of_words l.changed l.fn.brought l.brought;
   grows : WordsGrow l.fn.brought l.brought;
-  closed : l.changed ≡ false → (k : ℕ) → k < l.k → IsBringClosedAt g.problem l.frame.reached.now l.entered l.kept l.made l.brought (get_or l.edges (place_of l.frame.frame.now.backward (length l.edges) k) (Step 0 0));
+  closed : l.changed ≡ false → (k : ℕ) → k < l.k → IsBringClosedAt g.problem l.frame.reached.now l.entered l.kept l.made l.brought (get_or l.edges (place_of l.backward (length l.edges) k) (Step 0 0));
   sound : AreSoundWords (IsBrought g.problem) l.fn.brought → AreSoundWords (IsBrought g.problem) l.brought;
 }

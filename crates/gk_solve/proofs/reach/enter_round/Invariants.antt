@@ -11,6 +11,6 @@ abbrev pub invariant-loop-k : goal.invariant-loop-k
 invariant-loop-k g l = record {
   progress : IsProgress unset_flags l.changed l.fn.flags l.flags;
   grows : FlagsGrow l.fn.flags l.flags;
-  closed : l.changed ≡ false → (k : ℕ) → k < l.k → IsEntryClosedAt g.shape l.reached l.flags (get_or l.edges (place_of l.frame.backward (length l.edges) k) (Step 0 0));
+  closed : l.changed ≡ false → (k : ℕ) → k < l.k → IsEntryClosedAt g.shape l.reached l.flags (get_or l.edges (place_of l.backward (length l.edges) k) (Step 0 0));
   sound : AreSound (Entered g.shape) l.fn.flags → AreSound (Entered g.shape) l.flags;
 }

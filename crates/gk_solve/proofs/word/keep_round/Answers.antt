@@ -9,5 +9,5 @@ returns-clause-closed g c unchanged edge there =
     let frame = c.args.frame.now in
     let edges = frame.frame.now.edges.now in
     let each = λ (k : ℕ) (within : k < length edges). c.loop-k.invariant.closed unchanged k (omega arith) in
-    everywhere (IsKeepClosedAt g.problem frame.frame.now.backward frame.reached.now c.loop-k.kept) frame.frame.now.backward edges (Step 0 0) each edge
+    everywhere (IsKeepClosedAt g.problem frame.frame.now.backward frame.reached.now c.loop-k.kept) c.args.backward edges (Step 0 0) each edge
     (subst (λ es. Contains es edge) c.requires.0.is_frame.same_edges there)

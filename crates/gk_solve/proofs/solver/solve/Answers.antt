@@ -1,0 +1,10 @@
+use Rattle.std.proofs.lemmas.Result.{IfOk-weaker}
+use Rattle.gk_solve.specs.Solved.{IsLeastSolution, IsMeetOverPaths}
+use Rattle.gk_solve.proofs.SliceLemmas.{solution_to_meet}
+use Rattle.gk_solve.proofs.solver.solve.Goals as goal
+
+pub returns-clause-paths : goal.returns-clause-paths
+returns-clause-paths c =
+    let form = c.args.problem.now in
+    IfOk-weaker c.solve_frame.result (IsLeastSolution form c.args.lo c.args.hi) (IsMeetOverPaths form c.args.lo c.args.hi)
+    (λ rows. solution_to_meet form c.args.lo c.args.hi rows c.edges.ensures.well_formed) c.solve_frame.ensures

@@ -1,0 +1,22 @@
+use Rattle.std.proofs.Common.{true}
+use Rattle.flow_graph.specs.Paths.{IsEdge}
+use Rattle.gk_solve.specs.Shapes.{IsProgress}
+use Rattle.gk_solve.specs.Words.{IsKept, AreSoundWords, WordsGrow, room_of_words}
+use Rattle.gk_solve.proofs.word.keep_along.Given as goal
+
+abbrev pub ghost-keep_edge : goal.ghost-keep_edge
+ghost-keep_edge g a = g.problem
+
+abbrev pub ghost-next_edge : goal.ghost-next_edge
+ghost-next_edge g a = g.problem.shape
+
+abbrev pub invariant-along : goal.invariant-along
+invariant-along g l = record {
+  progress : IsProgress room_of_words true l.fn.kept l.kept;
+  grows : WordsGrow l.fn.kept l.kept;
+  sound : AreSoundWords (IsKept g.problem) l.fn.kept → AreSoundWords (IsKept g.problem) l.kept;
+  there : IsEdge g.problem.shape l.last;
+}
+
+abbrev pub decreases-along : goal.decreases-along
+decreases-along g l = room_of_words l.kept
