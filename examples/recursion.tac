@@ -1,4 +1,4 @@
-# Factorial by recursion over globals: the stack is kept by hand in `depth`.
+# Factorial by recursion over global variables.
 proc main
   read n
   result = 1

@@ -1,9 +1,9 @@
-# What is never reached, what never ends, and what is never used.
+# What is never reached, and what may never end.
 proc main
-  x = 1             # dead: spin never comes back
+  x = 1             # never read, but not called dead: spin may follow, and never ends
   if flag goto stop
   call spin
-  x = 2             # never reached
+  x = 2             # never reached: spin never comes back
 stop:
   return
   print x           # never reached

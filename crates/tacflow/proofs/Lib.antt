@@ -1,4 +1,12 @@
 pub mod Buffers
+pub mod Complements
+pub mod Doubts
 pub mod Entries
 pub mod Held
+pub mod ListTexts
 pub mod Numbers
+pub mod RangeLines
+pub mod RemarkLines
+pub mod Rising
+pub mod SafeReports
+pub mod Writing

@@ -35,7 +35,7 @@ show_rule values = record (new_rule (codes "show")) {
   long = Some (codes "show");
   value_names = 1;
   action = Some Set;
-  defaults = codes "list" ∷ [];
+  defaults = codes "report" ∷ [];
   parser = Some (parser.Values values);
 }
 

@@ -1,5 +1,7 @@
 -- The line on standard error for each fault.
 use Rattle.std.specs.Prelude.{ℕ, List, ◌++◌, codes, decimal}
+use Rattle.flow_graph.specs.declared.fault.GraphFault.{GraphFault}
+use Rattle.flow_graph.specs.declared.fault.GraphFault.TheVariants as graph_fault
 use Rattle.tac_reader.specs.Faults.{number_of_kind}
 use Rattle.tac_reader.specs.declared.refusal.Refusal.{Refusal}
 use Rattle.tac_reader.specs.declared.refusal.RefusalKind.{RefusalKind}
@@ -27,9 +29,15 @@ name_of_kind kind.DuplicateCallee = codes "DuplicateCallee"
 abbrev pub refusal_text : Refusal → List ℕ
 refusal_text r = decimal r.line ++ codes ":" ++ decimal r.column ++ codes ": refusal " ++ decimal (number_of_kind r.kind) ++ codes ": " ++ name_of_kind r.kind
 
+-- `refusal NUMBER: NAME`
+abbrev pub graph_text : GraphFault → List ℕ
+graph_text graph_fault.TooManyPoints = codes "refusal 21: TooManyPoints"
+graph_text graph_fault.TooManyBits = codes "refusal 22: TooManyBits"
+graph_text graph_fault.OutOfMemory = codes "out of memory"
+
 abbrev pub fault_text : Fault → List ℕ
 fault_text (fault.Refused r) = refusal_text r
-fault_text fault.NotYet = codes "refusal 41: NotYet"
+fault_text (fault.Graph f) = graph_text f
 fault_text fault.OutOfMemory = codes "out of memory"
 fault_text fault.Read = codes "read fault"
 fault_text fault.Write = codes "write fault"

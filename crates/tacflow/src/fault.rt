@@ -3,6 +3,7 @@
 ghost use Rattle.std.specs.Prelude.{◌≡◌, ◌++◌, IfOk, OnOk};
 ghost use Rattle.tacflow.specs.FaultLines.{line_of_fault, name_of_kind, refusal_text};
 
+use flow_graph::GraphFault;
 use std::alloc::{AllocError, Global};
 use tac_reader::{OutOfMemory, Refusal, RefusalKind};
 use thiserror::Error;
@@ -13,9 +14,9 @@ pub enum Fault {
     /// What was read is no program. Nothing was written.
     #[error("{0}")]
     Refused(Refusal),
-    /// What is to be shown is not answered yet. Nothing was written.
-    #[error("refusal 41: NotYet")]
-    NotYet,
+    /// The program has too many points or bits for what is to be shown. Nothing was written.
+    #[error("{0}")]
+    Graph(GraphFault),
     /// Memory was refused. Nothing was written.
     #[error("out of memory")]
     OutOfMemory,
@@ -25,6 +26,17 @@ pub enum Fault {
     /// The sink had a fault. A beginning of the text was written.
     #[error("write fault")]
     Write,
+}
+
+impl From<AllocError> for Fault {
+    ghost use Rattle.std.specs.Prelude.{◌≡◌};
+    ghost use Rattle.tacflow.specs.declared.fault.Fault.TheVariants as fault;
+
+    ghost from_gives = { λ _ e. e ≡ fault.OutOfMemory };
+
+    fn from(_no_memory: AllocError) -> Fault {
+        Fault::OutOfMemory
+    }
 }
 
 fn kind_name(kind: RefusalKind) -> &'static str
@@ -65,7 +77,9 @@ pub fn fault_line(alloc: Global, fault: &Fault) -> Result<Vec<u8>, OutOfMemory>
 {
     let line: &[u8] = match fault {
         Fault::Refused(refusal) => return refusal_line(alloc, refusal),
-        Fault::NotYet => b"tacflow: refusal 41: NotYet\n",
+        Fault::Graph(GraphFault::TooManyPoints) => b"tacflow: refusal 21: TooManyPoints\n",
+        Fault::Graph(GraphFault::TooManyBits) => b"tacflow: refusal 22: TooManyBits\n",
+        Fault::Graph(GraphFault::OutOfMemory) => b"tacflow: out of memory\n",
         Fault::OutOfMemory => b"tacflow: out of memory\n",
         Fault::Read => b"tacflow: read fault\n",
         Fault::Write => b"tacflow: write fault\n",

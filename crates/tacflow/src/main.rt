@@ -1,13 +1,28 @@
-//! `tacflow`: reads a program of three-address code, and writes its listing.
+//! `tacflow`: reads a program of three-address code, and writes its listing, the table of an analysis, or a report.
 #![tactic(auto)]
 
+mod answer;
+mod bit_texts;
+#[cfg(test)]
+mod case_tests;
 mod device;
+mod doubt;
+#[cfg(test)]
+mod example_tests;
 mod fault;
+mod findings;
 mod from_read;
+mod operands;
 mod options;
+mod remarks;
+mod report;
 mod run;
+mod table;
+mod table_text;
+mod tables;
 #[cfg(test)]
 mod tests;
+mod text_examples;
 mod to_write;
 mod words;
 

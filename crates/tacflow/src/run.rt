@@ -2,18 +2,15 @@
 
 ghost use Rattle.std.specs.Prelude.{◌≡◌, ◌≤◌, ◌<◌, ◌+◌, ◌-◌, ◌^◌, ◌⊎◌, ℕ, List, Some, None, true, false, length, take, IfOk, IfErr, OnOk, OnErr};
 ghost use Rattle.std.specs.Io.KnownBytes.{Appends, Consumes, IsAtEnd, Keeps};
-ghost use Rattle.tac_reader.specs.Faults.{refusal_of};
-ghost use Rattle.tac_reader.specs.Listings.{listing_of};
-ghost use Rattle.tac_reader.specs.Programs.{program_of};
 ghost use Rattle.tacflow.specs.Devices.{AppendsBeginning, faults_in};
-ghost use Rattle.tacflow.specs.Faults.{UnlessWrite, WhereNotYet, WhereRefused, WhereWrite, read_faults_in, write_faults_in};
-ghost use Rattle.tacflow.specs.Runs.{PullsAll, PullsRefused, PullsUnanswered, PullsUpTo, Shows, WritesAnswer, WritesBeginning, text_shown};
+ghost use Rattle.tacflow.specs.Faults.{UnlessWrite, WhereNoGraph, WhereRefused, WhereWrite, read_faults_in, write_faults_in};
+ghost use Rattle.tacflow.specs.Runs.{PullsOverLimit, PullsRefused, PullsUpTo, WritesAnswer, WritesBeginning};
 
+use crate::answer::answer;
 use crate::device::{DeviceFault, Sink, Source};
 use crate::fault::Fault;
-use crate::options::{Options, Show};
+use crate::options::Options;
 use std::alloc::Global;
-use tac_reader::{ReadFault, listing, read};
 
 /// How many bytes are pulled at most: one more than the longest text has.
 const MOST_PULLED: usize = 1_048_577;
@@ -56,24 +53,6 @@ fn pull_all<S: Source>(alloc: Global, source: &mut S, most: usize) -> Result<Vec
     Ok(text)
 }
 
-// What is written for a text.
-fn answer(alloc: Global, text: &[u8], show: Show) -> Result<Vec<u8>, Fault>
-    ensures shows { IfOk result (λ out. Shows show text.now out.items) }
-    ensures refused { IfErr result (WhereRefused (λ r. refusal_of text.now ≡ Some r)) }
-    ensures not_yet { IfErr result (WhereNotYet ((refusal_of text.now ≡ None) × (text_shown show text.now ≡ None))) }
-    ensures no_fault { (read_faults_in result ≡ 0) × (write_faults_in result ≡ 0) }
-{
-    let program = match read(alloc, text) {
-        Ok(program) => program,
-        Err(ReadFault::Refused(refusal)) => return Err(Fault::Refused(refusal)),
-        Err(ReadFault::OutOfMemory) => return Err(Fault::OutOfMemory),
-    };
-    match show {
-        Show::List => listing(alloc, &program).map_err(|_| Fault::OutOfMemory),
-        _ => Err(Fault::NotYet),
-    }
-}
-
 // Pushes the whole text, and flushes it.
 fn push_all<K: Sink>(sink: &mut K, text: &[u8]) -> Result<(), DeviceFault>
     requires below { K.faults sink.old < 2 ^ 32 - 1 }
@@ -94,7 +73,7 @@ fn push_all<K: Sink>(sink: &mut K, text: &[u8]) -> Result<(), DeviceFault>
 ///
 /// The condition: the source has not ended, and both counts of faults are below `u32::MAX`.
 ///
-/// - `Refused`: the text is no program. `NotYet`: it is one, of which only the listing is shown.
+/// - `Refused`: the text is no program. `Graph`: it is one, but has too many points (21) or bits (22) for all but a listing.
 /// - `OutOfMemory`: memory was refused.
 /// - `Read`: a pull was answered by a fault. `Write`: a push or the flush was; a beginning of what
 ///   is to be shown was pushed. After every other fault nothing was.
@@ -111,7 +90,7 @@ pub fn run<S: Source, K: Sink>(
         (K.contents sink.old) (K.contents sink.new) options.show) }
     ensures flushed { OnOk result (K.flushed sink.new ≡ true) }
     ensures refused { IfErr result (WhereRefused (PullsRefused (S.remaining source.old) (S.remaining source.new) (S.ended source.new))) }
-    ensures not_yet { IfErr result (WhereNotYet (PullsUnanswered (S.remaining source.old) (S.remaining source.new) (S.ended source.new) options.show)) }
+    ensures no_graph { IfErr result (WhereNoGraph (PullsOverLimit (S.remaining source.old) (S.remaining source.new) (S.ended source.new) options.show)) }
     ensures beginning { IfErr result (WhereWrite (WritesBeginning (S.remaining source.old) (S.remaining source.new) (S.ended source.new)
         (K.contents sink.old) (K.contents sink.new) options.show)) }
     ensures unwritten { IfErr result (UnlessWrite (Keeps (K.contents sink.old) (K.contents sink.new))) }

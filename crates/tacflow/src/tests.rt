@@ -5,6 +5,7 @@ use crate::from_read::FromRead;
 use crate::options::{Options, Show};
 use crate::run::run;
 use crate::to_write::ToWrite;
+use flow_graph::GraphFault;
 use std::alloc::Global;
 use std::io;
 use std::io::{ErrorKind, Read, Write};
@@ -37,7 +38,7 @@ impl Read for Pieces<'_> {
 
 // Takes so many bytes a call at most, and after so many in all it fails, or takes none.
 #[derive(Drop)]
-struct Page {
+pub(crate) struct Page {
     taken: Vec<u8>,
     piece: usize,
     left: usize,
@@ -68,7 +69,7 @@ impl Write for Page {
     }
 }
 
-fn blank_page(alloc: Global) -> Page {
+pub(crate) fn blank_page(alloc: Global) -> Page {
     Page {
         taken: Vec::new(alloc),
         piece: usize::MAX,
@@ -79,7 +80,7 @@ fn blank_page(alloc: Global) -> Page {
 }
 
 // The line of the fault, if there was one, and behind it what was written.
-fn told<R: Read + Drop>(
+pub(crate) fn told<R: Read + Drop>(
     alloc: Global,
     reader: R,
     page: &mut Page,
@@ -97,8 +98,13 @@ fn told<R: Read + Drop>(
 }
 
 // The text is answered so, whole or byte by byte.
-fn check(rt: &(impl Abort + AllocGlobal), text: &[u8], answer: &[u8]) -> Result<(), Fail> {
-    let got = told(rt.alloc(), text, &mut blank_page(rt.alloc()), Show::List)?;
+pub(crate) fn check(
+    rt: &(impl Abort + AllocGlobal),
+    text: &[u8],
+    show: Show,
+    answer: &[u8],
+) -> Result<(), Fail> {
+    let got = told(rt.alloc(), text, &mut blank_page(rt.alloc()), show)?;
     assert_eq!(rt; got.as_slice(), answer);
     let slow = Pieces {
         rest: text,
@@ -108,14 +114,14 @@ fn check(rt: &(impl Abort + AllocGlobal), text: &[u8], answer: &[u8]) -> Result<
     };
     let mut narrow = blank_page(rt.alloc());
     narrow.piece = 1;
-    let got = told(rt.alloc(), slow, &mut narrow, Show::List)?;
+    let got = told(rt.alloc(), slow, &mut narrow, show)?;
     assert_eq!(rt; got.as_slice(), answer);
     Ok(())
 }
 
 fn check_all(rt: &(impl Abort + AllocGlobal), cases: &[(&str, &str)]) -> Result<(), Fail> {
     for (text, answer) in cases {
-        check(rt, text.as_bytes(), answer.as_bytes())?;
+        check(rt, text.as_bytes(), Show::List, answer.as_bytes())?;
     }
     Ok(())
 }
@@ -241,7 +247,7 @@ fn beginnings(rt: HostRuntime) -> Result<(), Fail> {
     ];
     for (length, answer) in answers.iter().enumerate() {
         let bytes = text.as_bytes().get(..length).ok_or("a beginning")?;
-        check(&rt, bytes, answer.as_bytes())?;
+        check(&rt, bytes, Show::List, answer.as_bytes())?;
     }
     Ok(())
 }
@@ -249,17 +255,24 @@ fn beginnings(rt: HostRuntime) -> Result<(), Fail> {
 #[test]
 fn bytes_that_are_no_text(rt: HostRuntime) -> Result<(), Fail> {
     let bad = b"tacflow: 2:5: refusal 1: BadByte\n";
-    check(&rt, b"proc main\nx = \0", bad.as_slice())?;
-    check(&rt, b"proc main\nx = \0\nend\n", bad.as_slice())?;
-    check(&rt, b"\r", b"tacflow: 1:1: refusal 1: BadByte\n")?;
+    check(&rt, b"proc main\nx = \0", Show::List, bad.as_slice())?;
+    check(&rt, b"proc main\nx = \0\nend\n", Show::List, bad.as_slice())?;
+    check(
+        &rt,
+        b"\r",
+        Show::List,
+        b"tacflow: 1:1: refusal 1: BadByte\n",
+    )?;
     check(
         &rt,
         b"proc main\nend\r",
+        Show::List,
         b"tacflow: 2:4: refusal 1: BadByte\n",
     )?;
     check(
         &rt,
         b"proc main # \0\r\xff\nend\n# \xff\r\0",
+        Show::List,
         b"proc main\nend\n",
     )
 }
@@ -300,9 +313,9 @@ fn lengths_of_names(rt: HostRuntime) -> Result<(), Fail> {
     ];
     for (before, after, refusal) in cases {
         let longest = with_name(rt.alloc(), before, 64, after)?;
-        check(&rt, &longest, &longest)?;
+        check(&rt, &longest, Show::List, &longest)?;
         let longer = with_name(rt.alloc(), before, 65, after)?;
-        check(&rt, &longer, refusal.as_bytes())?;
+        check(&rt, &longer, Show::List, refusal.as_bytes())?;
     }
     Ok(())
 }
@@ -313,11 +326,12 @@ fn numbers_of_procedures(rt: HostRuntime) -> Result<(), Fail> {
     for number in 1..256 {
         text.extend_from_slice(format!(in rt.alloc(); "proc q{number}\nend\n")?.as_bytes())?;
     }
-    check(&rt, &text, &text)?;
+    check(&rt, &text, Show::List, &text)?;
     text.extend_from_slice(b"proc q256\nend\n")?;
     check(
         &rt,
         &text,
+        Show::List,
         b"tacflow: 513:6: refusal 12: TooManyProcedures\n",
     )
 }
@@ -334,13 +348,19 @@ fn long_text(alloc: Global, length: usize) -> Result<Vec<u8>, Fail> {
 #[test]
 fn lengths_of_texts(rt: HostRuntime) -> Result<(), Fail> {
     let longest = long_text(rt.alloc(), 1_048_576)?;
-    check(&rt, &longest, b"proc main\nend\n")?;
+    check(&rt, &longest, Show::List, b"proc main\nend\n")?;
     let longer = long_text(rt.alloc(), 1_048_577)?;
-    check(&rt, &longer, b"tacflow: 1:1: refusal 11: TextTooLong\n")?;
+    check(
+        &rt,
+        &longer,
+        Show::List,
+        b"tacflow: 1:1: refusal 11: TextTooLong\n",
+    )?;
     let much_longer = long_text(rt.alloc(), 1_200_000)?;
     check(
         &rt,
         &much_longer,
+        Show::List,
         b"tacflow: 1:1: refusal 11: TextTooLong\n",
     )
 }
@@ -366,127 +386,131 @@ fn faults_behind_the_longest_text(rt: HostRuntime) -> Result<(), Fail> {
     Ok(())
 }
 
-#[test]
-fn kinds_that_are_not_answered(rt: HostRuntime) -> Result<(), Fail> {
-    for show in [
+// What is shown of a small program, of each sort: a listing, a table and a report.
+const SHOWN: [(Show, &[u8]); 3] = [
+    (Show::List, b"proc main\nL:\n  x = 1\nend\n"),
+    (Show::Reach, b"main 0: x@entry\nmain 1: x@2\n"),
+    (
         Show::Report,
-        Show::Reach,
-        Show::Live,
-        Show::Avail,
-        Show::Busy,
-    ] {
-        let got = told(
-            rt.alloc(),
-            b"proc main\nend\n".as_slice(),
-            &mut blank_page(rt.alloc()),
-            show,
-        )?;
-        assert_eq!(rt; got.as_slice(), b"tacflow: refusal 41: NotYet\n".as_slice());
-        let got = told(
-            rt.alloc(),
-            b"proc main\n".as_slice(),
-            &mut blank_page(rt.alloc()),
-            show,
-        )?;
-        assert_eq!(rt;
-            got.as_slice(),
-            b"tacflow: 2:1: refusal 5: Unclosed\n".as_slice()
-        );
+        b"points 2, variables 1, definitions 2, expressions 0\n2: assignment to x is dead\n",
+    ),
+];
+
+const SMALL: &[u8] = b"proc main\nL: x = 1\nend\n";
+
+#[test]
+fn faults_of_readers(rt: HostRuntime) -> Result<(), Fail> {
+    for (show, _) in SHOWN {
+        for fault in [ErrorKind::Other, ErrorKind::Interrupted] {
+            for left in 0..SMALL.len() {
+                let reader = Pieces {
+                    rest: SMALL,
+                    piece: usize::MAX,
+                    left,
+                    fault,
+                };
+                let got = told(rt.alloc(), reader, &mut blank_page(rt.alloc()), show)?;
+                assert_eq!(rt; got.as_slice(), b"tacflow: read fault\n".as_slice());
+            }
+        }
     }
     Ok(())
 }
 
-#[test]
-fn faults_of_readers(rt: HostRuntime) -> Result<(), Fail> {
-    let text = b"proc main\nL: x = 1\nend\n";
-    for fault in [ErrorKind::Other, ErrorKind::Interrupted] {
-        for left in 0..text.len() {
-            let reader = Pieces {
-                rest: text,
-                piece: usize::MAX,
-                left,
-                fault,
-            };
-            let got = told(rt.alloc(), reader, &mut blank_page(rt.alloc()), Show::List)?;
-            assert_eq!(rt; got.as_slice(), b"tacflow: read fault\n".as_slice());
-        }
-    }
+// The writer takes so many bytes and then fails, or takes none.
+fn check_writer(
+    rt: &(impl Abort + AllocGlobal),
+    show: Show,
+    text: &[u8],
+    left: usize,
+    fault: Option<ErrorKind>,
+) -> Result<(), Fail> {
+    let mut page = blank_page(rt.alloc());
+    page.left = left;
+    page.fault = fault;
+    let got = told(rt.alloc(), SMALL, &mut page, show)?;
+    let beginning = text.get(..left).ok_or("a beginning")?;
+    assert_eq!(rt; page.taken.as_slice(), beginning);
+    assert!(rt; got.as_slice().starts_with(b"tacflow: write fault\n"));
     Ok(())
 }
 
 #[test]
 fn faults_of_writers(rt: HostRuntime) -> Result<(), Fail> {
-    let listing = b"proc main\nL:\n  x = 1\nend\n";
-    for fault in [Some(ErrorKind::Other), Some(ErrorKind::Interrupted), None] {
-        for left in 0..listing.len() {
-            let mut page = blank_page(rt.alloc());
-            page.left = left;
-            page.fault = fault;
-            let got = told(
-                rt.alloc(),
-                b"proc main\nL: x = 1\nend\n".as_slice(),
-                &mut page,
-                Show::List,
-            )?;
-            let beginning = listing.get(..left).ok_or("a beginning")?;
-            assert_eq!(rt; page.taken.as_slice(), beginning);
-            assert!(rt; got.as_slice().starts_with(b"tacflow: write fault\n"));
+    for (show, text) in SHOWN {
+        for left in 0..text.len() {
+            check_writer(&rt, show, text, left, Some(ErrorKind::Other))?;
         }
+        for left in [0, 5] {
+            check_writer(&rt, show, text, left, Some(ErrorKind::Interrupted))?;
+            check_writer(&rt, show, text, left, None)?;
+        }
+        let mut page = blank_page(rt.alloc());
+        page.flushes = false;
+        let got = told(rt.alloc(), SMALL, &mut page, show)?;
+        assert_eq!(rt; page.taken.as_slice(), text);
+        assert!(rt; got.as_slice().starts_with(b"tacflow: write fault\n"));
     }
-    let mut page = blank_page(rt.alloc());
-    page.flushes = false;
-    let got = told(
-        rt.alloc(),
-        b"proc main\nL: x = 1\nend\n".as_slice(),
-        &mut page,
-        Show::List,
-    )?;
-    assert_eq!(rt; page.taken.as_slice(), listing.as_slice());
-    assert!(rt; got.as_slice().starts_with(b"tacflow: write fault\n"));
     Ok(())
 }
 
-// With ample memory the listing, and where a growth is refused want of memory and nothing written.
+// With ample memory this answer, and where a growth is refused want of memory and nothing written.
+fn check_growths(
+    rt: &(impl Abort + AllocGlobal),
+    text: &str,
+    show: Show,
+    answer: &str,
+) -> Result<(), Fail> {
+    let options = Options::new(1, 64, show).ok_or("options")?;
+    let Ok(taken) = Vec::with_capacity(rt.alloc(), 512) else {
+        return Ok(());
+    };
+    let mut page = blank_page(rt.alloc());
+    page.taken = taken;
+    let mut source = FromRead::new(text.as_bytes());
+    match run(
+        rt.alloc(),
+        &mut source,
+        &mut ToWrite::new(&mut page),
+        options,
+    ) {
+        Ok(()) => assert_eq!(rt; page.taken.as_slice(), answer.as_bytes()),
+        Err(Fault::OutOfMemory) => assert!(rt; page.taken.is_empty()),
+        Err(_) => return Err(Fail::from("another answer")),
+    }
+    Ok(())
+}
+
 #[test]
 fn growths_refused(rt: HostRuntime) -> Result<(), Fail> {
+    let recursion =
+        "proc main\nx = 1\ncall f\nprint x\nend\nproc f\nif x goto L\ncall f\nx = 2\nL:\nend\n";
+    let branches =
+        "proc main\nread b\nread c\nif c goto L\nx = b + c\nprint x\nreturn\nL: y = b + c\nprint y\nend\n";
     let cases = [
         (
-            "proc main\nx = 1\ncall f\nprint x\nend\nproc f\nif x goto L\ncall f\nx = 2\nL:\nend\n",
+            recursion,
+            Show::List,
             "proc main\n  x = 1\n  call f\n  print x\nend\nproc f\n  if x goto L\n  call f\n  x = 2\nL:\nend\n",
         ),
         (
-            "proc main\na = b + c\ncall p\nd = b + c\nend\nproc p\nif c goto L\nb = 1\nL:\nend\n",
-            "proc main\n  a = b + c\n  call p\n  d = b + c\nend\nproc p\n  if c goto L\n  b = 1\nL:\nend\n",
+            recursion,
+            Show::Reach,
+            "main 0: x@entry\nmain 1: x@2\nmain 2: x@2, x@9\nmain 3: x@2, x@9\nf 0: x@2\nf 1: x@2\nf 2: x@2, x@9\nf 3: x@2, x@9\n",
         ),
         (
-            "proc main # start\nL:M: x=y+007\nz=- x\nif x<3 goto L\nend\n",
-            "proc main\nL:\nM:\n  x = y + 7\n  z = -x\n  if x < 3 goto L\nend\n",
+            branches,
+            Show::Busy,
+            "main 0: -\nmain 1: -\nmain 2: b + c\nmain 3: b + c\nmain 4: -\nmain 5: -\nmain 6: b + c\nmain 7: -\nmain 8: -\n",
+        ),
+        (
+            branches,
+            Show::Report,
+            "points 9, variables 4, definitions 8, expressions 1\n4: b + c is very busy\n",
         ),
     ];
-    for (text, listing) in cases {
-        let options = Options::new(1, 64, Show::List).ok_or("options")?;
-        let Ok(taken) = Vec::with_capacity(rt.alloc(), 256) else {
-            return Ok(());
-        };
-        let mut page = Page {
-            taken,
-            piece: usize::MAX,
-            left: usize::MAX,
-            fault: None,
-            flushes: true,
-        };
-        let mut source = FromRead::new(text.as_bytes());
-        let answer = run(
-            rt.alloc(),
-            &mut source,
-            &mut ToWrite::new(&mut page),
-            options,
-        );
-        match answer {
-            Ok(()) => assert_eq!(rt; page.taken.as_slice(), listing.as_bytes()),
-            Err(Fault::OutOfMemory) => assert!(rt; page.taken.is_empty()),
-            Err(_) => return Err(Fail::from("another answer")),
-        }
+    for (text, show, answer) in cases {
+        check_growths(&rt, text, show, answer)?;
     }
     Ok(())
 }
@@ -520,8 +544,20 @@ fn lines_of_faults(rt: HostRuntime) -> Result<(), Fail> {
         let shown = format!(in rt.alloc(); "tacflow: {fault}\n")?;
         assert_eq!(rt; shown.as_bytes(), wanted.as_bytes());
     }
+    Ok(())
+}
+
+#[test]
+fn lines_of_other_faults(rt: HostRuntime) -> Result<(), Fail> {
     let others = [
-        (Fault::NotYet, "tacflow: refusal 41: NotYet\n"),
+        (
+            Fault::Graph(GraphFault::TooManyPoints),
+            "tacflow: refusal 21: TooManyPoints\n",
+        ),
+        (
+            Fault::Graph(GraphFault::TooManyBits),
+            "tacflow: refusal 22: TooManyBits\n",
+        ),
         (Fault::OutOfMemory, "tacflow: out of memory\n"),
         (Fault::Read, "tacflow: read fault\n"),
         (Fault::Write, "tacflow: write fault\n"),
@@ -546,7 +582,7 @@ fn ranges_of_options(rt: HostRuntime) {
 #[test]
 fn words_that_are_taken(rt: HostRuntime) -> Result<(), Fail> {
     let options = Options::from_words(rt.alloc(), &["tacflow"])?;
-    assert!(rt; options.workers == 1 && options.cut == 64 && options.show == Show::List);
+    assert!(rt; options.workers == 1 && options.cut == 64 && options.show == Show::Report);
     let words = ["tacflow", "--workers", "64", "--cut=4096", "--show", "busy"];
     let options = Options::from_words(rt.alloc(), words.as_slice())?;
     assert!(rt; options.workers == 64 && options.cut == 4096 && options.show == Show::Busy);

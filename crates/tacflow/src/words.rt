@@ -15,7 +15,7 @@ const ABOUT: &str =
     "Reads a program of three-address code from standard input, and writes what is asked for to standard output.";
 
 const AFTER_HELP: &str =
-    "Example:\n  tacflow --show list < program.tac\n\nExit status:\n  0  it was written, or help was asked for\n  1  the text was refused, or reading, writing or memory failed; standard error has one line on it\n  2  the words were refused";
+    "Examples:\n  tacflow < program.tac\n  tacflow --show live < program.tac\n\nExit status:\n  0  it was written, or help was asked for\n  1  the text was refused, or reading, writing or memory failed; standard error has one line on it\n  2  the words were refused";
 
 fn show_of(word: &str) -> Option<Show>
     ensures { result ≡ show_named word.now }
@@ -35,18 +35,12 @@ fn kinds<'a>() -> [PossibleValue<'a>; 6]
     ensures { AreKinds result }
 {
     [
-        PossibleValue::new("report").help(
-            "Unset uses, dead and repeated work, line by line (not yet)",
-        ),
+        PossibleValue::new("report").help("Unset uses, dead and repeated work, line by line"),
         PossibleValue::new("list").help("The program itself, in one layout"),
-        PossibleValue::new("reach").help("The definitions that reach each point (not yet)"),
-        PossibleValue::new("live").help("The variables that are live at each point (not yet)"),
-        PossibleValue::new("avail").help(
-            "The expressions that are available at each point (not yet)",
-        ),
-        PossibleValue::new("busy").help(
-            "The expressions that are very busy at each point (not yet)",
-        ),
+        PossibleValue::new("reach").help("The definitions that reach each point"),
+        PossibleValue::new("live").help("The variables that are live at each point"),
+        PossibleValue::new("avail").help("The expressions that are available at each point"),
+        PossibleValue::new("busy").help("The expressions that are very busy at each point"),
     ]
 }
 
@@ -60,7 +54,7 @@ fn workers_option<'a>(alloc: Global) -> Arg<'a>
         .action(ArgAction::Set)
         .value_parser(value_parser!(u32).range(1..=64))
         .default_value("1")
-        .help("Workers that solve an analysis, 1 to 64; the answer is the same for each number")
+        .help("A number of workers, 1 to 64; what is written is the same for each")
 }
 
 fn cut_option<'a>(alloc: Global) -> Arg<'a>
@@ -73,9 +67,7 @@ fn cut_option<'a>(alloc: Global) -> Arg<'a>
         .action(ArgAction::Set)
         .value_parser(value_parser!(u32).range(1..=4096))
         .default_value("64")
-        .help(
-            "Bits that a worker solves at a time, 1 to 4096; the answer is the same for each number",
-        )
+        .help("A number of bits, 1 to 4096; what is written is the same for each")
 }
 
 fn show_option<'a>(alloc: Global, kinds: &'a [PossibleValue<'a>]) -> Arg<'a>
@@ -87,7 +79,7 @@ fn show_option<'a>(alloc: Global, kinds: &'a [PossibleValue<'a>]) -> Arg<'a>
         .value_name("KIND")
         .action(ArgAction::Set)
         .value_parser(kinds)
-        .default_value("list")
+        .default_value("report")
         .help("What to write")
 }
 
@@ -132,7 +124,7 @@ fn options_of(matches: &ArgMatches<'_>) -> Options
 impl Options {
     /// The options that the program's words name, of which the first is the program's own name:
     /// `tacflow [--workers N] [--cut N] [--show KIND]`. Without an option stands its default: 1, 64
-    /// and `list`.
+    /// and `report`.
     ///
     /// Refuses words that the command does not take, a number outside its range and a word that is
     /// no kind among them, and a call for help; or memory was refused.

@@ -1,0 +1,205 @@
+// The table of an analysis as text, put together from slices that are solved apart.
+
+ghost use Rattle.std.specs.Prelude.{◌<◌};
+ghost use Rattle.flow_graph.specs.Points.{point_count};
+ghost use Rattle.flow_graph.specs.Universes.{bits as bits_of};
+
+use bit_rows::{Cut, Rows};
+use flow_graph::{Analysis, Expr, Graph, OutOfMemory, Problem};
+use gk_solve::solve;
+use std::alloc::Global;
+use tac_reader::{write_binary_expression, write_unary_expression};
+
+/// What is known of an analysis.
+#[derive(Drop)]
+struct Table {
+    /// What the bits are called.
+    names: Vec<String>,
+    /// The path flags, solved without any bit.
+    flags: Rows,
+    /// The slices in order.
+    slices: Vec<Rows>,
+    /// Whether the table has the bits that the slices have not.
+    complements: bool,
+}
+
+fn definition_name(alloc: Global, graph: &Graph<'_>, bit: u32) -> Result<String, OutOfMemory>
+    requires { bit < bits_of graph.now Analysis.Reach }
+{
+    let (variable, point) = graph.definition(bit);
+    let mut name = String::from_utf8_lossy(alloc, graph.program().variable(variable))?;
+    match point {
+        Some(point) => match graph.stmt(point) {
+            Some(stmt) => write!(name, "@{}", stmt.span.line)?,
+            None => name.push_str("@end")?,
+        },
+        None => name.push_str("@entry")?,
+    }
+    Ok(name)
+}
+
+fn expression_name(alloc: Global, graph: &Graph<'_>, expr: Expr) -> Result<String, OutOfMemory> {
+    let mut name = Vec::new(alloc);
+    let program = graph.program();
+    match expr {
+        Expr::Unary(op, operand) => write_unary_expression(&mut name, program, op, operand)?,
+        Expr::Binary(left, op, right) => {
+            write_binary_expression(&mut name, program, left, op, right)?;
+        }
+    }
+    String::from_utf8_lossy(alloc, name.as_slice())
+}
+
+fn bit_names(
+    alloc: Global,
+    graph: &Graph<'_>,
+    analysis: Analysis,
+) -> Result<Vec<String>, OutOfMemory> {
+    let mut names = Vec::new(alloc);
+    for bit in 0..graph.bits(analysis) {
+        names.push(match analysis {
+            Analysis::Reach => definition_name(alloc, graph, bit)?,
+            Analysis::Live => String::from_utf8_lossy(alloc, graph.program().variable(bit))?,
+            Analysis::Avail => expression_name(alloc, graph, graph.expression(bit))?,
+            Analysis::Busy => expression_name(alloc, graph, graph.expression(bit))?,
+        })?;
+    }
+    Ok(names)
+}
+
+/// The problem's solution in slices of this width, of which the last one may be shorter.
+fn solved_slices(
+    alloc: Global,
+    problem: &Problem<'_, '_>,
+    width: u32,
+) -> Result<Vec<Rows>, OutOfMemory> {
+    let mut slices = Vec::new(alloc);
+    if let Ok(cut) = Cut::even(alloc, problem.bits(), width) {
+        for slice in 0..cut.slices() {
+            let (lo, hi) = cut.range(slice);
+            slices.push(solve(alloc, problem, lo, hi)?)?;
+        }
+    }
+    Ok(slices)
+}
+
+fn solved(
+    alloc: Global,
+    graph: &Graph<'_>,
+    analysis: Analysis,
+    width: u32,
+) -> Result<Table, OutOfMemory> {
+    let problem = Problem::of(alloc, graph, analysis)?;
+    Ok(Table {
+        names: bit_names(alloc, graph, analysis)?,
+        flags: solve(alloc, &problem, 0, 0)?,
+        slices: solved_slices(alloc, &problem, width)?,
+        complements: problem.complements(),
+    })
+}
+
+/// Writes what the table has of a slice's bits at a point, behind a comma where something is there.
+fn write_slice(
+    text: &mut String,
+    table: &Table,
+    rows: &Rows,
+    point: u32,
+    mut any: bool,
+) -> Result<bool, OutOfMemory> {
+    if rows.points() <= point {
+        text.push_str("no such point")?;
+        return Ok(true);
+    }
+    let row = rows.row(point);
+    for bit in rows.lo()..rows.hi() {
+        if row.get(bit) != table.complements {
+            if any {
+                text.push_str(", ")?;
+            }
+            match table.names.get(bit as usize) {
+                Some(name) => text.push_str(name.as_str())?,
+                None => text.push_str("no such bit")?,
+            }
+            any = true;
+        }
+    }
+    Ok(any)
+}
+
+/// Writes the path flag of a point, and how that of a slice differs.
+fn write_flag(text: &mut String, table: &Table, point: u32) -> Result<(), OutOfMemory> {
+    let flags = &table.flags;
+    if flags.points() <= point {
+        return text.push_str(" no such point");
+    }
+    if !flags.flag(point) {
+        text.push_str(" (no path)")?;
+    }
+    for rows in table.slices.iter() {
+        if rows.points() <= point || rows.flag(point) != flags.flag(point) {
+            text.push_str(" (another flag in a slice)")?;
+        }
+    }
+    Ok(())
+}
+
+/// Writes the line of a point.
+fn write_point(
+    text: &mut String,
+    alloc: Global,
+    graph: &Graph<'_>,
+    table: &Table,
+    point: u32,
+) -> Result<(), OutOfMemory>
+    requires { point < point_count graph.now }
+{
+    let place = graph.place(point);
+    let program = graph.program();
+    // Its contract tells that each procedure has a name.
+    let _ = program.procs();
+    let name = String::from_utf8_lossy(alloc, program.procedure(place.procedure))?;
+    write!(text, "{name} {}", place.place)?;
+    write_flag(text, table, point)?;
+    text.push_str(": ")?;
+    let mut any = false;
+    for rows in table.slices.iter() {
+        any = write_slice(text, table, rows, point, any)?;
+    }
+    if !any {
+        text.push('-')?;
+    }
+    text.push('\n')
+}
+
+/// The lines of all points.
+pub fn table_text(
+    alloc: Global,
+    graph: &Graph<'_>,
+    analysis: Analysis,
+    width: u32,
+) -> Result<String, OutOfMemory> {
+    let table = solved(alloc, graph, analysis, width)?;
+    let mut text = String::new(alloc);
+    for point in 0..graph.points() {
+        write_point(&mut text, alloc, graph, &table, point)?;
+    }
+    Ok(text)
+}
+
+/// The lines of these points.
+pub fn table_lines(
+    alloc: Global,
+    graph: &Graph<'_>,
+    analysis: Analysis,
+    width: u32,
+    points: &[u32],
+) -> Result<String, OutOfMemory> {
+    let table = solved(alloc, graph, analysis, width)?;
+    let mut text = String::new(alloc);
+    for point in points {
+        if *point < graph.points() {
+            write_point(&mut text, alloc, graph, &table, *point)?;
+        }
+    }
+    Ok(text)
+}

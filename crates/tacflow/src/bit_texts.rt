@@ -1,0 +1,85 @@
+// What the bits of an analysis are called.
+
+ghost use Rattle.std.specs.Prelude.{◌≡◌, ◌++◌, ◌<◌, List, ℕ, length, map, IfOk, OnOk, decimal};
+ghost use Rattle.flow_graph.specs.Points.{point_count};
+ghost use Rattle.flow_graph.specs.Universes.{IsDefinitionIn, bits as bits_of};
+ghost use Rattle.tacflow.specs.Tables.{bit_text, bit_texts as bit_texts_of, definition_text, expression_text, line_at, variable_text};
+
+use flow_graph::{Analysis, Expr, Graph, OutOfMemory};
+use itoa::Buffer;
+use std::alloc::Global;
+use tac_reader::{write_binary_expression, write_unary_expression};
+
+/// Writes a number last, in decimal.
+pub(crate) fn write_number(text: &mut Vec<u8>, number: u32) -> Result<(), OutOfMemory>
+    ensures { OnOk result (text.new.items ≡ text.old.items ++ decimal number) }
+{
+    text.extend_from_slice(Buffer::new().format(number).as_bytes())
+}
+
+/// The line of the statement at a point; 0 at a procedure's end.
+pub(crate) fn line(graph: &Graph<'_>, point: u32) -> u32
+    requires { point < point_count graph.now }
+    ensures { result ≡ line_at graph.now point }
+{
+    match graph.stmt(point) {
+        Some(stmt) => stmt.span.line,
+        None => 0,
+    }
+}
+
+fn write_definition(
+    text: &mut Vec<u8>,
+    graph: &Graph<'_>,
+    variable: u32,
+    point: Option<u32>,
+) -> Result<(), OutOfMemory>
+    requires { IsDefinitionIn graph.now (variable, point) }
+    ensures { OnOk result (text.new.items ≡ text.old.items ++ definition_text graph.now (variable, point)) }
+{
+    text.extend_from_slice(graph.program().variable(variable))?;
+    match point {
+        None => text.extend_from_slice(b"@entry"),
+        Some(point) => {
+            text.extend_from_slice(b"@")?;
+            write_number(text, line(graph, point))
+        }
+    }
+}
+
+fn write_expression(text: &mut Vec<u8>, graph: &Graph<'_>, expr: Expr) -> Result<(), OutOfMemory>
+    ensures { OnOk result (text.new.items ≡ text.old.items ++ expression_text graph.now expr) }
+{
+    match expr {
+        Expr::Unary(op, operand) => write_unary_expression(text, graph.program(), op, operand),
+        Expr::Binary(left, op, right) => write_binary_expression(
+            text,
+            graph.program(),
+            left,
+            op,
+            right,
+        ),
+    }
+}
+
+/// Writes what a bit of an analysis is called last: a definition as `NAME@LINE` or `NAME@entry`, a variable by its name, an
+/// expression as a listing has it.
+pub(crate) fn write_bit(
+    text: &mut Vec<u8>,
+    graph: &Graph<'_>,
+    analysis: Analysis,
+    bit: u32,
+) -> Result<(), OutOfMemory>
+    requires { bit < bits_of graph.now analysis }
+    ensures { OnOk result (text.new.items ≡ text.old.items ++ bit_text graph.now analysis bit) }
+{
+    match analysis {
+        Analysis::Reach => {
+            let (variable, point) = graph.definition(bit);
+            write_definition(text, graph, variable, point)
+        }
+        Analysis::Live => text.extend_from_slice(graph.program().variable(bit)),
+        Analysis::Avail => write_expression(text, graph, graph.expression(bit)),
+        Analysis::Busy => write_expression(text, graph, graph.expression(bit)),
+    }
+}
