@@ -106,9 +106,9 @@ fn solve_frame(
 ///
 /// It is the least solution of the summary equations, one set of equations for each bit (Kildall 1973; summaries of procedures:
 /// Reps, Horwitz, Sagiv 1995). Flags are found first, then 64 bits at once, word by word: each family of the equations by
-/// rounds over all edges, in turn in the problem's direction and against it, until a round adds nothing. So a round takes
-/// time that grows with the edges, and a word as many rounds as a bit turns on its way, back against the order of the
-/// points and forth again.
+/// rounds over all edges, in turn in the problem's direction and against it, until a round adds nothing. What an edge adds
+/// goes on at once along an edge of each further point, where the round has passed that edge already. So a round takes time
+/// that grows with the edges, and most programs take a few rounds for each word.
 ///
 /// Beside the answer it takes memory for one word of gen, kill, kept and made a point and of brought a procedure, which all
 /// words of the slice share, and for a flag and a few numbers a point and a procedure. Nothing is allocated between words.
