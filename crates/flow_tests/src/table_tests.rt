@@ -63,112 +63,114 @@ const PRINTS_BEHIND_ITSELF: &str = "proc main\nif a goto L\na = 1\ncall main\npr
 const TWO_CALLEES: &str =
     "proc main\nx = 1\ncall p | q\nprint x\nend\nproc p\nx = 2\nend\nproc q\nskip\nend\n";
 
+/// Programs, and their tables.
+const TABLES: [(&str, Analysis, &str); 25] = [
+    (EMPTY, Analysis::Reach, "main 0: -\n"),
+    (NO_BITS, Analysis::Avail, "main 0: -\nmain 1: -\n"),
+    (
+        CALLED_TWICE,
+        Analysis::Reach,
+        "main 0: a@entry\nmain 1: a@2\nmain 2: a@2\nmain 3: a@2\nmain 4: a@5\nmain 5: a@5\nmain 6: a@5\np 0: a@2, a@5\np 1: a@2, a@5\n",
+    ),
+    (
+        RECURSIVE,
+        Analysis::Reach,
+        "main 0: x@entry\nmain 1: x@2\nmain 2: x@2, x@9\nmain 3: x@2, x@9\nf 0: x@2\nf 1: x@2\nf 2: x@2, x@9\nf 3: x@2, x@9\n",
+    ),
+    (
+        ADDS_TO_ITSELF,
+        Analysis::Reach,
+        "main 0: x@entry, y@entry\nmain 1: y@entry, x@2\n",
+    ),
+    (ADDS_TO_ITSELF, Analysis::Live, "main 0: x, y\nmain 1: -\n"),
+    (ADDS_TO_ITSELF, Analysis::Avail, "main 0: -\nmain 1: -\n"),
+    (ADDS_TO_ITSELF, Analysis::Busy, "main 0: x + y\nmain 1: -\n"),
+    (NEGATES, Analysis::Avail, "main 0: -\nmain 1: -y\n"),
+    (
+        CALLEE_LOOPS,
+        Analysis::Reach,
+        "main 0: a@entry, b@entry, c@entry\nmain 1 (no path): -\nmain 2 (no path): -\nf 0: a@entry, b@entry, c@entry\nf 1 (no path): -\n",
+    ),
+    (
+        CALLEE_LOOPS,
+        Analysis::Avail,
+        "main 0: -\nmain 1 (no path): b + c\nmain 2 (no path): b + c\nf 0: -\nf 1 (no path): b + c\n",
+    ),
+    (
+        CALLEE_LOOPS,
+        Analysis::Busy,
+        "main 0 (no path): b + c\nmain 1: b + c\nmain 2: -\nf 0 (no path): b + c\nf 1: b + c\n",
+    ),
+    (
+        NO_END,
+        Analysis::Live,
+        "main 0: c\nmain 1: c\nmain 2: -\nmain 3 (no path): -\nmain 4 (no path): -\nmain 5: -\n",
+    ),
+    (
+        CALLS_MAIN,
+        Analysis::Reach,
+        "main 0: a@entry, a@3\nmain 1: a@entry, a@3\nmain 2: a@3\nmain 3: a@entry, a@3\nmain 4: a@entry, a@3\n",
+    ),
+    (
+        ON_BOTH_BRANCHES,
+        Analysis::Busy,
+        "main 0: -\nmain 1: -\nmain 2: b + c\nmain 3: b + c\nmain 4: -\nmain 5: -\nmain 6: b + c\nmain 7: -\nmain 8: -\n",
+    ),
+    (
+        NOT_CALLED,
+        Analysis::Live,
+        "main 0: -\nmain 1: -\nq 0 (no path): -\nq 1 (no path): -\n",
+    ),
+    (
+        READS_BEHIND_CALLS,
+        Analysis::Live,
+        "main 0: a, b\nmain 1: a, b\nmain 2: b\nmain 3: b\nmain 4: -\np 0: a, b\np 1: a, b\n",
+    ),
+    (
+        SET_TWICE,
+        Analysis::Reach,
+        "main 0: x@entry, y@entry\nmain 1: y@entry, x@2\nmain 2: y@entry, x@3\n",
+    ),
+    (
+        NOT_CALLED,
+        Analysis::Reach,
+        "main 0: x@entry\nmain 1: x@2\nq 0 (no path): -\nq 1 (no path): -\n",
+    ),
+    (
+        COUNTS,
+        Analysis::Reach,
+        "main 0: i@entry\nmain 1: i@2, i@4\nmain 2: i@2, i@4\nmain 3: i@4\nmain 4: i@2, i@4\nmain 5: i@2, i@4\n",
+    ),
+    (
+        CALL_EACH_OTHER,
+        Analysis::Reach,
+        "main 0: x@entry, y@entry\nmain 1: x@entry, y@entry, y@10\na 0: x@entry, y@entry, y@10\na 1: x@entry, y@entry, y@10\na 2: x@entry, y@entry, y@10\nb 0: x@entry, y@entry, y@10\nb 1: x@entry, y@10\nb 2: x@entry, y@10\n",
+    ),
+    (
+        CALL_EACH_OTHER,
+        Analysis::Live,
+        "main 0: x\nmain 1: -\na 0: x\na 1: x\na 2: -\nb 0: x\nb 1: x\nb 2: -\n",
+    ),
+    (
+        PRINTS_BEHIND_ITSELF,
+        Analysis::Reach,
+        "main 0: a@entry, a@3\nmain 1: a@entry, a@3\nmain 2: a@3\nmain 3: a@3\nmain 4: a@entry, a@3\n",
+    ),
+    (
+        TWO_CALLEES,
+        Analysis::Reach,
+        "main 0: x@entry\nmain 1: x@2\nmain 2: x@2, x@7\nmain 3: x@2, x@7\np 0: x@2\np 1: x@7\nq 0: x@2\nq 1: x@2\n",
+    ),
+    (
+        TWO_CALLEES,
+        Analysis::Live,
+        "main 0: -\nmain 1: x\nmain 2: x\nmain 3: -\np 0: -\np 1: x\nq 0: x\nq 1: x\n",
+    ),
+];
+
 #[test]
 fn tables(rt: HostRuntime) -> Result<(), Fail> {
-    let table = [
-        (EMPTY, Analysis::Reach, "main 0: -\n"),
-        (NO_BITS, Analysis::Avail, "main 0: -\nmain 1: -\n"),
-        (
-            CALLED_TWICE,
-            Analysis::Reach,
-            "main 0: a@entry\nmain 1: a@2\nmain 2: a@2\nmain 3: a@2\nmain 4: a@5\nmain 5: a@5\nmain 6: a@5\np 0: a@2, a@5\np 1: a@2, a@5\n",
-        ),
-        (
-            RECURSIVE,
-            Analysis::Reach,
-            "main 0: x@entry\nmain 1: x@2\nmain 2: x@2, x@9\nmain 3: x@2, x@9\nf 0: x@2\nf 1: x@2\nf 2: x@2, x@9\nf 3: x@2, x@9\n",
-        ),
-        (
-            ADDS_TO_ITSELF,
-            Analysis::Reach,
-            "main 0: x@entry, y@entry\nmain 1: y@entry, x@2\n",
-        ),
-        (ADDS_TO_ITSELF, Analysis::Live, "main 0: x, y\nmain 1: -\n"),
-        (ADDS_TO_ITSELF, Analysis::Avail, "main 0: -\nmain 1: -\n"),
-        (ADDS_TO_ITSELF, Analysis::Busy, "main 0: x + y\nmain 1: -\n"),
-        (NEGATES, Analysis::Avail, "main 0: -\nmain 1: -y\n"),
-        (
-            CALLEE_LOOPS,
-            Analysis::Reach,
-            "main 0: a@entry, b@entry, c@entry\nmain 1 (no path): -\nmain 2 (no path): -\nf 0: a@entry, b@entry, c@entry\nf 1 (no path): -\n",
-        ),
-        (
-            CALLEE_LOOPS,
-            Analysis::Avail,
-            "main 0: -\nmain 1 (no path): b + c\nmain 2 (no path): b + c\nf 0: -\nf 1 (no path): b + c\n",
-        ),
-        (
-            CALLEE_LOOPS,
-            Analysis::Busy,
-            "main 0 (no path): b + c\nmain 1: b + c\nmain 2: -\nf 0 (no path): b + c\nf 1: b + c\n",
-        ),
-        (
-            NO_END,
-            Analysis::Live,
-            "main 0: c\nmain 1: c\nmain 2: -\nmain 3 (no path): -\nmain 4 (no path): -\nmain 5: -\n",
-        ),
-        (
-            CALLS_MAIN,
-            Analysis::Reach,
-            "main 0: a@entry, a@3\nmain 1: a@entry, a@3\nmain 2: a@3\nmain 3: a@entry, a@3\nmain 4: a@entry, a@3\n",
-        ),
-        (
-            ON_BOTH_BRANCHES,
-            Analysis::Busy,
-            "main 0: -\nmain 1: -\nmain 2: b + c\nmain 3: b + c\nmain 4: -\nmain 5: -\nmain 6: b + c\nmain 7: -\nmain 8: -\n",
-        ),
-        (
-            NOT_CALLED,
-            Analysis::Live,
-            "main 0: -\nmain 1: -\nq 0 (no path): -\nq 1 (no path): -\n",
-        ),
-        (
-            READS_BEHIND_CALLS,
-            Analysis::Live,
-            "main 0: a, b\nmain 1: a, b\nmain 2: b\nmain 3: b\nmain 4: -\np 0: a, b\np 1: a, b\n",
-        ),
-        (
-            SET_TWICE,
-            Analysis::Reach,
-            "main 0: x@entry, y@entry\nmain 1: y@entry, x@2\nmain 2: y@entry, x@3\n",
-        ),
-        (
-            NOT_CALLED,
-            Analysis::Reach,
-            "main 0: x@entry\nmain 1: x@2\nq 0 (no path): -\nq 1 (no path): -\n",
-        ),
-        (
-            COUNTS,
-            Analysis::Reach,
-            "main 0: i@entry\nmain 1: i@2, i@4\nmain 2: i@2, i@4\nmain 3: i@4\nmain 4: i@2, i@4\nmain 5: i@2, i@4\n",
-        ),
-        (
-            CALL_EACH_OTHER,
-            Analysis::Reach,
-            "main 0: x@entry, y@entry\nmain 1: x@entry, y@entry, y@10\na 0: x@entry, y@entry, y@10\na 1: x@entry, y@entry, y@10\na 2: x@entry, y@entry, y@10\nb 0: x@entry, y@entry, y@10\nb 1: x@entry, y@10\nb 2: x@entry, y@10\n",
-        ),
-        (
-            CALL_EACH_OTHER,
-            Analysis::Live,
-            "main 0: x\nmain 1: -\na 0: x\na 1: x\na 2: -\nb 0: x\nb 1: x\nb 2: -\n",
-        ),
-        (
-            PRINTS_BEHIND_ITSELF,
-            Analysis::Reach,
-            "main 0: a@entry, a@3\nmain 1: a@entry, a@3\nmain 2: a@3\nmain 3: a@3\nmain 4: a@entry, a@3\n",
-        ),
-        (
-            TWO_CALLEES,
-            Analysis::Reach,
-            "main 0: x@entry\nmain 1: x@2\nmain 2: x@2, x@7\nmain 3: x@2, x@7\np 0: x@2\np 1: x@7\nq 0: x@2\nq 1: x@2\n",
-        ),
-        (
-            TWO_CALLEES,
-            Analysis::Live,
-            "main 0: -\nmain 1: x\nmain 2: x\nmain 3: -\np 0: -\np 1: x\nq 0: x\nq 1: x\n",
-        ),
-    ];
-    for (text, analysis, want) in table {
+    for (text, analysis, want) in TABLES {
         for width in WIDTHS {
             let question = Question::Table(analysis, width);
             assert_eq!(rt;
