@@ -1,9 +1,9 @@
 -- What each operation on sets does to the range and to each bit.
-use Rattle.std.proofs.Common.{◌≡◌, ℕ, ◌-◌, ◌/◌, ◌%◌, ◌<◌, ◌≤◌, Bool, true, false, not, ◌&&◌, ◌||◌, eqb, refl, sym, ap, ap₂, ◌∙◌, inl, inr, arith}
+use Rattle.std.proofs.Common.{◌≡◌, ℕ, ◌-◌, ◌/◌, ◌%◌, ◌<◌, ◌≤◌, Bool, true, false, not, ◌&&◌, ◌||◌, List, eqb, refl, sym, ap, ap₂, ◌∙◌, inl, inr, arith}
 use Rattle.std.proofs.lemmas.List.FromFn.{length-map-range_with_len}
 use Rattle.std.proofs.lemmas.Bool.{cases_lt}
-use Rattle.bit_rows.specs.Words.{has_bit}
-use Rattle.bit_rows.specs.RowSet.{RowSet, HasRange, hi_of, contains, set_of, empty_set, full_set, with_bit, with_word, part_of, union, intersection, difference, complement}
+use Rattle.bit_rows.specs.Words.{has_bit, masks_have}
+use Rattle.bit_rows.specs.RowSet.{RowSet, HasRange, hi_of, contains, set_of, empty_set, full_set, with_bit, with_word, with_words, part_of, union, intersection, difference, complement}
 use Rattle.bit_rows.proofs.RowSets.{lo-set_of, hi_of-set_of, contains-set_of, contains-below, contains-above, ordered_range}
 
 -- ---- ranges
@@ -29,6 +29,10 @@ HasRange-with_bit s b = HasRange-set_of s.lo (hi_of s) (λ c. contains s c || eq
 pub HasRange-with_word : (s : RowSet) (w mask : ℕ) → HasRange (with_word s w mask) s.lo (hi_of s)
 unfolding with_word
 HasRange-with_word s w mask = HasRange-set_of s.lo (hi_of s) (λ c. contains s c || (eqb (c / 64) w && has_bit mask (c % 64))) (ordered_range s)
+
+pub HasRange-with_words : (s : RowSet) (first : ℕ) (masks : List ℕ) → HasRange (with_words s first masks) s.lo (hi_of s)
+unfolding with_words
+HasRange-with_words s first masks = HasRange-set_of s.lo (hi_of s) (λ c. contains s c || masks_have masks first (c / 64) (c % 64)) (ordered_range s)
 
 pub HasRange-union : (s t : RowSet) → HasRange (union s t) s.lo (hi_of s)
 unfolding union
@@ -87,6 +91,11 @@ pub contains-with_word : (s : RowSet) (w mask c : ℕ) → s.lo ≤ c → c < hi
 unfolding with_word
 contains-with_word s w mask c low high =
     contains-set_of s.lo (hi_of s) (λ d. contains s d || (eqb (d / 64) w && has_bit mask (d % 64))) c low high
+
+pub contains-with_words : (s : RowSet) (first : ℕ) (masks : List ℕ) (c : ℕ) → s.lo ≤ c → c < hi_of s → contains (with_words s first masks) c ≡ (contains s c || masks_have masks first (c / 64) (c % 64))
+unfolding with_words
+contains-with_words s first masks c low high =
+    contains-set_of s.lo (hi_of s) (λ b. contains s b || masks_have masks first (b / 64) (b % 64)) c low high
 
 pub contains-complement : (s : RowSet) (b : ℕ) → s.lo ≤ b → b < hi_of s → contains (complement s) b ≡ not (contains s b)
 unfolding complement

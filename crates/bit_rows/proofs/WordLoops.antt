@@ -1,13 +1,13 @@
 -- Loops that change a list of words in place, from the front on.
-use Rattle.std.proofs.Common.{◌≡◌, ℕ, ◌+◌, ◌-◌, ◌^◌, ◌<◌, ◌≤◌, Bool, not, ◌&&◌, ◌||◌, List, length, get_or, set, map, refl, sym, ap, ap₂, ◌∙◌, inl, inr, arith, bit_and, bit_or, w64}
+use Rattle.std.proofs.Common.{◌≡◌, ℕ, ◌+◌, ◌-◌, ◌^◌, ◌<◌, ◌≤◌, max, min, leb, Bool, true, false, not, ◌&&◌, ◌||◌, List, length, get_or, set, map, refl, sym, ap, ap₂, ◌∙◌, inl, inr, arith, bit_and, bit_or, w64}
 use Rattle.std.specs.Int.{bit_not}
 use lib.Lanes.{chunk, put_chunk, zip2}
 use Rattle.std.proofs.lemmas.Simd.{length-chunk, get_or-chunk, get_or-put_chunk_below, get_or-put_chunk_at, get_or-put_chunk_above, get_or-zip2, length-zip2}
 use Rattle.std.proofs.lemmas.Nat.{and_le_l, or_lt}
-use Rattle.std.proofs.lemmas.List.{get_or-set_same, get_or-set_other, get_or-map, length-map}
-use Rattle.std.proofs.lemmas.Bool.{cases_eq, cases_lt}
-use Rattle.bit_rows.specs.Words.{has_bit}
-use Rattle.bit_rows.proofs.WordBits.{has_bit-and, has_bit-or, has_bit-not}
+use Rattle.std.proofs.lemmas.List.{get_or-set_same, get_or-set_other, get_or-map, length-map, get_or_past}
+use Rattle.std.proofs.lemmas.Bool.{cases_eq, cases_lt, and_left, and_right, lt-leb, le-leb}
+use Rattle.bit_rows.specs.Words.{has_bit, masks_have, AddsPlaces}
+use Rattle.bit_rows.proofs.WordBits.{has_bit-zero, has_bit-and, has_bit-or, has_bit-not}
 
 -- each place of the words below number at is f of what stood there and of the source's place, the
 -- other words are as they were, and each is a word
@@ -114,3 +114,59 @@ map_lane op xs at room j within =
 
 pub length_map_lanes : (op : ℕ → ℕ) (xs : List ℕ) (at : ℕ) → at + 8 ≤ length xs → length (map op (chunk at 8 xs)) ≡ 8
 length_map_lanes op xs at room = length-map (chunk at 8 xs) op ∙ length-chunk at 8 xs room
+
+-- ---- masks put in, from the universe's word w on still to do
+pub record IsAddedTo (base : ℕ) (old : List ℕ) (first : ℕ) (masks : List ℕ) (w : ℕ) (now : List ℕ) : Type 0 where
+  pub done : (k i : ℕ) → base + k < w → i < 64 → has_bit (get_or now k 0) i ≡ (has_bit (get_or old k 0) i || masks_have masks first (base + k) i)
+  pub left : (k : ℕ) → w ≤ base + k → get_or now k 0 ≡ get_or old k 0
+
+or_false : (x : Bool) → x ≡ (x || false)
+or_false true = refl
+or_false false = refl
+
+masks_have-before : (masks : List ℕ) (first w i : ℕ) → w < first → masks_have masks first w i ≡ false
+unfolding masks_have
+masks_have-before masks first w i before = and_left (leb first w) (has_bit (get_or masks (w - first) 0) i) (lt-leb first w before)
+
+masks_have-past : (masks : List ℕ) (first w i : ℕ) → first + length masks ≤ w → masks_have masks first w i ≡ false
+unfolding masks_have
+masks_have-past masks first w i past = and_right (leb first w) (has_bit (get_or masks (w - first) 0) i)
+    (ap (λ v. has_bit v i) (get_or_past masks (w - first) 0 (omega arith)) ∙ has_bit-zero i)
+
+masks_have-at : (masks : List ℕ) (first w i : ℕ) → first ≤ w → has_bit (get_or masks (w - first) 0) i ≡ masks_have masks first w i
+unfolding masks_have
+masks_have-at masks first w i from = ap (λ t. t && has_bit (get_or masks (w - first) 0) i) (sym (le-leb first w from))
+
+module _ (base : ℕ) (old : List ℕ) (first : ℕ) (masks : List ℕ) where
+  pub IsAddedTo-none : (w : ℕ) → w ≡ max first base → IsAddedTo base old first masks w old
+  IsAddedTo-none w start = record {
+    done = λ k i below within.
+        or_false (has_bit (get_or old k 0) i)
+        ∙ ap (λ t. has_bit (get_or old k 0) i || t) (sym (masks_have-before masks first (base + k) i (omega arith)));
+    left = λ k above. refl;
+  }
+
+  pub IsAddedTo-more : (w word : ℕ) (now : List ℕ) → IsAddedTo base old first masks w now → base ≤ w → first ≤ w → w - base < length now
+      → word ≡ bit_or (get_or now (w - base) 0) (get_or masks (w - first) 0) → IsAddedTo base old first masks (w + 1) (set now (w - base) word)
+  IsAddedTo-more w word now so_far from_base from_first present made = record {
+    done = λ k i below within. elim (cases_eq k (w - base)) [
+      | inl here ↦
+          let at : w ≡ base + k = omega arith in
+          ap (λ j. has_bit (get_or (set now (w - base) word) j 0) i) here
+          ∙ ap (λ v. has_bit v i) (get_or-set_same now (w - base) word 0 present ∙ made)
+          ∙ has_bit-or (get_or now (w - base) 0) (get_or masks (w - first) 0) i
+          ∙ ap₂ (λ (j : ℕ) (v : Bool). has_bit (get_or now j 0) i || v) (sym here) (masks_have-at masks first w i from_first)
+          ∙ ap₂ (λ (v v2 : ℕ). has_bit v i || masks_have masks first v2 i) (so_far.left k (omega arith)) at
+      | inr other ↦ ap (λ v. has_bit v i) (get_or-set_other now (w - base) k word 0 other) ∙ so_far.done k i (omega arith) within
+    ];
+    left = λ k above. get_or-set_other now (w - base) k word 0 (omega arith) ∙ so_far.left k (omega arith);
+  }
+
+  pub IsAddedTo-all : (w : ℕ) (now : List ℕ) → IsAddedTo base old first masks w now → length now ≡ length old → max first base ≤ w → min (first + length masks) (base + length old) ≤ w → AddsPlaces base old first masks now
+  IsAddedTo-all w now so_far count from all = λ k i present within. elim (cases_lt (base + k) w) [
+    | inl below ↦ so_far.done k i below within
+    | inr above ↦
+        ap (λ v. has_bit v i) (so_far.left k above)
+        ∙ or_false (has_bit (get_or old k 0) i)
+        ∙ ap (λ t. has_bit (get_or old k 0) i || t) (sym (masks_have-past masks first (base + k) i (omega arith)))
+  ]

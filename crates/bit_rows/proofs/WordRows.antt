@@ -1,11 +1,11 @@
 -- The words of a row, and the set that they hold.
-use Rattle.std.proofs.Common.{◌≡◌, ◌≢◌, ℕ, ◌+◌, ◌-◌, ◌*◌, ◌/◌, ◌%◌, ◌^◌, ◌<◌, ◌≤◌, Bool, true, false, not, ◌&&◌, ◌||◌, List, length, get_or, replicate, refl, sym, ap, ap₂, ◌∙◌, subst, inl, inr, arith, bit_or, set, drop, eqb}
+use Rattle.std.proofs.Common.{◌≡◌, ◌≢◌, ℕ, ◌+◌, ◌-◌, ◌*◌, ◌/◌, ◌%◌, ◌^◌, ◌<◌, ◌≤◌, Bool, true, false, not, ◌&&◌, ◌||◌, List, length, get_or, replicate, refl, sym, ap, ap₂, ◌∙◌, subst, inl, inr, arith, bit_or, set, drop, eqb, leb}
 use Rattle.std.proofs.lemmas.List.{ext_get_or, get_or_past, get_or-replicate, length-replicate, length-set, get_or-set_same, get_or-set_other, set-get_or, take_at}
-use Rattle.std.proofs.lemmas.Bool.{cases_lt, cases_eq, cases_Bool, both_ways, and_left, and_right, or_from, eq-eqb, ne_eqb, eqb-true, eqb-false}
+use Rattle.std.proofs.lemmas.Bool.{cases_lt, cases_eq, cases_Bool, both_ways, and_left, and_right, or_from, lt-leb, eq-eqb, ne_eqb, eqb-true, eqb-false}
 use Rattle.std.specs.List.{refill}
 use Rattle.std.specs.Bool.{MatchBool}
-use Rattle.bit_rows.specs.Words.{has_bit, words_have, word_count, range_mask, MaskLiesWithin, AreRowWords, IsTrimmed, CombinesPlaces, MapsPlaces, SamePlaces}
-use Rattle.bit_rows.specs.RowSet.{RowSet, HasRange, hi_of, contains, set_of, empty_set, with_bit, with_word, union, intersection, difference, complement}
+use Rattle.bit_rows.specs.Words.{has_bit, masks_have, AddsPlaces, words_have, word_count, range_mask, MaskLiesWithin, AreRowWords, IsTrimmed, CombinesPlaces, MapsPlaces, SamePlaces}
+use Rattle.bit_rows.specs.RowSet.{RowSet, HasRange, hi_of, contains, set_of, empty_set, with_bit, with_word, with_words, union, intersection, difference, complement}
 use Rattle.bit_rows.proofs.WordBits.{has_bit-zero, has_bit-or, has_bit-mask_inside, has_bit-mask_below, has_bit-mask_above, has_bit-shifted_same, has_bit-shifted_other, same_words}
 use Rattle.bit_rows.proofs.RowSets.{lo-set_of, hi_of-set_of, contains-set_of, contains-below, contains-above, same_set_of, set_of-contains}
 
@@ -240,6 +240,36 @@ module _ (s : RowSet) (lo hi : ℕ) (xs : List ℕ) (w mask : ℕ) (p : HoldSet 
       ])
       (λ c below. or_from (contains s c) (eqb (c / 64) w && has_bit mask (c % 64)) (contains-below s c (omega (arith, below, HoldSet-lo p))) (outside_mask c (λ range. omega (arith, range, below, HoldSet-lo p))))
       (λ c above. or_from (contains s c) (eqb (c / 64) w && has_bit mask (c % 64)) (contains-above s c (omega (arith, above, HoldSet-hi p))) (outside_mask c (λ range. omega (arith, range, above, HoldSet-hi p))))
+
+-- the words of a row with the places of masks, each of which lies within the range
+module _ (s : RowSet) (lo hi : ℕ) (xs : List ℕ) (first : ℕ) (masks ys : List ℕ) (p : HoldSet s lo hi xs) (inside : (k : ℕ) → k < length masks → MaskLiesWithin s.lo (hi_of s) (first + k) (get_or masks k 0)) where
+  outside_masks : (c : ℕ) → ((s.lo ≤ c) × (c < hi_of s) → ⊥) → masks_have masks first (c / 64) (c % 64) ≡ false
+  unfolding masks_have
+  outside_masks c outside = elim (cases_lt (c / 64) first) [
+    | inl before ↦ and_left (leb first (c / 64)) (has_bit (get_or masks (c / 64 - first) 0) (c % 64)) (lt-leb first (c / 64) before)
+    | inr from ↦ and_right (leb first (c / 64)) (has_bit (get_or masks (c / 64 - first) 0) (c % 64)) (elim (cases_lt (c / 64 - first) (length masks)) [
+      | inl within ↦ elim (cases_Bool (has_bit (get_or masks (c / 64 - first) 0) (c % 64))) [
+        | inl one ↦
+            let bounds = inside (c / 64 - first) within (c % 64) (omega arith) one in
+            absurd (outside (omega (arith, bounds), omega (arith, bounds)))
+        | inr clear ↦ clear
+      ]
+      | inr past ↦ ap (λ v. has_bit v (c % 64)) (get_or_past masks (c / 64 - first) 0 past) ∙ has_bit-zero (c % 64)
+    ])
+  ]
+
+  pub HoldSet-with_words : length ys ≡ length xs → AddsPlaces (lo / 64) xs first masks ys → HoldSet (with_words s first masks) lo hi ys
+  unfolding with_words
+  HoldSet-with_words same added =
+      HoldSet-made s (λ c. contains s c || masks_have masks first (c / 64) (c % 64)) lo hi ys (HoldSet-lo p) (HoldSet-hi p) p.well_formed.ordered (same ∙ p.well_formed.count)
+      (λ k i present within.
+      let b : ℕ = 64 * (lo / 64 + k) + i in
+      let at_word : lo / 64 + k ≡ b / 64 = omega arith in
+      let at_place : i ≡ b % 64 = omega arith in
+      added k i present within
+      ∙ ap₂ (λ (x y : Bool). x || y) (HoldSet-bit p k i within) (ap₂ (masks_have masks first) at_word at_place))
+      (λ c below. or_from (contains s c) (masks_have masks first (c / 64) (c % 64)) (contains-below s c (omega (arith, below, HoldSet-lo p))) (outside_masks c (λ range. omega (arith, range, below, HoldSet-lo p))))
+      (λ c above. or_from (contains s c) (masks_have masks first (c / 64) (c % 64)) (contains-above s c (omega (arith, above, HoldSet-hi p))) (outside_masks c (λ range. omega (arith, range, above, HoldSet-hi p))))
 
 -- one place of one word
 module _ (s : RowSet) (lo hi : ℕ) (xs : List ℕ) (b : ℕ) (p : HoldSet s lo hi xs) (low : s.lo ≤ b) (high : b < hi_of s) where

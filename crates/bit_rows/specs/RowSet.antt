@@ -1,7 +1,7 @@
 -- What a contract sees of a `Row`: a set of bits within a range.
 use Rattle.std.specs.Prelude.{◌≡◌, ℕ, ◌+◌, ◌-◌, ◌*◌, ◌/◌, ◌%◌, ◌<◌, Bool, true, false, ◌&&◌, ◌||◌, not, ◌==◌, nat_le, List, length, map, slice_index_or}
 use Rattle.std.specs.List.{range_with_len}
-use Rattle.bit_rows.specs.Words.{has_bit}
+use Rattle.bit_rows.specs.Words.{has_bit, masks_have}
 
 -- the first bit of the range, and for each bit from there on whether it is in the set
 pub record RowSet : Type 0 where
@@ -45,6 +45,11 @@ with_bit s b = set_of s.lo (hi_of s) (λ c. contains s c || c == b)
 unfoldable pub with_word : RowSet → ℕ → ℕ → RowSet
 with_word s w mask =
     set_of s.lo (hi_of s) (λ c. contains s c || (c / 64 == w && has_bit mask (c % 64)))
+
+-- s and the bits of the universe's words from first on that are 1 in masks
+unfoldable pub with_words : RowSet → ℕ → List ℕ → RowSet
+with_words s first masks =
+    set_of s.lo (hi_of s) (λ c. contains s c || masks_have masks first (c / 64) (c % 64))
 
 -- the bits of lo..hi that are in s
 unfoldable pub part_of : RowSet → ℕ → ℕ → RowSet

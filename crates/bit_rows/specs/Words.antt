@@ -1,5 +1,5 @@
 -- Bits in words of 64: bit b of the universe stands in word b / 64, at place b % 64.
-use Rattle.std.specs.Prelude.{◌≡◌, ℕ, ◌+◌, ◌-◌, ◌*◌, ◌/◌, ◌%◌, ◌^◌, ◌<◌, ◌≤◌, Bool, true, false, ◌&&◌, ◌==◌, min, List, length, slice_index}
+use Rattle.std.specs.Prelude.{◌≡◌, ℕ, ◌+◌, ◌-◌, ◌*◌, ◌/◌, ◌%◌, ◌^◌, ◌<◌, ◌≤◌, Bool, true, false, ◌&&◌, ◌||◌, ◌==◌, nat_le, min, List, length, slice_index}
 use Rattle.std.specs.Int.{bit_at}
 
 -- place i of a word is 1
@@ -22,6 +22,10 @@ range_mask lo hi w = 2 ^ (min 64 (hi - 64 * w)) - 2 ^ (min 64 (lo - 64 * w))
 -- bit b of the universe is 1 in words whose first is word number first
 unfoldable pub words_have : List ℕ → ℕ → ℕ → Bool
 words_have words first b = has_bit (slice_index words (b / 64 - first)) (b % 64)
+
+-- place i of the universe's word w is 1 in masks, whose first word is number first
+unfoldable pub masks_have : List ℕ → ℕ → ℕ → ℕ → Bool
+masks_have masks first w i = nat_le first w && has_bit (slice_index masks (w - first)) i
 
 -- words hold a set within lo..hi, and 0 at each place outside it
 pub record AreRowWords (lo hi : ℕ) (words : List ℕ) : Type 0 where
@@ -50,3 +54,9 @@ abbrev pub IsTrimmed : ℕ → ℕ → List ℕ → List ℕ → Type 0
 IsTrimmed lo hi old new =
     (k i : ℕ) → k < length new → i < 64
     → has_bit (slice_index new k) i ≡ (has_bit (slice_index old k) i && has_bit (range_mask lo hi (lo / 64 + k)) i)
+
+-- each place of new's words, the first of which is number base, is 1 where it is in old's or in masks
+abbrev pub AddsPlaces : ℕ → List ℕ → ℕ → List ℕ → List ℕ → Type 0
+AddsPlaces base old first masks new =
+    (k i : ℕ) → k < length new → i < 64
+    → has_bit (slice_index new k) i ≡ (has_bit (slice_index old k) i || masks_have masks first (base + k) i)

@@ -1,5 +1,5 @@
-ghost use Rattle.std.specs.Prelude.{◌≡◌, ◌≢◌, ◌^◌, ◌<◌, ◌≤◌, length, vec_len, IfOk, MatchBool};
-ghost use Rattle.bit_rows.specs.RowSet.{HasRange, union, complement, with_word};
+ghost use Rattle.std.specs.Prelude.{◌≡◌, ◌≢◌, ℕ, ◌+◌, ◌^◌, ◌<◌, ◌≤◌, length, slice_index, vec_len, IfOk, MatchBool};
+ghost use Rattle.bit_rows.specs.RowSet.{HasRange, union, complement, with_word, with_words};
 ghost use Rattle.bit_rows.specs.RowTable.{IsUniform, flag_at, set_at, blank_table, with_set};
 ghost use Rattle.bit_rows.specs.Words.{MaskLiesWithin};
 
@@ -110,6 +110,19 @@ impl Rows {
     {
         let row = &mut self.rows[point as usize];
         row.or_word(word, mask)
+    }
+
+    /// Puts the bits of the words `first..first + masks.len()` that are 1 in `masks` into the point's
+    /// row.
+    pub fn or_words(&mut self, point: u32, first: u32, masks: &[u64])
+        requires point { point < length self.old.flags }
+        requires masks { (k : ℕ) → k < length masks.now
+            → MaskLiesWithin self.old.lo self.old.hi (first + k) (slice_index masks.now k) }
+        ensures { self.new
+            ≡ with_set self.old point (with_words (set_at self.old point) first masks.now) }
+    {
+        let row = &mut self.rows[point as usize];
+        row.or_words(first, masks);
     }
 
     /// Takes out of the point's row the bits that are in it, and puts in the others of its range.

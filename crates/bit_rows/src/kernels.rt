@@ -1,6 +1,6 @@
 // Loops over words, and the masks that keep a row's bits within its range.
-ghost use Rattle.std.specs.Prelude.{◌≡◌, ◌-◌, ◌^◌, ◌≤◌, ◌&&◌, ◌||◌, not, length, MatchBool};
-ghost use Rattle.bit_rows.specs.Words.{word_count, range_mask, IsTrimmed, CombinesPlaces, MapsPlaces, SamePlaces};
+ghost use Rattle.std.specs.Prelude.{◌≡◌, ◌-◌, ◌^◌, ◌<◌, ◌≤◌, ◌&&◌, ◌||◌, not, length, MatchBool};
+ghost use Rattle.bit_rows.specs.Words.{word_count, range_mask, IsTrimmed, CombinesPlaces, MapsPlaces, SamePlaces, AddsPlaces};
 
 use std::simd::prelude::*;
 
@@ -75,6 +75,20 @@ pub(crate) fn or_words(target: &mut [u64], source: &[u64]) -> bool
         target[k] |= source[k];
     }
     gained != 0
+}
+
+/// Sets in `target`, whose first word is number `base`, what is set in `masks`, whose first is number
+/// `first`. Words that `target` lacks are passed over.
+pub(crate) fn or_words_from(target: &mut [u64], base: u32, masks: &[u64], first: u32)
+    ensures { AddsPlaces base target.old first masks.now target.new }
+{
+    let base = base as usize;
+    let first = first as usize;
+    let start = first.max(base);
+    let end = (first + masks.len()).min(base + target.len());
+    'words: for w in start..end {
+        target[w - base] |= masks[w - first];
+    }
 }
 
 /// Clears in `target` what is clear in `source`.

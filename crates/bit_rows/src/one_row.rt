@@ -1,9 +1,11 @@
-ghost use Rattle.std.specs.Prelude.{◌≡◌, ◌≢◌, ℕ, ◌+◌, ◌*◌, ◌<◌, ◌≤◌, IsOk, IfOk, MatchBool};
-ghost use Rattle.bit_rows.specs.RowSet.{HasRange, IsWordOf, hi_of, contains, with_bit, with_word, empty_set, full_set, part_of, union, intersection, difference, complement};
+ghost use Rattle.std.specs.Prelude.{◌≡◌, ◌≢◌, ℕ, ◌+◌, ◌*◌, ◌<◌, ◌≤◌, length, slice_index, IsOk, IfOk, MatchBool};
+ghost use Rattle.bit_rows.specs.RowSet.{HasRange, IsWordOf, hi_of, contains, with_bit, with_word, with_words, empty_set, full_set, part_of, union, intersection, difference, complement};
 ghost use Rattle.bit_rows.specs.Words.{word_count, MaskLiesWithin};
 
 use crate::OutOfMemory;
-use crate::kernels::{and_words, flip_words, minus_words, or_words, trim, words_needed};
+use crate::kernels::{
+    and_words, flip_words, minus_words, or_words, or_words_from, trim, words_needed,
+};
 use smallvec::SmallVec;
 use std::alloc::Global;
 use std::marker::Model;
@@ -154,6 +156,16 @@ impl Row {
         let before = words[at];
         words[at] = before | mask;
         before | mask != before
+    }
+
+    /// Puts in the bits of the words `first..first + masks.len()` that are 1 in `masks`.
+    pub fn or_words(&mut self, first: u32, masks: &[u64])
+        requires { (k : ℕ) → k < length masks.now
+            → MaskLiesWithin self.old.lo (hi_of self.old) (first + k) (slice_index masks.now k) }
+        ensures { self.new ≡ with_words self.old first masks.now }
+    {
+        let words = self.words.as_mut_slice();
+        or_words_from(words, self.lo / 64, masks, first);
     }
 
     /// Takes out the bits of `other`.

@@ -231,6 +231,28 @@ fn posted_words(rt: HostRuntime) -> Result<(), Fail> {
     Ok(())
 }
 
+// Posts words of the universe `0..128` from word `first` on.
+fn post_words(rows: &mut Rows, point: u32, first: u32, masks: &[u64]) {
+    if rows.lo() == 0
+        && rows.hi() == 128
+        && point < rows.points()
+        && first < 2
+        && masks.len() <= (2 - first) as usize
+    {
+        rows.or_words(point, first, masks);
+    }
+}
+
+#[test]
+fn words_posted_at_once(rt: HostRuntime) -> Result<(), Fail> {
+    let mut rows = Rows::blank(rt.alloc(), vec![in rt.alloc(); true, false]?, 0, 128)?;
+    post_words(&mut rows, 1, 0, &[1 << 63, 9]);
+    post_words(&mut rows, 1, 1, &[6]);
+    assert_eq!(rt; words_at(&rows, 1), [1 << 63, 15, 0]);
+    assert_eq!(rt; words_at(&rows, 0), [0, 0, 0]);
+    Ok(())
+}
+
 // The ranges of a cut, in order.
 fn check_cut(rt: &impl Abort, cut: &Cut, ranges: &[(u32, u32)]) {
     assert_eq!(rt; cut.slices() as usize, ranges.len());

@@ -1,0 +1,6 @@
+use Rattle.std.proofs.Common.{◌≡◌, ℕ, ◌+◌, ◌<◌, ◌≤◌, ◌||◌, length, get_or}
+use Rattle.bit_rows.proofs.WordLoops.{IsAddedTo}
+use Rattle.bit_rows.proofs.kernels.or_words_from.Given as goal
+
+abbrev pub invariant-words : goal.invariant-words
+invariant-words l = IsAddedTo l.base l.fn.target l.first l.masks l.w l.target
