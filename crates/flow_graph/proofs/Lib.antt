@@ -5,6 +5,7 @@ pub mod DefinitionRanges
 pub mod DirectedEdges
 pub mod EdgeLemmas
 pub mod EffectSteps
+pub mod EffectWords
 pub mod ExampleLemmas
 pub mod ExpressionEquality
 pub mod GraphLaws

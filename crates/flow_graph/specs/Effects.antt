@@ -1,6 +1,6 @@
 -- What the statement at a point does with the bits of an analysis: it has at most two bits of its own, and it touches those
 -- that depend on the variable that it writes. Gen and kill are made of the two.
-use Rattle.std.specs.Prelude.{◌≡◌, ◌<◌, ◌≤◌, ℕ, ◌*◌, Bool, false, not, ◌&&◌, ◌||◌, List, IfSome, length, get_or, Option, Some, None, option_map, slice_get, unwrap_or, nat_eq}
+use Rattle.std.specs.Prelude.{◌≡◌, ◌<◌, ◌≤◌, ℕ, ◌*◌, ◌/◌, Bool, true, false, not, ◌&&◌, ◌||◌, List, IfSome, length, get_or, Option, Some, None, option_map, slice_get, unwrap_or, nat_eq}
 use Rattle.tac_reader.specs.Programs.{Program}
 use Rattle.flow_graph.specs.BitTables.{table_has}
 use Rattle.flow_graph.specs.Points.{point_count}
@@ -79,3 +79,11 @@ pub record IsDependence (program : Program) (analysis : Analysis) (words : List 
   pub count : length words ≡ length program.variable_names * width
   pub each : (variable bit : ℕ) → variable < length program.variable_names → bit < bits program analysis
       → table_has words width variable bit ≡ depends program analysis variable bit
+
+-- the words of 64 bits in which some bit depends on each variable
+pub record AreDependenceWords (program : Program) (analysis : Analysis) (words : List ℕ) (width : ℕ) : Type 0 where
+  pub few : bits program analysis ≤ 64 * 64
+  pub one : width ≡ 1
+  pub count : length words ≡ length program.variable_names * width
+  pub each : (variable bit : ℕ) → variable < length program.variable_names → bit < bits program analysis
+      → depends program analysis variable bit ≡ true → table_has words width variable (bit / 64) ≡ true

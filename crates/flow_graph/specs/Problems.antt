@@ -1,5 +1,5 @@
 -- What stands for a may form, and its gen and kill by the points of statements.
-use Rattle.std.specs.Prelude.{◌≡◌, ◌<◌, ℕ, ◌+◌, ◌*◌, Bool, not, ◌&&◌, nat_lt, if◌then◌else◌}
+use Rattle.std.specs.Prelude.{◌≡◌, ◌<◌, ◌⊎◌, ℕ, true, ◌+◌, ◌*◌, Bool, not, ◌&&◌, nat_lt, if◌then◌else◌}
 use Rattle.bit_rows.specs.Words.{has_bit}
 use Rattle.tac_reader.specs.Programs.{Program}
 use Rattle.flow_graph.specs.Analyses.{is_backward, is_must}
@@ -31,3 +31,7 @@ directed_edge analysis edge = if is_backward analysis then reversed_edge edge el
 -- A word of a set of bits: its place k is 1 exactly where bit 64 * word + k is there and is in the set.
 abbrev pub IsWordOf : (ℕ → Bool) → ℕ → ℕ → ℕ → Type 0
 IsWordOf test bits word value = (k : ℕ) → k < 64 → has_bit value k ≡ (nat_lt (64 * word + k) bits && test (64 * word + k))
+
+-- The step of the statement at a point generates the bit, or kills it.
+abbrev pub IsAffected : MayForm → ℕ → ℕ → Type 0
+IsAffected form point bit = (may_gens form point bit ≡ true) ⊎ (may_kills form point bit ≡ true)

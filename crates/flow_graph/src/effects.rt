@@ -3,7 +3,7 @@
 ghost use Rattle.std.specs.List.{list_any};
 ghost use Rattle.std.specs.Prelude.{◌≡◌, ◌*◌, ◌/◌, ◌<◌, ◌≤◌, ◌&&◌, ◌||◌, ℕ, IfOk, IfSome, length, nat_eq, option_map};
 ghost use Rattle.flow_graph.specs.BitTables.{table_has};
-ghost use Rattle.flow_graph.specs.Effects.{AreEffects, IsDependence, IsNumberedEffect, depends, marks, owns_numbered};
+ghost use Rattle.flow_graph.specs.Effects.{AreDependenceWords, AreEffects, IsDependence, IsNumberedEffect, depends, marks, owns_numbered};
 ghost use Rattle.flow_graph.specs.Points.{point_count};
 ghost use Rattle.flow_graph.specs.Transfers.{has_operand, is_variable, operands_of, reads};
 ghost use Rattle.flow_graph.specs.Universes.{bits, target_at};
@@ -188,6 +188,25 @@ pub(crate) fn dependence(
         let (first, second) = bit_variables(graph, analysis, bit);
         mark(&mut table, rows, first, bit);
         mark(&mut table, rows, second, bit);
+    }
+    Ok(table)
+}
+
+/// The words of 64 bits in which some bit depends on each variable.
+pub(crate) fn dependence_words(
+    alloc: Global,
+    graph: &Graph<'_>,
+    analysis: Analysis,
+) -> Result<BitTable, AllocError>
+    ensures { IfOk result (λ t. AreDependenceWords graph.now analysis t.words.items t.width) }
+{
+    let rows = graph.program().variables();
+    let bits = graph.bits(analysis);
+    let mut table = BitTable::blank(alloc, rows, 64)?;
+    for bit in 0..bits {
+        let (first, second) = bit_variables(graph, analysis, bit);
+        mark(&mut table, rows, first, bit / 64);
+        mark(&mut table, rows, second, bit / 64);
     }
     Ok(table)
 }

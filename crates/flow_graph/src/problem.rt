@@ -1,11 +1,11 @@
-ghost use Rattle.std.specs.Prelude.{◌≡◌, ◌+◌, ◌*◌, ◌<◌, ℕ, false, IfOk, IfSome, length, option_map, unwrap_or};
+ghost use Rattle.std.specs.Prelude.{◌≡◌, ◌+◌, ◌*◌, ◌/◌, ◌<◌, ℕ, false, true, IfOk, IfSome, length, option_map, unwrap_or};
 ghost use Rattle.bit_rows.specs.Words.{has_bit};
 ghost use Rattle.flow_graph.specs.Analyses.{is_backward as is_backward_of, is_must, main_procedure, may_shape};
 ghost use Rattle.flow_graph.specs.Effects.{depends};
 ghost use Rattle.flow_graph.specs.Limits.{HasFewBits, HasFewPoints};
 ghost use Rattle.flow_graph.specs.Paths.{IsWellFormed};
 ghost use Rattle.flow_graph.specs.Points.{end_point, point_count, procedure_at};
-ghost use Rattle.flow_graph.specs.Problems.{IsWordOf, may_boundary, may_gens, may_kills};
+ghost use Rattle.flow_graph.specs.Problems.{IsAffected, IsWordOf, may_boundary, may_gens, may_kills};
 ghost use Rattle.flow_graph.specs.Universes.{bits as bits_of};
 ghost use Rattle.tac_reader.specs.Sound.{IsSound};
 
@@ -15,9 +15,9 @@ use crate::bit_table::BitTable;
 use crate::directed_edges::{directed_edges, is_backward};
 use crate::edge::Edge;
 use crate::effect::Effect;
-use crate::effects::{dependence, effects};
+use crate::effects::{dependence, dependence_words, effects};
 use crate::graph::Graph;
-use crate::words::{full_word, generated, killed, own_word};
+use crate::words::{full_word, generated, killed, own_word, word_mark};
 use std::alloc::Global;
 use std::marker::Model;
 
@@ -30,13 +30,14 @@ pub struct Problem<'g, 'p> {
     edges: Vec<Edge>,
     effects: Vec<Effect>,
     dependence: BitTable,
+    dependence_words: BitTable,
 }
 
 impl<'g, 'p> Model for Problem<'g, 'p> {
     ghost use Rattle.flow_graph.specs.Problems.{MayForm};
     ghost use Rattle.std.specs.Prelude.{◌≡◌};
     ghost use Rattle.flow_graph.specs.Analyses.{may_shape};
-    ghost use Rattle.flow_graph.specs.Effects.{AreEffects, IsDependence};
+    ghost use Rattle.flow_graph.specs.Effects.{AreEffects, AreDependenceWords, IsDependence};
     ghost use Rattle.flow_graph.specs.Paths.{IsWellFormed};
 
     ghost Value = { MayForm };
@@ -45,6 +46,7 @@ impl<'g, 'p> Model for Problem<'g, 'p> {
 
     ghost invariant = { λ problem. AreEffects problem.graph.now problem.analysis problem.effects.items
         × IsDependence problem.graph.now problem.analysis problem.dependence.words.items problem.dependence.width
+        × AreDependenceWords problem.graph.now problem.analysis problem.dependence_words.words.items problem.dependence_words.width
         × (problem.edges.items ≡ (may_shape problem.graph.now problem.analysis).edges)
         × IsWellFormed (may_shape problem.graph.now problem.analysis) };
 }
@@ -59,13 +61,22 @@ impl<'g, 'p> Problem<'g, 'p> {
         let edges = directed_edges(alloc, graph, analysis)?;
         let effects = effects(alloc, graph, analysis)?;
         let dependence = dependence(alloc, graph, analysis)?;
+        let dependence_words = dependence_words(alloc, graph, analysis)?;
         Ok(Problem {
             graph,
             analysis,
             edges,
             effects,
             dependence,
+            dependence_words,
         })
+    }
+
+    /// The analysis.
+    pub fn analysis(&self) -> Analysis
+        ensures { result ≡ self.now.analysis }
+    {
+        self.analysis
     }
 
     /// The procedure at whose entry the problem begins: the number of `main`.
@@ -182,6 +193,29 @@ impl<'g, 'p> Problem<'g, 'p> {
             None => 0,
             Some(variable) => self.dependence.word(variable, word),
         }
+    }
+
+    /// The words in which some bit depends on the variable, if one is written.
+    fn touched_words(&self, written: Option<u32>) -> u64
+        requires { IfSome written (λ x. x < length self.now.program.variable_names) }
+        ensures { (bit : ℕ) → bit < bits_of self.now.program self.now.analysis
+            → unwrap_or (option_map (λ x. depends self.now.program self.now.analysis x bit) written) false ≡ true → has_bit result (bit / 64) ≡ true }
+    {
+        match written {
+            None => 0,
+            Some(variable) => self.dependence_words.word(variable, 0),
+        }
+    }
+
+    /// The words of 64 bits in which the step of the statement at a point may generate or kill a bit, each as a bit by its
+    /// number: where place `w` is 0, it does so for no bit of word `w`.
+    pub fn effect_words(&self, point: u32) -> u64
+        requires { point < point_count self.now.program }
+        ensures { (bit : ℕ) → bit < bits_of self.now.program self.now.analysis → IsAffected self.now point bit → has_bit result (bit / 64) ≡ true }
+    {
+        let effect = self.effects[point as usize];
+        let own = word_mark(effect.first) | word_mark(effect.second);
+        own | self.touched_words(effect.written)
     }
 
     /// The bits that the step of the statement at a point generates, by words.

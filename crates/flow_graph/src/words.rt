@@ -1,6 +1,6 @@
 // Words of sets of bits.
 
-ghost use Rattle.std.specs.Prelude.{◌≡◌, ◌+◌, ◌*◌, ◌<◌, ℕ, nat_lt};
+ghost use Rattle.std.specs.Prelude.{◌≡◌, ◌+◌, ◌*◌, ◌<◌, ℕ, nat_lt, ◌/◌, true};
 ghost use Rattle.bit_rows.specs.Words.{has_bit};
 ghost use Rattle.flow_graph.specs.Effects.{effect_owns, gen_from, kill_from, marks};
 
@@ -34,6 +34,16 @@ pub(crate) fn own_word(effect: Effect, word: u32) -> u64
     ensures { (k : ℕ) → k < 64 → has_bit result k ≡ effect_owns effect (64 * word + k) }
 {
     mark_word(effect.first, word) | mark_word(effect.second, word)
+}
+
+/// The word that a single bit lies in, as a bit by the word's number, or none. Words past the first 64 have none.
+pub(crate) fn word_mark(mark: Option<u32>) -> u64
+    ensures { (bit : ℕ) → marks mark bit ≡ true → bit / 64 < 64 → has_bit result (bit / 64) ≡ true }
+{
+    match mark {
+        None => 0,
+        Some(bit) => mark_word(Some(bit / 64), 0),
+    }
 }
 
 /// What is generated, of what is the statement's own and what it touches.

@@ -14,7 +14,7 @@ use Rattle.flow_graph.specs.declared.analysis.Analysis.TheVariants.{Live}
 use Rattle.flow_graph.specs.declared.edge.Edge.{Edge}
 use Rattle.flow_graph.proofs.GraphLaws.{edges_join_points}
 use Rattle.tacflow.specs.Findings.{TellDoubtful}
-use Rattle.tacflow.specs.Tables.{AreFacts, IsTableOf, TableRows, facts_of}
+use Rattle.flow_team.specs.Tables.{AreFacts, IsTableOf, TableRows, facts_of}
 
 -- a path from a point ends at a point
 path_ends : (program : Program) → IsSound program → (path : List Edge) (start finish : ℕ) → start < point_count program → IsPath (shape_of program) start path finish → finish < point_count program

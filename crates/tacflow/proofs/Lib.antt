@@ -1,5 +1,4 @@
 pub mod Buffers
-pub mod Complements
 pub mod Doubts
 pub mod Entries
 pub mod Held

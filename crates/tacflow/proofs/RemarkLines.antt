@@ -23,7 +23,8 @@ use Rattle.flow_graph.proofs.SetWords.{nat_eq-same}
 use Rattle.flow_graph.proofs.Standing.{Stands, stands}
 use Rattle.tacflow.specs.Findings.{remark_lines, unset_lines, computed_lines, computed_text, busy_lines, dead_lines, dead_text}
 use Rattle.tacflow.specs.Reports.{Knowledge, assigned, lines_at, remark, remarks_at, unset_at}
-use Rattle.tacflow.specs.Tables.{TableRows, IsTableOf, variable_text}
+use Rattle.flow_team.specs.Tables.{TableRows, IsTableOf}
+use Rattle.tacflow.specs.Tables.{variable_text}
 use Rattle.tacflow.proofs.Rising.{or_true, rises, filter_rising, filter_both}
 
 -- the lines of what passes a test, one that does and one that does not

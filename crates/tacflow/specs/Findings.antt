@@ -8,7 +8,8 @@ use Rattle.flow_graph.specs.declared.analysis.Analysis.TheVariants.{Avail, Busy}
 use Rattle.tac_reader.specs.Programs.{Program}
 use Rattle.tac_reader.specs.Sound.{IsSound}
 use Rattle.tacflow.specs.Reports.{AreTablesOf, Knowledge, unset_at, computed_at, busy_at, dead_at, remark}
-use Rattle.tacflow.specs.Tables.{bit_text, facts_of, variable_text}
+use Rattle.flow_team.specs.Tables.{facts_of}
+use Rattle.tacflow.specs.Tables.{bit_text, variable_text}
 use Rattle.tacflow.specs.declared.findings.Findings.{Findings}
 
 -- one truth value for each point: whether it is doubtful

@@ -10,7 +10,8 @@ use Rattle.flow_graph.specs.declared.analysis.Analysis.TheVariants.{Reach, Live,
 use Rattle.tac_reader.specs.Programs.{Program}
 use Rattle.tac_reader.specs.declared.program.StmtKind.{StmtKind}
 use Rattle.tac_reader.specs.declared.program.StmtKind.TheVariants as kind
-use Rattle.tacflow.specs.Tables.{Facts, AreFacts, IsTableOf, bit_text, bits_at, line_at, variable_text}
+use Rattle.flow_team.specs.Tables.{Facts, AreFacts, IsTableOf}
+use Rattle.tacflow.specs.Tables.{bit_text, bits_at, line_at, variable_text}
 use Rattle.tacflow.specs.declared.tables.Tables.{Tables}
 
 -- each is this program's table of its analysis

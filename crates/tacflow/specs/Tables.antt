@@ -1,9 +1,7 @@
--- The table of an analysis, and its text: one line for each point.
+-- The text of a table: one line for each point.
 use Rattle.std.specs.Prelude.{◌≡◌, ◌↔◌, ℕ, ◌<◌, ◌≤◌, Bool, true, not, List, [], ◌∷◌, ◌++◌, map, flat_map, filter, length, Some, None, option_map, unwrap_or, if◌then◌else◌, codes, decimal}
 use Rattle.std.specs.List.{range_with_len}
-use Rattle.bit_rows.specs.RowSet.{contains}
-use Rattle.bit_rows.specs.RowTable.{RowTable, flag_at, set_at}
-use Rattle.flow_graph.specs.Analyses.{HasPathAt, IsInTable}
+use Rattle.flow_team.specs.Tables.{Facts, AreFacts}
 use Rattle.flow_graph.specs.Points.{points, point_count, place_of, procedure_at, statement_at}
 use Rattle.flow_graph.specs.Universes.{Definition, definitions, expressions, bits}
 use Rattle.flow_graph.specs.declared.analysis.Analysis.{Analysis}
@@ -12,41 +10,6 @@ use Rattle.flow_graph.specs.declared.expression.Expr.{Expr}
 use Rattle.flow_graph.specs.declared.expression.Expr.TheVariants.{Unary, Binary}
 use Rattle.tac_reader.specs.Listings.{name_at, names_of, unary_text, binary_text}
 use Rattle.tac_reader.specs.Programs.{Program}
-
--- whether each point has a valid path, and which bits are in its set
-pub record Facts : Type 0 where
-  pub has_path : ℕ → Bool
-  pub contains : ℕ → ℕ → Bool
-
--- They are those of an analysis of a program: at each point and bit exactly the meet over its valid paths.
-pub record AreFacts (program : Program) (analysis : Analysis) (facts : Facts) : Type 0 where
-  pub paths : (point : ℕ) → point < point_count program → (facts.has_path point ≡ true) ↔ HasPathAt program analysis point
-  pub sets : (point bit : ℕ) → point < point_count program → bit < bits program analysis
-      → (facts.contains point bit ≡ true) ↔ IsInTable program analysis point bit
-
--- an analysis, and for each point a flag and a set of bits
-pub record TableRows : Type 0 where
-  pub analysis : Analysis
-  pub rows : RowTable
-
--- what the rows tell
-abbrev pub facts_of : TableRows → Facts
-facts_of table = record { has_path = flag_at table.rows; contains = λ point bit. contains (set_at table.rows point) bit }
-
--- The table is of this program: one flag and one set of all bits for each point, and they are the analysis's facts.
-pub record IsTableOf (program : Program) (table : TableRows) : Type 0 where
-  pub from_first : table.rows.lo ≡ 0
-  pub to_last : table.rows.hi ≡ bits program table.analysis
-  pub count : length table.rows.flags ≡ point_count program
-  pub facts : AreFacts program table.analysis (facts_of table)
-
--- Each set is the old one's complement, and all else is as it was.
-pub record AreComplemented (old new : RowTable) : Type 0 where
-  pub same_lo : new.lo ≡ old.lo
-  pub same_hi : new.hi ≡ old.hi
-  pub same_flags : new.flags ≡ old.flags
-  pub bits : (point bit : ℕ) → point < length old.flags → old.lo ≤ bit → bit < old.hi
-      → contains (set_at new point) bit ≡ not (contains (set_at old point) bit)
 
 abbrev pub variable_text : Program → ℕ → List ℕ
 variable_text program variable = name_at program.variable_names variable

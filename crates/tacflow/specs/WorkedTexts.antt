@@ -2,7 +2,7 @@
 use Rattle.std.specs.Prelude.{ℕ, Bool, List, [], ◌∷◌, slice_index_or, nat_eq}
 use Rattle.std.specs.List.{list_any}
 use Rattle.tacflow.specs.Reports.{Knowledge}
-use Rattle.tacflow.specs.Tables.{Facts}
+use Rattle.flow_team.specs.Tables.{Facts}
 
 -- whether a number is in a list
 abbrev pub is_in : List ℕ → ℕ → Bool

@@ -9,13 +9,13 @@ ghost use Rattle.tacflow.specs.Runs.{HasItsGraph, HasNoGraph, IsOverLimit, IsSho
 ghost use Rattle.tacflow.specs.Tables.{IsTableText};
 
 use crate::fault::Fault;
-use crate::options::Show;
+use crate::options::{Options, Show};
 use crate::report::report;
-use crate::table::Table;
 use crate::table_text::table_text;
-use crate::tables::Tables;
+use crate::tables::{Tables, table_of};
 use flow_graph::{Analysis, Graph, GraphFault};
 use std::alloc::Global;
+use std::thread::Threads;
 use tac_reader::{Program, ReadFault, listing, read};
 
 // The graph of a program.
@@ -34,19 +34,30 @@ fn graph_of<'p>(alloc: Global, program: &'p Program) -> Result<Graph<'p>, Fault>
 }
 
 // The text of an analysis's table.
-fn table_shown(alloc: Global, program: &Program, analysis: Analysis) -> Result<Vec<u8>, Fault>
+fn table_shown<R: Threads + Sync>(
+    rt: &R,
+    alloc: Global,
+    program: &Program,
+    analysis: Analysis,
+    options: Options,
+) -> Result<Vec<u8>, Fault>
     ensures text { IfOk result (λ out. IsTableText program.now analysis out.items) }
     ensures few_points { OnOk result (HasFewPoints program.now) }
     ensures few_bits { OnOk result (HasFewBits program.now) }
     ensures fault { IfErr result (OfGraph (IsOverLimit program.now)) }
 {
     let graph = graph_of(alloc, program)?;
-    let table = Table::of(alloc, &graph, analysis)?;
+    let table = table_of(rt, alloc, &graph, analysis, options)?;
     Ok(table_text(alloc, &graph, &table)?)
 }
 
 // The report.
-fn report_shown(alloc: Global, program: &Program) -> Result<Vec<u8>, Fault>
+fn report_shown<R: Threads + Sync>(
+    rt: &R,
+    alloc: Global,
+    program: &Program,
+    options: Options,
+) -> Result<Vec<u8>, Fault>
     ensures text { IfOk result (λ out. IsReport program.now out.items) }
     ensures safe { IfOk result (λ out. ListsSafely program.now out.items) }
     ensures few_points { OnOk result (HasFewPoints program.now) }
@@ -54,36 +65,46 @@ fn report_shown(alloc: Global, program: &Program) -> Result<Vec<u8>, Fault>
     ensures fault { IfErr result (OfGraph (IsOverLimit program.now)) }
 {
     let graph = graph_of(alloc, program)?;
-    let tables = Tables::of(alloc, &graph)?;
+    let tables = Tables::of(rt, alloc, &graph, options)?;
     Ok(report(alloc, &graph, &tables)?)
 }
 
 // What is shown of a program.
-fn shown(alloc: Global, program: &Program, show: Show) -> Result<Vec<u8>, Fault>
-    ensures shows { IfOk result (λ out. IsShown show program.now out.items) }
-    ensures fits { OnOk result (HasItsGraph show program.now) }
+fn shown<R: Threads + Sync>(
+    rt: &R,
+    alloc: Global,
+    program: &Program,
+    options: Options,
+) -> Result<Vec<u8>, Fault>
+    ensures shows { IfOk result (λ out. IsShown options.show program.now out.items) }
+    ensures fits { OnOk result (HasItsGraph options.show program.now) }
     ensures fault { IfErr result (OfGraph (IsOverLimit program.now)) }
-    ensures needed { IfErr result (WhereNoGraph (λ _. needs_graph show ≡ true)) }
+    ensures needed { IfErr result (WhereNoGraph (λ _. needs_graph options.show ≡ true)) }
 {
-    match show {
+    match options.show {
         Show::List => Ok(listing(alloc, program)?),
-        Show::Report => report_shown(alloc, program),
-        Show::Reach => table_shown(alloc, program, Analysis::Reach),
-        Show::Live => table_shown(alloc, program, Analysis::Live),
-        Show::Avail => table_shown(alloc, program, Analysis::Avail),
-        Show::Busy => table_shown(alloc, program, Analysis::Busy),
+        Show::Report => report_shown(rt, alloc, program, options),
+        Show::Reach => table_shown(rt, alloc, program, Analysis::Reach, options),
+        Show::Live => table_shown(rt, alloc, program, Analysis::Live, options),
+        Show::Avail => table_shown(rt, alloc, program, Analysis::Avail, options),
+        Show::Busy => table_shown(rt, alloc, program, Analysis::Busy, options),
     }
 }
 
 /// What is written for a text, made whole.
-pub(crate) fn answer(alloc: Global, text: &[u8], show: Show) -> Result<Vec<u8>, Fault>
-    ensures shows { IfOk result (λ out. Shows show text.now out.items) }
+pub(crate) fn answer<R: Threads + Sync>(
+    rt: &R,
+    alloc: Global,
+    text: &[u8],
+    options: Options,
+) -> Result<Vec<u8>, Fault>
+    ensures shows { IfOk result (λ out. Shows options.show text.now out.items) }
     ensures refused { IfErr result (WhereRefused (λ r. refusal_of text.now ≡ Some r)) }
-    ensures no_graph { IfErr result (WhereNoGraph (HasNoGraph show text.now)) }
+    ensures no_graph { IfErr result (WhereNoGraph (HasNoGraph options.show text.now)) }
     ensures no_fault { (read_faults_in result ≡ 0) × (write_faults_in result ≡ 0) }
 {
     match read(alloc, text) {
-        Ok(program) => shown(alloc, &program, show),
+        Ok(program) => shown(rt, alloc, &program, options),
         Err(ReadFault::Refused(refusal)) => Err(Fault::Refused(refusal)),
         Err(ReadFault::OutOfMemory) => Err(Fault::OutOfMemory),
     }

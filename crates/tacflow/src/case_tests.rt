@@ -5,10 +5,11 @@ use crate::tests::{blank_page, check, told};
 use std::alloc::Global;
 use std::process::Abort;
 use std::test::Fail;
+use std::thread::Threads;
 
 // Each text is answered so.
-fn check_all(
-    rt: &(impl Abort + AllocGlobal),
+fn check_all<R: Threads + Sync + Abort + AllocGlobal>(
+    rt: &R,
     show: Show,
     cases: &[(&str, &str)],
 ) -> Result<(), Fail> {
@@ -271,8 +272,12 @@ fn table_of_seventy_variables(rt: HostRuntime) -> Result<(), Fail> {
 }
 
 // The first line of what a text is answered.
-fn first_line(alloc: Global, text: &[u8], show: Show) -> Result<Vec<u8>, Fail> {
-    let mut line = told(alloc, text, &mut blank_page(alloc), show)?;
+fn first_line<R: Threads + Sync + AllocGlobal>(
+    rt: &R,
+    text: &[u8],
+    show: Show,
+) -> Result<Vec<u8>, Fail> {
+    let mut line = told(rt, text, &mut blank_page(rt.alloc()), show)?;
     let end = line.iter().position(|byte| *byte == b'\n').ok_or("a line")?;
     line.truncate(end);
     Ok(line)
@@ -298,9 +303,9 @@ fn programs_at_the_limits(rt: HostRuntime) -> Result<(), Fail> {
     ];
     for (count, word, end, line) in cases {
         let text = numbered(rt.alloc(), count, word, end)?;
-        let got = first_line(rt.alloc(), &text, Show::Report)?;
+        let got = first_line(&rt, &text, Show::Report)?;
         assert_eq!(rt; got.as_slice(), line.as_bytes());
-        let listed = first_line(rt.alloc(), &text, Show::List)?;
+        let listed = first_line(&rt, &text, Show::List)?;
         assert_eq!(rt; listed.as_slice(), b"proc main".as_slice());
     }
     Ok(())

@@ -6,10 +6,10 @@ ghost use Rattle.flow_graph.specs.Points.{points, point_count};
 ghost use Rattle.flow_graph.specs.declared.analysis.Analysis.TheVariants.{Live};
 ghost use Rattle.tac_reader.specs.Sound.{IsSound};
 ghost use Rattle.tacflow.specs.Findings.{TellDoubtful};
-ghost use Rattle.tacflow.specs.Tables.{IsTableOf, facts_of};
+ghost use Rattle.flow_team.specs.Tables.{IsTableOf, facts_of};
 
-use crate::table::Table;
 use flow_graph::{Graph, OutOfMemory};
+use flow_team::Table;
 use std::alloc::Global;
 
 /// For each point whether it has no valid path to the end of `main`.

@@ -4,28 +4,24 @@ use crate::options::Show;
 use crate::tests::{blank_page, told};
 use std::process::Abort;
 use std::test::Fail;
+use std::thread::Threads;
 
 // The report of a text, and the table of this kind.
-fn check_example(
-    rt: &(impl Abort + AllocGlobal),
+fn check_example<R: Threads + Sync + Abort + AllocGlobal>(
+    rt: &R,
     text: &str,
     report: &str,
     show: Show,
     table: &str,
 ) -> Result<(), Fail> {
     let got = told(
-        rt.alloc(),
+        rt,
         text.as_bytes(),
         &mut blank_page(rt.alloc()),
         Show::Report,
     )?;
     assert_eq!(rt; got.as_slice(), report.as_bytes());
-    let got = told(
-        rt.alloc(),
-        text.as_bytes(),
-        &mut blank_page(rt.alloc()),
-        show,
-    )?;
+    let got = told(rt, text.as_bytes(), &mut blank_page(rt.alloc()), show)?;
     assert_eq!(rt; got.as_slice(), table.as_bytes());
     Ok(())
 }

@@ -17,7 +17,6 @@ mod options;
 mod remarks;
 mod report;
 mod run;
-mod table;
 mod table_text;
 mod tables;
 #[cfg(test)]
@@ -34,6 +33,7 @@ use options::Options;
 use run::run;
 use std::io::Write;
 use std::process::ExitCode;
+use std::thread::Threads;
 use std::{env, io};
 use to_write::ToWrite;
 
@@ -62,26 +62,27 @@ fn tell_words(rt: &HostRuntime, error: &Error) -> ExitCode {
     }
 }
 
-fn run_by(rt: &HostRuntime, options: Options) -> ExitCode {
+// `threads` is the runtime once more: it is a handle for threads only where `main` names it.
+fn run_by<R: Threads + Sync>(rt: &HostRuntime, threads: &R, options: Options) -> ExitCode {
     let mut source = FromRead::new(rt.stdin());
     let mut sink = ToWrite::new(rt.stdout());
-    match run(rt.alloc(), &mut source, &mut sink, options) {
+    match run(threads, rt.alloc(), &mut source, &mut sink, options) {
         Ok(()) => ExitCode::SUCCESS,
         Err(fault) => tell_fault(rt, &fault),
     }
 }
 
-fn run_words(rt: &HostRuntime) -> io::Result<ExitCode> {
+fn run_words<R: Threads + Sync>(rt: &HostRuntime, threads: &R) -> io::Result<ExitCode> {
     let owned: Vec<String> = env::args(rt)?.collect(rt.alloc())?;
     let words: Vec<&str> = owned.iter().map(|word| word.as_str()).collect(rt.alloc())?;
     match Options::from_words(rt.alloc(), &words) {
-        Ok(options) => Ok(run_by(rt, options)),
+        Ok(options) => Ok(run_by(rt, threads, options)),
         Err(error) => Ok(tell_words(rt, &error)),
     }
 }
 
 fn main(rt: HostRuntime) -> ExitCode {
-    match run_words(&rt) {
+    match run_words(&rt, &rt) {
         Ok(code) => code,
         Err(error) if error.kind() == io::ErrorKind::OutOfMemory => tell_fault(
             &rt,

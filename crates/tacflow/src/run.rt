@@ -11,6 +11,7 @@ use crate::device::{DeviceFault, Sink, Source};
 use crate::fault::Fault;
 use crate::options::Options;
 use std::alloc::Global;
+use std::thread::Threads;
 
 /// How many bytes are pulled at most: one more than the longest text has.
 const MOST_PULLED: usize = 1_048_577;
@@ -69,7 +70,8 @@ fn push_all<K: Sink>(sink: &mut K, text: &[u8]) -> Result<(), DeviceFault>
 }
 
 /// Pulls the text until the source has ended or 1,048,577 bytes are in hand, makes all of what is to
-/// be shown of it, pushes that and nothing else, and flushes.
+/// be shown of it, pushes that and nothing else, and flushes. Tables are found by the options' workers, in slices of their
+/// width; what is written is the same for all of these.
 ///
 /// The condition: the source has not ended, and both counts of faults are below `u32::MAX`.
 ///
@@ -77,7 +79,8 @@ fn push_all<K: Sink>(sink: &mut K, text: &[u8]) -> Result<(), DeviceFault>
 /// - `OutOfMemory`: memory was refused.
 /// - `Read`: a pull was answered by a fault. `Write`: a push or the flush was; a beginning of what
 ///   is to be shown was pushed. After every other fault nothing was.
-pub fn run<S: Source, K: Sink>(
+pub fn run<R: Threads + Sync, S: Source, K: Sink>(
+    rt: &R,
     alloc: Global,
     source: &mut S,
     sink: &mut K,
@@ -98,7 +101,7 @@ pub fn run<S: Source, K: Sink>(
     ensures sink_faults { K.faults sink.new ≡ K.faults sink.old + write_faults_in result }
 {
     let text = pull_all(alloc, source, MOST_PULLED)?;
-    let out = answer(alloc, &text, options.show)?;
+    let out = answer(rt, alloc, &text, options)?;
     match push_all(sink, &out) {
         Ok(()) => Ok(()),
         Err(DeviceFault) => Err(Fault::Write),

@@ -7,12 +7,13 @@ ghost use Rattle.bit_rows.specs.Words.{has_bit};
 ghost use Rattle.flow_graph.specs.Points.{point_count};
 ghost use Rattle.flow_graph.specs.Universes.{bits as bits_of};
 ghost use Rattle.tacflow.specs.Lists.{AreTexts, Named, Wrote, after, text_at};
-ghost use Rattle.tacflow.specs.Tables.{IsTableOf, IsTableText, bit_text, facts_of, listed, place_text, point_line};
+ghost use Rattle.flow_team.specs.Tables.{IsTableOf, facts_of};
+ghost use Rattle.tacflow.specs.Tables.{IsTableText, bit_text, listed, place_text, point_line};
 
 use crate::bit_texts::{write_bit, write_number};
-use crate::table::Table;
 use bit_rows::Row;
 use flow_graph::{Analysis, Graph, OutOfMemory};
+use flow_team::Table;
 use std::alloc::Global;
 
 /// What each bit of an analysis is called, by number.

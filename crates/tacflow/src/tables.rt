@@ -1,9 +1,33 @@
-ghost use Rattle.std.specs.Prelude.{IfOk};
+ghost use Rattle.std.specs.Prelude.{◌≡◌, IfOk};
+ghost use Rattle.flow_team.specs.Tables.{IsTableOf};
 ghost use Rattle.tacflow.specs.Reports.{AreTablesOf};
 
-use crate::table::Table;
+use crate::options::Options;
+use bit_rows::Cut;
 use flow_graph::{Analysis, Graph, OutOfMemory};
-use std::alloc::Global;
+use flow_team::{OpenGate, Table, analyse};
+use std::alloc::{AllocError, Global};
+use std::thread::Threads;
+
+/// The table of an analysis, by the options' workers, in slices of their width.
+pub(crate) fn table_of<R: Threads + Sync>(
+    rt: &R,
+    alloc: Global,
+    graph: &Graph<'_>,
+    analysis: Analysis,
+    options: Options,
+) -> Result<Table, OutOfMemory>
+    ensures analysis { IfOk result (λ table. table.analysis ≡ analysis) }
+    ensures table { IfOk result (IsTableOf graph.now) }
+{
+    let Ok(cut) = Cut::even(alloc, graph.bits(analysis), options.cut) else {
+        return Err(AllocError);
+    };
+    match analyse(rt, alloc, graph, analysis, cut, options.workers, &OpenGate) {
+        Ok(table) => Ok(table),
+        Err(_) => Err(AllocError),
+    }
+}
 
 /// The tables of the four analyses of one program.
 #[derive(Drop)]
@@ -19,14 +43,19 @@ pub struct Tables {
 }
 
 impl Tables {
-    /// The four tables of a graph's program.
-    pub fn of(alloc: Global, graph: &Graph<'_>) -> Result<Tables, OutOfMemory>
+    /// The four tables of a graph's program, by the options' workers, in slices of their width.
+    pub fn of<R: Threads + Sync>(
+        rt: &R,
+        alloc: Global,
+        graph: &Graph<'_>,
+        options: Options,
+    ) -> Result<Tables, OutOfMemory>
         ensures { IfOk result (λ tables. AreTablesOf graph.now tables) }
     {
-        let reach = Table::of(alloc, graph, Analysis::Reach)?;
-        let live = Table::of(alloc, graph, Analysis::Live)?;
-        let avail = Table::of(alloc, graph, Analysis::Avail)?;
-        let busy = Table::of(alloc, graph, Analysis::Busy)?;
+        let reach = table_of(rt, alloc, graph, Analysis::Reach, options)?;
+        let live = table_of(rt, alloc, graph, Analysis::Live, options)?;
+        let avail = table_of(rt, alloc, graph, Analysis::Avail, options)?;
+        let busy = table_of(rt, alloc, graph, Analysis::Busy, options)?;
         Ok(Tables {
             reach,
             live,

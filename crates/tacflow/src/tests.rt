@@ -11,6 +11,7 @@ use std::io;
 use std::io::{ErrorKind, Read, Write};
 use std::process::Abort;
 use std::test::Fail;
+use std::thread::Threads;
 use tac_reader::{Refusal, RefusalKind};
 
 // Gives so many bytes a call at most, and after so many in all it fails.
@@ -79,17 +80,22 @@ pub(crate) fn blank_page(alloc: Global) -> Page {
     }
 }
 
-// The line of the fault, if there was one, and behind it what was written.
-pub(crate) fn told<R: Read + Drop>(
-    alloc: Global,
-    reader: R,
+// Numbers of workers, and widths of slices.
+const TEAMS: [(u32, u32); 4] = [(1, 64), (3, 64), (1, 1), (3, 1)];
+
+// The line of the fault, if there was one, and behind it what was written, by so many workers in slices of this width.
+fn told_by<R: Threads + Sync + AllocGlobal, D: Read + Drop>(
+    rt: &R,
+    reader: D,
     page: &mut Page,
     show: Show,
+    team: (u32, u32),
 ) -> Result<Vec<u8>, Fail> {
-    let options = Options::new(1, 64, show).ok_or("options")?;
+    let alloc = rt.alloc();
+    let options = Options::new(team.0, team.1, show).ok_or("options")?;
     let mut source = FromRead::new(reader);
     let mut sink = ToWrite::new(&mut *page);
-    let mut line = match run(alloc, &mut source, &mut sink, options) {
+    let mut line = match run(rt, alloc, &mut source, &mut sink, options) {
         Ok(()) => Vec::new(alloc),
         Err(fault) => fault_line(alloc, &fault)?,
     };
@@ -97,15 +103,27 @@ pub(crate) fn told<R: Read + Drop>(
     Ok(line)
 }
 
-// The text is answered so, whole or byte by byte.
-pub(crate) fn check(
-    rt: &(impl Abort + AllocGlobal),
+// The same by one worker, in slices of 64 bits.
+pub(crate) fn told<R: Threads + Sync + AllocGlobal, D: Read + Drop>(
+    rt: &R,
+    reader: D,
+    page: &mut Page,
+    show: Show,
+) -> Result<Vec<u8>, Fail> {
+    told_by(rt, reader, page, show, (1, 64))
+}
+
+// The text is answered so, whole or byte by byte, and by each team.
+pub(crate) fn check<R: Threads + Sync + Abort + AllocGlobal>(
+    rt: &R,
     text: &[u8],
     show: Show,
     answer: &[u8],
 ) -> Result<(), Fail> {
-    let got = told(rt.alloc(), text, &mut blank_page(rt.alloc()), show)?;
-    assert_eq!(rt; got.as_slice(), answer);
+    for team in TEAMS {
+        let got = told_by(rt, text, &mut blank_page(rt.alloc()), show, team)?;
+        assert_eq!(rt; got.as_slice(), answer, "{team:?}");
+    }
     let slow = Pieces {
         rest: text,
         piece: 1,
@@ -114,12 +132,15 @@ pub(crate) fn check(
     };
     let mut narrow = blank_page(rt.alloc());
     narrow.piece = 1;
-    let got = told(rt.alloc(), slow, &mut narrow, show)?;
+    let got = told(rt, slow, &mut narrow, show)?;
     assert_eq!(rt; got.as_slice(), answer);
     Ok(())
 }
 
-fn check_all(rt: &(impl Abort + AllocGlobal), cases: &[(&str, &str)]) -> Result<(), Fail> {
+fn check_all<R: Threads + Sync + Abort + AllocGlobal>(
+    rt: &R,
+    cases: &[(&str, &str)],
+) -> Result<(), Fail> {
     for (text, answer) in cases {
         check(rt, text.as_bytes(), Show::List, answer.as_bytes())?;
     }
@@ -380,7 +401,7 @@ fn faults_behind_the_longest_text(rt: HostRuntime) -> Result<(), Fail> {
             left,
             fault: ErrorKind::Other,
         };
-        let got = told(rt.alloc(), reader, &mut blank_page(rt.alloc()), Show::List)?;
+        let got = told(&rt, reader, &mut blank_page(rt.alloc()), Show::List)?;
         assert_eq!(rt; got.as_slice(), answer.as_bytes());
     }
     Ok(())
@@ -409,7 +430,7 @@ fn faults_of_readers(rt: HostRuntime) -> Result<(), Fail> {
                     left,
                     fault,
                 };
-                let got = told(rt.alloc(), reader, &mut blank_page(rt.alloc()), show)?;
+                let got = told(&rt, reader, &mut blank_page(rt.alloc()), show)?;
                 assert_eq!(rt; got.as_slice(), b"tacflow: read fault\n".as_slice());
             }
         }
@@ -418,8 +439,8 @@ fn faults_of_readers(rt: HostRuntime) -> Result<(), Fail> {
 }
 
 // The writer takes so many bytes and then fails, or takes none.
-fn check_writer(
-    rt: &(impl Abort + AllocGlobal),
+fn check_writer<R: Threads + Sync + Abort + AllocGlobal>(
+    rt: &R,
     show: Show,
     text: &[u8],
     left: usize,
@@ -428,7 +449,7 @@ fn check_writer(
     let mut page = blank_page(rt.alloc());
     page.left = left;
     page.fault = fault;
-    let got = told(rt.alloc(), SMALL, &mut page, show)?;
+    let got = told(rt, SMALL, &mut page, show)?;
     let beginning = text.get(..left).ok_or("a beginning")?;
     assert_eq!(rt; page.taken.as_slice(), beginning);
     assert!(rt; got.as_slice().starts_with(b"tacflow: write fault\n"));
@@ -447,7 +468,7 @@ fn faults_of_writers(rt: HostRuntime) -> Result<(), Fail> {
         }
         let mut page = blank_page(rt.alloc());
         page.flushes = false;
-        let got = told(rt.alloc(), SMALL, &mut page, show)?;
+        let got = told(&rt, SMALL, &mut page, show)?;
         assert_eq!(rt; page.taken.as_slice(), text);
         assert!(rt; got.as_slice().starts_with(b"tacflow: write fault\n"));
     }
@@ -455,13 +476,14 @@ fn faults_of_writers(rt: HostRuntime) -> Result<(), Fail> {
 }
 
 // With ample memory this answer, and where a growth is refused want of memory and nothing written.
-fn check_growths(
-    rt: &(impl Abort + AllocGlobal),
+fn check_growths<R: Threads + Sync + Abort + AllocGlobal>(
+    rt: &R,
     text: &str,
     show: Show,
     answer: &str,
+    workers: u32,
 ) -> Result<(), Fail> {
-    let options = Options::new(1, 64, show).ok_or("options")?;
+    let options = Options::new(workers, 1, show).ok_or("options")?;
     let Ok(taken) = Vec::with_capacity(rt.alloc(), 512) else {
         return Ok(());
     };
@@ -469,6 +491,7 @@ fn check_growths(
     page.taken = taken;
     let mut source = FromRead::new(text.as_bytes());
     match run(
+        rt,
         rt.alloc(),
         &mut source,
         &mut ToWrite::new(&mut page),
@@ -510,7 +533,8 @@ fn growths_refused(rt: HostRuntime) -> Result<(), Fail> {
         ),
     ];
     for (text, show, answer) in cases {
-        check_growths(&rt, text, show, answer)?;
+        check_growths(&rt, text, show, answer, 1)?;
+        check_growths(&rt, text, show, answer, 3)?;
     }
     Ok(())
 }

@@ -54,7 +54,7 @@ fn workers_option<'a>(alloc: Global) -> Arg<'a>
         .action(ArgAction::Set)
         .value_parser(value_parser!(u32).range(1..=64))
         .default_value("1")
-        .help("A number of workers, 1 to 64; what is written is the same for each")
+        .help("How many threads work, 1 to 64; what is written is the same for each")
 }
 
 fn cut_option<'a>(alloc: Global) -> Arg<'a>
@@ -67,7 +67,9 @@ fn cut_option<'a>(alloc: Global) -> Arg<'a>
         .action(ArgAction::Set)
         .value_parser(value_parser!(u32).range(1..=4096))
         .default_value("64")
-        .help("A number of bits, 1 to 4096; what is written is the same for each")
+        .help(
+            "How many bits a worker solves at a time, 1 to 4096; what is written is the same for each",
+        )
 }
 
 fn show_option<'a>(alloc: Global, kinds: &'a [PossibleValue<'a>]) -> Arg<'a>

@@ -1,4 +1,4 @@
-use Rattle.std.proofs.Common.{◌≡◌, ◌+◌, ◌-◌, ◌<◌, ◌≤◌, max, length, refl, arith, rules}
+use Rattle.std.proofs.Common.{refl, rules}
 use Rattle.bit_rows.proofs.WordLoops.{IsAddedTo-none, IsAddedTo-more, IsAddedTo-all}
 use Rattle.bit_rows.proofs.kernels.or_words_from.Goals as goal
 

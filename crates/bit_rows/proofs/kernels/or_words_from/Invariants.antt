@@ -1,4 +1,3 @@
-use Rattle.std.proofs.Common.{◌≡◌, ℕ, ◌+◌, ◌<◌, ◌≤◌, ◌||◌, length, get_or}
 use Rattle.bit_rows.proofs.WordLoops.{IsAddedTo}
 use Rattle.bit_rows.proofs.kernels.or_words_from.Given as goal
 

@@ -2,7 +2,7 @@ use Rattle.std.proofs.Common.{ℕ, length, not, ap, ◌∙◌}
 use Rattle.std.proofs.lemmas.List.FromFn.{length-map-range_with_len}
 use Rattle.std.proofs.lemmas.Result.{IfOk-weaker}
 use Rattle.flow_graph.specs.Points.{point_count}
-use Rattle.tacflow.specs.Tables.{facts_of}
+use Rattle.flow_team.specs.Tables.{facts_of}
 use Rattle.tacflow.proofs.Doubts.{tell_doubtful}
 use Rattle.tacflow.proofs.doubt.doubtful_points.Goals as goal
 

@@ -1,6 +1,6 @@
 use Rattle.std.proofs.Common.{◌≡◌, ℕ, Bool, [], ◌∷◌, ◌++◌, not, ap, ◌∙◌, sym}
 use Rattle.flow_graph.proofs.Ranges.{map-range_more}
-use Rattle.tacflow.specs.Tables.{facts_of}
+use Rattle.flow_team.specs.Tables.{facts_of}
 use Rattle.tacflow.proofs.doubt.endless_points.Goals as goal
 
 pub loop-point-preserved : goal.loop-point-preserved

@@ -1,6 +1,6 @@
 use Rattle.std.proofs.Common.{◌≡◌, map, not}
 use Rattle.std.specs.List.{range_with_len}
-use Rattle.tacflow.specs.Tables.{facts_of}
+use Rattle.flow_team.specs.Tables.{facts_of}
 use Rattle.tacflow.proofs.doubt.endless_points.Given as goal
 
 abbrev pub invariant-loop-point : goal.invariant-loop-point

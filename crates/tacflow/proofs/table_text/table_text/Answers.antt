@@ -2,7 +2,8 @@ use Rattle.std.proofs.Common.{◌≡◌, ◌++◌, flat_map, sym, ap, ◌∙◌,
 use Rattle.std.specs.List.{range_with_len}
 use Rattle.flow_graph.specs.Points.{point_count}
 use Rattle.flow_graph.proofs.Ranges.{flat_map-range_more}
-use Rattle.tacflow.specs.Tables.{facts_of, point_line}
+use Rattle.flow_team.specs.Tables.{facts_of}
+use Rattle.tacflow.specs.Tables.{point_line}
 use Rattle.tacflow.proofs.table_text.table_text.Goals as goal
 
 pub loop-point-preserved : goal.loop-point-preserved

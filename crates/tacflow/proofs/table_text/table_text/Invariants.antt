@@ -1,6 +1,7 @@
 use Rattle.std.proofs.Common.{◌≡◌, flat_map}
 use Rattle.std.specs.List.{range_with_len}
-use Rattle.tacflow.specs.Tables.{facts_of, point_line}
+use Rattle.flow_team.specs.Tables.{facts_of}
+use Rattle.tacflow.specs.Tables.{point_line}
 use Rattle.tacflow.proofs.table_text.table_text.Given as goal
 
 abbrev pub invariant-loop-point : goal.invariant-loop-point

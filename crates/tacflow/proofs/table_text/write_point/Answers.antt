@@ -5,7 +5,8 @@ use Rattle.bit_rows.specs.RowSet.{contains}
 use Rattle.bit_rows.specs.RowTable.{flag_at, set_at}
 use Rattle.flow_graph.specs.Universes.{bits as bits_of}
 use Rattle.tacflow.specs.Lists.{text_at}
-use Rattle.tacflow.specs.Tables.{bit_text, bits_at, facts_of, listed, place_text}
+use Rattle.flow_team.specs.Tables.{facts_of}
+use Rattle.tacflow.specs.Tables.{bit_text, bits_at, listed, place_text}
 use Rattle.tacflow.proofs.ListTexts.{map-members}
 use Rattle.tacflow.proofs.table_text.write_point.Goals as goal
 

@@ -1,4 +1,4 @@
-use Rattle.std.proofs.Common.{◌≡◌, ℕ, List, length, sym, ap, ◌∙◌, subst, arith}
+use Rattle.std.proofs.Common.{◌≡◌, length, ap, ◌∙◌}
 use Rattle.std.specs.List.{refill}
 use Rattle.bit_rows.specs.RowSet.{difference}
 use Rattle.bit_rows.proofs.WordRows.{HoldSet, HoldSet-alike, HoldSet-refill, HoldSet-difference}

@@ -1,4 +1,4 @@
-use Rattle.std.proofs.Common.{◌≡◌, ℕ, List, length, sym, ap, ◌∙◌, subst}
+use Rattle.std.proofs.Common.{ℕ, List, length, sym, ap, ◌∙◌, subst}
 use Rattle.std.specs.List.{refill}
 use Rattle.bit_rows.specs.RowSet.{with_words}
 use Rattle.bit_rows.proofs.WordRows.{HoldSet, HoldSet-refill, HoldSet-with_words}

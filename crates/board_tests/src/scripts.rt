@@ -1,0 +1,214 @@
+// What two workers do with a board, step by step, written down as text.
+
+ghost use Rattle.std.specs.Prelude.{◌≡◌, IfSome, IfOk};
+ghost use Rattle.slice_board.specs.Boards.{IsOf};
+ghost use Rattle.board_tests.specs.Benches.{IsFor, AreNoted};
+
+use crate::bench::{Sets, Worker, open, wanted_sets};
+use bit_rows::{Cut, Row, Rows};
+use slice_board::{Board, OutOfMemory};
+use std::alloc::Global;
+
+/// What a worker does.
+#[derive(Drop)]
+pub(crate) enum Step {
+    Claim,
+    /// A mask on a word of a point's row: the point, the word, the mask.
+    Post(u32, u32, u64),
+    /// At a word of a point's row.
+    Look(u32, u32),
+    Finish,
+}
+
+#[derive(Drop)]
+pub(crate) enum Who {
+    First,
+    Second,
+}
+
+/// A board, and what is done with it.
+#[derive(Drop)]
+pub(crate) struct Case {
+    pub(crate) points: u32,
+    pub(crate) bits: u32,
+    pub(crate) places: &'static [u32],
+    /// Points and bits.
+    pub(crate) wanted: &'static [(u32, u32)],
+    pub(crate) steps: &'static [(Who, Step)],
+    /// Whether the second worker's pass is joined to the first's then, or dropped.
+    pub(crate) joins: bool,
+    /// What the first worker does between the first `close` and the second.
+    pub(crate) last: &'static [Step],
+}
+
+fn take(
+    log: &mut String,
+    board: &Board<Sets>,
+    sets: &Sets,
+    worker: &mut Worker,
+    step: &Step,
+) -> Result<(), OutOfMemory>
+    requires of { IsOf board.now worker.old.pass }
+    requires noted { AreNoted worker.old.mine worker.old.pass.posted }
+    requires wanted { board.now.wanted ≡ sets.now }
+    requires board { IsFor board.now sets.now.rows }
+    ensures of { IsOf board.now worker.new.pass }
+    ensures noted { AreNoted worker.new.mine worker.new.pass.posted }
+{
+    match step {
+        Step::Claim => match worker.claim(board) {
+            Some(slice) => writeln!(log, "claims {slice}")?,
+            None => log.push_str("claims none\n")?,
+        },
+        Step::Post(point, word, mask) => {
+            if !worker.post(board, sets, *point, *word, *mask) {
+                log.push_str("may not post\n")?;
+            }
+        }
+        Step::Look(point, word) => match worker.look(board, sets, *point, *word) {
+            Some(value) => writeln!(log, "sees {value}")?,
+            None => log.push_str("sees nothing\n")?,
+        },
+        Step::Finish => match worker.finish(board, sets) {
+            Some(slice) => writeln!(log, "finishes {slice}")?,
+            None => log.push_str("finishes none\n")?,
+        },
+    }
+    Ok(())
+}
+
+fn take_all(
+    log: &mut String,
+    board: &Board<Sets>,
+    sets: &Sets,
+    worker: &mut Worker,
+    steps: &[Step],
+) -> Result<(), OutOfMemory>
+    requires of { IsOf board.now worker.old.pass }
+    requires noted { AreNoted worker.old.mine worker.old.pass.posted }
+    requires wanted { board.now.wanted ≡ sets.now }
+    requires board { IsFor board.now sets.now.rows }
+    ensures of { IsOf board.now worker.new.pass }
+    ensures noted { AreNoted worker.new.mine worker.new.pass.posted }
+{
+    for step in steps {
+        take(log, board, sets, worker, step)?;
+    }
+    Ok(())
+}
+
+fn write_row(log: &mut String, row: &Row) -> Result<(), OutOfMemory> {
+    for bit in row.lo()..row.hi() {
+        if row.get(bit) {
+            write!(log, " {bit}")?;
+        }
+    }
+    Ok(())
+}
+
+fn write_rows(log: &mut String, rows: &Rows) -> Result<(), OutOfMemory> {
+    for point in 0..rows.points() {
+        write!(log, "{point} {}:", rows.flag(point))?;
+        write_row(log, rows.row(point))?;
+        log.push_str("\n")?;
+    }
+    Ok(())
+}
+
+// Closes the board, or gives all back.
+fn close(
+    log: &mut String,
+    board: Board<Sets>,
+    worker: Worker,
+) -> Result<Option<(Board<Sets>, Worker)>, OutOfMemory>
+    requires of { IsOf board worker.pass }
+    requires noted { AreNoted worker.mine worker.pass.posted }
+    ensures board { IfOk result (λ r. IfSome r (λ kept. kept.0 ≡ board)) }
+    ensures of { IfOk result (λ r. IfSome r (λ kept. IsOf board kept.1.pass)) }
+    ensures noted { IfOk result (λ r. IfSome r (λ kept. AreNoted kept.1.mine kept.1.pass.posted)) }
+{
+    let Worker { pass, mine } = worker;
+    match board.close(pass) {
+        Ok(rows) => {
+            write_rows(log, &rows)?;
+            Ok(None)
+        }
+        Err((unfinished, board, pass)) => {
+            writeln!(log, "{} of {} finished", unfinished.done, unfinished.of)?;
+            Ok(Some((board, Worker { pass, mine })))
+        }
+    }
+}
+
+// The steps of both workers, and what they leave.
+fn take_both(
+    log: &mut String,
+    board: &Board<Sets>,
+    sets: &Sets,
+    first: &mut Worker,
+    second: &mut Worker,
+    steps: &[(Who, Step)],
+) -> Result<(), OutOfMemory>
+    requires first { IsOf board.now first.old.pass }
+    requires first_noted { AreNoted first.old.mine first.old.pass.posted }
+    requires second { IsOf board.now second.old.pass }
+    requires second_noted { AreNoted second.old.mine second.old.pass.posted }
+    requires wanted { board.now.wanted ≡ sets.now }
+    requires board { IsFor board.now sets.now.rows }
+    ensures first { IsOf board.now first.new.pass }
+    ensures first_noted { AreNoted first.new.mine first.new.pass.posted }
+    ensures second { IsOf board.now second.new.pass }
+{
+    for (who, step) in steps {
+        match who {
+            Who::First => take(log, board, sets, first, step)?,
+            Who::Second => take(log, board, sets, second, step)?,
+        }
+    }
+    Ok(())
+}
+
+// The second worker is joined to the first, or dropped.
+fn meet(board: &Board<Sets>, first: Worker, second: Worker, joins: bool) -> Option<Worker>
+    requires first { IsOf board.now first.pass }
+    requires first_noted { AreNoted first.mine first.pass.posted }
+    requires second { IsOf board.now second.pass }
+    ensures of { IfSome result (λ worker. IsOf board.now worker.pass) }
+    ensures noted { IfSome result (λ worker. AreNoted worker.mine worker.pass.posted) }
+{
+    if joins {
+        first.join(board, second)
+    } else {
+        Some(first)
+    }
+}
+
+// What is done with a board of this cut.
+fn run_on(alloc: Global, log: &mut String, case: &Case, cut: Cut) -> Result<(), OutOfMemory>
+    requires { cut.bits ≡ case.now.bits }
+{
+    let sets = wanted_sets(alloc, case.points, case.bits, case.wanted)?;
+    let (board, mut pass) = open(alloc, &sets, cut)?;
+    let other = board.split(&mut pass);
+    let mut first = Worker::new(alloc, &sets, pass)?;
+    let mut second = Worker::new(alloc, &sets, other)?;
+    take_both(log, &board, &sets, &mut first, &mut second, case.steps)?;
+    let Some(worker) = meet(&board, first, second, case.joins) else {
+        return log.push_str("both hold a slice\n");
+    };
+    if let Some((board, mut worker)) = close(log, board, worker)? {
+        take_all(log, &board, &sets, &mut worker, case.last)?;
+        close(log, board, worker)?;
+    }
+    Ok(())
+}
+
+/// What the workers of a case are told, line by line.
+pub(crate) fn run(alloc: Global, case: &Case) -> Result<String, OutOfMemory> {
+    let mut log = String::new(alloc);
+    match Cut::at(alloc, case.bits, case.places) {
+        Ok(cut) => run_on(alloc, &mut log, case, cut)?,
+        Err(_) => log.push_str("no cut\n")?,
+    }
+    Ok(log)
+}

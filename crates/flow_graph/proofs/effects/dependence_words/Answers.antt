@@ -1,0 +1,9 @@
+use Rattle.std.proofs.Common.{◌≤◌, length, ap, arith}
+use Rattle.tac_reader.specs.Programs.{Program}
+use Rattle.flow_graph.specs.Universes.{Live}
+use Rattle.flow_graph.proofs.effects.dependence_words.Goals as goal
+
+pub blank-requires-clause-rows : goal.blank-requires-clause-rows
+blank-requires-clause-rows c =
+    let few : length c.args.graph.now.variable_names ≤ 4096 = c.bits-bits.ensures.few Live in
+    omega (arith, few, c.variables-rows.ensures, ap (λ (p : Program). length p.variable_names) c.program.ensures)

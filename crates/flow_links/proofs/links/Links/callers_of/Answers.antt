@@ -1,0 +1,17 @@
+use Rattle.std.proofs.Common.{◌<◌}
+use Rattle.std.specs.List.{slice_range}
+use Rattle.flow_graph.specs.Points.{point_count}
+use Rattle.flow_links.specs.LinkLists.{AreCallersOf}
+use Rattle.flow_links.specs.Shapes.{LinkedProgram, directed_shape}
+use Rattle.flow_links.proofs.ListLemmas.{part_read, seen, unseen, callers_are}
+use Rattle.flow_links.proofs.links.Links.callers_of.Goals as goal
+
+pub returns : goal.returns
+returns c =
+    let tables = c.self.invariant in
+    let form = c.self.inside.problem.value in
+    let low = unseen form c.self.inside.backward c.args.self.now tables.same_direction c.self.view_is (λ (l : LinkedProgram). c.args.point < point_count l.program) c.requires in
+    let part = part_read tables.callers_are c.args.point c.index-from.result.now c.index-to.result.now c.deref.result.now low c.index-from.ensures c.index-to.ensures c.deref.ensures.value in
+    seen form c.self.inside.backward c.args.self.now tables.same_direction c.self.view_is
+    (λ (l : LinkedProgram). AreCallersOf (directed_shape l) (point_count l.program) c.args.point (slice_range c.deref.result.now c.index-from.result.now c.index-to.result.now))
+    (callers_are tables.numbered c.args.point low (slice_range c.deref.result.now c.index-from.result.now c.index-to.result.now) part)

@@ -1,0 +1,17 @@
+use Rattle.std.proofs.Common.{◌<◌}
+use Rattle.std.specs.List.{slice_range}
+use Rattle.flow_graph.specs.Points.{point_count}
+use Rattle.flow_links.specs.LinkLists.{AreSitesIn}
+use Rattle.flow_links.specs.Shapes.{LinkedProgram, directed_shape}
+use Rattle.flow_links.proofs.ListLemmas.{part_read, seen, unseen, sites_are}
+use Rattle.flow_links.proofs.links.Links.sites_in.Goals as goal
+
+pub returns : goal.returns
+returns c =
+    let tables = c.self.invariant in
+    let form = c.self.inside.problem.value in
+    let low = unseen form c.self.inside.backward c.args.self.now tables.same_direction c.self.view_is (λ (l : LinkedProgram). c.args.procedure < (directed_shape l).procedures) c.requires in
+    let part = part_read tables.sites_are c.args.procedure c.index-from.result.now c.index-to.result.now c.deref.result.now low c.index-from.ensures c.index-to.ensures c.deref.ensures.value in
+    seen form c.self.inside.backward c.args.self.now tables.same_direction c.self.view_is
+    (λ (l : LinkedProgram). AreSitesIn (directed_shape l) (point_count l.program) c.args.procedure (slice_range c.deref.result.now c.index-from.result.now c.index-to.result.now))
+    (sites_are tables.numbered c.args.procedure low (slice_range c.deref.result.now c.index-from.result.now c.index-to.result.now) part)

@@ -1,0 +1,9 @@
+use Rattle.std.proofs.Common.{◌≡◌, map, take}
+use Rattle.flow_graph.specs.Analyses.{is_backward, may_shape}
+use Rattle.flow_links.specs.Tables.EdgeLists.{call_link, edge_at}
+use Rattle.flow_links.proofs.values.links.Given as goal
+
+abbrev pub invariant-loop-place : goal.invariant-loop-place
+invariant-loop-place l =
+    l.list.items
+    ≡ map (λ place. call_link (may_shape l.fn.problem.program l.fn.problem.analysis) (is_backward l.fn.problem.analysis) (edge_at (may_shape l.fn.problem.program l.fn.problem.analysis).edges place)) (take l.place-index l.places)

@@ -1,0 +1,3 @@
+pub mod LinkLists
+pub mod Shapes
+pub mod Tables

@@ -1,0 +1,17 @@
+//! The edges of a problem by point, and the orders in which a solver takes points and procedures.
+#![tactic(auto)]
+
+mod components;
+mod keys;
+mod link;
+mod links;
+mod list_kind;
+mod lists;
+mod orders;
+mod procedure_set;
+mod values;
+mod walk;
+
+pub use link::{CallLink, SiteLink};
+pub use links::Links;
+pub use std::alloc::AllocError as OutOfMemory;

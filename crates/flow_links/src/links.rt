@@ -1,0 +1,253 @@
+ghost use Rattle.std.specs.Prelude.{◌≡◌, ◌<◌, ◌≤◌, ℕ, IfOk, length, slice_index};
+ghost use Rattle.flow_graph.specs.Analyses.{is_backward as is_backward_of, may_shape};
+ghost use Rattle.flow_graph.specs.Limits.{HasFewPoints};
+ghost use Rattle.flow_graph.specs.Points.{point_count};
+ghost use Rattle.flow_links.specs.LinkLists.{AreStepsFrom, AreCallsFrom, AreCallersOf, AreSitesIn};
+ghost use Rattle.flow_links.specs.Shapes.{directed_shape, IsNumbered};
+ghost use Rattle.flow_links.specs.Tables.LinkTables.{AreEach};
+
+use crate::OutOfMemory;
+use crate::components::component_places;
+use crate::link::{CallLink, SiteLink};
+use crate::lists::{
+    CallLists, PointLists, SiteLists, call_lists, caller_lists, site_lists, step_lists,
+};
+use crate::orders::{number_order, point_order, procedure_order};
+use flow_graph::Problem;
+use std::alloc::Global;
+use std::marker::Model;
+use std::snapshot::Snapshot;
+use work_list::Order;
+
+/// The edges of a problem by point, in the direction in which it is solved, and an order in which to take its points and
+/// one in which to take its procedures. It stands for the program and the direction: two analyses of one direction have
+/// the same links.
+///
+/// The lists lie side by side in a handful of blocks, made in time that goes with the number of edges.
+#[derive(Drop)]
+pub struct Links<'g, 'p> {
+    problem: Snapshot<Problem<'g, 'p>>,
+    backward: bool,
+    root: u32,
+    entries: Vec<u16>,
+    exits: Vec<u16>,
+    procedures: Vec<u16>,
+    steps: PointLists,
+    calls: CallLists,
+    callers: PointLists,
+    sites: SiteLists,
+    order: Order,
+    call_order: Order,
+}
+
+impl<'g, 'p> Model for Links<'g, 'p> {
+    ghost use Rattle.flow_links.specs.Shapes.{LinkedProgram};
+    ghost use Rattle.flow_links.specs.Tables.LinkTables.{AreTables};
+
+    ghost Value = { LinkedProgram };
+
+    ghost view = { λ links. record { program = links.problem.value.program; backward = links.backward } };
+
+    ghost invariant = { λ links. AreTables links.problem.value links.backward links.root links.entries.items links.exits.items links.procedures.items
+        links.steps.starts.items links.steps.items.items links.calls.starts.items links.calls.items.items
+        links.callers.starts.items links.callers.items.items links.sites.starts.items links.sites.items.items links.order links.call_order };
+}
+
+// The entry of each procedure.
+fn entries(alloc: Global, problem: &Problem<'_, '_>) -> Result<Vec<u16>, OutOfMemory>
+    ensures { IfOk result (λ entries. AreEach entries.items (may_shape problem.now.program problem.now.analysis).procedures (may_shape problem.now.program problem.now.analysis).entry) }
+{
+    let count = problem.procedures();
+    let _ = problem.points();
+    let mut entries = Vec::with_capacity(alloc, count as usize)?;
+    for procedure in 0..count {
+        entries.push(problem.entry(procedure) as u16)?;
+    }
+    Ok(entries)
+}
+
+// The exit of each procedure.
+fn exits(alloc: Global, problem: &Problem<'_, '_>) -> Result<Vec<u16>, OutOfMemory>
+    ensures { IfOk result (λ exits. AreEach exits.items (may_shape problem.now.program problem.now.analysis).procedures (may_shape problem.now.program problem.now.analysis).exit) }
+{
+    let count = problem.procedures();
+    let _ = problem.points();
+    let mut exits = Vec::with_capacity(alloc, count as usize)?;
+    for procedure in 0..count {
+        exits.push(problem.exit(procedure) as u16)?;
+    }
+    Ok(exits)
+}
+
+// The procedure of each point.
+fn procedures_of(alloc: Global, problem: &Problem<'_, '_>) -> Result<Vec<u16>, OutOfMemory>
+    ensures { IfOk result (λ procedures. AreEach procedures.items (point_count problem.now.program) (may_shape problem.now.program problem.now.analysis).procedure_of) }
+{
+    let _ = problem.procedures();
+    let points = problem.points();
+    let mut procedures = Vec::with_capacity(alloc, points as usize)?;
+    for point in 0..points {
+        procedures.push(problem.procedure(point) as u16)?;
+    }
+    Ok(procedures)
+}
+
+impl<'g, 'p> Links<'g, 'p> {
+    // The links of a problem, in the order of the numbers.
+    fn unordered(alloc: Global, problem: &Problem<'g, 'p>) -> Result<Self, OutOfMemory>
+        ensures { IfOk result (λ links. links ≡ record { program = problem.now.program; backward = is_backward_of problem.now.analysis }) }
+    {
+        let steps = step_lists(alloc, problem)?;
+        let calls = call_lists(alloc, problem)?;
+        let callers = caller_lists(alloc, problem)?;
+        let sites = site_lists(alloc, problem)?;
+        let order = number_order(alloc, problem.points())?;
+        let call_order = number_order(alloc, problem.procedures())?;
+        Ok(Links {
+            problem: Snapshot::of(problem),
+            backward: problem.reverses(),
+            root: problem.root(),
+            entries: entries(alloc, problem)?,
+            exits: exits(alloc, problem)?,
+            procedures: procedures_of(alloc, problem)?,
+            steps,
+            calls,
+            callers,
+            sites,
+            order,
+            call_order,
+        })
+    }
+
+    // The same links in other orders.
+    fn with_orders(self, order: Order, call_order: Order) -> Self
+        requires points { length order ≡ point_count self.program }
+        requires procedures { length call_order ≡ (directed_shape self).procedures }
+        ensures { result ≡ self.entry }
+    {
+        let mut links = self;
+        links.order = order;
+        links.call_order = call_order;
+        links
+    }
+
+    /// The links of a problem.
+    pub fn of(alloc: Global, problem: &Problem<'g, 'p>) -> Result<Self, OutOfMemory>
+        ensures { IfOk result (λ links. links ≡ record { program = problem.now.program; backward = is_backward_of problem.now.analysis }) }
+    {
+        let links = Links::unordered(alloc, problem)?;
+        let components = component_places(alloc, &links)?;
+        let order = point_order(alloc, &links, components.as_slice())?;
+        let call_order = procedure_order(alloc, &links, components.as_slice())?;
+        Ok(links.with_orders(order, call_order))
+    }
+
+    /// How many points there are: at most 16,384.
+    pub fn points(&self) -> u32
+        ensures count { result ≡ point_count self.now.program }
+        ensures few { HasFewPoints self.now.program }
+        ensures numbered { IsNumbered (directed_shape self.now) self.now.backward (point_count self.now.program) }
+    {
+        self.procedures.len() as u32
+    }
+
+    /// How many procedures there are: at most 256.
+    pub fn procedures(&self) -> u32
+        ensures count { result ≡ (directed_shape self.now).procedures }
+        ensures few { (directed_shape self.now).procedures ≤ 256 }
+    {
+        self.entries.len() as u32
+    }
+
+    /// The procedure that begins the problem.
+    pub fn root(&self) -> u32
+        ensures { result ≡ (directed_shape self.now).root_procedure }
+    {
+        self.root
+    }
+
+    /// The point at which a procedure is entered: its last, where the edges are turned round.
+    pub fn entry(&self, procedure: u32) -> u32
+        requires { procedure < (directed_shape self.now).procedures }
+        ensures { result ≡ (directed_shape self.now).entry procedure }
+    {
+        self.entries[procedure as usize] as u32
+    }
+
+    /// The point at which a procedure is left: its first, where the edges are turned round.
+    pub fn exit(&self, procedure: u32) -> u32
+        requires { procedure < (directed_shape self.now).procedures }
+        ensures { result ≡ (directed_shape self.now).exit procedure }
+    {
+        self.exits[procedure as usize] as u32
+    }
+
+    /// The procedure of a point.
+    pub fn procedure_of(&self, point: u32) -> u32
+        requires { point < point_count self.now.program }
+        ensures { result ≡ (directed_shape self.now).procedure_of point }
+    {
+        self.procedures[point as usize] as u32
+    }
+
+    /// Whether the edges are turned round.
+    pub fn is_backward(&self) -> bool
+        ensures { result ≡ self.now.backward }
+    {
+        self.backward
+    }
+
+    /// The points to which steps lead from a point.
+    pub fn steps_from(&self, point: u32) -> &[u16]
+        requires { point < point_count self.now.program }
+        ensures { AreStepsFrom (directed_shape self.now) (point_count self.now.program) point result.now }
+    {
+        let from = self.steps.starts[point as usize];
+        let to = self.steps.starts[point as usize + 1];
+        &self.steps.items[from as usize..to as usize]
+    }
+
+    /// The calls from a point: the exit of each callee, and the point after the call.
+    pub fn calls_from(&self, point: u32) -> &[CallLink]
+        requires { point < point_count self.now.program }
+        ensures { AreCallsFrom (directed_shape self.now) self.now.backward (point_count self.now.program) point result.now }
+    {
+        let from = self.calls.starts[point as usize];
+        let to = self.calls.starts[point as usize + 1];
+        &self.calls.items[from as usize..to as usize]
+    }
+
+    /// The points of the calls whose callee is left at a point: none unless it is an exit.
+    pub fn callers_of(&self, point: u32) -> &[u16]
+        requires { point < point_count self.now.program }
+        ensures { AreCallersOf (directed_shape self.now) (point_count self.now.program) point result.now }
+    {
+        let from = self.callers.starts[point as usize];
+        let to = self.callers.starts[point as usize + 1];
+        &self.callers.items[from as usize..to as usize]
+    }
+
+    /// The calls in a procedure.
+    pub fn sites_in(&self, procedure: u32) -> &[SiteLink]
+        requires { procedure < (directed_shape self.now).procedures }
+        ensures { AreSitesIn (directed_shape self.now) (point_count self.now.program) procedure result.now }
+    {
+        let from = self.sites.starts[procedure as usize];
+        let to = self.sites.starts[procedure as usize + 1];
+        &self.sites.items[from as usize..to as usize]
+    }
+
+    /// An order of the points, in which few of them are taken up again. It bears on the time alone.
+    pub fn order(&self) -> &Order
+        ensures { length result.now ≡ point_count self.now.program }
+    {
+        &self.order
+    }
+
+    /// An order of the procedures, callers first where it can be. It bears on the time alone.
+    pub fn call_order(&self) -> &Order
+        ensures { length result.now ≡ (directed_shape self.now).procedures }
+    {
+        &self.call_order
+    }
+}

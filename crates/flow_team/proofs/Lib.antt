@@ -1,0 +1,4 @@
+pub mod Complements
+pub mod OneTable
+pub mod Posts
+pub mod Words

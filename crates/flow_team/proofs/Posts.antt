@@ -1,0 +1,70 @@
+-- What is posted of a slice, word by word and point by point.
+use Rattle.std.proofs.Common.{◌≡◌, ◌↔◌, ◌∙◌, ℕ, ◌+◌, ◌*◌, ◌/◌, ◌%◌, ◌<◌, ◌≤◌, ◌⊎◌, true, List, [], ◌∷◌, ◌++◌, append_assoc, refl, sym, ap, subst, inl, inr, arith}
+use mathlib.Core.Logic.{dite}
+use native.Mathlib.Decide.{ℕ_discrete}
+use Rattle.std.proofs.lemmas.List.{append-nil}
+use Rattle.std.proofs.lemmas.Nat.Bits.{bit_at-zero}
+use Rattle.bit_rows.specs.Words.{has_bit}
+use Rattle.slice_board.specs.Boards.{BoardState, IsOf}
+use Rattle.slice_board.specs.Passes.{PassState, IsMarked, mark}
+use Rattle.slice_board.specs.declared.view.Mark.{Mark}
+use Rattle.slice_board.proofs.Calls.{one_of_bit}
+use Rattle.slice_board.proofs.Sums.{mark_here, marks_at-append}
+use Rattle.flow_team.specs.code.Posting.{IsPosted, PostsMore}
+
+-- what was marked is marked
+pub marked_still : (old more : List Mark) (point bit : ℕ) → IsMarked old point bit → IsMarked (old ++ more) point bit
+marked_still old more point bit is = let e = marks_at-append point (bit / 64) (bit % 64) old more in omega arith
+
+-- a bit of the mask that was posted last is marked
+pub marked_last : (old : List Mark) (point word mask bit : ℕ) → bit / 64 ≡ word → has_bit mask (bit % 64) ≡ true → IsMarked (old ++ mark point word mask ∷ []) point bit
+marked_last old point word mask bit at has =
+    subst (λ (w : ℕ). IsMarked (old ++ mark point w mask ∷ []) point bit) at
+    (let e = mark_here point (bit / 64) mask (bit % 64) old in let one = one_of_bit mask (bit % 64) has in omega arith)
+
+module _ {T : Type 0} where
+  pub posts_none : (pass : PassState T) → PostsMore pass pass
+  posts_none pass = record { more = []; same = ap (λ (marks : List Mark). record pass { posted = marks }) (sym (append-nil pass.posted)) }
+
+  pub posts_more : (old mid new : PassState T) → PostsMore old mid → PostsMore mid new → PostsMore old new
+  posts_more old mid new before after = record {
+    more = before.more ++ after.more;
+    same = after.same ∙ ap (λ (pass : PassState T). record pass { posted = pass.posted ++ after.more }) before.same
+        ∙ ap (λ (marks : List Mark). record old { posted = marks }) (append_assoc old.posted before.more after.more);
+  }
+
+  pub of_still : (board : BoardState T) (old new : PassState T) → PostsMore old new → IsOf board old → IsOf board new
+  of_still board old new posts of = subst (IsOf board) (sym posts.same) (record { table = of.table; about = of.about })
+
+  pub posted_still : (wanted : ℕ → ℕ → Type 0) (lo hi : ℕ) (done : ℕ → ℕ → Type 0) (old new : PassState T) → PostsMore old new
+      → IsPosted wanted lo hi done old.posted → IsPosted wanted lo hi done new.posted
+  posted_still wanted lo hi done old new posts all point bit want low high is =
+      subst (λ (pass : PassState T). IsMarked pass.posted point bit) (sym posts.same) (marked_still old.posted posts.more point bit (all point bit want low high is))
+
+-- no bit of 0 is set
+pub none_of_zero : (k : ℕ) → has_bit 0 k ≡ true → ⊥
+none_of_zero k is = let one = one_of_bit 0 k is in let none = bit_at-zero k in omega arith
+
+-- a word of a set has the set's bits
+pub word_has : (wanted : ℕ → ℕ → Type 0) (first end point word result : ℕ)
+    → ((k : ℕ) → k < 64 → (has_bit result k ≡ true) ↔ ((first ≤ 64 * word + k) × (64 * word + k < end) × wanted point (64 * word + k)))
+    → (p bit : ℕ) → p ≡ point → bit / 64 ≡ word → wanted p bit → first ≤ bit → bit < end → has_bit result (bit % 64) ≡ true
+word_has wanted first end point word result is p bit here at want low high =
+    let whole : bit ≡ 64 * word + bit % 64 = omega (arith, at) in
+    let there : wanted point (64 * word + bit % 64) = subst (λ (n : ℕ). wanted point n) whole (subst (λ (n : ℕ). wanted n bit) here want) in
+    (is (bit % 64) (omega arith)).1 (omega (arith, low, whole), omega (arith, high, whole), there)
+
+module _ {T : Type 0} (wanted : ℕ → ℕ → Type 0) (lo hi : ℕ) (old new : PassState T) (posts : PostsMore old new) where
+  -- one word more of a point
+  pub words_more : (point word : ℕ) → IsPosted wanted lo hi (λ p w. (p ≡ point) × (w < word)) old.posted
+      → IsPosted wanted lo hi (λ p w. (p ≡ point) × (w ≡ word)) new.posted → IsPosted wanted lo hi (λ p w. (p ≡ point) × (w < word + 1)) new.posted
+  words_more point word before here p bit want low high at = dite (ℕ_discrete (bit / 64) word)
+      (λ same. here p bit want low high (at.0, same))
+      (λ apart. posted_still wanted lo hi (λ q w. (q ≡ point) × (w < word)) old new posts before p bit want low high (at.0, omega (arith, at.1)))
+
+  -- one point more
+  pub points_more : (point : ℕ) → IsPosted wanted lo hi (λ p w. p < point) old.posted
+      → IsPosted wanted lo hi (λ p w. p ≡ point) new.posted → IsPosted wanted lo hi (λ p w. p < point + 1) new.posted
+  points_more point before here p bit want low high at = dite (ℕ_discrete p point)
+      (λ same. here p bit want low high same)
+      (λ apart. posted_still wanted lo hi (λ q w. q < point) old new posts before p bit want low high (omega (arith, at)))

@@ -1,0 +1,12 @@
+use Rattle.flow_team.proofs.Posts.{of_still, posts_more, words_more}
+use Rattle.flow_team.proofs.job.Job.post_point.Goals as goal
+
+pub loop-word-preserved : goal.loop-word-preserved
+loop-word-preserved g c =
+    let before = c.loop-word.invariant in
+    record {
+      of = of_still c.args.self.now c.loop-word.pass c.post_word.new.pass c.post_word.ensures.more before.of;
+      more = posts_more c.args.pass.now c.loop-word.pass c.post_word.new.pass before.more c.post_word.ensures.more;
+      posted = words_more (g.S.Wanted.wants c.args.self.now.wanted) _ _ c.loop-word.pass c.post_word.new.pass c.post_word.ensures.more c.args.point c.loop-word.word
+          before.posted c.post_word.ensures.posted;
+    }

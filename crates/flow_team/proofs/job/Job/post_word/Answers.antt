@@ -1,0 +1,20 @@
+use Rattle.std.proofs.Common.{◌≡◌, ◌∙◌, ℕ, ◌%◌, true, [], ◌∷◌, ◌++◌, sym, ap, subst}
+use Rattle.bit_rows.specs.Words.{has_bit}
+use Rattle.slice_board.specs.Passes.{PassState, IsMarked, mark}
+use Rattle.flow_team.proofs.Posts.{marked_last, none_of_zero, word_has}
+use Rattle.flow_team.proofs.job.Job.post_word.Goals as goal
+
+pub returns-then-mask-eq0-clause-posted : goal.returns-then-mask-eq0-clause-posted
+returns-then-mask-eq0-clause-posted g c = λ p bit want low high at.
+    let same = ap (λ b. b.wanted) (sym c.self.view_is) ∙ c.self.invariant.wanted in
+    let has = word_has (g.S.Wanted.wants c.self.inside.sets) _ _ c.args.point c.args.word c.word-mask.result c.word-mask.ensures p bit at.0 at.1
+    (subst (λ sets. g.S.Wanted.wants sets p bit) same want) low high in
+    absurd (none_of_zero (bit % 64) (subst (λ (n : ℕ). has_bit n (bit % 64) ≡ true) c.if-mask-eq0.true has))
+
+pub returns-clause-posted : goal.returns-clause-posted
+returns-clause-posted g c = λ p bit want low high at.
+    let same = ap (λ b. b.wanted) (sym c.self.view_is) ∙ c.self.invariant.wanted in
+    let has = word_has (g.S.Wanted.wants c.self.inside.sets) _ _ c.args.point c.args.word c.word-mask.result c.word-mask.ensures p bit at.0 at.1
+    (subst (λ sets. g.S.Wanted.wants sets p bit) same want) low high in
+    subst (λ (pass : PassState _). IsMarked pass.posted p bit) (sym c.post.ensures)
+    (subst (λ (n : ℕ). IsMarked (c.args.pass.now.posted ++ mark c.args.point c.args.word c.word-mask.result ∷ []) n bit) (sym at.0) (marked_last c.args.pass.now.posted c.args.point c.args.word c.word-mask.result bit at.1 has))

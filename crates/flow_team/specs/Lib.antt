@@ -1,0 +1,5 @@
+pub mod Tables
+pub mod Laws
+pub mod Sets
+pub mod Teams
+pub mod code

@@ -1,0 +1,37 @@
+-- What a worker's call does with its pass.
+use Rattle.std.specs.Prelude.{◌≡◌, ℕ, ◌+◌, ◌<◌, [], ◌∷◌, ◌++◌, Some, None, IsSome}
+use Rattle.slice_board.specs.Boards.{BoardState, InSlice, slice_count}
+use Rattle.slice_board.specs.Passes.{PassState, IsMarked, times}
+
+module _ {T : Type 0} where
+  -- Nothing was posted, and nothing was finished.
+  pub record Keeps (old new : PassState T) : Type 0 where
+    pub finished : new.finished ≡ old.finished
+    pub posted : new.posted ≡ old.posted
+
+  -- The slice was held before, or was drawn by the call.
+  pub record Takes (old new : PassState T) (slice : ℕ) : Type 0 where
+    pub was_held : (held : ℕ) → old.held ≡ Some held → (held ≡ slice) × (new.claimed ≡ old.claimed)
+    pub drawn : old.held ≡ None → new.claimed ≡ old.claimed ++ slice ∷ []
+
+  -- The slice was taken, all that is wanted of it is posted, and it alone was finished.
+  pub record Works (wants : T → ℕ → ℕ → Type 0) (board : BoardState T) (old new : PassState T) (slice : ℕ) : Type 0 where
+    pub there : slice < slice_count board.cut
+    pub taken : Takes old new slice
+    pub whole : (point bit : ℕ) → wants board.wanted point bit → InSlice board.cut slice bit → IsMarked new.posted point bit
+    pub finished : new.finished ≡ old.finished ++ slice ∷ []
+    pub free : new.held ≡ None
+
+  -- There was nothing to do: the pass held no slice, and each slice is among those that it claimed or found claimed.
+  pub record Idles (board : BoardState T) (old new : PassState T) : Type 0 where
+    pub keeps : Keeps old new
+    pub was_free : old.held ≡ None
+    pub free : new.held ≡ None
+    pub all_claimed : (slice : ℕ) → slice < slice_count board.cut → 0 < times slice new.claimed + times slice new.found
+
+  -- Memory was refused: nothing was posted, and the slice is held.
+  pub record Holds (old new : PassState T) : Type 0 where
+    pub keeps : Keeps old new
+    pub slice : ℕ
+    pub held : new.held ≡ Some slice
+    pub taken : Takes old new slice

@@ -1,0 +1,4 @@
+pub mod Complements
+pub mod Flags
+pub mod Jobs
+pub mod Posting

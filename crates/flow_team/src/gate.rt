@@ -1,0 +1,28 @@
+// What is called between the steps of a worker.
+ghost use Rattle.std.specs.Prelude.{◌<◌};
+ghost use Rattle.slice_board.specs.Passes.{times};
+
+use crate::solve::Solve;
+use slice_board::Pass;
+
+/// What a caller does when a slice is claimed and when it is finished, on the thread of the worker that does so.
+///
+/// It may hold the worker up, for instance until another one is there. The analysis answers where its gate returns.
+pub trait Gate: Sync {
+    /// A worker drew the slice, and has not yet begun to solve it.
+    fn claimed(&self, worker: u32, slice: u32);
+
+    /// The worker finished the slice, with this pass.
+    fn finished<S: Solve>(&self, worker: u32, slice: u32, pass: &Pass<S>)
+        requires { 0 < times slice pass.now.finished };
+}
+
+/// The gate that holds nobody.
+#[derive(Clone, Copy, Debug, Default, Drop)]
+pub struct OpenGate;
+
+impl Gate for OpenGate {
+    fn claimed(&self, _worker: u32, _slice: u32) {}
+
+    fn finished<S: Solve>(&self, _worker: u32, _slice: u32, _pass: &Pass<S>) {}
+}

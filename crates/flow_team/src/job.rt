@@ -1,0 +1,214 @@
+// A problem's sets on a board, from which workers draw.
+ghost use Rattle.std.specs.Prelude.{◌≡◌, ℕ, ◌+◌, ◌*◌, ◌/◌, ◌<◌, ◌≤◌, ◌↔◌, [], ◌∷◌, ◌++◌, true, false, IfOk, IfErr, IfSome, IfNone, IsOk, IsErr, IsSome, slice_index_or, vec_len};
+ghost use Rattle.bit_rows.specs.Words.{has_bit};
+ghost use Rattle.slice_board.specs.Boards.{IsOf, IsPlace, CountsOnce, fresh_pass, point_count, slice_count};
+ghost use Rattle.slice_board.specs.Passes.{IsMarked, joined, mark, times};
+ghost use Rattle.flow_team.specs.Teams.{Keeps, Takes, Works, Idles, Holds};
+ghost use Rattle.flow_team.specs.code.Jobs.{HoldSets};
+ghost use Rattle.flow_team.specs.code.Posting.{IsPosted, PostsMore};
+
+use crate::OutOfMemory;
+use crate::gate::Gate;
+use crate::solve::Solve;
+use bit_rows::{Cut, Rows};
+use slice_board::{Board, Pass, Unfinished};
+use std::alloc::Global;
+use std::marker::Model;
+
+/// Sets that several workers solve, each with a pass of its own: slices are drawn from a board, solved, and posted on it.
+#[derive(Drop)]
+pub struct Job<S: Solve> {
+    pub(crate) board: Board<S>,
+    pub(crate) sets: S,
+}
+
+impl<S: Solve> Model for Job<S> {
+    ghost use Rattle.slice_board.specs.Boards.{BoardState};
+    ghost use Rattle.flow_team.specs.code.Jobs.{IsJob};
+
+    ghost Value = { BoardState S };
+
+    ghost view = { λ job. job.board };
+
+    ghost invariant = { λ job. IsJob (S.points job.sets) (S.bits job.sets) (S.has_path job.sets) job.sets job.board };
+}
+
+impl<S: Solve> Job<S> {
+    /// A new pass of the job, with empty lists. The old one is unchanged.
+    pub fn split(&self, pass: &mut Pass<S>) -> Pass<S>
+        requires { IsOf self.now pass.old }
+        ensures new { result ≡ fresh_pass self.now }
+        ensures old { pass.new ≡ pass.old }
+    {
+        self.board.split(pass)
+    }
+
+    /// Two passes as one: the lists of the first, followed by those of the second, and what either holds. Refused only
+    /// where both hold a slice.
+    pub fn join(&self, first: Pass<S>, second: Pass<S>) -> Result<Pass<S>, (Pass<S>, Pass<S>)>
+        requires first { IsOf self.now first }
+        requires second { IsOf self.now second }
+        ensures joined { IfOk result (λ pass. pass ≡ joined first second) }
+        ensures apart { IfOk result (λ _. (s : ℕ) → times s first.claimed + times s second.claimed ≤ 1) }
+        ensures refused { IsErr result ↔ (IsSome first.held × IsSome second.held) }
+        ensures unchanged { IfErr result (λ r. (r.0 ≡ first) × (r.1 ≡ second)) }
+    {
+        self.board.join(first, second)
+    }
+
+    /// A word of a point's row as it is now: at least all that this pass posted or saw there, and nothing that is not wanted.
+    ///
+    /// Takes no memory and waits for nobody.
+    pub fn look(&self, pass: &mut Pass<S>, point: u32, word: u32) -> u64
+        requires of { IsOf self.now pass.old }
+        requires place { IsPlace self.now point word }
+        ensures seen { pass.new ≡ record pass.old { seen = pass.old.seen ++ mark point word result ∷ [] } }
+        ensures own { (i : ℕ) → i < 64 → IsMarked pass.old.posted point (64 * word + i) → has_bit result i ≡ true }
+        ensures again { (i : ℕ) → i < 64 → IsMarked pass.old.seen point (64 * word + i) → has_bit result i ≡ true }
+        ensures wanted { (i : ℕ) → i < 64 → has_bit result i ≡ true → S.wants self.now.wanted point (64 * word + i) }
+    {
+        self.board.look(pass, point, word)
+    }
+
+    /// How many slices there are.
+    pub fn slices(&self) -> u32
+        ensures { result ≡ slice_count self.now.cut }
+    {
+        self.board.cut().slices()
+    }
+
+    // The slice to solve next: the one that is held, or one that is drawn.
+    fn take_up<G: Gate>(&self, pass: &mut Pass<S>, worker: u32, gate: &G) -> Option<u32>
+        requires { IsOf self.now pass.old }
+        ensures of { IsOf self.now pass.new }
+        ensures keeps { Keeps pass.old pass.new }
+        ensures held { pass.new.held ≡ result }
+        ensures some { IfSome result (λ slice. (slice < slice_count self.now.cut) × Takes pass.old pass.new slice) }
+        ensures none { IfNone result (Idles self.now pass.old pass.new) }
+    {
+        if let Some(slice) = pass.held() {
+            return Some(slice);
+        }
+        let slice = self.board.claim(pass)?;
+        gate.claimed(worker, slice);
+        Some(slice)
+    }
+
+    // Posts a word of a slice at a point, unless it has no bit.
+    fn post_word(&self, pass: &mut Pass<S>, slice: &Rows, point: u32, word: u32)
+        requires of { IsOf self.now pass.old }
+        requires slice { S.is_slice self.now.wanted slice.now }
+        requires place { IsPlace self.now point word }
+        ensures more { PostsMore pass.old pass.new }
+        ensures posted { IsPosted (S.wants self.now.wanted) slice.now.lo slice.now.hi (λ p w. (p ≡ point) × (w ≡ word)) pass.new.posted }
+    {
+        let mask = self.sets.word(slice, point, word);
+        if mask == 0 {
+            return;
+        }
+        self.board.post(pass, point, word, mask);
+    }
+
+    // Posts the words of a slice at a point.
+    fn post_point(&self, pass: &mut Pass<S>, slice: &Rows, point: u32)
+        requires of { IsOf self.now pass.old }
+        requires slice { S.is_slice self.now.wanted slice.now }
+        requires point { point < point_count self.now }
+        requires within { slice.now.hi ≤ self.now.cut.bits }
+        ensures more { PostsMore pass.old pass.new }
+        ensures posted { IsPosted (S.wants self.now.wanted) slice.now.lo slice.now.hi (λ p word. p ≡ point) pass.new.posted }
+    {
+        for word in slice.lo() / 64..slice.hi().div_ceil(64) {
+            self.post_word(pass, slice, point, word);
+        }
+    }
+
+    // Posts the words of a slice at all points.
+    fn post_slice(&self, pass: &mut Pass<S>, slice: &Rows)
+        requires of { IsOf self.now pass.old }
+        requires slice { S.is_slice self.now.wanted slice.now }
+        requires within { slice.now.hi ≤ self.now.cut.bits }
+        ensures more { PostsMore pass.old pass.new }
+        ensures posted { (point bit : ℕ) → S.wants self.now.wanted point bit → slice.now.lo ≤ bit → bit < slice.now.hi → IsMarked pass.new.posted point bit }
+    {
+        for point in 0..self.sets.points() {
+            self.post_point(pass, slice, point);
+        }
+    }
+
+    /// One slice: the one that the pass holds, or one that is drawn, which is told to the gate. It is solved, each of its words
+    /// that has a bit is posted, and it is finished, which is told to the gate.
+    ///
+    /// None where the pass held no slice and all had been claimed. After `OutOfMemory` nothing was posted and the pass holds the
+    /// slice; the next call takes it up again, without a draw, and without telling the gate that it was claimed.
+    pub fn work<G: Gate>(
+        &self,
+        alloc: Global,
+        pass: &mut Pass<S>,
+        worker: u32,
+        gate: &G,
+    ) -> Result<Option<u32>, OutOfMemory>
+        requires { IsOf self.now pass.old }
+        ensures of { IsOf self.now pass.new }
+        ensures some { IfOk result (λ r. IfSome r (Works S.wants self.now pass.old pass.new)) }
+        ensures none { IfOk result (λ r. IfNone r (Idles self.now pass.old pass.new)) }
+        ensures refused { IfErr result (λ _. Holds pass.old pass.new) }
+    {
+        let Some(slice) = self.take_up(pass, worker, gate) else {
+            return Ok(None);
+        };
+        let cut = self.board.cut();
+        // Its contract tells that the slices lie within the bits.
+        let _ = cut.slices();
+        let (lo, hi) = cut.range(slice);
+        let solved = self.sets.solve(alloc, lo, hi)?;
+        self.post_slice(pass, &solved);
+        self.board.finish(pass, slice);
+        gate.finished(worker, slice, &*pass);
+        Ok(Some(slice))
+    }
+}
+
+impl<S: Solve> Job<S> {
+    // A job of the sets, over blank rows with their flags.
+    pub(crate) fn on_board(
+        alloc: Global,
+        sets: S,
+        flags: Vec<bool>,
+        cut: Cut,
+    ) -> Result<(Self, Pass<S>), OutOfMemory>
+        requires points { vec_len flags ≡ S.points sets }
+        requires bits { cut.bits ≡ S.bits sets }
+        requires flags { (point : ℕ) → point < S.points sets → (slice_index_or flags.items point false ≡ true) ↔ S.has_path sets point }
+        ensures wanted { IfOk result (λ r. r.0.wanted ≡ sets) }
+        ensures cut { IfOk result (λ r. r.0.cut ≡ cut) }
+        ensures pass { IfOk result (λ r. r.1 ≡ fresh_pass r.0) }
+    {
+        let _points = sets.points();
+        let blank = Rows::blank(alloc, flags, 0, cut.bits())?;
+        let (board, pass) = Board::open(alloc, &sets, blank, cut)?;
+        Ok((Job { board, sets }, pass))
+    }
+
+    // The rows, which hold exactly the sets, where every slice is finished. Else all is handed back.
+    pub(crate) fn close_rows(
+        self,
+        pass: Pass<S>,
+    ) -> Result<(S, Rows), (Unfinished, Job<S>, Pass<S>)>
+        requires { IsOf self pass }
+        ensures sets { IfOk result (λ r. r.0 ≡ self.wanted) }
+        ensures rows { IfOk result (λ r. HoldSets (S.points self.wanted) (S.bits self.wanted) (S.has_path self.wanted) (S.wants self.wanted) r.1) }
+        ensures all_finished { ((s : ℕ) → s < slice_count self.cut → 0 < times s pass.finished) → IsOk result }
+        ensures holding { IsSome pass.held → IsErr result }
+        ensures unfinished { IfErr result (λ r. (r.0.done < r.0.of) × (r.0.of ≡ slice_count self.cut)) }
+        ensures counted { IfErr result (λ r. CountsOnce (slice_count self.cut) pass.counted r.2.counted r.0.done) }
+        ensures job { IfErr result (λ r. r.1 ≡ self) }
+        ensures pass { IfErr result (λ r. r.2 ≡ record pass { counted = r.2.counted }) }
+    {
+        let Job { board, sets } = self;
+        match board.close(pass) {
+            Ok(rows) => Ok((sets, rows)),
+            Err((unfinished, board, pass)) => Err((unfinished, Job { board, sets }, pass)),
+        }
+    }
+}

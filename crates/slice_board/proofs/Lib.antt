@@ -1,0 +1,7 @@
+pub mod Sums
+mod Keeps
+mod Passing
+pub mod Calls
+mod Counting
+mod Putting
+mod Endings

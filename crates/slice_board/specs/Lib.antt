@@ -1,0 +1,5 @@
+pub mod Passes
+pub mod Boards
+pub mod Steps
+pub mod Lawful
+pub mod code

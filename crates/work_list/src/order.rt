@@ -1,0 +1,126 @@
+// An order of points.
+ghost use Rattle.std.specs.Prelude.{◌≡◌, ℕ, ◌<◌, ◌≤◌, ◌^◌, IfOk, length, slice_index};
+ghost use Rattle.std.specs.Bool.{OnTrue};
+ghost use Rattle.work_list.specs.Orders.{IsOrder};
+ghost use Rattle.work_list.specs.Tables.RankLists.{LeadsBack};
+
+use crate::OutOfMemory;
+use std::alloc::Global;
+use std::marker::Model;
+
+/// An order of points: any list of their numbers in which each stands once. It is seen as the rank of each point.
+///
+/// The order is free: it bears on the time alone.
+#[derive(Drop)]
+pub struct Order {
+    ranks: Vec<u16>,
+    points: Vec<u16>,
+}
+
+impl Model for Order {
+    ghost use Rattle.std.specs.Prelude.{List, ℕ};
+    ghost use Rattle.work_list.specs.Tables.RankLists.{AreInverse};
+
+    ghost Value = { List ℕ };
+
+    ghost view = { λ order. order.ranks.items };
+
+    ghost invariant = { λ order. AreInverse order.ranks.items order.points.items };
+}
+
+// Whether each number leads, by the one list and then the other, back to itself.
+fn leads_back(there: &[u16], back: &[u16]) -> bool
+    ensures { OnTrue result (LeadsBack there.now back.now) }
+{
+    for (from, to) in there.iter().enumerate() {
+        match back.get(*to as usize) {
+            Some(again) if *again as usize == from => {}
+            _ => return false,
+        }
+    }
+    true
+}
+
+// The numbers below a count.
+fn numbers(alloc: Global, count: u32) -> Result<Vec<u16>, OutOfMemory>
+    requires { count ≤ 2 ^ 16 }
+    ensures { IfOk result (λ numbers. (length numbers.items ≡ count)
+        × ((k : ℕ) → k < count → slice_index numbers.items k ≡ k)) }
+{
+    let mut numbers = Vec::with_capacity(alloc, count as usize)?;
+    for number in 0..count {
+        numbers.push(number as u16)?;
+    }
+    Ok(numbers)
+}
+
+// The rank of each of the points that are listed; 0 for one that is not.
+fn ranks_of(alloc: Global, points: &[u16]) -> Result<Vec<u16>, OutOfMemory>
+    requires { length points.now ≤ 2 ^ 16 }
+    ensures { IfOk result (λ ranks. length ranks.items ≡ length points.now) }
+{
+    let mut ranks = vec![in alloc; 0u16; points.len()]?;
+    for (rank, point) in points.iter().enumerate() {
+        if let Some(place) = ranks.get_mut(*point as usize) {
+            *place = rank as u16;
+        }
+    }
+    Ok(ranks)
+}
+
+impl Order {
+    /// The order in which the points are listed, if each number below their count is; else that of the numbers.
+    pub fn of(alloc: Global, points: Vec<u16>) -> Result<Order, OutOfMemory>
+        requires { length points.items ≤ 2 ^ 16 }
+        ensures { IfOk result (λ order. length order ≡ length points.items) }
+    {
+        let ranks = ranks_of(alloc, points.as_slice())?;
+        if leads_back(ranks.as_slice(), points.as_slice())
+            && leads_back(points.as_slice(), ranks.as_slice())
+        {
+            return Ok(Order { ranks, points });
+        }
+        let count = points.len() as u32;
+        Ok(Order {
+            ranks: numbers(alloc, count)?,
+            points: numbers(alloc, count)?,
+        })
+    }
+
+    /// How many points it has.
+    pub fn points(&self) -> u32
+        ensures count { result ≡ length self.now }
+        ensures order { IsOrder self.now }
+    {
+        self.ranks.len() as u32
+    }
+
+    /// The rank of a point.
+    pub(crate) fn rank(&self, point: usize) -> usize
+        requires { point < length self.now }
+        ensures rank { result ≡ slice_index self.now point }
+        ensures order { IsOrder self.now }
+    {
+        self.ranks[point] as usize
+    }
+
+    /// The point that has a rank.
+    pub(crate) fn point_at(&self, rank: usize) -> usize
+        requires { rank < length self.now }
+        ensures there { result < length self.now }
+        ensures rank { slice_index self.now result ≡ rank }
+        ensures order { IsOrder self.now }
+    {
+        self.points[rank] as usize
+    }
+
+    /// The same order once more.
+    pub(crate) fn copy(&self, alloc: Global) -> Result<Order, OutOfMemory>
+        ensures { IfOk result (λ copy. copy ≡ self.now) }
+    {
+        Ok(Order {
+            ranks: self.ranks.as_slice().to_vec(alloc)?,
+            points: self.points.as_slice().to_vec(alloc)?,
+        })
+    }
+}
