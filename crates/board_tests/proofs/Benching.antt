@@ -1,5 +1,5 @@
 -- Sets that are asked bit by bit, and bits that were noted.
-use Rattle.std.proofs.Common.{◌≡◌, ℕ, ◌+◌, ◌-◌, ◌*◌, ◌/◌, ◌%◌, ◌^◌, ◌<◌, ◌≤◌, ◌⊎◌, Bool, true, false, not, ◌&&◌, ◌||◌, eqb, eqb-true, nat_eq, List, [], ◌∷◌, ◌++◌, length, get_or, bit_and, w64, sym, refl, ap, ◌∙◌, subst, inl, inr, ⊎_elim, arith}
+use Rattle.std.proofs.Common.{◌≡◌, ℕ, ◌/◌, ◌%◌, ◌^◌, ◌<◌, ◌≤◌, ◌⊎◌, Bool, true, false, not, ◌&&◌, ◌||◌, eqb, eqb-true, nat_eq, List, [], ◌∷◌, ◌++◌, length, bit_and, w64, sym, refl, ap, ◌∙◌, subst, inl, inr, ⊎_elim, arith}
 use mathlib.Core.Logic.{dite}
 use native.Mathlib.Decide.{ℕ_discrete, dec_le}
 use Rattle.std.specs.Int.{bit_not}
@@ -22,7 +22,7 @@ pub within_word : (mask word i : ℕ) → word < 2 ^ 64 → i < 64 → nat_eq (b
 within_word mask word i fits within none set =
     let zero : bit_and mask (bit_not w64 word) ≡ 0 = eqb-true (bit_and mask (bit_not w64 word)) 0 none in
     let clear : (has_bit mask i && not (has_bit word i)) ≡ false =
-        ap (λ (b : Bool). has_bit mask i && b) (sym (has_bit-not word i fits within)) ∙ sym (has_bit-and mask (bit_not w64 word) i) ∙ ap (λ v. has_bit v i) zero ∙ has_bit-zero i in
+    ap (λ (b : Bool). has_bit mask i && b) (sym (has_bit-not word i fits within)) ∙ sym (has_bit-and mask (bit_not w64 word) i) ∙ ap (λ v. has_bit v i) zero ∙ has_bit-zero i in
     by_cases (has_bit mask i) (has_bit word i) set clear
   where
     by_cases : (a b : Bool) → a ≡ true → (a && not b) ≡ false → b ≡ true
@@ -35,8 +35,7 @@ pub in_range : (rows : RowTable) (point bit : ℕ) → IsUniform rows → contai
 in_range rows point bit uniform has =
     let range = uniform.ranges point in
     let low = range.lo in
-    let high = range.hi in
-    (
+    let high = range.hi in (
       dite (dec_le rows.lo bit) (λ e. e) (λ n. absurd (both_ways (contains (set_at rows point) bit) (contains-below (set_at rows point) bit (omega arith)) has)),
       dite (dec_le rows.hi bit) (λ e. absurd (both_ways (contains (set_at rows point) bit) (contains-above (set_at rows point) bit (omega arith)) has)) (λ n. omega arith),
     )
@@ -62,8 +61,7 @@ with_word_range : (s : RowSet) (word mask b : ℕ) → contains (with_word s wor
 with_word_range s word mask b has =
     let range = HasRange-with_word s word mask in
     let low = range.lo in
-    let high = range.hi in
-    (
+    let high = range.hi in (
       dite (dec_le s.lo b) (λ e. e) (λ n. absurd (both_ways (contains (with_word s word mask) b) (contains-below (with_word s word mask) b (omega arith)) has)),
       dite (dec_le (hi_of s) b) (λ e. absurd (both_ways (contains (with_word s word mask) b) (contains-above (with_word s word mask) b (omega arith)) has)) (λ n. omega arith),
     )
@@ -83,9 +81,9 @@ noted_word old new point word mask uniform there is p b has = dite (ℕ_discrete
     let lower = bounds.0 in
     let upper = bounds.1 in
     ⊎_elim
-      (λ e. inl (ap (λ (k : ℕ). contains (set_at old k) b) same ∙ e))
-      (λ e. let parts = and_parts (eqb (b / 64) word) (has_bit mask (b % 64)) e in inr (same, eqb-true (b / 64) word parts.0, parts.1))
-      (or_cases (contains s b) (eqb (b / 64) word && has_bit mask (b % 64)) (sym (contains-with_word s word mask b lower upper) ∙ made)))
+    (λ e. inl (ap (λ (k : ℕ). contains (set_at old k) b) same ∙ e))
+    (λ e. let parts = and_parts (eqb (b / 64) word) (has_bit mask (b % 64)) e in inr (same, eqb-true (b / 64) word parts.0, parts.1))
+    (or_cases (contains s b) (eqb (b / 64) word && has_bit mask (b % 64)) (sym (contains-with_word s word mask b lower upper) ∙ made)))
     (λ other. inl (ap (λ (t : RowSet). contains t b) (sym (set_at-with_set_other old point p (with_word (set_at old point) word mask) other)) ∙ ap (λ (t : RowTable). contains (set_at t p) b) (sym is) ∙ has))
 
 -- what was noted before a post, and its mask, are marks after it

@@ -1,6 +1,6 @@
 -- What the tests know of a board and of a worker.
 use Rattle.std.specs.Prelude.{◌≡◌, ℕ, ◌≤◌, ◌<◌, true, List, length}
-use Rattle.bit_rows.specs.RowSet.{RowSet, contains}
+use Rattle.bit_rows.specs.RowSet.{contains}
 use Rattle.bit_rows.specs.RowTable.{RowTable, set_at}
 use Rattle.slice_board.specs.Boards.{BoardState}
 use Rattle.slice_board.specs.Passes.{IsMarked}

@@ -7,6 +7,6 @@ mod bench;
 #[cfg(test)]
 mod many_tests;
 #[cfg(test)]
-mod scripts;
-#[cfg(test)]
 mod script_tests;
+#[cfg(test)]
+mod scripts;

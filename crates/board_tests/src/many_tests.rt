@@ -16,7 +16,11 @@ impl Wanted for Nothing {
     ghost wants = { λ _ _ _. ⊥ };
 }
 
-fn open(alloc: Global, points: usize, cut: Cut) -> Result<(Board<Nothing>, Pass<Nothing>), OutOfMemory>
+fn open(
+    alloc: Global,
+    points: usize,
+    cut: Cut,
+) -> Result<(Board<Nothing>, Pass<Nothing>), OutOfMemory>
     requires { points < 2 ^ 32 }
     ensures { IfOk result (λ r. r.1 ≡ fresh_pass r.0) }
 {
@@ -164,7 +168,11 @@ fn passes_by_turns(rt: HostRuntime) -> Result<(), Fail> {
 }
 
 // Two threads, each with a pass of its own, draw until there is nothing left.
-fn drain_both<R: Threads>(rt: &R, board: &Board<Nothing>, mut pass: Pass<Nothing>) -> Option<Pass<Nothing>>
+fn drain_both<R: Threads>(
+    rt: &R,
+    board: &Board<Nothing>,
+    mut pass: Pass<Nothing>,
+) -> Option<Pass<Nothing>>
     requires { IsOf board.now pass }
     ensures { IfSome result (IsOf board.now) }
 {

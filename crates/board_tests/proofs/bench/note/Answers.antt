@@ -1,4 +1,4 @@
-use Rattle.std.proofs.Common.{◌≡◌, arith}
+use Rattle.std.proofs.Common.{arith}
 use Rattle.board_tests.proofs.Benching.{in_range, noted_word}
 use Rattle.board_tests.proofs.bench.note.Goals as goal
 

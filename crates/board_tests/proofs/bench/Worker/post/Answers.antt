@@ -1,4 +1,4 @@
-use Rattle.std.proofs.Common.{◌≡◌, ⊎_elim, sym, subst}
+use Rattle.std.proofs.Common.{⊎_elim, sym, subst}
 use Rattle.slice_board.specs.Passes.{PassState, IsMarked, mark}
 use Rattle.board_tests.proofs.Benching.{marked_more, marked_new}
 use Rattle.board_tests.proofs.bench.Worker.post.Goals as goal
