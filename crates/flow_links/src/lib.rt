@@ -1,14 +1,14 @@
 //! The edges of a problem by point, and the orders in which a solver takes points and procedures.
 #![tactic(auto)]
 
-mod components;
+mod call_walk;
 mod keys;
 mod link;
 mod links;
 mod list_kind;
 mod lists;
 mod orders;
-mod procedure_set;
+mod turns;
 mod values;
 mod walk;
 

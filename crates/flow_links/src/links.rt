@@ -7,12 +7,12 @@ ghost use Rattle.flow_links.specs.Shapes.{directed_shape, IsNumbered};
 ghost use Rattle.flow_links.specs.Tables.LinkTables.{AreEach};
 
 use crate::OutOfMemory;
-use crate::components::component_places;
 use crate::link::{CallLink, SiteLink};
 use crate::lists::{
     CallLists, PointLists, SiteLists, call_lists, caller_lists, site_lists, step_lists,
 };
 use crate::orders::{number_order, point_order, procedure_order};
+use crate::turns::call_turns;
 use flow_graph::Problem;
 use std::alloc::Global;
 use std::marker::Model;
@@ -136,9 +136,9 @@ impl<'g, 'p> Links<'g, 'p> {
         ensures { IfOk result (λ links. links ≡ record { program = problem.now.program; backward = is_backward_of problem.now.analysis }) }
     {
         let links = Links::unordered(alloc, problem)?;
-        let components = component_places(alloc, &links)?;
-        let order = point_order(alloc, &links, components.as_slice())?;
-        let call_order = procedure_order(alloc, &links, components.as_slice())?;
+        let turns = call_turns(alloc, &links)?;
+        let order = point_order(alloc, &links, turns.as_slice())?;
+        let call_order = procedure_order(alloc, &links, turns.as_slice())?;
         Ok(links.with_orders(order, call_order))
     }
 

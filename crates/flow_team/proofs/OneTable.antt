@@ -1,11 +1,8 @@
 -- Two tables that tell the same facts tell the same.
-use Rattle.std.proofs.Common.{◌≡◌, ◌↔◌, ℕ, ◌<◌, Bool, true, false, refl, sym, subst}
-use Rattle.flow_graph.specs.Universes.{bits}
+use Rattle.std.proofs.Common.{◌≡◌, ◌↔◌, Bool, true, false, refl, sym, subst}
 use Rattle.flow_graph.specs.declared.analysis.Analysis.{Analysis}
 use Rattle.flow_graph.specs.Analyses.{HasPathAt, IsInTable}
-use Rattle.flow_graph.specs.Points.{point_count}
-use Rattle.tac_reader.specs.Programs.{Program}
-use Rattle.flow_team.specs.Tables.{TableRows, Facts, AreFacts, facts_of, IsTableOf}
+use Rattle.flow_team.specs.Tables.{AreFacts, facts_of}
 use Rattle.flow_team.specs.Laws.{TablesAreOne}
 
 -- tests of one fact are equal

@@ -1,7 +1,7 @@
 -- What is posted of a slice, word by word and point by point.
-use Rattle.std.proofs.Common.{◌≡◌, ◌↔◌, ◌∙◌, ℕ, ◌+◌, ◌*◌, ◌/◌, ◌%◌, ◌<◌, ◌≤◌, ◌⊎◌, true, List, [], ◌∷◌, ◌++◌, append_assoc, refl, sym, ap, subst, inl, inr, arith}
+use Rattle.std.proofs.Common.{◌≡◌, ◌↔◌, ◌∙◌, ℕ, ◌+◌, ◌*◌, ◌/◌, ◌%◌, ◌<◌, ◌≤◌, true, List, [], ◌∷◌, ◌++◌, append_assoc, sym, ap, subst, arith}
 use mathlib.Core.Logic.{dite}
-use native.Mathlib.Decide.{ℕ_discrete}
+use native.Mathlib.Decide.{ℕ_discrete, dec_le}
 use Rattle.std.proofs.lemmas.List.{append-nil}
 use Rattle.std.proofs.lemmas.Nat.Bits.{bit_at-zero}
 use Rattle.bit_rows.specs.Words.{has_bit}
@@ -54,17 +54,24 @@ word_has wanted first end point word result is p bit here at want low high =
     let there : wanted point (64 * word + bit % 64) = subst (λ (n : ℕ). wanted point n) whole (subst (λ (n : ℕ). wanted n bit) here want) in
     (is (bit % 64) (omega arith)).1 (omega (arith, low, whole), omega (arith, high, whole), there)
 
-module _ {T : Type 0} (wanted : ℕ → ℕ → Type 0) (lo hi : ℕ) (old new : PassState T) (posts : PostsMore old new) where
+module _ {T : Type 0} (wanted : ℕ → ℕ → Type 0) (lo hi from : ℕ) (old new : PassState T) (posts : PostsMore old new) where
   -- one word more of a point
-  pub words_more : (point word : ℕ) → IsPosted wanted lo hi (λ p w. (p ≡ point) × (w < word)) old.posted
-      → IsPosted wanted lo hi (λ p w. (p ≡ point) × (w ≡ word)) new.posted → IsPosted wanted lo hi (λ p w. (p ≡ point) × (w < word + 1)) new.posted
+  pub words_more : (point word : ℕ) → IsPosted wanted lo hi (λ p w. (p ≡ point) × (from ≤ w) × (w < word)) old.posted
+      → IsPosted wanted lo hi (λ p w. (p ≡ point) × (w ≡ word)) new.posted → IsPosted wanted lo hi (λ p w. (p ≡ point) × (from ≤ w) × (w < word + 1)) new.posted
   words_more point word before here p bit want low high at = dite (ℕ_discrete (bit / 64) word)
       (λ same. here p bit want low high (at.0, same))
-      (λ apart. posted_still wanted lo hi (λ q w. (q ≡ point) × (w < word)) old new posts before p bit want low high (at.0, omega (arith, at.1)))
+      (λ apart. posted_still wanted lo hi (λ q w. (q ≡ point) × (from ≤ w) × (w < word)) old new posts before p bit want low high (at.0, at.1, omega (arith, at.2)))
 
   -- one point more
-  pub points_more : (point : ℕ) → IsPosted wanted lo hi (λ p w. p < point) old.posted
-      → IsPosted wanted lo hi (λ p w. p ≡ point) new.posted → IsPosted wanted lo hi (λ p w. p < point + 1) new.posted
-  points_more point before here p bit want low high at = dite (ℕ_discrete p point)
-      (λ same. here p bit want low high same)
-      (λ apart. posted_still wanted lo hi (λ q w. q < point) old new posts before p bit want low high (omega (arith, at)))
+  pub points_more : (until point : ℕ) → IsPosted wanted lo hi (λ p w. (p < point) × (from ≤ w) × (w < until)) old.posted
+      → IsPosted wanted lo hi (λ p w. (p ≡ point) × (from ≤ w) × (w < until)) new.posted → IsPosted wanted lo hi (λ p w. (p < point + 1) × (from ≤ w) × (w < until)) new.posted
+  points_more until point before here p bit want low high at = dite (ℕ_discrete p point)
+      (λ same. here p bit want low high (same, at.1, at.2))
+      (λ apart. posted_still wanted lo hi (λ q w. (q < point) × (from ≤ w) × (w < until)) old new posts before p bit want low high (omega (arith, at.0), at.1, at.2))
+
+  -- some words more of all points, where nothing is wanted at others
+  pub groups_more : (points until : ℕ) → ((p bit : ℕ) → wanted p bit → p < points) → IsPosted wanted lo hi (λ p w. w < from) old.posted
+      → IsPosted wanted lo hi (λ p w. (p < points) × (from ≤ w) × (w < until)) new.posted → IsPosted wanted lo hi (λ p w. w < until) new.posted
+  groups_more points until within before here p bit want low high below = dite (dec_le from (bit / 64))
+      (λ past. here p bit want low high (within p bit want, past, below))
+      (λ under. posted_still wanted lo hi (λ q w. w < from) old new posts before p bit want low high (omega arith))

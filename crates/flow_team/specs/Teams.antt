@@ -1,5 +1,5 @@
 -- What a worker's call does with its pass.
-use Rattle.std.specs.Prelude.{◌≡◌, ℕ, ◌+◌, ◌<◌, [], ◌∷◌, ◌++◌, Some, None, IsSome}
+use Rattle.std.specs.Prelude.{◌≡◌, ℕ, ◌+◌, ◌<◌, [], ◌∷◌, ◌++◌, Some, None}
 use Rattle.slice_board.specs.Boards.{BoardState, InSlice, slice_count}
 use Rattle.slice_board.specs.Passes.{PassState, IsMarked, times}
 

@@ -1,4 +1,3 @@
 pub mod Complements
-pub mod Flags
 pub mod Jobs
 pub mod Posting

@@ -1,6 +1,7 @@
 // A problem's sets on a board, from which workers draw.
 ghost use Rattle.std.specs.Prelude.{◌≡◌, ℕ, ◌+◌, ◌*◌, ◌/◌, ◌<◌, ◌≤◌, ◌↔◌, [], ◌∷◌, ◌++◌, true, false, IfOk, IfErr, IfSome, IfNone, IsOk, IsErr, IsSome, slice_index_or, vec_len};
 ghost use Rattle.bit_rows.specs.Words.{has_bit};
+ghost use Rattle.gk_solve.specs.Solved.{TellWords};
 ghost use Rattle.slice_board.specs.Boards.{IsOf, IsPlace, CountsOnce, fresh_pass, point_count, slice_count};
 ghost use Rattle.slice_board.specs.Passes.{IsMarked, joined, mark, times};
 ghost use Rattle.flow_team.specs.Teams.{Keeps, Takes, Works, Idles, Holds};
@@ -11,6 +12,7 @@ use crate::OutOfMemory;
 use crate::gate::Gate;
 use crate::solve::Solve;
 use bit_rows::{Cut, Rows};
+use gk_solve::SliceWords;
 use slice_board::{Board, Pass, Unfinished};
 use std::alloc::Global;
 use std::marker::Model;
@@ -94,45 +96,73 @@ impl<S: Solve> Job<S> {
         Some(slice)
     }
 
-    // Posts a word of a slice at a point, unless it has no bit.
-    fn post_word(&self, pass: &mut Pass<S>, slice: &Rows, point: u32, word: u32)
+    // Posts a solved word at a point, unless it has no bit.
+    fn post_word(&self, pass: &mut Pass<S>, slice: &SliceWords, point: u32, word: u32)
         requires of { IsOf self.now pass.old }
-        requires slice { S.is_slice self.now.wanted slice.now }
+        requires words { TellWords (S.wants self.now.wanted) slice.now }
+        requires point { point < slice.now.points }
         requires place { IsPlace self.now point word }
+        requires from { slice.now.from ≤ word }
+        requires until { word < slice.now.until }
         ensures more { PostsMore pass.old pass.new }
         ensures posted { IsPosted (S.wants self.now.wanted) slice.now.lo slice.now.hi (λ p w. (p ≡ point) × (w ≡ word)) pass.new.posted }
     {
-        let mask = self.sets.word(slice, point, word);
+        let mask = slice.word(point, word);
         if mask == 0 {
             return;
         }
         self.board.post(pass, point, word, mask);
     }
 
-    // Posts the words of a slice at a point.
-    fn post_point(&self, pass: &mut Pass<S>, slice: &Rows, point: u32)
+    // Posts the solved words of a point.
+    fn post_point(&self, pass: &mut Pass<S>, slice: &SliceWords, point: u32, from: u32, until: u32)
         requires of { IsOf self.now pass.old }
-        requires slice { S.is_slice self.now.wanted slice.now }
-        requires point { point < point_count self.now }
-        requires within { slice.now.hi ≤ self.now.cut.bits }
+        requires words { TellWords (S.wants self.now.wanted) slice.now }
+        requires point { point < slice.now.points }
+        requires points { slice.now.points ≡ point_count self.now }
+        requires range { (slice.now.from ≡ from) × (slice.now.until ≡ until) }
+        requires within { 64 * until < self.now.cut.bits + 64 }
         ensures more { PostsMore pass.old pass.new }
-        ensures posted { IsPosted (S.wants self.now.wanted) slice.now.lo slice.now.hi (λ p word. p ≡ point) pass.new.posted }
+        ensures posted { IsPosted (S.wants self.now.wanted) slice.now.lo slice.now.hi
+            (λ p word. (p ≡ point) × (from ≤ word) × (word < until)) pass.new.posted }
     {
-        for word in slice.lo() / 64..slice.hi().div_ceil(64) {
+        for word in from..until {
             self.post_word(pass, slice, point, word);
         }
     }
 
-    // Posts the words of a slice at all points.
-    fn post_slice(&self, pass: &mut Pass<S>, slice: &Rows)
+    // Posts the solved words of all points.
+    fn post_words(&self, pass: &mut Pass<S>, slice: &SliceWords, from: u32, until: u32)
         requires of { IsOf self.now pass.old }
-        requires slice { S.is_slice self.now.wanted slice.now }
-        requires within { slice.now.hi ≤ self.now.cut.bits }
+        requires words { TellWords (S.wants self.now.wanted) slice.now }
+        requires points { slice.now.points ≡ point_count self.now }
+        requires range { (slice.now.from ≡ from) × (slice.now.until ≡ until) }
+        requires within { 64 * until < self.now.cut.bits + 64 }
         ensures more { PostsMore pass.old pass.new }
-        ensures posted { (point bit : ℕ) → S.wants self.now.wanted point bit → slice.now.lo ≤ bit → bit < slice.now.hi → IsMarked pass.new.posted point bit }
+        ensures posted { IsPosted (S.wants self.now.wanted) slice.now.lo slice.now.hi
+            (λ p word. (p < point_count self.now) × (from ≤ word) × (word < until)) pass.new.posted }
     {
-        for point in 0..self.sets.points() {
-            self.post_point(pass, slice, point);
+        for point in 0..slice.points() {
+            self.post_point(pass, slice, point, from, until);
+        }
+    }
+
+    // Solves the words of a slice, and posts them.
+    fn post_slice(&self, pass: &mut Pass<S>, slice: &mut SliceWords, lo: u32, hi: u32)
+        requires of { IsOf self.now pass.old }
+        requires slice { S.is_slice self.now.wanted slice.old }
+        requires range { (slice.old.lo ≡ lo) × (slice.old.hi ≡ hi) }
+        requires within { hi ≤ self.now.cut.bits }
+        ensures more { PostsMore pass.old pass.new }
+        ensures posted { (point bit : ℕ) → S.wants self.now.wanted point bit → lo ≤ bit → bit < hi → IsMarked pass.new.posted point bit }
+    {
+        // Its contract tells at which points something is wanted.
+        let _ = self.sets.points();
+        let mut word = lo / 64;
+        'groups: while word < hi.div_ceil(64) {
+            let until = self.sets.solve_from(slice, word);
+            self.post_words(pass, slice, word, until);
+            word = until;
         }
     }
 
@@ -161,8 +191,8 @@ impl<S: Solve> Job<S> {
         // Its contract tells that the slices lie within the bits.
         let _ = cut.slices();
         let (lo, hi) = cut.range(slice);
-        let solved = self.sets.solve(alloc, lo, hi)?;
-        self.post_slice(pass, &solved);
+        let mut words = self.sets.slice(alloc, lo, hi)?;
+        self.post_slice(pass, &mut words, lo, hi);
         self.board.finish(pass, slice);
         gate.finished(worker, slice, &*pass);
         Ok(Some(slice))

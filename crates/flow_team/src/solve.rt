@@ -1,10 +1,9 @@
 // What can be solved slice by slice.
-ghost use Rattle.std.specs.Prelude.{◌≡◌, ◌↔◌, ℕ, ◌+◌, ◌*◌, ◌<◌, ◌≤◌, true, IfOk};
-ghost use Rattle.bit_rows.specs.RowTable.{RowTable};
-ghost use Rattle.bit_rows.specs.Words.{has_bit};
+ghost use Rattle.std.specs.Prelude.{◌≡◌, ℕ, ◌+◌, ◌*◌, ◌<◌, ◌≤◌, IfOk};
+ghost use Rattle.gk_solve.specs.Solved.{SliceTable, TellWords};
 
 use crate::OutOfMemory;
-use bit_rows::Rows;
+use gk_solve::SliceWords;
 use slice_board::Wanted;
 use std::alloc::Global;
 
@@ -17,8 +16,8 @@ pub trait Solve: Wanted + Sync + Send + Drop {
     // the point's path flag is set
     ghost has_path: { Self → ℕ → Type 0 };
 
-    // The rows are a slice of these sets.
-    ghost is_slice: { Self → RowTable → Type 0 };
+    // The words are of a slice of these sets.
+    ghost is_slice: { Self → SliceTable → Type 0 };
 
     /// How many points there are.
     fn points(&self) -> u32
@@ -26,17 +25,24 @@ pub trait Solve: Wanted + Sync + Send + Drop {
         ensures within { (point bit : ℕ) → Self.wants self.now point bit
             → (point < points self.now) × (bit < bits self.now) };
 
-    /// The bits `lo..hi` of the sets.
-    fn solve(&self, alloc: Global, lo: u32, hi: u32) -> Result<Rows, OutOfMemory>
+    /// All memory in which the bits `lo..hi` of the sets are solved: no more is taken while they are.
+    fn slice(&self, alloc: Global, lo: u32, hi: u32) -> Result<SliceWords, OutOfMemory>
         requires ordered { lo < hi }
         requires within { hi ≤ bits self.now }
         ensures slice { IfOk result (is_slice self.now) }
-        ensures range { IfOk result (λ rows. (rows.lo ≡ lo) × (rows.hi ≡ hi)) };
+        ensures range { IfOk result (λ slice. (slice.lo ≡ lo) × (slice.hi ≡ hi)) };
 
-    /// A word of a slice at a point: the bits of the slice that are in the point's set, and no others.
-    fn word(&self, slice: &Rows, point: u32, word: u32) -> u64
-        requires slice { is_slice self.now slice.now }
-        requires point { point < points self.now }
-        ensures { (k : ℕ) → k < 64 → (has_bit result k ≡ true)
-            ↔ ((slice.now.lo ≤ 64 * word + k) × (64 * word + k < slice.now.hi) × Self.wants self.now point (64 * word + k)) };
+    /// Solves words of the slice from one on, and answers the word after the last one solved. They have at each point exactly the bits
+    /// of the slice that are in the point's set.
+    fn solve_from(&self, slice: &mut SliceWords, word: u32) -> u32
+        requires slice { is_slice self.now slice.old }
+        requires word { 64 * word < slice.old.hi }
+        ensures slice { is_slice self.now slice.new }
+        ensures points { slice.new.points ≡ points self.now }
+        ensures range { (slice.new.lo ≡ slice.old.lo) × (slice.new.hi ≡ slice.old.hi) }
+        ensures from { slice.new.from ≡ word }
+        ensures until { slice.new.until ≡ result }
+        ensures more { word < result }
+        ensures last { 64 * result < slice.old.hi + 64 }
+        ensures words { TellWords (Self.wants self.now) slice.new };
 }

@@ -45,6 +45,6 @@ pub fn analyse<R: Threads + Sync, G: Gate>(
     match job.close(pass) {
         Ok(table) => Ok(table),
         // A worker's slice was lost with its pass: all is solved here.
-        Err(_) => Ok(GraphSets::of(alloc, graph, analysis)?.solve_all(alloc)?),
+        Err(_) => Ok(GraphSets::solved(alloc, graph, analysis)?),
     }
 }

@@ -13,6 +13,8 @@ mod limit_tests;
 #[cfg(test)]
 mod problem_tests;
 #[cfg(test)]
+mod solver_tests;
+#[cfg(test)]
 mod table_tests;
 #[cfg(test)]
 mod tables;

@@ -3,8 +3,8 @@ use flow_graph::{Analysis, OutOfMemory};
 use std::alloc::Global;
 use std::test::Fail;
 
-/// Widths of slices: within a word, to its end, across it, and all bits at once.
-const WIDTHS: [u32; 6] = [1, 7, 63, 64, 65, 4_096];
+/// Widths of slices: within a word, to its end, across it, several words, and all bits at once.
+const WIDTHS: [u32; 7] = [1, 7, 63, 64, 65, 300, 4_096];
 
 /// No statement.
 const EMPTY: &str = "proc main\nend\n";

@@ -1,12 +1,12 @@
 // The table of an analysis as text, put together from slices that are solved apart.
 
-ghost use Rattle.std.specs.Prelude.{◌<◌};
+ghost use Rattle.std.specs.Prelude.{◌≤◌, ◌<◌};
 ghost use Rattle.flow_graph.specs.Points.{point_count};
 ghost use Rattle.flow_graph.specs.Universes.{bits as bits_of};
 
 use bit_rows::{Cut, Rows};
 use flow_graph::{Analysis, Expr, Graph, OutOfMemory, Problem};
-use gk_solve::solve;
+use gk_solve::{Solver, solve};
 use std::alloc::Global;
 use tac_reader::{write_binary_expression, write_unary_expression};
 
@@ -19,6 +19,8 @@ struct Table {
     flags: Rows,
     /// The slices in order.
     slices: Vec<Rows>,
+    /// Whether the words of each slice are its rows.
+    agree: bool,
     /// Whether the table has the bits that the slices have not.
     complements: bool,
 }
@@ -67,20 +69,45 @@ fn bit_names(
     Ok(names)
 }
 
-/// The problem's solution in slices of this width, of which the last one may be shorter.
+/// Whether a slice's words are its rows.
+fn words_agree(alloc: Global, solver: &Solver<'_, '_>, rows: &Rows) -> Result<bool, OutOfMemory>
+    requires ordered { rows.now.lo ≤ rows.now.hi }
+    requires within { rows.now.hi ≤ bits_of solver.now.program solver.now.analysis }
+{
+    let (lo, hi) = (rows.lo(), rows.hi());
+    let mut slice = solver.slice(alloc, lo, hi)?;
+    let end = hi.div_ceil(64);
+    let mut word = lo / 64;
+    let mut agree = true;
+    'groups: while word < end {
+        let next = solver.solve_from(&mut slice, word);
+        for solved in word..next {
+            for point in 0..slice.points().min(rows.points()) {
+                agree &= rows.row(point).word(solved) == slice.word(point, solved);
+            }
+        }
+        word = next;
+    }
+    Ok(agree)
+}
+
+/// The problem's solution in slices of this width, of which the last one may be shorter; and whether their words are their rows.
 fn solved_slices(
     alloc: Global,
-    problem: &Problem<'_, '_>,
+    solver: &Solver<'_, '_>,
     width: u32,
-) -> Result<Vec<Rows>, OutOfMemory> {
+) -> Result<(Vec<Rows>, bool), OutOfMemory> {
     let mut slices = Vec::new(alloc);
-    if let Ok(cut) = Cut::even(alloc, problem.bits(), width) {
+    let mut agree = true;
+    if let Ok(cut) = Cut::even(alloc, solver.problem().bits(), width) {
         for slice in 0..cut.slices() {
             let (lo, hi) = cut.range(slice);
-            slices.push(solve(alloc, problem, lo, hi)?)?;
+            let rows = solver.solve(alloc, lo, hi)?;
+            agree &= words_agree(alloc, solver, &rows)?;
+            slices.push(rows)?;
         }
     }
-    Ok(slices)
+    Ok((slices, agree))
 }
 
 fn solved(
@@ -89,12 +116,14 @@ fn solved(
     analysis: Analysis,
     width: u32,
 ) -> Result<Table, OutOfMemory> {
-    let problem = Problem::of(alloc, graph, analysis)?;
+    let solver = Solver::of(alloc, Problem::of(alloc, graph, analysis)?)?;
+    let (slices, agree) = solved_slices(alloc, &solver, width)?;
     Ok(Table {
         names: bit_names(alloc, graph, analysis)?,
-        flags: solve(alloc, &problem, 0, 0)?,
-        slices: solved_slices(alloc, &problem, width)?,
-        complements: problem.complements(),
+        flags: solve(alloc, solver.problem(), 0, 0)?,
+        slices,
+        agree,
+        complements: solver.problem().complements(),
     })
 }
 
@@ -129,6 +158,9 @@ fn write_slice(
 /// Writes the path flag of a point, and how that of a slice differs.
 fn write_flag(text: &mut String, table: &Table, point: u32) -> Result<(), OutOfMemory> {
     let flags = &table.flags;
+    if !table.agree {
+        text.push_str(" (other words than rows)")?;
+    }
     if flags.points() <= point {
         return text.push_str(" no such point");
     }

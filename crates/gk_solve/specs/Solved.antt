@@ -1,11 +1,14 @@
 -- What the rows of a slice of a problem's bits say.
-use Rattle.std.specs.Prelude.{◌≡◌, ◌↔◌, ℕ, ◌≤◌, ◌<◌, true, length}
+use Rattle.std.specs.Prelude.{◌≡◌, ◌↔◌, ℕ, ◌≤◌, ◌<◌, ◌+◌, ◌-◌, ◌*◌, true, false, Bool, List, [], length, slice_index, slice_index_or}
 use Rattle.bit_rows.specs.RowSet.{contains}
 use Rattle.bit_rows.specs.RowTable.{RowTable, flag_at, set_at}
-use Rattle.flow_graph.specs.Analyses.{may_shape, may_transfer}
+use Rattle.bit_rows.specs.Words.{has_bit}
+use Rattle.flow_graph.specs.Analyses.{is_backward, may_shape, may_transfer}
 use Rattle.flow_graph.specs.Paths.{HasPath, SomePathHas}
 use Rattle.flow_graph.specs.Points.{point_count}
 use Rattle.flow_graph.specs.Problems.{MayForm}
+use Rattle.flow_graph.specs.Universes.{bits as bits_of}
+use Rattle.flow_links.specs.Shapes.{LinkedProgram}
 use Rattle.gk_solve.specs.Equations.{HasFlag, IsInSolution}
 
 -- The rows have one flag for each point, true exactly where the first family holds, and of the bits from lo to hi at a point
@@ -32,3 +35,47 @@ IsMeetOverPaths form lo hi rows =
     (HasPath (may_shape form.program form.analysis))
     (λ point bit. SomePathHas (may_shape form.program form.analysis) (may_transfer form.program form.analysis bit) point)
     rows
+
+-- the program of a may form, in its direction
+abbrev pub direction_of : MayForm → LinkedProgram
+direction_of form = record { program = form.program; backward = is_backward form.analysis }
+
+-- What a caller sees of the words of a slice: how many points and procedures there are, the slice's bits, which words were solved
+-- last, and for each point those words, one after the other.
+pub record SliceTable : Type 0 where
+  pub points : ℕ
+  pub procedures : ℕ
+  pub lo : ℕ
+  pub hi : ℕ
+  pub from : ℕ
+  pub until : ℕ
+  pub words : List (List ℕ)
+
+-- a word at a point
+abbrev pub word_at : SliceTable → ℕ → ℕ → ℕ
+word_at slice point word = slice_index (slice_index_or slice.words point []) (word - slice.from)
+
+-- A slice is of a problem's bits, at its points.
+pub record IsSliceOf (form : MayForm) (slice : SliceTable) : Type 0 where
+  pub points : slice.points ≡ point_count form.program
+  pub procedures : slice.procedures ≡ (may_shape form.program form.analysis).procedures
+  pub ordered : slice.lo ≤ slice.hi
+  pub within : slice.hi ≤ bits_of form.program form.analysis
+
+-- The words that were solved tell, at each point, of the slice's bits exactly those of a family, and 0 at all other places.
+abbrev pub TellWords : (ℕ → ℕ → Type 0) → SliceTable → Type 0
+TellWords Bit slice = (point word k : ℕ) → point < slice.points → slice.from ≤ word → word < slice.until → k < 64
+    → (has_bit (word_at slice point word) k ≡ true) ↔ ((slice.lo ≤ 64 * word + k) × (64 * word + k < slice.hi) × Bit point (64 * word + k))
+
+-- They are words of the least solution,
+abbrev pub AreSolved : MayForm → SliceTable → Type 0
+AreSolved form = TellWords (λ point bit. IsInSolution (may_shape form.program form.analysis) (may_transfer form.program form.analysis bit) point)
+
+-- and of the meet over valid paths.
+abbrev pub AreMeetWords : MayForm → SliceTable → Type 0
+AreMeetWords form = TellWords (λ point bit. SomePathHas (may_shape form.program form.analysis) (may_transfer form.program form.analysis bit) point)
+
+-- one flag for each point, set exactly where some valid path leads to it
+pub record HasPathFlags (form : MayForm) (flags : List Bool) : Type 0 where
+  pub count : length flags ≡ point_count form.program
+  pub flag : (point : ℕ) → point < point_count form.program → (slice_index_or flags point false ≡ true) ↔ HasPath (may_shape form.program form.analysis) point

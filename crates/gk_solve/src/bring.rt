@@ -1,120 +1,157 @@
-// What is brought to procedures, and the solution at a point, for the 64 bits of a word at once.
-ghost use Rattle.std.specs.Prelude.{◌≡◌, ◌<◌, ◌↔◌, ℕ, true, false, length};
+// What is brought to procedures, for a group of words, by visits of the procedures that are changed.
+ghost use Rattle.std.specs.Prelude.{◌≡◌, ◌<◌, ◌||◌, ◌&&◌, ◌↔◌, ◌⊎◌, ℕ, false, true, length, slice_index};
 ghost use Rattle.bit_rows.specs.Words.{has_bit};
+ghost use Rattle.flow_graph.specs.declared.edge.Edge.{Edge};
 ghost use Rattle.flow_graph.specs.Paths.{IsEdge};
+ghost use Rattle.flow_graph.specs.Points.{point_count};
 ghost use Rattle.gk_solve.specs.Equations.{IsInSolution};
-ghost use Rattle.gk_solve.specs.Shapes.{IsProgress};
-ghost use Rattle.gk_solve.specs.Words.{WordProblem, IsWordFrame, WordsGrow, AreSoundWords, AreExactlyWords, AreSummaries, IsBrought, IsBringClosedAt, room_of_words};
+ghost use Rattle.flow_links.specs.Shapes.{directed_shape};
+ghost use Rattle.flow_links.specs.LinkLists.{IsSiteLink};
+ghost use Rattle.work_list.specs.Marks.{IsMarked};
+ghost use Rattle.gk_solve.specs.Tables.Brought.{AreBroughtOf, AreExactBrought, AreSoundBrought, BroughtSpreads, IsBringSettled, IsBroughtClosedAt, brought_word};
+ghost use Rattle.gk_solve.specs.Tables.Flags.{source_procedure};
+ghost use Rattle.gk_solve.specs.Tables.Groups.{AreCompleteSummaries, AreSoundSummaries, IsGroupFrame, group_of};
+ghost use Rattle.gk_solve.specs.Tables.Visits.{IsSettled};
+ghost use Rattle.gk_solve.specs.Tables.Words.{HasBit};
 
-use crate::reach::{place, procedure_at};
-use crate::word::{add, new_or_kept};
-use crate::word_frame::WordFrame;
-use flow_graph::Edge;
+use crate::group_frame::GroupFrame;
+use crate::lanes::{added, new_or_kept};
+use crate::summary::Summary;
+use flow_links::SiteLink;
+use work_list::Marks;
 
-// Adds what one edge brings, and answers whether some of it was missing.
-fn bring_edge(
-    frame: &WordFrame,
-    entered: &[bool],
-    kept: &[u64],
-    made: &[u64],
-    brought: &mut [u64],
-    edge: Edge,
-) -> bool
-    ghost problem: { WordProblem }
-    requires frame { IsWordFrame problem frame.now }
-    requires summaries { AreSummaries problem (length frame.now.frame.now.procedures.now) entered.now kept.now made.now }
-    requires count { length brought.now ≡ problem.shape.procedures }
-    requires there { IsEdge problem.shape edge }
-    ensures progress { IsProgress room_of_words result brought.old brought.new }
-    ensures grows { WordsGrow brought.old brought.new }
-    ensures closed { result ≡ false → IsBringClosedAt problem frame.now.reached.now entered.now kept.now made.now brought.new edge }
-    ensures sound { AreSoundWords (IsBrought problem) brought.old → AreSoundWords (IsBrought problem) brought.new }
+// Adds to what is brought to a procedure, and where that is anything, marks it.
+fn put<const W: usize>(
+    frame: &GroupFrame,
+    table: &[Summary<W>],
+    brought: &mut [[u64; W]],
+    dirty: &mut Marks,
+    procedure: u32,
+    more: [u64; W],
+)
+    requires count { length brought.now ≡ (directed_shape frame.now.links.now).procedures }
+    requires dirty_count { length dirty.now ≡ (directed_shape frame.now.links.now).procedures }
+    requires within { procedure < (directed_shape frame.now.links.now).procedures }
+    requires brings { AreBroughtOf (group_of frame.now W) more procedure }
+    ensures spreads { BroughtSpreads (group_of frame.now W) frame.now.paths.now table.now brought.old dirty.old brought.new dirty.new }
+    ensures same { ((w : ℕ) (x : ℕ) → (x ≡ procedure → ⊥) → brought_word brought.new w x ≡ brought_word brought.old w x) }
+    ensures still { (brought.new ≡ brought.old) ⊎ IsMarked dirty.new procedure }
+    ensures added { (w k : ℕ) → w < W → has_bit (slice_index more.entry w) k ≡ true → HasBit (brought_word brought.new w) procedure k }
 {
-    match edge {
-        Edge::Step { .. } => false,
-        Edge::Call { from, to, .. } => {
-            let caller = procedure_at(frame.frame, from);
-            let callee = procedure_at(frame.frame, to);
-            let at = from as usize;
-            if entered[caller] && frame.reached[at] {
-                let bits = new_or_kept(made[at], brought[caller], kept[at]);
-                add(brought, callee, bits)
-            } else {
-                false
-            }
-        }
-        Edge::Ret { .. } => false,
+    let before = brought[procedure as usize];
+    let (after, changed) = added(before, more);
+    if !changed {
+        return;
+    }
+    brought[procedure as usize] = after;
+    dirty.mark(procedure as usize);
+}
+
+// Goes over one call of a procedure.
+fn visit_site<const W: usize>(
+    frame: &GroupFrame,
+    table: &[Summary<W>],
+    brought: &mut [[u64; W]],
+    dirty: &mut Marks,
+    procedure: u32,
+    site: SiteLink,
+)
+    requires frame { IsGroupFrame W frame.now }
+    requires points { length table.now ≡ point_count frame.now.links.now.program }
+    requires summaries { AreSoundSummaries (group_of frame.now W) table.now }
+    requires count { length brought.now ≡ (directed_shape frame.now.links.now).procedures }
+    requires dirty_count { length dirty.now ≡ (directed_shape frame.now.links.now).procedures }
+    requires inside { procedure < (directed_shape frame.now.links.now).procedures }
+    requires there { IsSiteLink (directed_shape frame.now.links.now) procedure site }
+    requires within { (site.point < point_count frame.now.links.now.program) × (site.callee < (directed_shape frame.now.links.now).procedures) }
+    requires sound { AreSoundBrought (group_of frame.now W) brought.now }
+    ensures spreads { BroughtSpreads (group_of frame.now W) frame.now.paths.now table.now brought.old dirty.old brought.new dirty.new }
+    ensures settled { IsBringSettled (group_of frame.now W) frame.now.paths.now table.now brought.new dirty.new site }
+{
+    if !frame.paths[site.point as usize] {
+        return;
+    }
+    let here = table[site.point as usize];
+    let more = new_or_kept(here.made, brought[procedure as usize], here.kept);
+    put(frame, table, brought, dirty, site.callee as u32, more);
+}
+
+// Goes over the calls of a procedure.
+fn visit<const W: usize>(
+    frame: &GroupFrame,
+    table: &[Summary<W>],
+    brought: &mut [[u64; W]],
+    dirty: &mut Marks,
+    procedure: u32,
+)
+    requires frame { IsGroupFrame W frame.now }
+    requires points { length table.now ≡ point_count frame.now.links.now.program }
+    requires summaries { AreSoundSummaries (group_of frame.now W) table.now }
+    requires count { length brought.now ≡ (directed_shape frame.now.links.now).procedures }
+    requires dirty_count { length dirty.now ≡ (directed_shape frame.now.links.now).procedures }
+    requires within { procedure < (directed_shape frame.now.links.now).procedures }
+    requires sound { AreSoundBrought (group_of frame.now W) brought.now }
+    ensures spreads { BroughtSpreads (group_of frame.now W) frame.now.paths.now table.now brought.old dirty.old brought.new dirty.new }
+    ensures settled { (edge : Edge) → IsEdge (directed_shape frame.now.links.now) edge → source_procedure (directed_shape frame.now.links.now) edge ≡ procedure
+        → IsSettled (IsBroughtClosedAt (group_of frame.now W) frame.now.paths.now table.now) (source_procedure (directed_shape frame.now.links.now)) brought.new dirty.new edge }
+{
+    let links = frame.links;
+    let sites = links.sites_in(procedure);
+    for site in sites {
+        visit_site(frame, table, brought, dirty, procedure, *site);
     }
 }
 
-// Goes over all edges once, one way or the other, and answers whether that added anything.
-fn bring_round(
-    frame: &WordFrame,
-    entered: &[bool],
-    kept: &[u64],
-    made: &[u64],
-    brought: &mut [u64],
-    backward: bool,
-) -> bool
-    ghost problem: { WordProblem }
-    requires frame { IsWordFrame problem frame.now }
-    requires summaries { AreSummaries problem (length frame.now.frame.now.procedures.now) entered.now kept.now made.now }
-    requires count { length brought.now ≡ problem.shape.procedures }
-    ensures progress { IsProgress room_of_words result brought.old brought.new }
-    ensures grows { WordsGrow brought.old brought.new }
-    ensures closed { result ≡ false → (edge : Edge) → IsEdge problem.shape edge → IsBringClosedAt problem frame.now.reached.now entered.now kept.now made.now brought.new edge }
-    ensures sound { AreSoundWords (IsBrought problem) brought.old → AreSoundWords (IsBrought problem) brought.new }
+// What the boundary has, of a group's words.
+fn boundary<const W: usize>(frame: &GroupFrame) -> [u64; W]
+    requires { IsGroupFrame W frame.now }
+    ensures { (w k : ℕ) → w < W → k < 64 → has_bit (slice_index result w) k ≡ ((group_of frame.now W).transfer w k).boundary }
 {
-    let edges = frame.frame.edges;
-    let mut changed = false;
-    for k in 0..edges.len() {
-        let edge = edges[place(backward, edges.len(), k)];
-        if bring_edge(frame, entered, kept, made, brought, edge) {
-            changed = true;
-        }
+    let problem = frame.problem;
+    let mut words = [0; W];
+    for w in 0..W {
+        words[w] = problem.boundary_word(frame.first + w as u32);
     }
-    changed
+    words
 }
 
-/// Sets the bits that are brought to each procedure, given what is entered, kept and made. The bits that are set before are
-/// of such procedures.
-pub fn brought(frame: &WordFrame, entered: &[bool], kept: &[u64], made: &[u64], brought: &mut [u64])
-    ghost problem: { WordProblem }
-    requires frame { IsWordFrame problem frame.now }
-    requires summaries { AreSummaries problem (length frame.now.frame.now.procedures.now) entered.now kept.now made.now }
-    requires count { length brought.now ≡ problem.shape.procedures }
-    requires sound { AreSoundWords (IsBrought problem) brought.now }
-    ensures { AreExactlyWords (IsBrought problem) brought.new }
+// Begins what is brought: the boundary to the root, and nothing else.
+fn begin<const W: usize>(frame: &GroupFrame, brought: &mut [[u64; W]])
+    requires frame { IsGroupFrame W frame.now }
+    requires count { length brought.now ≡ (directed_shape frame.now.links.now).procedures }
+    ensures root { (w k : ℕ) → w < W → k < 64 → ((group_of frame.now W).transfer w k).boundary ≡ true → HasBit (brought_word brought.new w) (directed_shape frame.now.links.now).root_procedure k }
+    ensures sound { AreSoundBrought (group_of frame.now W) brought.new }
 {
-    add(brought, frame.frame.root as usize, frame.boundary);
-    let mut backward = frame.frame.backward;
-    'rounds: while bring_round(frame, entered, kept, made, brought, backward) {
-        backward = !backward;
+    for procedure in 0..brought.len() {
+        brought[procedure] = [0; W];
     }
+    let links = frame.links;
+    let root = links.root();
+    brought[root as usize] = boundary(frame);
 }
 
-/// The word of the solution at a point.
-pub fn solution_word(
-    frame: &WordFrame,
-    entered: &[bool],
-    kept: &[u64],
-    made: &[u64],
-    brought: &[u64],
-    point: u32,
-) -> u64
-    ghost problem: { WordProblem }
-    requires frame { IsWordFrame problem frame.now }
-    requires summaries { AreSummaries problem (length frame.now.frame.now.procedures.now) entered.now kept.now made.now }
-    requires count { length brought.now ≡ problem.shape.procedures }
-    requires brought { AreExactlyWords (IsBrought problem) brought.now }
-    requires within { point < length frame.now.frame.now.procedures.now }
-    ensures { (k : ℕ) → k < 64 → (has_bit result k ≡ true) ↔ IsInSolution problem.shape (problem.transfer k) point }
+/// Finds what is brought to each procedure, given what is kept and made at the points with a path.
+pub(crate) fn brought<const W: usize>(
+    frame: &GroupFrame,
+    table: &[Summary<W>],
+    brought: &mut [[u64; W]],
+    dirty: &mut Marks,
+)
+    requires frame { IsGroupFrame W frame.now }
+    requires points { length table.now ≡ point_count frame.now.links.now.program }
+    requires summaries { AreSoundSummaries (group_of frame.now W) table.now }
+    requires complete { AreCompleteSummaries (group_of frame.now W) table.now }
+    requires count { length brought.now ≡ (directed_shape frame.now.links.now).procedures }
+    requires dirty_count { length dirty.now ≡ (directed_shape frame.now.links.now).procedures }
+    ensures exact { AreExactBrought (group_of frame.now W) brought.new }
+    ensures dirty_count { length dirty.new ≡ length dirty.old }
 {
-    let procedure = procedure_at(frame.frame, point);
-    let at = point as usize;
-    if entered[procedure] && frame.reached[at] {
-        new_or_kept(made[at], brought[procedure], kept[at])
-    } else {
-        0
+    let links = frame.links;
+    // Its contract tells that there are few procedures.
+    let _ = links.procedures();
+    begin(frame, brought);
+    dirty.mark_all();
+    'visits: while let Some(procedure) = dirty.take() {
+        visit(frame, table, brought, dirty, procedure as u32);
     }
 }

@@ -1,163 +1,214 @@
-// The words of a slice: the solution of one word's bits, put into the rows.
-ghost use Rattle.std.specs.Prelude.{◌≡◌, ◌↔◌, ◌+◌, ◌*◌, ◌<◌, ◌≤◌, ℕ, true, length, nat_lt};
+// The words of a slice.
+ghost use Rattle.std.specs.Prelude.{◌≡◌, ◌+◌, ◌-◌, ◌*◌, ◌/◌, ◌<◌, ◌≤◌, ◌↔◌, ℕ, true, IfOk, length, slice_index};
 ghost use Rattle.bit_rows.specs.Words.{has_bit};
-ghost use Rattle.flow_graph.specs.Analyses.{may_shape};
 ghost use Rattle.flow_graph.specs.Points.{point_count};
-ghost use Rattle.flow_graph.specs.Problems.{MayForm, may_gens, may_kills};
+ghost use Rattle.flow_graph.specs.Problems.{MayForm};
 ghost use Rattle.flow_graph.specs.Universes.{bits as bits_of};
-ghost use Rattle.gk_solve.specs.Equations.{Entered, IsInSolution};
-ghost use Rattle.gk_solve.specs.Shapes.{AreExactly};
-ghost use Rattle.gk_solve.specs.SliceWords.{AreFlags, AreWordsOf, HaveCounts, IsFrameOf, IsWordPut, TellsBelow};
-ghost use Rattle.gk_solve.specs.Words.{WordProblem, IsWordFrame, AreSummaries, AreExactlyWords, IsBrought};
+ghost use Rattle.flow_links.specs.Shapes.{LinkedProgram, directed_shape};
+ghost use Rattle.gk_solve.specs.Solved.{AreSolved, IsSliceOf, direction_of, word_at};
+ghost use Rattle.gk_solve.specs.Tables.Groups.{AreEffectWords};
 
-use crate::bring::{brought, solution_word};
-use crate::frame::Frame;
-use crate::word::{kept, made};
-use crate::word_frame::WordFrame;
-use crate::word_tables::WordTables;
-use bit_rows::Rows;
+use crate::OutOfMemory;
+use crate::effects::with_bit;
+use crate::group_frame::GroupFrame;
+use crate::routes::Routes;
+use crate::solution::solve_group;
+use crate::summary::Summary;
 use flow_graph::Problem;
+use std::alloc::Global;
+use std::marker::Model;
+use work_list::Marks;
 
-// The word of the bits below a limit.
-fn word_below(limit: u32, word: u32) -> u64
-    ensures { (k : ℕ) → k < 64 → has_bit result k ≡ nat_lt (64 * word + k) limit }
+// How many words are solved at once where a slice has more than one.
+const WIDTH: usize = 4;
+
+/// All working memory in which the words of a slice are solved, and the words that were solved last.
+#[derive(Drop)]
+pub struct SliceWords {
+    lo: u32,
+    hi: u32,
+    from: u32,
+    until: u32,
+    wide: bool,
+    one: Vec<Summary<1>>,
+    one_brought: Vec<[u64; 1]>,
+    many: Vec<Summary<WIDTH>>,
+    many_brought: Vec<[u64; WIDTH]>,
+    dirty: Marks,
+    callers: Marks,
+}
+
+impl Model for SliceWords {
+    ghost use Rattle.gk_solve.specs.Solved.{SliceTable};
+    ghost use Rattle.gk_solve.specs.Tables.SliceTables.{view_of, IsSliceWords};
+
+    ghost Value = { SliceTable };
+
+    ghost view = { view_of };
+
+    ghost invariant = { IsSliceWords };
+}
+
+// The words of a group, a bit each.
+fn group_mask<const W: usize>(first: u32) -> u64
+    requires narrow { W ≤ 8 }
+    requires first { first < 64 }
+    ensures { (w : ℕ) → w < W → first + w < 64 → has_bit result (first + w) ≡ true }
 {
-    let count = u64::from(limit).saturating_sub(64 * u64::from(word));
-    if count < 64 {
-        (1 << count) - 1
-    } else {
-        u64::MAX
+    let mut mask = 0;
+    for w in 0..W {
+        let word = first + w as u32;
+        if word < 64 {
+            mask = with_bit(mask, word);
+        }
     }
+    mask
 }
 
-// The bits of a word that lie within `lo..hi`.
-fn within_slice(bits: u64, lo: u32, hi: u32, word: u32) -> u64
-    ensures { (k : ℕ) → k < 64
-        → (has_bit result k ≡ true) ↔ ((has_bit bits k ≡ true) × (lo ≤ 64 * word + k) × (64 * word + k < hi)) }
+// All working memory of a slice.
+pub(crate) fn slice_words(
+    alloc: Global,
+    routes: &Routes<'_, '_>,
+    lo: u32,
+    hi: u32,
+) -> Result<SliceWords, OutOfMemory>
+    requires { lo ≤ hi }
+    ensures { IfOk result (λ slice. (slice.points ≡ point_count routes.now.program) × (slice.procedures ≡ (directed_shape routes.now).procedures)
+        × (slice.lo ≡ lo) × (slice.hi ≡ hi)) }
 {
-    bits & !word_below(lo, word) & word_below(hi, word)
+    let links = routes.links();
+    let points = links.points() as usize;
+    let procedures = links.procedures() as usize;
+    let wide = lo / 64 + 1 < hi.div_ceil(64);
+    let (single, several) = if wide { (0, 1) } else { (1, 0) };
+    Ok(SliceWords {
+        lo,
+        hi,
+        from: lo / 64,
+        until: lo / 64,
+        wide,
+        one: vec![in alloc; Summary {
+            kept: [0; 1],
+            made: [0; 1]
+        }; single * points]?,
+        one_brought: vec![in alloc; [0; 1]; single * procedures]?,
+        many: vec![in alloc; Summary {
+            kept: [0; WIDTH],
+            made: [0; WIDTH]
+        }; several * points]?,
+        many_brought: vec![in alloc; [0; WIDTH]; several * procedures]?,
+        dirty: Marks::none(alloc, links.order())?,
+        callers: Marks::none(alloc, links.call_order())?,
+    })
 }
 
-// Puts the solution's word at each point into the rows, as far as it lies within their range.
-fn put_word(
-    frame: &WordFrame,
-    entered: &[bool],
-    kept: &[u64],
-    made: &[u64],
-    brought: &[u64],
-    word: u32,
-    rows: &mut Rows,
-)
-    ghost problem: { WordProblem }
-    requires frame { IsWordFrame problem frame.now }
-    requires summaries { AreSummaries problem (length frame.now.frame.now.procedures.now) entered.now kept.now made.now }
-    requires count { length brought.now ≡ problem.shape.procedures }
-    requires brought { AreExactlyWords (IsBrought problem) brought.now }
-    requires points { length rows.now.flags ≡ length frame.now.frame.now.procedures.now }
-    ensures { IsWordPut word (λ point k. IsInSolution problem.shape (problem.transfer k) point) rows.old rows.new }
-{
-    let lo = rows.lo();
-    let hi = rows.hi();
-    let points = rows.points();
-    for point in 0..points {
-        let bits = solution_word(frame, entered, kept, made, brought, point);
-        rows.or_word(point, word, within_slice(bits, lo, hi, word));
+impl SliceWords {
+    /// How many points there are.
+    pub fn points(&self) -> u32
+        ensures { result ≡ self.now.points }
+    {
+        self.dirty.points()
     }
-}
 
-// Solves the problem of a word's 64 places, in tables that are used again, and puts its solution into the rows.
-fn solve_places(
-    frame: &WordFrame,
-    entered: &[bool],
-    kept_words: &mut [u64],
-    made_words: &mut [u64],
-    brought_words: &mut [u64],
-    word: u32,
-    rows: &mut Rows,
-)
-    ghost problem: { WordProblem }
-    requires frame { IsWordFrame problem frame.now }
-    requires entered_count { length entered.now ≡ problem.shape.procedures }
-    requires entered { AreExactly (Entered problem.shape) entered.now }
-    requires kept_count { length kept_words.now ≡ length frame.now.frame.now.procedures.now }
-    requires made_count { length made_words.now ≡ length frame.now.frame.now.procedures.now }
-    requires brought_count { length brought_words.now ≡ problem.shape.procedures }
-    requires points { length rows.now.flags ≡ length frame.now.frame.now.procedures.now }
-    ensures { IsWordPut word (λ point k. IsInSolution problem.shape (problem.transfer k) point) rows.old rows.new }
-{
-    kept_words.fill(0);
-    kept(frame, kept_words);
-    made_words.fill(0);
-    made(frame, kept_words, made_words);
-    brought_words.fill(0);
-    brought(frame, entered, kept_words, made_words, brought_words);
-    put_word(
-        frame,
-        entered,
-        kept_words,
-        made_words,
-        brought_words,
-        word,
-        rows,
-    );
-}
-
-// Fills in what the statement of each point makes, of one word's bits.
-fn fill_gens(problem: &Problem<'_, '_>, word: u32, gens: &mut [u64])
-    requires { length gens.now ≡ point_count problem.now.program }
-    ensures { AreWordsOf (may_gens problem.now) (bits_of problem.now.program problem.now.analysis) word gens.new }
-{
-    for point in 0..problem.points() {
-        gens[point as usize] = problem.gen_word(point, word);
+    /// The word of a number that was solved last, at a point.
+    pub fn word(&self, point: u32, word: u32) -> u64
+        requires point { point < self.now.points }
+        requires from { self.now.from ≤ word }
+        requires until { word < self.now.until }
+        ensures { result ≡ word_at self.now point word }
+    {
+        let w = (word - self.from) as usize;
+        if self.wide {
+            self.many[point as usize].made[w]
+        } else {
+            self.one[point as usize].made[w]
+        }
     }
-}
 
-// Fills in what the statement of each point kills, of one word's bits.
-fn fill_kills(problem: &Problem<'_, '_>, word: u32, kills: &mut [u64])
-    requires { length kills.now ≡ point_count problem.now.program }
-    ensures { AreWordsOf (may_kills problem.now) (bits_of problem.now.program problem.now.analysis) word kills.new }
-{
-    for point in 0..problem.points() {
-        kills[point as usize] = problem.kill_word(point, word);
+    /// The words that were solved last, at a point, and the number of the first.
+    pub(crate) fn words_at(&self, point: u32) -> (u32, &[u64])
+        requires { point < self.now.points }
+        ensures first { result.0 ≡ self.now.from }
+        ensures count { result.0 + length result.1.now ≡ self.now.until }
+        ensures words { (w : ℕ) → w < length result.1.now → slice_index result.1.now w ≡ word_at self.now point (result.0 + w) }
+    {
+        let count = (self.until - self.from) as usize;
+        if self.wide {
+            (self.from, &self.many[point as usize].made[..count])
+        } else {
+            (self.from, &self.one[point as usize].made[..count])
+        }
     }
-}
 
-/// Solves the problem on the bits of one word, and puts those that lie within the rows' range into them.
-pub(crate) fn solve_word(
-    problem: &Problem<'_, '_>,
-    frame: &Frame,
-    reached: &[bool],
-    entered: &[bool],
-    tables: &mut WordTables,
-    word: u32,
-    rows: &mut Rows,
-)
-    ghost form: { MayForm }
-    requires form { problem.now ≡ form }
-    requires frame { IsFrameOf form frame.now }
-    requires flags { AreFlags (may_shape form.program form.analysis) (point_count form.program) reached.now entered.now }
-    requires counts { HaveCounts (point_count form.program) (may_shape form.program form.analysis).procedures tables.now }
-    requires points { length rows.now.flags ≡ point_count form.program }
-    ensures counts { HaveCounts (point_count form.program) (may_shape form.program form.analysis).procedures tables.new }
-    ensures tells { (lo hi : ℕ) → hi ≤ bits_of form.program form.analysis
-        → TellsBelow form (64 * word) lo hi rows.old → TellsBelow form (64 * (word + 1)) lo hi rows.new }
-{
-    fill_gens(problem, word, tables.gens.as_mut_slice());
-    fill_kills(problem, word, tables.kills.as_mut_slice());
-    let frame = WordFrame {
-        frame: &*frame,
-        reached: &*reached,
-        gens: tables.gens.as_slice(),
-        kills: tables.kills.as_slice(),
-        boundary: problem.boundary_word(word),
-    };
-    solve_places(
-        &frame,
-        entered,
-        tables.kept.as_mut_slice(),
-        tables.made.as_mut_slice(),
-        tables.brought.as_mut_slice(),
-        word,
-        rows,
-    );
+    /// Solves the words from one on, as many as are solved at once and to the slice's end, and answers the word after the last.
+    pub(crate) fn solve_from<'a, 'g, 'p>(
+        &mut self,
+        problem: &'a Problem<'g, 'p>,
+        routes: &'a Routes<'g, 'p>,
+        effects: &'a [u64],
+        word: u32,
+        followed: &mut u64,
+    ) -> u32
+        requires slice { IsSliceOf problem.now self.old }
+        requires routes { routes.now ≡ direction_of problem.now }
+        requires effects { AreEffectWords problem.now effects.now }
+        requires word { 64 * word < self.old.hi }
+        ensures slice { IsSliceOf problem.now self.new }
+        ensures range { (self.new.lo ≡ self.old.lo) × (self.new.hi ≡ self.old.hi) }
+        ensures from { self.new.from ≡ word }
+        ensures until { self.new.until ≡ result }
+        ensures more { word < result }
+        ensures last { 64 * result < self.old.hi + 64 }
+        ensures solved { AreSolved problem.now self.new }
+    {
+        // Their contracts tell that there are few bits, and what a shape's edges are.
+        let _ = problem.bits();
+        let links = routes.links();
+        let _ = links.points();
+        let left = self.hi.div_ceil(64) - word;
+        if self.wide {
+            let frame = GroupFrame {
+                problem,
+                links,
+                paths: routes.paths(),
+                effects,
+                first: word,
+                mask: group_mask::<WIDTH>(word),
+            };
+            solve_group(
+                &frame,
+                self.many.as_mut_slice(),
+                self.many_brought.as_mut_slice(),
+                &mut self.dirty,
+                &mut self.callers,
+                self.lo,
+                self.hi,
+                followed,
+            );
+            self.from = word;
+            self.until = word + left.min(WIDTH as u32);
+            return self.until;
+        }
+        let frame = GroupFrame {
+            problem,
+            links,
+            paths: routes.paths(),
+            effects,
+            first: word,
+            mask: group_mask::<1>(word),
+        };
+        solve_group(
+            &frame,
+            self.one.as_mut_slice(),
+            self.one_brought.as_mut_slice(),
+            &mut self.dirty,
+            &mut self.callers,
+            self.lo,
+            self.hi,
+            followed,
+        );
+        self.from = word;
+        self.until = word + 1;
+        self.until
+    }
 }

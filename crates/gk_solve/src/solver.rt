@@ -1,101 +1,146 @@
-ghost use Rattle.std.specs.Prelude.{◌≡◌, ◌≤◌, IfOk, length};
+// The solver: a problem, and what is found of it once.
+ghost use Rattle.std.specs.Prelude.{◌≡◌, ◌+◌, ◌*◌, ◌<◌, ◌≤◌, ◌↔◌, ◌⊎◌, true, IfOk, length};
+ghost use Rattle.bit_rows.specs.RowTable.{RowTable};
 ghost use Rattle.flow_graph.specs.Analyses.{may_shape};
-ghost use Rattle.flow_graph.specs.Paths.{Shape};
+ghost use Rattle.flow_graph.specs.Paths.{HasPath, IsWellFormed};
+ghost use Rattle.flow_graph.specs.Points.{point_count};
 ghost use Rattle.flow_graph.specs.Problems.{MayForm};
 ghost use Rattle.flow_graph.specs.Universes.{bits as bits_of};
-ghost use Rattle.gk_solve.specs.Shapes.{IsFrame};
-ghost use Rattle.gk_solve.specs.SliceWords.{AreFlags, ArePointFlags, IsFrameOf};
-ghost use Rattle.gk_solve.specs.Solved.{IsLeastSolution, IsMeetOverPaths};
+ghost use Rattle.flow_links.specs.Shapes.{directed_shape};
+ghost use Rattle.gk_solve.specs.Equations.{HasFlag};
+ghost use Rattle.gk_solve.specs.Solved.{AreMeetWords, AreSolved, HasPathFlags, IsLeastSolution, IsMeetOverPaths, IsSliceOf, direction_of};
+ghost use Rattle.gk_solve.specs.Tables.Groups.{AreEffectWords};
+ghost use Rattle.gk_solve.specs.Tables.Rows.{AreWithin, IsInWords, IsPut, TellsBelow};
 
 use crate::OutOfMemory;
-use crate::frame::Frame;
-use crate::frame_lists::frame_lists;
-use crate::reach::{entered, reached};
-use crate::slice_words::solve_word;
-use crate::word_tables::WordTables;
+use crate::effects::effect_words;
+use crate::routes::Routes;
+use crate::slice_words::{SliceWords, slice_words};
 use bit_rows::Rows;
 use flow_graph::Problem;
 use std::alloc::Global;
+use std::marker::Model;
 
-// Which points are reached, and which procedures are entered.
+/// A problem, its edges and paths, and which words each statement does something in: what all slices of its bits share.
 #[derive(Drop)]
-struct Flags {
-    reached: Vec<bool>,
-    entered: Vec<bool>,
+pub struct Solver<'g, 'p> {
+    problem: Problem<'g, 'p>,
+    routes: Routes<'g, 'p>,
+    effects: Vec<u64>,
 }
 
-// The flags of a frame's points and procedures.
-fn frame_flags(alloc: Global, frame: &Frame) -> Result<Flags, OutOfMemory>
-    ghost shape: { Shape }
-    requires { IsFrame shape frame.now }
-    ensures { IfOk result (λ flags. AreFlags shape (length frame.now.procedures.now) flags.reached.items flags.entered.items) }
-{
-    let mut points = vec![in alloc; false; frame.procedures.len()]?;
-    reached(frame, points.as_mut_slice());
-    let mut procedures = vec![in alloc; false; frame.entries.len()]?;
-    entered(frame, points.as_slice(), procedures.as_mut_slice());
-    Ok(Flags {
-        reached: points,
-        entered: procedures,
-    })
+impl<'g, 'p> Model for Solver<'g, 'p> {
+    ghost use Rattle.std.specs.Prelude.{◌≡◌};
+    ghost use Rattle.flow_graph.specs.Problems.{MayForm};
+    ghost use Rattle.gk_solve.specs.Solved.{direction_of};
+    ghost use Rattle.gk_solve.specs.Tables.Groups.{AreEffectWords};
+
+    ghost Value = { MayForm };
+
+    ghost view = { λ solver. solver.problem };
+
+    ghost invariant = { λ solver. (solver.routes ≡ direction_of solver.problem) × AreEffectWords solver.problem solver.effects.items };
 }
 
-// The flag of each point: that its procedure is entered, and it is reached there.
-fn point_flags(
-    alloc: Global,
-    frame: &Frame,
-    reached: &[bool],
-    entered: &[bool],
-) -> Result<Vec<bool>, OutOfMemory>
-    ghost shape: { Shape }
-    requires frame { IsFrame shape frame.now }
-    requires flags { AreFlags shape (length frame.now.procedures.now) reached.now entered.now }
-    ensures { IfOk result (λ flags. ArePointFlags shape (length frame.now.procedures.now) flags.items) }
+// Puts the words of a slice that were solved last into rows.
+fn put_words(slice: &SliceWords, rows: &mut Rows)
+    requires points { length rows.now.flags ≡ slice.now.points }
+    requires range { (slice.now.lo ≡ rows.now.lo) × (slice.now.hi ≡ rows.now.hi) }
+    requires within { AreWithin slice.now }
+    ensures { IsPut (IsInWords slice.now) rows.old rows.new }
 {
-    let procedures = frame.procedures;
-    let mut flags = Vec::with_capacity(alloc, procedures.len())?;
-    for (point, procedure) in procedures.iter().enumerate() {
-        flags.push(entered[*procedure as usize] && reached[point])?;
+    // Its contract tells that the rows are uniform.
+    let _ = rows.points();
+    let points = slice.points();
+    for point in 0..points {
+        let (first, words) = slice.words_at(point);
+        rows.or_words(point, first, words);
     }
-    Ok(flags)
 }
 
-// The solution of a slice of a problem's bits, over a frame of the problem.
-fn solve_frame(
+// The flags of all points once more.
+fn copied(alloc: Global, paths: &[bool]) -> Result<Vec<bool>, OutOfMemory>
+    ensures { IfOk result (λ copy. copy.items ≡ paths.now) }
+{
+    paths.to_vec(alloc)
+}
+
+// The words in which each statement does something, where they are asked for.
+fn effects_within(
     alloc: Global,
     problem: &Problem<'_, '_>,
-    frame: &Frame,
+    asked: bool,
+) -> Result<Vec<u64>, OutOfMemory>
+    ensures { IfOk result (λ words. asked ≡ true → AreEffectWords problem.now words.items) }
+{
+    if asked {
+        return effect_words(alloc, problem);
+    }
+    Ok(Vec::new(alloc))
+}
+
+// The solution of a slice of a problem's bits, by what was found of it once. Counts the steps that are followed.
+fn solve_slice<'a, 'g, 'p>(
+    alloc: Global,
+    problem: &'a Problem<'g, 'p>,
+    routes: &'a Routes<'g, 'p>,
+    effects: &'a [u64],
     lo: u32,
     hi: u32,
+    followed: &mut u64,
 ) -> Result<Rows, OutOfMemory>
-    ghost form: { MayForm }
-    requires form { problem.now ≡ form }
-    requires frame { IsFrameOf form frame.now }
+    requires routes { routes.now ≡ direction_of problem.now }
+    requires effects { lo < hi → AreEffectWords problem.now effects.now }
     requires ordered { lo ≤ hi }
-    requires within { hi ≤ bits_of form.program form.analysis }
-    ensures { IfOk result (λ rows. IsLeastSolution form lo hi rows) }
+    requires within { hi ≤ bits_of problem.now.program problem.now.analysis }
+    ensures { IfOk result (λ rows. IsLeastSolution problem.now lo hi rows) }
 {
-    let points = problem.points() as usize;
-    let flags = frame_flags(alloc, frame)?;
-    let reached = flags.reached.as_slice();
-    let entered = flags.entered.as_slice();
-    let path_flags = point_flags(alloc, frame, reached, entered)?;
-    let mut rows = Rows::blank(alloc, path_flags, lo, hi)?;
-    if lo < hi {
-        let mut tables = WordTables::new(alloc, points, frame.entries.len())?;
-        for word in lo / 64..hi.div_ceil(64) {
-            solve_word(
-                problem,
-                frame,
-                reached,
-                entered,
-                &mut tables,
-                word,
-                &mut rows,
-            );
-        }
+    // Its contract tells that there are few points.
+    let _ = problem.points();
+    let paths = copied(alloc, routes.paths())?;
+    let mut rows = Rows::blank(alloc, paths, lo, hi)?;
+    if lo == hi {
+        return Ok(rows);
+    }
+    let mut slice = slice_words(alloc, routes, lo, hi)?;
+    let end = hi.div_ceil(64);
+    let mut word = lo / 64;
+    'words: while word < end {
+        word = slice.solve_from(problem, routes, effects, word, followed);
+        put_words(&slice, &mut rows);
     }
     Ok(rows)
+}
+
+/// The solution of a problem on its bits `lo..hi`, and how many steps were followed to find what is reached, kept and made.
+///
+/// The number tells how much work it was: a step counts each time that it is followed. It stops at the largest number that there is.
+pub fn solve_counted(
+    alloc: Global,
+    problem: &Problem<'_, '_>,
+    lo: u32,
+    hi: u32,
+) -> Result<(Rows, u64), OutOfMemory>
+    requires ordered { lo ≤ hi }
+    requires within { hi ≤ bits_of problem.now.program problem.now.analysis }
+    ensures equations { IfOk result (λ solved. IsLeastSolution problem.now lo hi solved.0) }
+    ensures paths { IfOk result (λ solved. IsMeetOverPaths problem.now lo hi solved.0) }
+{
+    // Its contract tells that the problem is well formed.
+    let _ = problem.edges();
+    let routes = Routes::of(alloc, problem)?;
+    let mut followed = routes.followed();
+    let effects = effects_within(alloc, problem, lo < hi)?;
+    let rows = solve_slice(
+        alloc,
+        problem,
+        &routes,
+        effects.as_slice(),
+        lo,
+        hi,
+        &mut followed,
+    )?;
+    Ok((rows, followed))
 }
 
 /// The solution of a problem on its bits `lo..hi`: for each point a path flag, and the set of those bits that hold there.
@@ -105,13 +150,10 @@ fn solve_frame(
 /// (`Problem::complements`). With `lo` equal to `hi` the answer has the flags alone, and no word is solved.
 ///
 /// It is the least solution of the summary equations, one set of equations for each bit (Kildall 1973; summaries of procedures:
-/// Reps, Horwitz, Sagiv 1995). Flags are found first, then 64 bits at once, word by word: each family of the equations by
-/// rounds over all edges, in turn in the problem's direction and against it, until a round adds nothing. What an edge adds
-/// goes on at once along an edge of each further point, where the round has passed that edge already. So a round takes time
-/// that grows with the edges, and most programs take a few rounds for each word.
+/// Reps, Horwitz, Sagiv 1995). Several words of 64 bits are solved at once. A point is visited again only where what is kept or
+/// made there changed, a call site where its callee's exit changed, and a procedure where what is brought to it changed.
 ///
-/// Beside the answer it takes memory for one word of gen, kill, kept and made a point and of brought a procedure, which all
-/// words of the slice share, and for a flag and a few numbers a point and a procedure. Nothing is allocated between words.
+/// A caller who solves a problem slice by slice makes a [`Solver`] once.
 pub fn solve(
     alloc: Global,
     problem: &Problem<'_, '_>,
@@ -123,15 +165,113 @@ pub fn solve(
     ensures equations { IfOk result (λ rows. IsLeastSolution problem.now lo hi rows) }
     ensures paths { IfOk result (λ rows. IsMeetOverPaths problem.now lo hi rows) }
 {
-    let lists = frame_lists(alloc, problem)?;
-    let frame = Frame {
-        root: lists.root,
-        entries: lists.entries.as_slice(),
-        exits: lists.exits.as_slice(),
-        procedures: lists.procedures.as_slice(),
-        edges: problem.edges(),
-        onward: lists.onward.as_slice(),
-        backward: lists.backward,
-    };
-    solve_frame(alloc, problem, &frame, lo, hi)
+    let (rows, _) = solve_counted(alloc, problem, lo, hi)?;
+    Ok(rows)
+}
+
+impl<'g, 'p> Solver<'g, 'p> {
+    /// The solver of a problem.
+    pub fn of(alloc: Global, problem: Problem<'g, 'p>) -> Result<Self, OutOfMemory>
+        ensures { IfOk result (λ solver. solver ≡ problem.entry) }
+    {
+        let routes = Routes::of(alloc, &problem)?;
+        Solver::over(alloc, problem, routes)
+    }
+
+    /// The solver of a problem over edges and paths that were found before, of the same program in the same direction.
+    pub fn over(
+        alloc: Global,
+        problem: Problem<'g, 'p>,
+        routes: Routes<'g, 'p>,
+    ) -> Result<Self, OutOfMemory>
+        requires { routes ≡ direction_of problem }
+        ensures { IfOk result (λ solver. solver ≡ problem.entry) }
+    {
+        let effects = effect_words(alloc, &problem)?;
+        Ok(Solver {
+            problem,
+            routes,
+            effects,
+        })
+    }
+
+    /// The problem.
+    pub fn problem(&self) -> &Problem<'g, 'p>
+        ensures { result.now ≡ self.now }
+    {
+        &self.problem
+    }
+
+    /// The edges and paths, for another analysis of the same direction.
+    pub fn into_routes(self) -> Routes<'g, 'p>
+        ensures { result ≡ direction_of self.entry }
+    {
+        self.routes
+    }
+
+    /// The path flag of each point: whether some valid path leads to it.
+    pub fn flags(&self, alloc: Global) -> Result<Vec<bool>, OutOfMemory>
+        ensures { IfOk result (λ flags. HasPathFlags self.now flags.items) }
+    {
+        // Its contract tells that the problem is well formed.
+        let _ = self.problem.edges();
+        copied(alloc, self.routes.paths())
+    }
+
+    /// The solution on the bits `lo..hi`, as [`solve`] has it.
+    pub fn solve(&self, alloc: Global, lo: u32, hi: u32) -> Result<Rows, OutOfMemory>
+        requires ordered { lo ≤ hi }
+        requires within { hi ≤ bits_of self.now.program self.now.analysis }
+        ensures equations { IfOk result (λ rows. IsLeastSolution self.now lo hi rows) }
+        ensures paths { IfOk result (λ rows. IsMeetOverPaths self.now lo hi rows) }
+    {
+        // Its contract tells that the problem is well formed.
+        let _ = self.problem.edges();
+        let mut followed = 0;
+        solve_slice(
+            alloc,
+            &self.problem,
+            &self.routes,
+            self.effects.as_slice(),
+            lo,
+            hi,
+            &mut followed,
+        )
+    }
+
+    /// All working memory of a slice of the problem's bits: no more is taken while its words are solved.
+    pub fn slice(&self, alloc: Global, lo: u32, hi: u32) -> Result<SliceWords, OutOfMemory>
+        requires ordered { lo ≤ hi }
+        requires within { hi ≤ bits_of self.now.program self.now.analysis }
+        ensures slice { IfOk result (λ slice. IsSliceOf self.now slice) }
+        ensures range { IfOk result (λ slice. (slice.lo ≡ lo) × (slice.hi ≡ hi)) }
+    {
+        slice_words(alloc, &self.routes, lo, hi)
+    }
+
+    /// Solves the words of a slice from one on, as many as are solved at once and to the slice's end. Answers the word after
+    /// the last one solved. It takes no memory.
+    pub fn solve_from(&self, slice: &mut SliceWords, word: u32) -> u32
+        requires slice { IsSliceOf self.now slice.old }
+        requires word { 64 * word < slice.old.hi }
+        ensures slice { IsSliceOf self.now slice.new }
+        ensures range { (slice.new.lo ≡ slice.old.lo) × (slice.new.hi ≡ slice.old.hi) }
+        ensures from { slice.new.from ≡ word }
+        ensures until { slice.new.until ≡ result }
+        ensures more { word < result }
+        ensures last { 64 * result < slice.old.hi + 64 }
+        ensures equations { AreSolved self.now slice.new }
+        ensures paths { AreMeetWords self.now slice.new }
+    {
+        // Its contract tells that the problem is well formed.
+        let _ = self.problem.edges();
+        let mut followed = 0;
+        slice.solve_from(
+            &self.problem,
+            &self.routes,
+            self.effects.as_slice(),
+            word,
+            &mut followed,
+        )
+    }
 }

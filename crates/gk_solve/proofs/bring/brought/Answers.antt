@@ -1,22 +1,32 @@
-use Rattle.std.proofs.Common.{subst, sym, ◌∙◌}
-use Rattle.gk_solve.specs.Equations.{brought_by_boundary}
-use Rattle.gk_solve.specs.Words.{IsBrought, HasBit}
-use Rattle.gk_solve.proofs.WordLemmas.{sound_words_more}
-use Rattle.gk_solve.proofs.BroughtLemmas.{all_brought}
+use Rattle.std.proofs.Common.{ap, length, false, ◌∙◌}
+use Rattle.std.proofs.Math.ListN.{length-set}
+use Rattle.flow_links.specs.Shapes.{directed_shape}
+use Rattle.gk_solve.specs.Tables.Brought.{IsBroughtClosedAt, brought_word}
+use Rattle.gk_solve.specs.Tables.Flags.{source_procedure}
+use Rattle.gk_solve.specs.Tables.Groups.{group_of, kept_word, made_word}
+use Rattle.gk_solve.proofs.Visits.{visit_falls, visit_settles, all_closed}
+use Rattle.gk_solve.proofs.WordEdges.{all_brought}
 use Rattle.gk_solve.proofs.bring.brought.Goals as goal
 
-pub rounds-init : goal.rounds-init
-rounds-init g c =
-    let root = c.requires.0.is_frame.same_root in
-    record {
-      root = λ k has. subst (λ p. HasBit c.add.new.words p k) root (c.add.ensures.added k has);
-      sound = sound_words_more (IsBrought g.problem) _ _ _ _ c.add.ensures.only
-          (λ k low has. subst (IsBrought g.problem k) (sym root) (brought_by_boundary (c.requires.0.same_boundary k low ∙ has))) c.requires.1.1.1;
-    }
+pub visits-smaller : goal.visits-smaller
+visits-smaller g c = visit_falls c.visits.brought c.visits.dirty c.visit.new.brought c.take.new.self c.visit.new.dirty c.in-Some.procedure c.in-Some.ensures.0 c.in-Some.ensures.1 c.visit.ensures.spreads
 
-pub returns : goal.returns
-returns g c p k low = (
-  c.bring_round.ensures.sound c.rounds.invariant.sound p k low,
-  all_brought c.requires.0 c.requires.1.0 c.bring_round.new.brought (c.bring_round.ensures.closed c.rounds-test.false) k low
-      (λ has. c.bring_round.ensures.grows _ k (c.rounds.invariant.root k has)) p,
-)
+pub visits-preserved : goal.visits-preserved
+visits-preserved g c = record {
+  count = c.visit.ensures.spreads.count ∙ (ap length c.in-Some.ensures.1 ∙ (length-set c.visits.dirty c.in-Some.procedure false ∙ c.visits.invariant.count));
+  settled = visit_settles c.visits.brought c.visits.dirty c.visit.new.brought c.take.new.self c.visit.new.dirty c.in-Some.procedure c.in-Some.ensures.1 c.visit.ensures.spreads c.visit.ensures.settled c.visits.invariant.settled;
+  root = λ w k inside low has. c.visit.ensures.spreads.grows w inside _ k (c.visits.invariant.root w k inside low has);
+  sound = c.visit.ensures.spreads.sound c.visits.invariant.sound;
+}
+
+pub returns-clause-exact : goal.returns-clause-exact
+returns-clause-exact g c w p k inside low =
+    let group = group_of c.args.frame.now g.row.W in
+    let is = c.requires.frame in
+    let closed = all_closed (IsBroughtClosedAt group c.args.frame.now.paths.now c.args.table.now) (directed_shape c.args.frame.now.links.now) (source_procedure (directed_shape c.args.frame.now.links.now)) c.visits.brought c.visits.dirty
+    c.visits.invariant.settled c.in_default.ensures.0 in (
+      λ has. c.visits.invariant.sound w inside p k low has,
+      all_brought is.numbered (group.transfer w) c.args.frame.now.paths.now is.paths (kept_word c.args.table.now w) (made_word c.args.table.now w) (brought_word c.visits.brought w)
+          (λ x k low flag. (c.requires.complete w x k inside low flag).0) (λ x k low flag. (c.requires.complete w x k inside low flag).1)
+          (λ edge there. closed edge there w inside) k low (λ has. c.visits.invariant.root w k inside low has) p,
+    )

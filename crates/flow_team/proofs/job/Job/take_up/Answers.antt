@@ -1,4 +1,4 @@
-use Rattle.std.proofs.Common.{◌≡◌, ◌∙◌, Some, None, refl, sym}
+use Rattle.std.proofs.Common.{◌≡◌, ◌∙◌, Some, refl, sym}
 use Rattle.slice_board.specs.Boards.{about_board}
 use Rattle.flow_team.proofs.job.Job.take_up.Goals as goal
 

@@ -10,8 +10,9 @@ use Rattle.flow_team.proofs.sets.GraphSets.table.Goals as goal
 pub returns-clause-table : goal.returns-clause-table
 returns-clause-table c =
     let form = c.args.self.now in
-    let analysis : c.with_rows.result.analysis ≡ form.analysis = c.with_rows.ensures.analysis ∙ c.self.invariant ∙ ap (λ (f : MayForm). f.analysis) c.self.view_is in
-    let must = c.complements.ensures ∙ ap (λ (f : MayForm). is_must f.analysis) c.self.view_is in
+    let problem_is : c.problem-problem.result.now ≡ form = c.problem-problem.ensures ∙ c.self.view_is in
+    let analysis : c.with_rows.result.analysis ≡ form.analysis = c.with_rows.ensures.analysis ∙ c.analysis.ensures ∙ ap (λ (f : MayForm). f.analysis) problem_is in
+    let must = c.complements.ensures ∙ ap (λ (f : MayForm). is_must f.analysis) problem_is in
     let table_is : (rows : RowTable) → c.if-complements.rows ≡ rows → IsTableOf form.program (record { analysis = form.analysis; rows = rows }) → IsTableOf form.program c.with_rows.result =
     λ rows is table. subst (IsTableOf form.program) (λ i. let r : TableRows = record { analysis = sym analysis i; rows = sym (c.with_rows.ensures.rows ∙ is) i } in r) table in
     elim c.if-complements.branch [

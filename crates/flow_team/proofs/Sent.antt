@@ -1,0 +1,49 @@
+-- That a solver may go to any thread, and be shared by several: its parts first, since one search over all of them is too large.
+use denote.Ref.{NamedLft}
+use denote.Param.Send.{IsSend, IsSync, sendable}
+use Rattle.std.proofs.Crossing.{crosses}
+use Rattle.tac_reader.specs.contracts.program.Program as Program
+use Rattle.flow_graph.specs.contracts.graph.Graph as Graph
+use Rattle.flow_graph.specs.contracts.problem.Problem as Problem
+use Rattle.flow_links.specs.contracts.links.Links as Links
+use Rattle.gk_solve.specs.contracts.routes.Routes as Routes
+use Rattle.gk_solve.specs.contracts.solver.Solver as Solver
+use Rattle.work_list.specs.contracts.order.Order as Order
+
+program_sync : IsSync Program.the_row
+program_sync = search (crosses, sendable) depth 60 fits 5000
+
+graph_sync : (p : NamedLft) → IsSync (Graph.the_row p)
+graph_sync p = search (program_sync, crosses, sendable) depth 60 fits 5000
+
+problem_send : (g p : NamedLft) → IsSend (Problem.the_row g p)
+problem_send g p = search (graph_sync, crosses, sendable) depth 60 fits 5000
+
+problem_sync : (g p : NamedLft) → IsSync (Problem.the_row g p)
+problem_sync g p = search (graph_sync, crosses, sendable) depth 60 fits 5000
+
+order_send : IsSend Order.the_row
+order_send = search (crosses, sendable) depth 60
+
+order_sync : IsSync Order.the_row
+order_sync = search (crosses, sendable) depth 60
+
+links_send : (g p : NamedLft) → IsSend (Links.the_row g p)
+links_send g p = search (order_send, crosses, sendable) depth 60 fits 5000
+
+links_sync : (g p : NamedLft) → IsSync (Links.the_row g p)
+links_sync g p = search (order_sync, crosses, sendable) depth 60 fits 5000
+
+routes_send : (g p : NamedLft) → IsSend (Routes.the_row g p)
+routes_send g p = search (links_send, crosses, sendable) depth 60
+
+routes_sync : (g p : NamedLft) → IsSync (Routes.the_row g p)
+routes_sync g p = search (links_sync, crosses, sendable) depth 60
+
+pub solver_send : (g p : NamedLft) → IsSend (Solver.the_row g p)
+solver_send g p = search (problem_send, routes_send, crosses, sendable) depth 60
+
+pub solver_sync : (g p : NamedLft) → IsSync (Solver.the_row g p)
+solver_sync g p = search (problem_sync, routes_sync, crosses, sendable) depth 60
+
+pub ruleset solver_crosses = (solver_send, solver_sync, crosses, sendable)

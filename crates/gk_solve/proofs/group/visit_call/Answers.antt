@@ -1,0 +1,49 @@
+use Rattle.std.proofs.Common.{◌<◌, length, arith, subst, sym}
+use Rattle.flow_graph.specs.Points.{point_count}
+use Rattle.gk_solve.proofs.FlagVisits.{return_low, exit_low}
+use Rattle.gk_solve.proofs.GroupLemmas.{call_keeps_of, call_makes_of, call_settled_of}
+use Rattle.gk_solve.proofs.SummaryVisits.{has_size}
+use Rattle.gk_solve.proofs.group.visit_call.Goals as goal
+
+pub bounds-frame-call : goal.bounds-frame-call
+bounds-frame-call g c =
+    let there = c.requires.there in
+    let low = subst (λ n. n < point_count c.args.frame.now.links.now.program) (sym there.3) (exit_low c.requires.frame.numbered there.0 c.args.at there.1 there.2) in
+    omega (arith, low, c.requires.frame.path_count)
+
+pub put-requires : goal.put-requires
+put-requires g c =
+    let is = c.requires.frame in
+    let there = c.requires.there in
+    let ends = is.numbered.edge_in_range _ there.2 in
+    let within : c.args.at < length c.args.table.now = omega (arith, ends.0, c.requires.count) in
+    let low = subst (λ n. n < point_count c.args.frame.now.links.now.program) (sym there.3) (exit_low is.numbered there.0 c.args.at there.1 there.2) in
+    let exit_within : c.args.call.exit < length c.args.table.now = omega (arith, low, c.requires.count) in (
+      has_size g.row.W is.narrow,
+      (
+        c.requires.count,
+        (
+          c.requires.dirty_count,
+          (
+            subst (λ n. n < point_count c.args.frame.now.links.now.program) (sym there.4) (return_low is.numbered there.0 c.args.at there.1 there.2),
+            (
+              call_keeps_of g.row.W c.args.frame.now is c.args.table.now c.requires.sound c.args.at c.args.call there c.requires.path c.if-not-frame-call.false within exit_within c.index-table-at.result c.index-table-call.result c.index-table-at.is c.index-table-call.is
+                  c.both.result c.new_or_kept.result c.both.ensures c.new_or_kept.ensures,
+              call_makes_of g.row.W c.args.frame.now is c.args.table.now c.requires.sound c.args.at c.args.call there c.requires.path c.if-not-frame-call.false within exit_within c.index-table-at.result c.index-table-call.result c.index-table-at.is c.index-table-call.is
+                  c.both.result c.new_or_kept.result c.both.ensures c.new_or_kept.ensures,
+            ),
+          ),
+        ),
+      ),
+    )
+
+pub returns-clause-settled : goal.returns-clause-settled
+returns-clause-settled g c =
+    let is = c.requires.frame in
+    let there = c.requires.there in
+    let ends = is.numbered.edge_in_range _ there.2 in
+    let within : c.args.at < length c.args.table.now = omega (arith, ends.0, c.requires.count) in
+    let low = subst (λ n. n < point_count c.args.frame.now.links.now.program) (sym there.3) (exit_low is.numbered there.0 c.args.at there.1 there.2) in
+    let exit_within : c.args.call.exit < length c.args.table.now = omega (arith, low, c.requires.count) in
+    call_settled_of g.row.W c.args.frame.now is c.args.table.now c.requires.sound c.args.at c.args.call there c.requires.path c.if-not-frame-call.false within exit_within c.index-table-at.result c.index-table-call.result c.index-table-at.is c.index-table-call.is
+    c.both.result c.new_or_kept.result c.both.ensures c.new_or_kept.ensures c.put.new.table c.put.new.dirty c.put.ensures.same c.put.ensures.kept_added c.put.ensures.made_added

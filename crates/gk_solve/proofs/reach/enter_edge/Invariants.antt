@@ -1,4 +1,0 @@
-use Rattle.gk_solve.proofs.reach.enter_edge.Given as goal
-
-abbrev pub ghost-procedure_at : goal.ghost-procedure_at
-ghost-procedure_at g a = g.shape

@@ -1,0 +1,12 @@
+use Rattle.std.proofs.Common.{subst}
+use Rattle.flow_graph.specs.Analyses.{may_shape}
+use Rattle.flow_graph.specs.Paths.{IsWellFormed}
+use Rattle.flow_graph.specs.Problems.{MayForm}
+use Rattle.gk_solve.specs.Solved.{AreSolved}
+use Rattle.gk_solve.proofs.SolvedWords.{meet_words}
+use Rattle.gk_solve.proofs.solver.Solver.solve_from.Goals as goal
+
+pub returns-clause-paths : goal.returns-clause-paths
+returns-clause-paths c =
+    let formed = subst (λ (form : MayForm). IsWellFormed (may_shape form.program form.analysis)) c.self.view_is c.edges.ensures.well_formed in
+    meet_words c.args.self.now c.solve_from.new.self formed (subst (λ (form : MayForm). AreSolved form c.solve_from.new.self) c.self.view_is c.solve_from.ensures.solved)

@@ -1,5 +1,0 @@
-use Rattle.bit_rows.proofs.WordBits.{has_bit-and}
-use Rattle.gk_solve.proofs.word.both.Goals as goal
-
-pub returns : goal.returns
-returns c k = has_bit-and c.args.first c.args.second k

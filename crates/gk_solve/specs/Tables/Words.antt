@@ -1,0 +1,88 @@
+-- The 64 places of a word, by point or procedure: which bits of words are set, and what closes them under an edge.
+use Rattle.std.specs.Prelude.{◌≡◌, ◌<◌, ◌⊎◌, ℕ, Bool, true, false, List, ◌&&◌, nat_lt, if◌then◌else◌}
+use Rattle.bit_rows.specs.Words.{has_bit}
+use Rattle.flow_graph.specs.declared.edge.Edge.{Edge}
+use Rattle.flow_graph.specs.declared.edge.Edge.TheVariants.{Step, Call, Ret}
+use Rattle.flow_graph.specs.Paths.{Shape, Transfer}
+use Rattle.flow_graph.specs.Problems.{MayForm, may_gens, may_kills, may_boundary}
+use Rattle.flow_graph.specs.Universes.{bits as bits_of}
+use Rattle.gk_solve.specs.Equations.{Kept, Made, Brought}
+use Rattle.flow_links.specs.Shapes.{after_site}
+use Rattle.gk_solve.specs.Tables.Flags.{IsFlagged}
+
+-- the point of a step's statement: its beginning in a program's own direction, its end where it is reversed
+abbrev pub statement_of : Bool → ℕ → ℕ → ℕ
+statement_of backward x y = if backward then y else x
+
+-- the step of the statement at a point generates a bit that is there
+unfoldable pub place_gens : MayForm → ℕ → ℕ → Bool
+place_gens form point bit = nat_lt bit (bits_of form.program form.analysis) && may_gens form point bit
+
+-- it kills a bit that is there
+unfoldable pub place_kills : MayForm → ℕ → ℕ → Bool
+place_kills form point bit = nat_lt bit (bits_of form.program form.analysis) && may_kills form point bit
+
+-- the boundary has a bit that is there
+unfoldable pub place_boundary : MayForm → ℕ → Bool
+place_boundary form bit = nat_lt bit (bits_of form.program form.analysis) && may_boundary form bit
+
+-- A place's transfer: that of the bit it stands for, and nothing past the last bit.
+abbrev pub place_transfer : Bool → MayForm → ℕ → Transfer
+place_transfer backward form bit = record {
+  gen = λ x y. place_gens form (statement_of backward x y) bit;
+  kill = λ x y. place_kills form (statement_of backward x y) bit;
+  boundary = place_boundary form bit;
+}
+
+-- bit k of the word of a point, or of a procedure, is set
+abbrev pub HasBit : (ℕ → ℕ) → ℕ → ℕ → Type 0
+HasBit words x k = has_bit (words x) k ≡ true
+
+-- no bit is taken back
+abbrev pub WordsGrow : (ℕ → ℕ) → (ℕ → ℕ) → Type 0
+WordsGrow old new = (x k : ℕ) → HasBit old x k → HasBit new x k
+
+-- each bit that is set is of its family
+abbrev pub AreSoundWords : (ℕ → ℕ → Type 0) → (ℕ → ℕ) → Type 0
+AreSoundWords Family words = (x k : ℕ) → k < 64 → HasBit words x k → Family k x
+
+-- what is kept is closed under one edge
+abbrev pub IsKeepClosedAt : Shape → Bool → (ℕ → Transfer) → List Bool → (ℕ → ℕ) → Edge → Type 0
+IsKeepClosedAt shape backward transfer paths kept (Step x y) =
+    (k : ℕ) → k < 64 → IsFlagged paths x → HasBit kept x k → (transfer k).kill x y ≡ false → HasBit kept y k
+IsKeepClosedAt shape backward transfer paths kept (Call site x y) =
+    let exit = shape.exit (shape.procedure_of y) in
+    (k : ℕ) → k < 64 → IsFlagged paths x → IsFlagged paths exit
+    → HasBit kept x k → HasBit kept exit k → HasBit kept (after_site backward site) k
+IsKeepClosedAt shape backward transfer paths kept (Ret site x y) = Unit {0}
+
+-- what is made is closed under one edge
+abbrev pub IsMakeClosedAt : Shape → Bool → (ℕ → Transfer) → List Bool → (ℕ → ℕ) → (ℕ → ℕ) → Edge → Type 0
+IsMakeClosedAt shape backward transfer paths kept made (Step x y) =
+    (k : ℕ) → k < 64 → IsFlagged paths x
+    → (((transfer k).gen x y ≡ true) ⊎ (HasBit made x k × ((transfer k).kill x y ≡ false))) → HasBit made y k
+IsMakeClosedAt shape backward transfer paths kept made (Call site x y) =
+    let exit = shape.exit (shape.procedure_of y) in
+    (k : ℕ) → k < 64 → IsFlagged paths x → IsFlagged paths exit
+    → (HasBit made exit k ⊎ (HasBit made x k × HasBit kept exit k)) → HasBit made (after_site backward site) k
+IsMakeClosedAt shape backward transfer paths kept made (Ret site x y) = Unit {0}
+
+-- what is brought to procedures is closed under one edge
+abbrev pub IsBringClosedAt : Shape → List Bool → (ℕ → ℕ) → (ℕ → ℕ) → (ℕ → ℕ) → Edge → Type 0
+IsBringClosedAt shape paths kept made brought (Step x y) = Unit {0}
+IsBringClosedAt shape paths kept made brought (Call site x y) =
+    (k : ℕ) → k < 64 → IsFlagged paths x
+    → (HasBit made x k ⊎ (HasBit brought (shape.procedure_of x) k × HasBit kept x k)) → HasBit brought (shape.procedure_of y) k
+IsBringClosedAt shape paths kept made brought (Ret site x y) = Unit {0}
+
+-- bit k is kept up to a point
+abbrev pub IsKept : Shape → (ℕ → Transfer) → ℕ → ℕ → Type 0
+IsKept shape transfer k x = Kept shape (transfer k).kill x
+
+-- bit k is made before a point
+abbrev pub IsMade : Shape → (ℕ → Transfer) → ℕ → ℕ → Type 0
+IsMade shape transfer k x = Made shape (transfer k) x
+
+-- bit k is brought to a procedure
+abbrev pub IsBrought : Shape → (ℕ → Transfer) → ℕ → ℕ → Type 0
+IsBrought shape transfer k procedure = Brought shape (transfer k) procedure

@@ -1,0 +1,260 @@
+// What is kept and made, for a group of words, by visits of the points that are changed.
+ghost use Rattle.std.specs.Prelude.{◌≡◌, ◌<◌, ◌||◌, ℕ, false, true, length, slice_index};
+ghost use Rattle.bit_rows.specs.Words.{has_bit};
+ghost use Rattle.flow_graph.specs.declared.edge.Edge.{Edge};
+ghost use Rattle.flow_graph.specs.declared.edge.Edge.TheVariants.{Step, Call};
+ghost use Rattle.flow_graph.specs.Paths.{IsEdge, source_of};
+ghost use Rattle.flow_graph.specs.Points.{point_count};
+ghost use Rattle.gk_solve.specs.Equations.{HasFlag};
+ghost use Rattle.flow_links.specs.Shapes.{directed_shape};
+ghost use Rattle.flow_links.specs.LinkLists.{IsCallLink};
+ghost use Rattle.work_list.specs.Marks.{IsMarked, AreClear};
+ghost use Rattle.gk_solve.specs.Tables.Flags.{IsFlagged};
+ghost use Rattle.gk_solve.specs.Tables.Groups.{AreCompleteSummaries, AreJoined, AreOf, AreSameBut, AreSoundSummaries, IsGroupFrame, IsSummaryCallSettled, IsSummaryClosedAt, IsWoken, SummarySpreads, group_of, kept_word, made_word, room_of_summary};
+ghost use Rattle.gk_solve.specs.Tables.Visits.{IsSettled};
+ghost use Rattle.gk_solve.specs.Tables.Words.{HasBit, IsKept, IsMade, statement_of};
+
+use crate::effects::across;
+use crate::group_frame::GroupFrame;
+use crate::lanes::{added, both, new_or_kept};
+use crate::summary::Summary;
+use flow_links::{CallLink, Links};
+use work_list::Marks;
+
+// Marks a point and those that wait for it.
+fn wake(links: &Links<'_, '_>, dirty: &mut Marks, at: u32)
+    requires dirty_count { length dirty.now ≡ point_count links.now.program }
+    requires within { at < point_count links.now.program }
+    ensures count { length dirty.new ≡ length dirty.old }
+    ensures keeps { (x : ℕ) → IsMarked dirty.old x → IsMarked dirty.new x }
+    ensures woken { IsWoken (directed_shape links.now) dirty.new at }
+{
+    dirty.mark(at as usize);
+    let callers = links.callers_of(at);
+    for caller in callers {
+        dirty.mark(*caller as usize);
+    }
+}
+
+// A summary with bits added, and whether some of those were missing.
+#[inline(always)]
+fn joined<const W: usize>(before: Summary<W>, more: Summary<W>) -> (Summary<W>, bool)
+    ensures kept { AreJoined W before.entry.kept more.entry.kept result.0.kept }
+    ensures made { AreJoined W before.entry.made more.entry.made result.0.made }
+    ensures same { result.1 ≡ false → (result.0.kept ≡ before.entry.kept) × (result.0.made ≡ before.entry.made) }
+    ensures less { result.1 ≡ true → room_of_summary result.0 < room_of_summary before.entry }
+{
+    let (kept, more_kept) = added(before.kept, more.kept);
+    let (made, more_made) = added(before.made, more.made);
+    (Summary { kept, made }, more_kept || more_made)
+}
+
+// Adds to the summary of a point, and where that is anything, marks the point and those that wait for it.
+#[inline(always)]
+fn put<const W: usize>(
+    frame: &GroupFrame,
+    table: &mut [Summary<W>],
+    dirty: &mut Marks,
+    at: u32,
+    more: Summary<W>,
+)
+    requires count { length table.now ≡ point_count frame.now.links.now.program }
+    requires dirty_count { length dirty.now ≡ point_count frame.now.links.now.program }
+    requires within { at < point_count frame.now.links.now.program }
+    requires keeps { AreOf (group_of frame.now W) (IsKept (directed_shape frame.now.links.now)) more.kept at }
+    requires makes { AreOf (group_of frame.now W) (IsMade (directed_shape frame.now.links.now)) more.made at }
+    ensures spreads { SummarySpreads (group_of frame.now W) frame.now.paths.now table.old dirty.old table.new dirty.new }
+    ensures same { AreSameBut (directed_shape frame.now.links.now) at table.old table.new dirty.new }
+    ensures kept_added { (w k : ℕ) → w < W → has_bit (slice_index more.entry.kept w) k ≡ true → HasBit (kept_word table.new w) at k }
+    ensures made_added { (w k : ℕ) → w < W → has_bit (slice_index more.entry.made w) k ≡ true → HasBit (made_word table.new w) at k }
+{
+    let before = table[at as usize];
+    let (after, changed) = joined(before, more);
+    if !changed {
+        return;
+    }
+    table[at as usize] = after;
+    wake(frame.links, dirty, at);
+}
+
+// The point of a step's statement.
+fn statement_point(backward: bool, from: u32, to: u32) -> u32
+    ensures { result ≡ statement_of backward from to }
+{
+    if backward { to } else { from }
+}
+
+// Goes over one step from a point with a path.
+#[inline(always)]
+fn visit_step<const W: usize>(
+    frame: &GroupFrame,
+    table: &mut [Summary<W>],
+    dirty: &mut Marks,
+    at: u32,
+    to: u32,
+)
+    requires frame { IsGroupFrame W frame.now }
+    requires count { length table.now ≡ point_count frame.now.links.now.program }
+    requires dirty_count { length dirty.now ≡ point_count frame.now.links.now.program }
+    requires path { IsFlagged frame.now.paths.now at }
+    requires there { IsEdge (directed_shape frame.now.links.now) (Step at to) }
+    requires sound { AreSoundSummaries (group_of frame.now W) table.now }
+    ensures spreads { SummarySpreads (group_of frame.now W) frame.now.paths.now table.old dirty.old table.new dirty.new }
+    ensures settled { IsSettled (IsSummaryClosedAt (group_of frame.now W) frame.now.paths.now) source_of table.new dirty.new (Step at to) }
+{
+    let links = frame.links;
+    let point = statement_point(links.is_backward(), at, to);
+    let more = across(frame, point, table[at as usize]);
+    put(frame, table, dirty, to, more);
+}
+
+// Goes over one call from a point with a path.
+#[inline(always)]
+fn visit_call<const W: usize>(
+    frame: &GroupFrame,
+    table: &mut [Summary<W>],
+    dirty: &mut Marks,
+    at: u32,
+    call: CallLink,
+)
+    requires frame { IsGroupFrame W frame.now }
+    requires count { length table.now ≡ point_count frame.now.links.now.program }
+    requires dirty_count { length dirty.now ≡ point_count frame.now.links.now.program }
+    requires path { IsFlagged frame.now.paths.now at }
+    requires there { IsCallLink (directed_shape frame.now.links.now) frame.now.links.now.backward at call }
+    requires sound { AreSoundSummaries (group_of frame.now W) table.now }
+    ensures spreads { SummarySpreads (group_of frame.now W) frame.now.paths.now table.old dirty.old table.new dirty.new }
+    ensures settled { IsSummaryCallSettled (group_of frame.now W) frame.now.paths.now at table.new dirty.new call }
+{
+    if !frame.paths[call.exit as usize] {
+        return;
+    }
+    let before = table[at as usize];
+    let through = table[call.exit as usize];
+    let more = Summary {
+        kept: both(before.kept, through.kept),
+        made: new_or_kept(through.made, before.made, through.kept),
+    };
+    put(frame, table, dirty, call.after as u32, more);
+}
+
+// Goes over the steps from a point with a path.
+#[inline(always)]
+fn visit_steps<const W: usize>(
+    frame: &GroupFrame,
+    table: &mut [Summary<W>],
+    dirty: &mut Marks,
+    at: u32,
+    followed: &mut u64,
+)
+    requires frame { IsGroupFrame W frame.now }
+    requires count { length table.now ≡ point_count frame.now.links.now.program }
+    requires dirty_count { length dirty.now ≡ point_count frame.now.links.now.program }
+    requires within { at < point_count frame.now.links.now.program }
+    requires path { IsFlagged frame.now.paths.now at }
+    requires sound { AreSoundSummaries (group_of frame.now W) table.now }
+    ensures spreads { SummarySpreads (group_of frame.now W) frame.now.paths.now table.old dirty.old table.new dirty.new }
+    ensures settled { (y : ℕ) → IsEdge (directed_shape frame.now.links.now) (Step at y)
+        → IsSettled (IsSummaryClosedAt (group_of frame.now W) frame.now.paths.now) source_of table.new dirty.new (Step at y) }
+{
+    let links = frame.links;
+    let steps = links.steps_from(at);
+    *followed = followed.saturating_add(steps.len() as u64);
+    for to in steps {
+        visit_step(frame, table, dirty, at, *to as u32);
+    }
+}
+
+// Goes over the calls from a point with a path.
+fn visit_calls<const W: usize>(
+    frame: &GroupFrame,
+    table: &mut [Summary<W>],
+    dirty: &mut Marks,
+    at: u32,
+)
+    requires frame { IsGroupFrame W frame.now }
+    requires count { length table.now ≡ point_count frame.now.links.now.program }
+    requires dirty_count { length dirty.now ≡ point_count frame.now.links.now.program }
+    requires within { at < point_count frame.now.links.now.program }
+    requires path { IsFlagged frame.now.paths.now at }
+    requires sound { AreSoundSummaries (group_of frame.now W) table.now }
+    ensures spreads { SummarySpreads (group_of frame.now W) frame.now.paths.now table.old dirty.old table.new dirty.new }
+    ensures settled { (site y : ℕ) → IsEdge (directed_shape frame.now.links.now) (Call site at y)
+        → IsSettled (IsSummaryClosedAt (group_of frame.now W) frame.now.paths.now) source_of table.new dirty.new (Call site at y) }
+{
+    let links = frame.links;
+    let calls = links.calls_from(at);
+    for call in calls {
+        visit_call(frame, table, dirty, at, *call);
+    }
+}
+
+// Goes over the edges from a point.
+#[inline(always)]
+fn visit<const W: usize>(
+    frame: &GroupFrame,
+    table: &mut [Summary<W>],
+    dirty: &mut Marks,
+    at: u32,
+    followed: &mut u64,
+)
+    requires frame { IsGroupFrame W frame.now }
+    requires count { length table.now ≡ point_count frame.now.links.now.program }
+    requires dirty_count { length dirty.now ≡ point_count frame.now.links.now.program }
+    requires within { at < point_count frame.now.links.now.program }
+    requires sound { AreSoundSummaries (group_of frame.now W) table.now }
+    ensures spreads { SummarySpreads (group_of frame.now W) frame.now.paths.now table.old dirty.old table.new dirty.new }
+    ensures settled { (edge : Edge) → IsEdge (directed_shape frame.now.links.now) edge → source_of edge ≡ at
+        → IsSettled (IsSummaryClosedAt (group_of frame.now W) frame.now.paths.now) source_of table.new dirty.new edge }
+{
+    if frame.paths[at as usize] {
+        visit_steps(frame, table, dirty, at, followed);
+        visit_calls(frame, table, dirty, at);
+    }
+}
+
+// Begins a table: nothing is made, and an entry keeps everything.
+fn begin<const W: usize>(frame: &GroupFrame, table: &mut [Summary<W>])
+    requires frame { IsGroupFrame W frame.now }
+    requires count { length table.now ≡ point_count frame.now.links.now.program }
+    ensures entries { (p w k : ℕ) → p < (directed_shape frame.now.links.now).procedures → w < W → k < 64
+        → HasBit (kept_word table.new w) ((directed_shape frame.now.links.now).entry p) k }
+    ensures sound { AreSoundSummaries (group_of frame.now W) table.new }
+{
+    for point in 0..table.len() {
+        table[point] = Summary {
+            kept: [0; W],
+            made: [0; W],
+        };
+    }
+    let links = frame.links;
+    for procedure in 0..links.procedures() {
+        table[links.entry(procedure) as usize] = Summary {
+            kept: [u64::MAX; W],
+            made: [0; W],
+        };
+    }
+}
+
+/// Finds what is kept up to each point and made before it, at the points with a path. Counts the steps that are followed.
+pub(crate) fn kept_and_made<const W: usize>(
+    frame: &GroupFrame,
+    table: &mut [Summary<W>],
+    dirty: &mut Marks,
+    followed: &mut u64,
+)
+    requires frame { IsGroupFrame W frame.now }
+    requires count { length table.now ≡ point_count frame.now.links.now.program }
+    requires dirty_count { length dirty.now ≡ point_count frame.now.links.now.program }
+    ensures sound { AreSoundSummaries (group_of frame.now W) table.new }
+    ensures complete { AreCompleteSummaries (group_of frame.now W) table.new }
+    ensures dirty_count { length dirty.new ≡ length dirty.old }
+{
+    // Its contract tells that there are few points.
+    let _ = frame.links.points();
+    begin(frame, table);
+    dirty.mark_all();
+    'visits: while let Some(at) = dirty.take() {
+        visit(frame, table, dirty, at as u32, followed);
+    }
+}

@@ -1,0 +1,19 @@
+use flow_graph::Problem;
+use flow_links::Links;
+
+/// A problem and what is found of it once, for a group of words side by side.
+#[derive(Drop)]
+pub(crate) struct GroupFrame<'a, 'g, 'p> {
+    /// The problem.
+    pub problem: &'a Problem<'g, 'p>,
+    /// Its edges by point.
+    pub links: &'a Links<'g, 'p>,
+    /// For each point whether a path leads to it.
+    pub paths: &'a [bool],
+    /// For each point the words in which its statement does something.
+    pub effects: &'a [u64],
+    /// The group's first word.
+    pub first: u32,
+    /// The group's words, a bit each.
+    pub mask: u64,
+}

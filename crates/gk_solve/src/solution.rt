@@ -1,0 +1,128 @@
+// The solution's words at each point, of a group.
+ghost use Rattle.std.specs.Prelude.{◌≡◌, ◌+◌, ◌*◌, ◌<◌, ◌≤◌, ◌↔◌, ℕ, true, length, nat_lt, slice_index};
+ghost use Rattle.bit_rows.specs.Words.{has_bit};
+ghost use Rattle.flow_graph.specs.Points.{point_count};
+ghost use Rattle.flow_links.specs.Shapes.{directed_shape};
+ghost use Rattle.gk_solve.specs.Tables.Brought.{AreExactBrought, brought_word};
+ghost use Rattle.gk_solve.specs.Tables.Groups.{AreCompleteSummaries, AreSoundSummaries, IsGroupFrame, group_of, kept_word, made_word, summary_at};
+ghost use Rattle.gk_solve.specs.Tables.Solutions.{AreInSlice, AreSliceSolutions, IsSolutionAt};
+
+use crate::bring::brought;
+use crate::group::kept_and_made;
+use crate::group_frame::GroupFrame;
+use crate::lanes::{both, new_or_kept};
+use crate::summary::Summary;
+use work_list::Marks;
+
+// The word of the bits below a limit.
+fn word_below(limit: u32, word: u32) -> u64
+    ensures { (k : ℕ) → k < 64 → has_bit result k ≡ nat_lt (64 * word + k) limit }
+{
+    let count = u64::from(limit).saturating_sub(64 * u64::from(word));
+    if count < 64 {
+        (1 << count) - 1
+    } else {
+        u64::MAX
+    }
+}
+
+// The bits of a word that lie within `lo..hi`.
+fn word_within(lo: u32, hi: u32, word: u32) -> u64
+    ensures { (k : ℕ) → k < 64 → (has_bit result k ≡ true) ↔ ((lo ≤ 64 * word + k) × (64 * word + k < hi)) }
+{
+    !word_below(lo, word) & word_below(hi, word)
+}
+
+// The bits of a group's words that lie within `lo..hi`.
+fn words_within<const W: usize>(frame: &GroupFrame, lo: u32, hi: u32) -> [u64; W]
+    requires { IsGroupFrame W frame.now }
+    ensures { AreInSlice W frame.now.first lo hi result }
+{
+    let mut words = [0; W];
+    for w in 0..W {
+        words[w] = word_within(lo, hi, frame.first + w as u32);
+    }
+    words
+}
+
+// The solution's words at a point, as far as they lie within a slice, in the place of what is made.
+#[inline(always)]
+fn solution_at<const W: usize>(
+    frame: &GroupFrame,
+    here: Summary<W>,
+    brought: [u64; W],
+    within: [u64; W],
+    point: u32,
+) -> Summary<W>
+    requires frame { IsGroupFrame W frame.now }
+    requires inside { point < point_count frame.now.links.now.program }
+    ensures { IsSolutionAt (group_of frame.now W) frame.now.paths.now point here.entry.kept here.entry.made brought.entry within.entry result.made }
+{
+    if !frame.paths[point as usize] {
+        return Summary {
+            kept: [0; W],
+            made: [0; W],
+        };
+    }
+    let all = new_or_kept(here.made, brought, here.kept);
+    Summary {
+        kept: [0; W],
+        made: both(all, within),
+    }
+}
+
+// Puts the solution's words in the place of what is made.
+fn put_solutions<const W: usize>(
+    frame: &GroupFrame,
+    table: &mut [Summary<W>],
+    brought: &[[u64; W]],
+    lo: u32,
+    hi: u32,
+)
+    requires frame { IsGroupFrame W frame.now }
+    requires count { length table.now ≡ point_count frame.now.links.now.program }
+    requires sound { AreSoundSummaries (group_of frame.now W) table.now }
+    requires complete { AreCompleteSummaries (group_of frame.now W) table.now }
+    requires procedures { length brought.now ≡ (directed_shape frame.now.links.now).procedures }
+    requires brought { AreExactBrought (group_of frame.now W) brought.now }
+    ensures { AreSliceSolutions (group_of frame.now W) frame.now.first (point_count frame.now.links.now.program) lo hi table.new }
+{
+    let links = frame.links;
+    let within = words_within(frame, lo, hi);
+    for point in 0..links.points() {
+        let here = table[point as usize];
+        let procedure = links.procedure_of(point);
+        table[point as usize] = solution_at(
+            frame,
+            here,
+            brought[procedure as usize],
+            within,
+            point,
+        );
+    }
+}
+
+/// Solves a group of words: the solution's bits of `lo..hi` stand in the place of what is made. Counts the steps that are followed.
+pub(crate) fn solve_group<const W: usize>(
+    frame: &GroupFrame,
+    table: &mut [Summary<W>],
+    brought_words: &mut [[u64; W]],
+    dirty: &mut Marks,
+    callers: &mut Marks,
+    lo: u32,
+    hi: u32,
+    followed: &mut u64,
+)
+    requires frame { IsGroupFrame W frame.now }
+    requires count { length table.now ≡ point_count frame.now.links.now.program }
+    requires procedures { length brought_words.now ≡ (directed_shape frame.now.links.now).procedures }
+    requires dirty { length dirty.now ≡ point_count frame.now.links.now.program }
+    requires callers { length callers.now ≡ (directed_shape frame.now.links.now).procedures }
+    ensures solutions { AreSliceSolutions (group_of frame.now W) frame.now.first (point_count frame.now.links.now.program) lo hi table.new }
+    ensures dirty { length dirty.new ≡ length dirty.old }
+    ensures callers { length callers.new ≡ length callers.old }
+{
+    kept_and_made(frame, table, dirty, followed);
+    brought(frame, table, brought_words, callers);
+    put_solutions(frame, table, brought_words, lo, hi);
+}
