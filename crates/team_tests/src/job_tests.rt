@@ -1,0 +1,206 @@
+// Jobs, step by step.
+
+ghost use Rattle.std.specs.Prelude.{◌≡◌, IfOk};
+ghost use Rattle.flow_team.specs.Tables.{IsTableOf};
+ghost use Rattle.slice_board.specs.Boards.{IsOf, point_count};
+
+use crate::gates::Recorder;
+use crate::texts::{RECURSIVE, RECURSIVE_REACH, graph, lines, printed, prints, program, slices};
+use flow_graph::{Analysis, Graph};
+use flow_team::{Gate, GraphSets, Job, OpenGate, OutOfMemory, Solve, Table};
+use slice_board::Pass;
+use std::alloc::Global;
+use std::process::Abort;
+use std::test::Fail;
+use std::thread::{Threads, join};
+
+// A job of the recursive program's reaching definitions, a slice for each, on which two slices are worked, with what was seen
+// on the way: the definitions at the beginning and at line 2, which are in the first two slices.
+fn check_two_slices<S: Solve, R: Abort>(
+    rt: &R,
+    alloc: Global,
+    job: &Job<S>,
+    pass: &mut Pass<S>,
+    gate: &Recorder,
+) -> Result<(), Fail>
+    requires of { IsOf job.now pass.old }
+    requires points { point_count job.now ≡ 8 }
+    requires bits { job.now.cut.bits ≡ 3 }
+    ensures { IfOk result (λ _. IsOf job.now pass.new) }
+{
+    assert_eq!(rt; job.work(alloc, pass, 0, gate)?, Some(0));
+    assert_eq!(rt; gate.told(), (1, 1, 1, 1));
+    assert_eq!(rt; (job.look(pass, 0, 0), job.look(pass, 1, 0)), (1, 0));
+    assert_eq!(rt; job.work(alloc, pass, 0, gate)?, Some(1));
+    assert_eq!(rt; job.look(pass, 1, 0), 2);
+    Ok(())
+}
+
+// The job does not close yet: so many of its slices are finished.
+fn still_open<'g, 'p, R: Abort>(
+    rt: &R,
+    job: Job<GraphSets<'g, 'p>>,
+    pass: Pass<GraphSets<'g, 'p>>,
+    finished: (u32, u32),
+) -> Result<(Job<GraphSets<'g, 'p>>, Pass<GraphSets<'g, 'p>>), Fail>
+    requires { IsOf job pass }
+    ensures { IfOk result (λ again. (again.0 ≡ job.entry) × IsOf again.0 again.1) }
+{
+    match job.close(pass) {
+        Ok(_) => Err(Fail::new("closed too soon")),
+        Err((unfinished, job, pass)) => {
+            assert_eq!(rt; (unfinished.done, unfinished.of), finished);
+            Ok((job, pass))
+        }
+    }
+}
+
+// The third slice is worked, and there is no fourth.
+fn check_last_slice<S: Solve, R: Abort>(
+    rt: &R,
+    alloc: Global,
+    job: &Job<S>,
+    pass: &mut Pass<S>,
+    gate: &Recorder,
+) -> Result<(), Fail>
+    requires { IsOf job.now pass.old }
+    ensures { IfOk result (λ _. IsOf job.now pass.new) }
+{
+    assert_eq!(rt; job.work(alloc, pass, 0, gate)?, Some(2));
+    assert_eq!(rt; job.work(alloc, pass, 0, gate)?, None);
+    assert_eq!(rt; gate.told(), (7, 7, 3, 3));
+    Ok(())
+}
+
+// The table of a job whose slices are all finished.
+pub fn closed<'g, 'p>(
+    job: Job<GraphSets<'g, 'p>>,
+    pass: Pass<GraphSets<'g, 'p>>,
+) -> Result<Table, Fail>
+    requires { IsOf job pass }
+    ensures { IfOk result (IsTableOf job.entry.wanted.program) }
+{
+    match job.close(pass) {
+        Ok(table) => Ok(table),
+        Err(_) => Err(Fail::new("unfinished")),
+    }
+}
+
+// The job closes only once the third slice is finished.
+fn closed_in_the_end<'g, 'p, R: Abort>(
+    rt: &R,
+    alloc: Global,
+    job: Job<GraphSets<'g, 'p>>,
+    pass: Pass<GraphSets<'g, 'p>>,
+    gate: &Recorder,
+) -> Result<Table, Fail>
+    requires { IsOf job pass }
+    ensures { IfOk result (IsTableOf job.entry.wanted.program) }
+{
+    let (job, mut pass) = still_open(rt, job, pass, (2, 3))?;
+    check_last_slice(rt, alloc, &job, &mut pass, gate)?;
+    closed(job, pass)
+}
+
+// The table of the recursive program's reaching definitions, slice by slice.
+fn table_by_slices<R: Abort>(rt: &R, alloc: Global, graph: &Graph<'_>) -> Result<Table, Fail>
+    ensures { IfOk result (IsTableOf graph.now) }
+{
+    assert_eq!(rt; (graph.points(), graph.bits(Analysis::Reach)), (8, 3));
+    let cut = slices(alloc, graph, Analysis::Reach, 1)?;
+    let (job, mut pass) = Job::open(alloc, graph, Analysis::Reach, cut)?;
+    let gate = Recorder::new();
+    check_two_slices(rt, alloc, &job, &mut pass, &gate)?;
+    closed_in_the_end(rt, alloc, job, pass, &gate)
+}
+
+// Its lines.
+fn lines_by_slices<R: Abort>(rt: &R, alloc: Global, graph: &Graph<'_>) -> Result<String, Fail> {
+    let table = table_by_slices(rt, alloc, graph)?;
+    Ok(lines(alloc, graph, &table)?)
+}
+
+#[test]
+fn slices_one_after_the_other(rt: HostRuntime) -> Result<(), Fail> {
+    let alloc = rt.alloc();
+    let program = program(alloc, RECURSIVE)?;
+    let graph = graph(alloc, &program)?;
+    let told = lines_by_slices(&rt, alloc, &graph)?;
+    assert_eq!(rt; told.as_str(), RECURSIVE_REACH);
+    Ok(())
+}
+
+// Works until no slice is left.
+fn drain<S: Solve, G: Gate>(
+    alloc: Global,
+    job: &Job<S>,
+    gate: &G,
+    worker: u32,
+    mut pass: Pass<S>,
+) -> Result<Pass<S>, OutOfMemory>
+    requires { IsOf job.now pass }
+    ensures { IfOk result (IsOf job.now) }
+{
+    for _ in 0..=job.slices() {
+        if job.work(alloc, &mut pass, worker, gate)?.is_none() {
+            return Ok(pass);
+        }
+    }
+    Ok(pass)
+}
+
+// Two activities, each with a pass of its own, and their passes as one.
+fn drained_by_two<S: Solve, R: Threads>(
+    rt: &R,
+    alloc: Global,
+    job: &Job<S>,
+    mut pass: Pass<S>,
+) -> Result<Pass<S>, Fail>
+    requires { IsOf job.now pass }
+    ensures { IfOk result (IsOf job.now) }
+{
+    let other = job.split(&mut pass);
+    let (first, second) = join(
+        rt,
+        move || -> Result<Pass<S>, OutOfMemory>
+            requires { IsOf job.now pass }
+            ensures { IfOk result (IsOf job.entry.now) }
+        { drain(alloc, job, &OpenGate, 0, pass) },
+        move || -> Result<Pass<S>, OutOfMemory>
+            requires { IsOf job.now other }
+            ensures { IfOk result (IsOf job.entry.now) }
+        { drain(alloc, job, &OpenGate, 1, other) },
+    );
+    match job.join(first?, second?) {
+        Ok(pass) => Ok(pass),
+        Err(_) => Err(Fail::new("both hold a slice")),
+    }
+}
+
+// The table of the variables that are live, by two activities.
+fn table_by_two<R: Threads>(rt: &R, alloc: Global, graph: &Graph<'_>) -> Result<Table, Fail>
+    ensures { IfOk result (IsTableOf graph.now) }
+{
+    let cut = slices(alloc, graph, Analysis::Live, 1)?;
+    let (job, pass) = Job::open(alloc, graph, Analysis::Live, cut)?;
+    let pass = drained_by_two(rt, alloc, &job, pass)?;
+    closed(job, pass)
+}
+
+// Its lines.
+fn lines_by_two<R: Threads>(rt: &R, alloc: Global, text: &str) -> Result<String, Fail> {
+    let program = program(alloc, text)?;
+    let graph = graph(alloc, &program)?;
+    let table = table_by_two(rt, alloc, &graph)?;
+    Ok(lines(alloc, &graph, &table)?)
+}
+
+#[test]
+fn two_activities_over_one_job(rt: HostRuntime) -> Result<(), Fail> {
+    let alloc = rt.alloc();
+    let text = prints(alloc, 70)?;
+    let told = lines_by_two(&rt, alloc, text.as_str())?;
+    let want = printed(alloc, 70)?;
+    assert_eq!(rt; told.as_str(), want.as_str());
+    Ok(())
+}

@@ -1,0 +1,34 @@
+// That workers run at the same time, and that the standard helpers which may start them do.
+
+use crate::gates::Meeting;
+use crate::texts::{RECURSIVE, RECURSIVE_REACH, graph, lines, program, slices_at};
+use flow_graph::Analysis;
+use flow_team::analyse;
+use std::alloc::Global;
+use std::sync::atomic::Ordering;
+use std::test::Fail;
+use std::thread::Threads;
+
+// The lines of the recursive program's reaching definitions, in two slices by two workers.
+fn lines_by_two<R: Threads + Sync>(rt: &R, alloc: Global, gate: &Meeting) -> Result<String, Fail> {
+    let program = program(alloc, RECURSIVE)?;
+    let graph = graph(alloc, &program)?;
+    let cut = slices_at(alloc, &graph, Analysis::Reach, &[1])?;
+    match analyse(rt, alloc, &graph, Analysis::Reach, cut, 2, gate) {
+        Ok(table) => Ok(lines(alloc, &graph, &table)?),
+        Err(_) => Err(Fail::new("refused")),
+    }
+}
+
+#[test]
+fn two_workers_overlap(rt: HostRuntime) -> Result<(), Fail> {
+    let gate = Meeting::new();
+    let told = lines_by_two(&rt, rt.alloc(), &gate)?;
+    assert_eq!(rt; told.as_str(), RECURSIVE_REACH);
+    assert!(rt; gate.met(), "no other slice was claimed meanwhile");
+    let (claimed_by, finished_by) = gate.workers();
+    assert!(rt; claimed_by[0] != claimed_by[1], "one worker claimed both");
+    assert_eq!(rt; finished_by, claimed_by);
+    assert_eq!(rt; gate.finishes.load(Ordering::SeqCst), 2);
+    Ok(())
+}

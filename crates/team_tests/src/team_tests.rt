@@ -1,0 +1,227 @@
+// Tables by teams of workers: the same for all numbers of workers and all cuts.
+
+ghost use Rattle.std.specs.Prelude.{◌≡◌, IfOk};
+ghost use Rattle.flow_graph.specs.Universes.{bits as bits_of};
+ghost use Rattle.flow_team.specs.Tables.{IsTableOf};
+
+use crate::gates::Recorder;
+use crate::texts::{
+    RECURSIVE, RECURSIVE_REACH, graph, lines, printed, prints, program, slices, slices_at,
+};
+use bit_rows::Cut;
+use flow_graph::{Analysis, Graph};
+use flow_team::{Gate, OpenGate, Table, TeamFault, analyse};
+use std::alloc::Global;
+use std::process::Abort;
+use std::test::Fail;
+use std::thread::Threads;
+
+const WORKERS: [u32; 4] = [1, 2, 3, 64];
+
+const CALLEE_LOOPS: &str = "proc main\ncall f\na = b + c\nend\nproc f\nL: goto L\nend\n";
+
+const ON_BOTH_BRANCHES: &str =
+    "proc main\nread b\nread c\nif c goto L\nx = b + c\nprint x\nreturn\nL: y = b + c\nprint y\nend\n";
+
+/// Programs, and their tables.
+const TABLES: [(&str, Analysis, &str); 7] = [
+    ("proc main\nprint 1\nend\n", Analysis::Avail, "0:\n1:\n"),
+    (RECURSIVE, Analysis::Reach, RECURSIVE_REACH),
+    (
+        CALLEE_LOOPS,
+        Analysis::Reach,
+        "0: 0 1 2\n1 (no path):\n2 (no path):\n3: 0 1 2\n4 (no path):\n",
+    ),
+    (
+        CALLEE_LOOPS,
+        Analysis::Avail,
+        "0:\n1 (no path): 0\n2 (no path): 0\n3:\n4 (no path): 0\n",
+    ),
+    (
+        CALLEE_LOOPS,
+        Analysis::Busy,
+        "0 (no path): 0\n1: 0\n2:\n3 (no path): 0\n4: 0\n",
+    ),
+    (
+        ON_BOTH_BRANCHES,
+        Analysis::Busy,
+        "0:\n1:\n2: 0\n3: 0\n4:\n5:\n6: 0\n7:\n8:\n",
+    ),
+    (
+        "proc main\nx = x + y\nend\n",
+        Analysis::Live,
+        "0: 0 1\n1:\n",
+    ),
+];
+
+/// How the bits are cut.
+#[derive(Clone, Copy, Debug)]
+enum Cutting {
+    Even(u32),
+    At(&'static [u32]),
+}
+
+fn cut(alloc: Global, graph: &Graph<'_>, analysis: Analysis, cutting: Cutting) -> Result<Cut, Fail>
+    ensures { IfOk result (λ cut. cut.bits ≡ bits_of graph.now analysis) }
+{
+    match cutting {
+        Cutting::Even(width) => slices(alloc, graph, analysis, width),
+        Cutting::At(places) => slices_at(alloc, graph, analysis, places),
+    }
+}
+
+// A graph's table, by so many workers.
+fn table_by<R: Threads + Sync, G: Gate>(
+    rt: &R,
+    alloc: Global,
+    graph: &Graph<'_>,
+    how: (Analysis, Cutting, u32),
+    gate: &G,
+) -> Result<Table, Fail>
+    ensures { IfOk result (IsTableOf graph.now) }
+{
+    let (analysis, cutting, workers) = how;
+    let cut = cut(alloc, graph, analysis, cutting)?;
+    match analyse(rt, alloc, graph, analysis, cut, workers, gate) {
+        Ok(table) => Ok(table),
+        Err(_) => Err(Fail::new("refused")),
+    }
+}
+
+// Its lines.
+fn graph_lines<R: Threads + Sync, G: Gate>(
+    rt: &R,
+    alloc: Global,
+    graph: &Graph<'_>,
+    how: (Analysis, Cutting, u32),
+    gate: &G,
+) -> Result<String, Fail> {
+    let table = table_by(rt, alloc, graph, how, gate)?;
+    Ok(lines(alloc, graph, &table)?)
+}
+
+// The lines of a text's table.
+fn text_lines<R: Threads + Sync, G: Gate>(
+    rt: &R,
+    alloc: Global,
+    text: &str,
+    how: (Analysis, Cutting, u32),
+    gate: &G,
+) -> Result<String, Fail> {
+    let program = program(alloc, text)?;
+    let graph = graph(alloc, &program)?;
+    graph_lines(rt, alloc, &graph, how, gate)
+}
+
+#[test]
+fn tables(rt: HostRuntime) -> Result<(), Fail> {
+    for (text, analysis, want) in TABLES {
+        for width in [1, 2, 64] {
+            for workers in WORKERS {
+                let how = (analysis, Cutting::Even(width), workers);
+                let told = text_lines(&rt, rt.alloc(), text, how, &OpenGate)?;
+                assert_eq!(rt; told.as_str(), want, "slices of {width}, {workers} workers");
+            }
+        }
+    }
+    Ok(())
+}
+
+#[test]
+fn more_bits_than_a_word(rt: HostRuntime) -> Result<(), Fail> {
+    let text = prints(rt.alloc(), 70)?;
+    let want = printed(rt.alloc(), 70)?;
+    let cuttings = [
+        Cutting::Even(1),
+        Cutting::Even(7),
+        Cutting::Even(63),
+        Cutting::Even(64),
+        Cutting::Even(65),
+        Cutting::Even(70),
+        Cutting::At(&[1, 64]),
+    ];
+    for cutting in cuttings {
+        for workers in WORKERS {
+            let how = (Analysis::Live, cutting, workers);
+            let told = text_lines(&rt, rt.alloc(), text.as_str(), how, &OpenGate)?;
+            assert_eq!(rt;
+                told.as_str(),
+                want.as_str(),
+                "{cutting:?}, {workers} workers"
+            );
+        }
+    }
+    Ok(())
+}
+
+// A graph's lines by 64 workers, 200 times over.
+fn check_again_and_again<R: Threads + Sync + Abort>(
+    rt: &R,
+    alloc: Global,
+    graph: &Graph<'_>,
+    width: u32,
+    want: &str,
+) -> Result<(), Fail> {
+    for turn in 0..200 {
+        let how = (Analysis::Live, Cutting::Even(width), 64);
+        let told = graph_lines(rt, alloc, graph, how, &OpenGate)?;
+        assert_eq!(rt; told.as_str(), want, "turn {turn}");
+    }
+    Ok(())
+}
+
+// The same of the text that prints 70 variables.
+fn check_prints<R: Threads + Sync + Abort>(rt: &R, alloc: Global, width: u32) -> Result<(), Fail> {
+    let text = prints(alloc, 70)?;
+    let program = program(alloc, text.as_str())?;
+    let graph = graph(alloc, &program)?;
+    let want = printed(alloc, 70)?;
+    check_again_and_again(rt, alloc, &graph, width, want.as_str())
+}
+
+#[test]
+fn many_workers_on_one_slice(rt: HostRuntime) -> Result<(), Fail> {
+    check_prints(&rt, rt.alloc(), 70)
+}
+
+#[test]
+fn many_workers_on_many_slices(rt: HostRuntime) -> Result<(), Fail> {
+    check_prints(&rt, rt.alloc(), 1)
+}
+
+// Whether so many workers are refused as a bad number.
+fn is_refused<R: Threads + Sync>(rt: &R, alloc: Global, workers: u32) -> Result<bool, Fail> {
+    let program = program(alloc, RECURSIVE)?;
+    let graph = graph(alloc, &program)?;
+    let cut = slices(alloc, &graph, Analysis::Reach, 1)?;
+    match analyse(rt, alloc, &graph, Analysis::Reach, cut, workers, &OpenGate) {
+        Err(TeamFault::BadWorkers) => Ok(true),
+        _ => Ok(false),
+    }
+}
+
+#[test]
+fn numbers_of_workers(rt: HostRuntime) -> Result<(), Fail> {
+    for workers in [0, 65, u32::MAX] {
+        let refused = is_refused(&rt, rt.alloc(), workers)?;
+        assert!(rt; refused, "{workers} workers");
+    }
+    let shown = format!(in rt.alloc(); "{}; {}", TeamFault::BadWorkers, TeamFault::OutOfMemory)?;
+    assert_eq!(rt;
+        shown.as_str(),
+        "33: the number of workers is not one of 1 to 64; out of memory"
+    );
+    Ok(())
+}
+
+#[test]
+fn each_slice_is_told_once(rt: HostRuntime) -> Result<(), Fail> {
+    for workers in WORKERS {
+        let gate = Recorder::new();
+        let how = (Analysis::Reach, Cutting::Even(1), workers);
+        let told = text_lines(&rt, rt.alloc(), RECURSIVE, how, &gate)?;
+        assert_eq!(rt; told.as_str(), RECURSIVE_REACH);
+        assert_eq!(rt; gate.told(), (7, 7, 3, 3), "{workers} workers");
+    }
+    Ok(())
+}

@@ -1,0 +1,109 @@
+// Programs, and tables as text: a line for each point with the numbers of its bits.
+
+ghost use Rattle.std.specs.Prelude.{◌≡◌, IfOk};
+ghost use Rattle.flow_graph.specs.Universes.{bits as bits_of};
+ghost use Rattle.flow_team.specs.Tables.{IsTableOf};
+
+use bit_rows::Cut;
+use flow_graph::{Analysis, Graph, OutOfMemory};
+use flow_team::Table;
+use std::alloc::Global;
+use std::test::Fail;
+use tac_reader::{Program, read};
+
+/// What a procedure that calls itself sets, reaches what stands behind its call. The definitions: x at the entry, x at line 2,
+/// x at line 9.
+pub const RECURSIVE: &str =
+    "proc main\nx = 1\ncall f\nprint x\nend\nproc f\nif x goto L\ncall f\nx = 2\nL:\nend\n";
+
+/// The definitions that reach each point of it.
+pub const RECURSIVE_REACH: &str = "0: 0\n1: 1\n2: 1 2\n3: 1 2\n4: 1\n5: 1\n6: 1 2\n7: 1 2\n";
+
+/// `main` that prints so many variables, one after the other.
+pub fn prints(alloc: Global, count: u32) -> Result<String, OutOfMemory> {
+    let mut text = String::new(alloc);
+    text.push_str("proc main\n")?;
+    for number in 0..count {
+        write!(text, "print v{number}\n")?;
+    }
+    text.push_str("end\n")?;
+    Ok(text)
+}
+
+/// What is live there: at each point the variables that are printed from there on.
+pub fn printed(alloc: Global, count: u32) -> Result<String, OutOfMemory> {
+    let mut text = String::new(alloc);
+    for point in 0..=count {
+        write!(text, "{point}:")?;
+        for number in point..count {
+            write!(text, " {number}")?;
+        }
+        text.push('\n')?;
+    }
+    Ok(text)
+}
+
+/// The program of a text that is one.
+pub fn program(alloc: Global, text: &str) -> Result<Program, Fail> {
+    match read(alloc, text.as_bytes()) {
+        Ok(program) => Ok(program),
+        Err(_) => Err(Fail::new("the text is no program")),
+    }
+}
+
+/// Its graph.
+pub fn graph(alloc: Global, program: &Program) -> Result<Graph<'_>, Fail>
+    ensures { IfOk result (λ graph. graph ≡ program.now) }
+{
+    match Graph::build(alloc, program) {
+        Ok(graph) => Ok(graph),
+        Err(_) => Err(Fail::new("no graph")),
+    }
+}
+
+/// The lines of all points, `(no path)` behind the number of one without a path.
+pub fn lines(alloc: Global, graph: &Graph<'_>, table: &Table) -> Result<String, OutOfMemory>
+    requires { IsTableOf graph.now table.now }
+{
+    let mut text = String::new(alloc);
+    let bits = graph.bits(table.analysis());
+    for point in 0..graph.points() {
+        write!(text, "{point}")?;
+        if !table.has_path(point) {
+            text.push_str(" (no path)")?;
+        }
+        text.push(':')?;
+        for bit in 0..bits {
+            if table.contains(point, bit) {
+                write!(text, " {bit}")?;
+            }
+        }
+        text.push('\n')?;
+    }
+    Ok(text)
+}
+
+/// The bits of an analysis in slices of this width.
+pub fn slices(alloc: Global, graph: &Graph<'_>, analysis: Analysis, width: u32) -> Result<Cut, Fail>
+    ensures { IfOk result (λ cut. cut.bits ≡ bits_of graph.now analysis) }
+{
+    match Cut::even(alloc, graph.bits(analysis), width) {
+        Ok(cut) => Ok(cut),
+        Err(_) => Err(Fail::new("no cut")),
+    }
+}
+
+/// The bits of an analysis in slices that begin at these places.
+pub fn slices_at(
+    alloc: Global,
+    graph: &Graph<'_>,
+    analysis: Analysis,
+    places: &[u32],
+) -> Result<Cut, Fail>
+    ensures { IfOk result (λ cut. cut.bits ≡ bits_of graph.now analysis) }
+{
+    match Cut::at(alloc, graph.bits(analysis), places) {
+        Ok(cut) => Ok(cut),
+        Err(_) => Err(Fail::new("no cut")),
+    }
+}
