@@ -63,18 +63,18 @@ module _ {T : Type 0} (wants : T → ℕ → ℕ → Type 0) (about : About T) w
             subst (λ (n : ℕ). wants about.wanted p n) back (lawful.within p (b / 64) (b % 64) hp hq one);
       })
 
-  -- where the rows begin, a point's words stand one row's width apart
-  pub row_at : (tallies hi point bit : ℕ) → tallies ≡ tally_words about → hi ≡ about.cut.bits → 2 * tallies + point * words_for hi + bit / 64 ≡ row_place about point (bit / 64)
-  row_at tallies hi point bit e f = ap (λ (h : ℕ). 2 * tallies + point * words_for h + bit / 64) f ∙ omega (arith, e)
+  -- where the rows begin, a point's words stand as far apart as there are points
+  pub row_at : (tallies points point bit : ℕ) → tallies ≡ tally_words about → points ≡ about.points → 2 * tallies + point + bit / 64 * points ≡ row_place about point (bit / 64)
+  row_at tallies points point bit e f = ap (λ (n : ℕ). 2 * tallies + point + bit / 64 * n) f ∙ omega (arith, e)
 
   module _ (ws : List ℕ) (end : IsEnd ws) (tallies : ℕ) (rows : RowTable) (tallies_is : tallies ≡ tally_words about) (hi_is : rows.hi ≡ about.cut.bits) (points_is : length rows.flags ≡ about.points) where
-    same_bit : (point bit : ℕ) → row_bit ws (2 * tallies + point * words_for rows.hi) bit ≡ bit_at (get_or ws (row_place about point (bit / 64)) 0) (bit % 64)
-    same_bit point bit = ap (λ (k : ℕ). bit_at (get_or ws k 0) (bit % 64)) (row_at tallies rows.hi point bit tallies_is hi_is)
+    same_bit : (point bit : ℕ) → row_bit ws (2 * tallies + point) (length rows.flags) bit ≡ bit_at (get_or ws (row_place about point (bit / 64)) 0) (bit % 64)
+    same_bit point bit = ap (λ (k : ℕ). bit_at (get_or ws k 0) (bit % 64)) (row_at tallies (length rows.flags) point bit tallies_is points_is)
 
-    pub wanted_there : (point bit : ℕ) → point < length rows.flags → bit / 64 < words_for rows.hi → row_bit ws (2 * tallies + point * words_for rows.hi) bit ≡ 1 → wants about.wanted point bit
+    pub wanted_there : (point bit : ℕ) → point < length rows.flags → bit / 64 < words_for rows.hi → row_bit ws (2 * tallies + point) (length rows.flags) bit ≡ 1 → wants about.wanted point bit
     wanted_there point bit low within one = end.only point bit (omega arith) (omega arith) (sym (same_bit point bit) ∙ one)
 
-    pub there_wanted : (point bit : ℕ) → point < length rows.flags → bit < rows.hi → wants about.wanted point bit → row_bit ws (2 * tallies + point * words_for rows.hi) bit ≡ 1
+    pub there_wanted : (point bit : ℕ) → point < length rows.flags → bit < rows.hi → wants about.wanted point bit → row_bit ws (2 * tallies + point) (length rows.flags) bit ≡ 1
     there_wanted point bit low within wanted = same_bit point bit ∙ end.here point bit (omega arith) (omega arith) wanted
 
     -- blank rows into which these words were put hold exactly what is wanted

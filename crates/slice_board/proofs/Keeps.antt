@@ -7,6 +7,7 @@ use lib.ListN.{get_elem?}
 use lib.Seq.{set-get_or}
 use Rattle.std.specs.Int.{bit_at}
 use Rattle.std.specs.Int.Bits.{bit_or}
+use Rattle.std.proofs.lemmas.Nat.{mul-add-lt}
 use Rattle.std.proofs.lemmas.Nat.Bits.{bit_at-lt}
 use Rattle.atomic_table.specs.Table.{State, step, keeps, stepped, Allows, Splits, Joins}
 use Rattle.atomic_table.proofs.Lists.{at_set, at_snoc, set_again, set_else}
@@ -18,7 +19,7 @@ use Rattle.slice_board.specs.code.Words.{tally_words, done_place, row_place, boa
 use Rattle.slice_board.specs.code.Told.{Sat, load_of, DrawTells, FinishTells, PostTells, LookTells, ShowsOwn, CountTells, CheckTells}
 use Rattle.slice_board.specs.declared.view.About.{About}
 use Rattle.slice_board.specs.declared.view.View.{View}
-use Rattle.slice_board.proofs.Sums.{total-append, total-set, term_le, times-same, times-other, ored, ored_here, ored_else, Grows, ored_grows, bit_put, bit_stays, one_bit, one_slice, times-append, marks_at-append, shows_at-append, total_lt, one_row, mark_here, mark_else, count_here, count_else, row_below}
+use Rattle.slice_board.proofs.Sums.{total-append, total-set, term_le, times-same, times-other, ored, ored_here, ored_else, Grows, ored_grows, bit_put, bit_stays, one_bit, one_slice, times-append, marks_at-append, shows_at-append, total_lt, one_row, mark_here, mark_else, count_here, count_else}
 
 module _ {T : Type 0} (wants : T → ℕ → ℕ → Type 0) (about : About T) where
   abbrev St : Type 0
@@ -321,14 +322,14 @@ module _ {T : Type 0} (wants : T → ℕ → ℕ → Type 0) (about : About T) w
     row_in = ored s.words (row_place about p q) m
 
     has_row : row_place about p q < length s.words
-    has_row = let wide = l.wide in let a : p * width + q < about.points * width = row_below p q about.points width hp hq in omega arith
+    has_row = let wide = l.wide in let a : q * about.points + p < about.points * width = mul-add-lt q about.points p width hq hp in omega arith
 
     low_stays : (k : ℕ) → k < 2 * tally_words about → get_or row_in k 0 ≡ get_or s.words k 0
     low_stays k h = ored_else s.words (row_place about p q) m k (λ e. omega arith)
 
-    row_cases : (p' q' j : ℕ) → q' < width → ((p ≡ p') × (q ≡ q')) ⊎ (¬ ((p ≡ p') × (q ≡ q')) × (get_or row_in (row_place about p' q') 0 ≡ get_or s.words (row_place about p' q') 0))
-    row_cases p' q' j h = dite (ℕ_discrete (row_place about p' q') (row_place about p q))
-        (λ e. inl (one_row p q p' q' width hq h (omega arith)))
+    row_cases : (p' q' : ℕ) → p' < about.points → ((p ≡ p') × (q ≡ q')) ⊎ (¬ ((p ≡ p') × (q ≡ q')) × (get_or row_in (row_place about p' q') 0 ≡ get_or s.words (row_place about p' q') 0))
+    row_cases p' q' h = dite (ℕ_discrete (row_place about p' q') (row_place about p q))
+        (λ e. let same = one_row q p q' p' about.points hp h (omega arith) in inl (same.1, same.0))
         (λ n. inr ((λ e. n (λ i. row_place about (sym e.0 i) (sym e.1 i))), ored_else s.words (row_place about p q) m (row_place about p' q') n))
 
     posts_one : Change s v row_in (after_post (mark p q m) v)
@@ -339,22 +340,23 @@ module _ {T : Type 0} (wants : T → ℕ → ℕ → Type 0) (about : About T) w
       claimed = λ y hy. ap (λ (n : ℕ). bit_at n (y % 64) + times y v.claimed) (low_stays (y / 64) (omega arith));
       below = λ y far. omega arith;
       finished = λ y hy. ap (λ (n : ℕ). bit_at n (y % 64) + times y v.finished) (low_stays (done_place about (y / 64)) (omega arith));
-      posted = λ p' q' j _ hq'. ⊎_elim
+      posted = λ p' q' j hp' _. ⊎_elim
           (λ e. subst (λ (a : ℕ × ℕ). (more : ℕ) × (marks_at a.0 a.1 j (v.posted ++ mark p q m ∷ []) ≡ marks_at a.0 a.1 j v.posted + more) × (bit_at (get_or row_in (row_place about a.0 a.1) 0) j ≡ max (bit_at (get_or s.words (row_place about a.0 a.1) 0) j) (min 1 more)))
           (λ i. (e.0 i, e.1 i)) (bit_at m j, mark_here p q m j v.posted, ored_here s.words (row_place about p q) m j has_row ∙ (let b = bit_at-lt m j in omega arith)))
-          (λ n. (0, mark_else p q m p' q' j v.posted n.0 ∙ omega arith, ap (λ (n : ℕ). bit_at n j) n.1 ∙ omega arith)) (row_cases p' q' j hq');
+          (λ n. (0, mark_else p q m p' q' j v.posted n.0 ∙ omega arith, ap (λ (n : ℕ). bit_at n j) n.1 ∙ omega arith)) (row_cases p' q' hp');
       within = λ p' q' j hp' hq' is. ⊎_elim
           (λ e. subst (λ (a : ℕ × ℕ). bit_at (get_or row_in (row_place about a.0 a.1) 0) j ≡ 1 → wants about.wanted a.0 (64 * a.1 + j)) (λ i. (e.0 i, e.1 i))
           (λ is. dite (ℕ_discrete (bit_at m j) 1) (wanted j) (λ n. l.lawful.within p q j hp hq (let a = ored_here s.words (row_place about p q) m j has_row in let b = bit_at-lt m j in let c = bit_at-lt (get_or s.words (row_place about p q) 0) j in omega arith))) is)
-          (λ n. l.lawful.within p' q' j hp' hq' (ap (λ (n : ℕ). bit_at n j) (sym n.1) ∙ is)) (row_cases p' q' j hq');
+          (λ n. l.lawful.within p' q' j hp' hq' (ap (λ (n : ℕ). bit_at n j) (sym n.1) ∙ is)) (row_cases p' q' hp');
       complete = λ y hy e p' b hp' hw hi. g _ _ (l.lawful.complete y hy (ap (λ (n : ℕ). bit_at n (y % 64)) (sym (low_stays (done_place about (y / 64)) (omega arith))) ∙ e) p' b hp' hw hi);
     }
 
   -- two places of rows that are one are of one word
-  same_place : (known : About T) (p q p' q' : ℕ) → about ≡ known → q < width → q' < words_for known.cut.bits → row_place about p q ≡ row_place known p' q' → (p ≡ p') × (q ≡ q')
+  same_place : (known : About T) (p q p' q' : ℕ) → about ≡ known → p < about.points → p' < known.points → row_place about p q ≡ row_place known p' q' → (p ≡ p') × (q ≡ q')
   same_place known p q p' q' same h h' w =
       let there : row_place known p' q' ≡ row_place about p' q' = ap (λ (a : About T). row_place a p' q') (sym same) in
-      one_row p q p' q' width h (subst (λ (a : About T). q' < words_for a.cut.bits) (sym same) h') (omega arith)
+      let one = one_row q p q' p' about.points h (subst (λ (a : About T). p' < a.points) (sym same) h') (omega arith) in
+      (one.1, one.0)
 
   pub puts : (slots id p q k : ℕ) (m : Sat T) → p < about.points → q < width → ((j : ℕ) → bit_at k j ≡ 1 → wants about.wanted p (64 * q + j))
       → Allows L slots id m (row_place about p q) (λ n. bit_or n k) (PostTells (step slots (row_place about p q) k 0 none) m)
@@ -363,7 +365,7 @@ module _ {T : Type 0} (wants : T → ℕ → ℕ → Type 0) (about : About T) w
     keeps,
     tt,
     moved s l id m.0 (after_post (mark p q k) m.0) (row_in s l id p q k m.0 at hp hq hk) at (posts_one s l id p q k m.0 at hp hq hk),
-    λ known is p' q' h w. let it = same_place known p q p' q' (same_board s l id m.0 known at is) hq h w in λ i. (after_post (mark (it.0 i) (it.1 i) k) m.0, m.1),
+    λ known is p' q' h w. let it = same_place known p q p' q' (same_board s l id m.0 known at is) hp h w in λ i. (after_post (mark (it.0 i) (it.1 i) k) m.0, m.1),
   )
 
   -- ---- looking and counting
@@ -405,7 +407,7 @@ module _ {T : Type 0} (wants : T → ℕ → ℕ → Type 0) (about : About T) w
           (λ n. f.seen p' q' j hp' hq' (let a = mark_else p q r p' q' j v.seen (λ both. n both.0) in omega arith));
       counted = f.counted;
     }) refl refl refl),
-    λ known is p' q' hp' h w. let same = same_board s l id m.0 known at is in let it = same_place known p q p' q' same hq h w in
+    λ known is p' q' h _ w. let same = same_board s l id m.0 known at is in let it = same_place known p q p' q' same hp h w in
         subst (Says r m (after_look (mark p q r) v, m.1))
         (λ i. (it.0 i, (it.1 i, same i)))
         (refl, (λ j some-posted. let a = l.lawful.posted p q j hp hq in let b = term_le (λ o. marks_at p q j o.posted) s.views id v at in let c = bit_at-lt r j in omega arith), (λ j h. f.seen p q j hp hq h), (λ j h. l.lawful.within p q j hp hq h)),

@@ -1,5 +1,5 @@
 -- Words put into the rows of the points.
-use Rattle.std.proofs.Common.{◌≡◌, ◌≢◌, ℕ, ◌+◌, ◌-◌, ◌*◌, ◌/◌, ◌%◌, ◌<◌, ◌≤◌, ◌⊎◌, ◌↔◌, Bool, true, false, ◌||◌, ◌&&◌, leb, List, length, get_or, take, refl, sym, ap, ◌∙◌, subst, inl, inr, ⊎_elim, arith}
+use Rattle.std.proofs.Common.{◌≡◌, ◌≢◌, ℕ, ◌+◌, ◌-◌, ◌*◌, ◌/◌, ◌%◌, ◌<◌, ◌≤◌, ◌⊎◌, ◌↔◌, Bool, true, false, ◌||◌, ◌&&◌, leb, List, length, get_or, take, refl, sym, ap, ◌∙◌, subst, inl, inr, ⊎_elim, arith, add-mul}
 use mathlib.Core.Logic.{dite}
 use native.Mathlib.Decide.{ℕ_discrete, dec_le}
 use Rattle.std.specs.Int.{bit_at}
@@ -50,17 +50,29 @@ of_masks masks n w i from one = ap (λ t. t && has_bit (get_or masks (w - n) 0) 
 pub length-taken : (block : List ℕ) (count : ℕ) → count ≤ length block → length (take count block) ≡ count
 length-taken block count h = omega (arith, length-take count block)
 
-pub taken : (block : List ℕ) (count k : ℕ) → k < count → get_or (take count block) k 0 ≡ get_or block k 0
-taken block count k h = get_or-take count block k 0 h
+-- k words behind the word n of a row is its word n + k
+word_behind : (from apart n k : ℕ) → from + n * apart + k * apart ≡ from + (n + k) * apart
+word_behind from apart n k = omega (arith, add-mul n k apart)
+
+-- what is taken of a block are the row's words from the word n on
+pub taken : (words block : List ℕ) (from n count apart points : ℕ) → apart ≡ points → ((k : ℕ) → k < count → get_or block k 0 ≡ get_or words (from + n * apart + k * apart) 0)
+    → (k : ℕ) → k < count → get_or (take count block) k 0 ≡ get_or words (from + n * points + k * points) 0
+taken words block from n count apart points same copy k below = get_or-take count block k 0 below ∙ copy k below ∙ ap (λ (a : ℕ). get_or words (from + n * a + k * a) 0) same
+
+-- where the row's words lie in the table, those of a block do
+pub block_room : (from n count width apart points slots : ℕ) → apart ≡ points → n + count ≤ width → ((k : ℕ) → k < width → from + k * points < slots) → (k : ℕ) → k < count → from + n * apart + k * apart < slots
+block_room from n count width apart points slots same fits room k below = let a = room (n + k) (omega arith) in subst (λ (a : ℕ). from + n * a + k * a < slots) (sym same) (omega (arith, word_behind from points n k))
 
 -- what holds of the row's words holds of the block: no place of it lies past the universe
-pub masks_within : (words : List ℕ) (from n bits count : ℕ) (masks : List ℕ) → RowLiesWithin bits words from → n + count ≤ words_for bits
-    → ((k : ℕ) → k < count → get_or masks k 0 ≡ get_or words (from + n + k) 0) → (k : ℕ) → k < count → (i : ℕ) → i < 64 → has_bit (get_or masks k 0) i ≡ true → 64 * (n + k) + i < bits
-masks_within words from n bits count masks within room copy k below i place set =
+pub masks_within : (words : List ℕ) (from n count : ℕ) (rows : RowTable) (masks : List ℕ) → RowLiesWithin rows words from → n + count ≤ words_for rows.hi
+    → ((k : ℕ) → k < count → get_or masks k 0 ≡ get_or words (from + n * length rows.flags + k * length rows.flags) 0)
+    → (k : ℕ) → k < count → (i : ℕ) → i < 64 → has_bit (get_or masks k 0) i ≡ true → 64 * (n + k) + i < rows.hi
+masks_within words from n count rows masks within room copy k below i place set =
+    let apart : ℕ = length rows.flags in
     let w : (64 * (n + k) + i) / 64 ≡ n + k = omega arith in
     let j : (64 * (n + k) + i) % 64 ≡ i = omega arith in
-    let at : from + n + k ≡ from + (64 * (n + k) + i) / 64 = omega arith in
-    let one : bit_at (get_or words (from + n + k) 0) i ≡ 1 = ap (λ (v : ℕ). bit_at v i) (sym (copy k below)) ∙ one_of_bit (get_or masks k 0) i set in
+    let at : from + n * apart + k * apart ≡ from + (64 * (n + k) + i) / 64 * apart = word_behind from apart n k ∙ ap (λ (m : ℕ). from + m * apart) (sym w) in
+    let one : bit_at (get_or words (from + n * apart + k * apart) 0) i ≡ 1 = ap (λ (v : ℕ). bit_at v i) (sym (copy k below)) ∙ one_of_bit (get_or masks k 0) i set in
     within (64 * (n + k) + i) (omega arith) ((λ l. bit_at (get_or words (sym at l) 0) (j l)) ∙ one)
 
 -- ---- one point's row
@@ -73,7 +85,7 @@ module _ (words : List ℕ) (from point : ℕ) (old : RowTable) where
   }
 
   pub IsPutIn-more : (n count : ℕ) (now new : RowTable) (masks : List ℕ) → IsPutIn words from point n old now → IsUniform old → old.lo ≡ 0 → point < length old.flags → length masks ≡ count
-      → ((k : ℕ) → k < count → get_or masks k 0 ≡ get_or words (from + n + k) 0) → new ≡ with_set now point (with_words (set_at now point) n masks) → IsPutIn words from point (n + count) old new
+      → ((k : ℕ) → k < count → get_or masks k 0 ≡ get_or words (from + n * length old.flags + k * length old.flags) 0) → new ≡ with_set now point (with_words (set_at now point) n masks) → IsPutIn words from point (n + count) old new
   IsPutIn-more n count now new masks p before lowest there size copy is =
       let s : RowSet = set_at now point in
       let t : RowSet = with_words s n masks in
@@ -84,8 +96,11 @@ module _ (words : List ℕ) (from point : ℕ) (old : RowTable) where
       let low : s.lo ≡ now.lo = range.lo in
       let high : hi_of s ≡ now.hi = range.hi in
       let here : set_at new point ≡ t = ap (λ (r : RowTable). set_at r point) is ∙ set_at-with_set_same now point t (omega (arith, p.uniform.count)) in
-      let word_at : (w : ℕ) → n ≤ w → w < n + count → get_or masks (w - n) 0 ≡ get_or words (from + w) 0 = λ w a b.
-      let e : from + n + (w - n) ≡ from + w = omega arith in copy (w - n) (omega arith) ∙ ap (λ (k : ℕ). get_or words k 0) e in
+      let apart : ℕ = length old.flags in
+      let word_at : (w : ℕ) → n ≤ w → w < n + count → get_or masks (w - n) 0 ≡ get_or words (from + w * apart) 0 = λ w a b.
+      let back : n + (w - n) ≡ w = omega arith in
+      let e : from + n * apart + (w - n) * apart ≡ from + w * apart = word_behind from apart n (w - n) ∙ ap (λ (k : ℕ). from + k * apart) back in
+      copy (w - n) (omega arith) ∙ ap (λ (k : ℕ). get_or words k 0) e in
       record {
         uniform = subst IsUniform (sym is) (IsUniform-replaced now point s t p.uniform (omega arith) refl (HasRange-with_words s n masks));
         others =
@@ -126,8 +141,8 @@ module _ (words : List ℕ) (from : ℕ) (old : RowTable) (blank : old ≡ blank
   pub ArePutIn-none : ArePutIn words from 0 old old
   ArePutIn-none = record { uniform = blank_uniform; lo = refl; hi = refl; flags = refl; bits = λ point bit h. absurd (omega arith); left = λ point h. refl }
 
-  pub ArePutIn-more : (n at : ℕ) (now new : RowTable) → ArePutIn words from n old now → at ≡ from + n * words_for old.hi → IsPutIn words at n (words_for now.hi) now new → ArePutIn words from (n + 1) old new
-  ArePutIn-more n at now new all is p = record {
+  pub ArePutIn-more : (n : ℕ) (now new : RowTable) → ArePutIn words from n old now → IsPutIn words (from + n) n (words_for now.hi) now new → ArePutIn words from (n + 1) old new
+  ArePutIn-more n now new all p = record {
     uniform = p.uniform;
     lo = ap (λ (r : RowTable). r.lo) p.others ∙ all.lo;
     hi = ap (λ (r : RowTable). r.hi) p.others ∙ all.hi;
@@ -135,13 +150,13 @@ module _ (words : List ℕ) (from : ℕ) (old : RowTable) (blank : old ≡ blank
     bits = λ point bit h within.
         let hi_is = all.hi in
         dite (ℕ_discrete point n)
-        (λ same. subst (λ (k : ℕ). (contains (set_at new k) bit ≡ true) ↔ (row_bit words (from + k * words_for old.hi) bit ≡ 1)) (sym same)
+        (λ same. subst (λ (k : ℕ). (contains (set_at new k) bit ≡ true) ↔ (row_bit words (from + k) (length old.flags) bit ≡ 1)) (sym same)
         (let row = p.bits bit (omega arith) in
-        let place : row_bit words at bit ≡ row_bit words (from + n * words_for old.hi) bit = ap (λ (k : ℕ). row_bit words k bit) is in
+        let place : row_bit words (from + n) (length now.flags) bit ≡ row_bit words (from + n) (length old.flags) bit = (λ i. row_bit words (from + n) (length (all.flags i)) bit) in
         let empty : contains (set_at now n) bit ≡ false = ap (λ (s : RowSet). contains s bit) (all.left n (omega arith)) ∙ blank_empty n bit in (
           (λ h. ⊎_elim (λ had. absurd (both_ways (contains (set_at now n) bit) empty had)) (λ e. sym place ∙ e.1) (row.0 h)),
           (λ h. row.1 (inr (omega arith, place ∙ h))),
         )))
-        (λ other. subst (λ (s : RowSet). (contains s bit ≡ true) ↔ (row_bit words (from + point * words_for old.hi) bit ≡ 1)) (sym (IsPutIn-other words at n now (words_for now.hi) new p point other)) (all.bits point bit (omega arith) within));
-    left = λ point h. IsPutIn-other words at n now (words_for now.hi) new p point (λ e. omega arith) ∙ all.left point (omega arith);
+        (λ other. subst (λ (s : RowSet). (contains s bit ≡ true) ↔ (row_bit words (from + point) (length old.flags) bit ≡ 1)) (sym (IsPutIn-other words (from + n) n now (words_for now.hi) new p point other)) (all.bits point bit (omega arith) within));
+    left = λ point h. IsPutIn-other words (from + n) n now (words_for now.hi) new p point (λ e. omega arith) ∙ all.left point (omega arith);
   }

@@ -1,5 +1,5 @@
 -- Sums over lists that change at one place, and words of which one changes.
-use Rattle.std.proofs.Common.{◌≡◌, ℕ, zero, suc, ◌+◌, ◌/◌, ◌%◌, ◌^◌, ◌<◌, ◌≤◌, ◌≢◌, List, [], ◌∷◌, ◌++◌, length, get_or, set, sym, refl, ap, ◌∙◌, arith, cond, eqb, eq-eqb, ne_eqb, max, get_or-set_other, get_or-set_same, mul-le-mul_right, suc-mul, Bool, true, false, ◌&&◌, ◌*◌}
+use Rattle.std.proofs.Common.{◌≡◌, ℕ, zero, suc, ◌+◌, ◌/◌, ◌%◌, ◌^◌, ◌<◌, ◌≤◌, ◌≢◌, List, [], ◌∷◌, ◌++◌, length, get_or, set, sym, refl, ap, ◌∙◌, arith, cond, eqb, eq-eqb, ne_eqb, max, get_or-set_other, get_or-set_same, Bool, true, false, ◌&&◌, ◌*◌}
 use mathlib.Core.Logic.{dite}
 use native.Mathlib.Decide.{ℕ_discrete, dec_le}
 use mathlib.Core.Option.{some, some-injective, some-ne-none}
@@ -115,17 +115,14 @@ count_here k m j l = let a = shows_at-append k j l (load_of k m ∷ []) in let b
 pub count_else : (k m k' j : ℕ) (l : List Count) → k ≢ k' → shows_at k' j (l ++ load_of k m ∷ []) ≡ shows_at k' j l
 count_else k m k' j l n = let a = shows_at-append k' j l (load_of k m ∷ []) in let b = ap {B = ℕ} (λ (b : Bool). cond b (bit_at m j) 0) (ne_eqb k k' n) in omega arith
 
-pub row_below : (p q n w : ℕ) → p < n → q < w → p * w + q < n * w
-row_below p q n w hp hq = let a : suc p * w ≤ n * w = mul-le-mul_right w hp in omega (arith, suc-mul p w)
-
 pub read_at : (l : List ℕ) (i r : ℕ) → get_elem? l i ≡ some r → get_or l i 0 ≡ r
 read_at [] i r e = absurd (some-ne-none r (sym e))
 read_at (x ∷ xs) zero r e = some-injective x r e
 read_at (x ∷ xs) (suc i) r e = read_at xs i r e
 
--- one more element is copied
-pub copied : (l src : List ℕ) (from k r : ℕ) → k < length l → get_elem? src (from + k) ≡ some r → ((m : ℕ) → m < k → get_or l m 0 ≡ get_or src (from + m) 0)
-    → (m : ℕ) → m < k + 1 → get_or (set l k r) m 0 ≡ get_or src (from + m) 0
-copied l src from k r h e b m lt = dite (ℕ_discrete m k)
-    (λ same. ap (λ (n : ℕ). get_or (set l k r) n 0) same ∙ (get_or-set_same l k r 0 h ∙ (sym (read_at src (from + k) r e) ∙ ap (λ (n : ℕ). get_or src (from + n) 0) (sym same))))
+-- one more element is copied, of those that stand `apart` from one another
+pub copied : (l src : List ℕ) (from apart k r : ℕ) → k < length l → get_elem? src (from + k * apart) ≡ some r → ((m : ℕ) → m < k → get_or l m 0 ≡ get_or src (from + m * apart) 0)
+    → (m : ℕ) → m < k + 1 → get_or (set l k r) m 0 ≡ get_or src (from + m * apart) 0
+copied l src from apart k r h e b m lt = dite (ℕ_discrete m k)
+    (λ same. ap (λ (n : ℕ). get_or (set l k r) n 0) same ∙ (get_or-set_same l k r 0 h ∙ (sym (read_at src (from + k * apart) r e) ∙ ap (λ (n : ℕ). get_or src (from + n * apart) 0) (sym same))))
     (λ ne. get_or-set_other l k m r 0 ne ∙ b m (omega arith))

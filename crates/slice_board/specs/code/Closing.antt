@@ -30,23 +30,23 @@ pub record CountedTo {T : Type 0} (slices n : ℕ) (old new : PassState T) (done
   pub has_finished : (s : ℕ) → s < slices → s < 64 * n → 0 < times s old.finished → shown_in values s ≡ 1
   pub lacks_held : (s : ℕ) → s < slices → s < 64 * n → times s old.finished < times s old.claimed → shown_in values s ≡ 0
 
--- bit `bit` of the row whose words stand from `from` on
-abbrev pub row_bit : List ℕ → ℕ → ℕ → ℕ
-row_bit words from bit = bit_at (slice_index words (from + bit / 64)) (bit % 64)
+-- bit `bit` of the row whose first word stands at `from`, and each further one `apart` words behind the one before
+abbrev pub row_bit : List ℕ → ℕ → ℕ → ℕ → ℕ
+row_bit words from apart bit = bit_at (slice_index words (from + bit / 64 * apart)) (bit % 64)
 
--- no bit of the row's words lies past the universe
-abbrev pub RowLiesWithin : ℕ → List ℕ → ℕ → Type 0
-RowLiesWithin bits words from = (bit : ℕ) → bit / 64 < words_for bits → row_bit words from bit ≡ 1 → bit < bits
+-- no bit of the row's words lies past the universe; they stand as far apart as there are points
+abbrev pub RowLiesWithin : RowTable → List ℕ → ℕ → Type 0
+RowLiesWithin rows words from = (bit : ℕ) → bit / 64 < words_for rows.hi → row_bit words from (length rows.flags) bit ≡ 1 → bit < rows.hi
 
 abbrev pub RowsLieWithin : RowTable → List ℕ → ℕ → Type 0
-RowsLieWithin rows words from = (point : ℕ) → point < length rows.flags → RowLiesWithin rows.hi words (from + point * words_for rows.hi)
+RowsLieWithin rows words from = (point : ℕ) → point < length rows.flags → RowLiesWithin rows words (from + point)
 
 -- the point's set has the bits of the first n of its words besides what it had, and no other set is changed
 pub record IsPutIn (words : List ℕ) (from point n : ℕ) (old new : RowTable) : Type 0 where
   pub uniform : IsUniform new
   pub others : new ≡ with_set old point (set_at new point)
   pub bits : (bit : ℕ) → bit < old.hi
-      → (contains (set_at new point) bit ≡ true) ↔ ((contains (set_at old point) bit ≡ true) ⊎ ((bit / 64 < n) × (row_bit words from bit ≡ 1)))
+      → (contains (set_at new point) bit ≡ true) ↔ ((contains (set_at old point) bit ≡ true) ⊎ ((bit / 64 < n) × (row_bit words from (length old.flags) bit ≡ 1)))
 
 -- the sets of the first n points have exactly the bits of their words, and the others are as they were
 pub record ArePutIn (words : List ℕ) (from n : ℕ) (old new : RowTable) : Type 0 where
@@ -54,5 +54,5 @@ pub record ArePutIn (words : List ℕ) (from n : ℕ) (old new : RowTable) : Typ
   pub lo : new.lo ≡ old.lo
   pub hi : new.hi ≡ old.hi
   pub flags : new.flags ≡ old.flags
-  pub bits : (point bit : ℕ) → point < n → bit < old.hi → (contains (set_at new point) bit ≡ true) ↔ (row_bit words (from + point * words_for old.hi) bit ≡ 1)
+  pub bits : (point bit : ℕ) → point < n → bit < old.hi → (contains (set_at new point) bit ≡ true) ↔ (row_bit words (from + point) (length old.flags) bit ≡ 1)
   pub left : (point : ℕ) → n ≤ point → set_at new point ≡ set_at old point

@@ -33,7 +33,7 @@ module _ {T : Type 0} where
 
   abbrev pub PostTells : Step (Unit {0}) → Sat T → ℕ → Sat T → Type 0
   PostTells step old value new = (about : About T) → old.0.about ≡ Some about
-      → (point word : ℕ) → word < words_for about.cut.bits → step.word ≡ row_place about point word
+      → (point word : ℕ) → point < about.points → step.word ≡ row_place about point word
       → new ≡ (after_post (mark point word step.first) old.0, old.1)
 
   -- the value has all that the pass posted or saw there, and nothing that is not wanted

@@ -1,5 +1,6 @@
 -- How a board's words lie in its table: the claim words, the done words, then the rows of all points, and one more word,
--- so that there is one on which a split or a join can step.
+-- so that there is one on which a split or a join can step. Of the rows the first words of all points come first, side by
+-- side, then their second words, and so on: who posts one word at each point in order goes through the table in order.
 use Rattle.std.specs.Prelude.{ℕ, ◌+◌, ◌*◌, ◌≡◌, List, length, slice_index}
 use Rattle.atomic_table.specs.Table.{State}
 use Rattle.slice_board.specs.declared.view.About.{About}
@@ -23,7 +24,7 @@ module _ {T : Type 0} where
 
   -- where the word of a point's row stands
   abbrev pub row_place : About T → ℕ → ℕ → ℕ
-  row_place about point word = 2 * tally_words about + (point * words_for about.cut.bits + word)
+  row_place about point word = 2 * tally_words about + (word * about.points + point)
 
   -- how many words the table has
   abbrev pub word_count : About T → ℕ

@@ -104,36 +104,40 @@ fn ones(word: u64, places: u32) -> u32
 // How many words are copied at once.
 const BLOCK: u32 = 64;
 
-// Words of the table, from one of them on.
-fn block_of(closed: &Closed<(), Global>, from: usize, count: usize) -> [u64; 64]
+// Words of the table, the first at `from`, and each further one `apart` words behind the one before.
+fn block_of(closed: &Closed<(), Global>, from: usize, apart: u32, count: usize) -> [u64; 64]
     requires full { IsFull closed.now.words }
-    requires room { from + count ≤ slots_len closed.now.words }
+    requires room { (k : ℕ) → k < count → from + k * apart < slots_len closed.now.words }
     requires block { count ≤ 64 }
     ensures { (k : ℕ) → k < count
-        → slice_index result k ≡ slice_index (slots_items closed.now.words) (from + k) }
+        → slice_index result k ≡ slice_index (slots_items closed.now.words) (from + k * apart) }
 {
     let mut block = [0; 64];
     for k in 0..count {
-        block[k] = closed.word(from + k);
+        block[k] = closed.word(from + k * apart as usize);
     }
     block
 }
 
-// Puts a point's words, which stand in the table from `from` on, into its row.
+// Puts a point's words into its row. The first words of all points stand in the table from `from` on,
+// and behind them their second words, and so on.
 fn put_row(closed: &Closed<(), Global>, rows: &mut Rows, point: u32, from: usize)
     requires full { IsFull closed.now.words }
     requires uniform { IsUniform rows.old }
     requires point { point < length rows.old.flags }
     requires lowest { rows.old.lo ≡ 0 }
-    requires room { from + words_for rows.old.hi ≤ slots_len closed.now.words }
-    requires within { RowLiesWithin rows.old.hi (slots_items closed.now.words) from }
-    ensures { IsPutIn (slots_items closed.now.words) from point (words_for rows.old.hi) rows.old rows.new }
+    requires room { (k : ℕ) → k < words_for rows.old.hi
+        → from + point + k * length rows.old.flags < slots_len closed.now.words }
+    requires within { RowLiesWithin rows.old (slots_items closed.now.words) (from + point) }
+    ensures { IsPutIn (slots_items closed.now.words) (from + point) point (words_for rows.old.hi) rows.old rows.new }
 {
+    let apart = rows.points();
     let words = rows.hi().div_ceil(64);
     let mut first = 0;
     while first < words {
         let count = (words - first).min(BLOCK) as usize;
-        let block = block_of(closed, from + first as usize, count);
+        let start = from + point as usize + first as usize * apart as usize;
+        let block = block_of(closed, start, apart, count);
         rows.or_words(point, first, &block[..count]);
         first += count as u32;
     }
@@ -147,8 +151,7 @@ fn put_rows(closed: &Closed<(), Global>, rows: &mut Rows, from: usize)
     requires within { RowsLieWithin rows.old (slots_items closed.now.words) from }
     ensures { ArePutIn (slots_items closed.now.words) from (length rows.old.flags) rows.old rows.new }
 {
-    let width = words_needed(rows.hi());
     'points: for point in 0..rows.points() {
-        put_row(closed, rows, point, from + point as usize * width);
+        put_row(closed, rows, point, from);
     }
 }

@@ -115,7 +115,7 @@ impl<T: Wanted> Board<T> {
         ensures present { result < self.now.table.words }
     {
         let first = 2 * words_needed(self.cut.slices());
-        first + (point as usize * words_needed(self.cut.bits()) + word as usize)
+        first + (word as usize * self.blank.points() as usize + point as usize)
     }
 
     /// Puts the bits of a mask into a word of a point's row.

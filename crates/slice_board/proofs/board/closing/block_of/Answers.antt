@@ -8,5 +8,5 @@ loop-k-preserved c =
     let size = i.size in
     record {
       size = length-set c.loop-k.block c.loop-k.k c.word.result ∙ i.size;
-      so_far = copied c.loop-k.block _ c.args.from c.loop-k.k c.word.result (omega arith) c.word.ensures i.so_far;
+      so_far = copied c.loop-k.block _ c.args.from c.args.apart c.loop-k.k c.word.result (omega arith) c.word.ensures i.so_far;
     }
