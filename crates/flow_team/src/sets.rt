@@ -2,7 +2,7 @@
 ghost use Rattle.std.specs.Prelude.{◌≡◌, IfOk};
 ghost use Rattle.flow_graph.specs.Points.{point_count};
 ghost use Rattle.flow_graph.specs.Universes.{bits as bits_of};
-ghost use Rattle.gk_solve.specs.Solved.{HasPathFlags, IsMeetOverPaths, IsSliceOf};
+ghost use Rattle.gk_solve.specs.Solved.{HasPathFlags, IsMeetOverPaths, IsSliceOf, direction_of};
 ghost use Rattle.flow_team.specs.Sets.{HasMayPath, IsInMaySet};
 ghost use Rattle.flow_team.specs.Tables.{IsTableOf};
 
@@ -11,7 +11,7 @@ use crate::solve::Solve;
 use crate::table::{Table, complement_all};
 use bit_rows::Rows;
 use flow_graph::{Analysis, Graph, Problem};
-use gk_solve::{SliceWords, Solver};
+use gk_solve::{Routes, SliceWords, Solver};
 use slice_board::Wanted;
 use std::alloc::Global;
 use std::marker::Model;
@@ -45,6 +45,29 @@ impl<'g, 'p> GraphSets<'g, 'p> {
         })
     }
 
+    /// The sets of an analysis of a graph, over edges and path flags that were found for another of the same direction.
+    pub(crate) fn over(
+        alloc: Global,
+        graph: &'g Graph<'p>,
+        analysis: Analysis,
+        routes: Routes<'g, 'p>,
+    ) -> Result<Self, OutOfMemory>
+        requires { routes ≡ direction_of (record { program = graph.now; analysis = analysis }) }
+        ensures { IfOk result (λ sets. sets ≡ record { program = graph.now; analysis = analysis }) }
+    {
+        let problem = Problem::of(alloc, graph, analysis)?;
+        Ok(GraphSets {
+            solver: Solver::over(alloc, problem, routes)?,
+        })
+    }
+
+    /// The edges and path flags, for another analysis of the same direction.
+    pub(crate) fn into_routes(self) -> Routes<'g, 'p>
+        ensures { result ≡ direction_of self.entry }
+    {
+        self.solver.into_routes()
+    }
+
     /// The path flag of each point.
     pub(crate) fn flags(&self, alloc: Global) -> Result<Vec<bool>, OutOfMemory>
         ensures { IfOk result (λ flags. HasPathFlags self.now flags.items) }
@@ -75,17 +98,19 @@ impl<'g, 'p> GraphSets<'g, 'p> {
         Ok(self.table(rows))
     }
 
-    /// The table of an analysis of a graph, solved at once.
+    /// The table of an analysis of a graph, solved at once, and what another of the same direction can use.
     pub(crate) fn solved(
         alloc: Global,
         graph: &'g Graph<'p>,
         analysis: Analysis,
-    ) -> Result<Table, OutOfMemory>
-        ensures analysis { IfOk result (λ table. table.analysis ≡ analysis) }
-        ensures table { IfOk result (IsTableOf graph.now) }
+    ) -> Result<(Table, Routes<'g, 'p>), OutOfMemory>
+        ensures analysis { IfOk result (λ r. r.0.analysis ≡ analysis) }
+        ensures table { IfOk result (λ r. IsTableOf graph.now r.0) }
+        ensures routes { IfOk result (λ r. r.1 ≡ direction_of (record { program = graph.now; analysis = analysis })) }
     {
         let sets = GraphSets::of(alloc, graph, analysis)?;
-        sets.solve_all(alloc)
+        let table = sets.solve_all(alloc)?;
+        Ok((table, sets.into_routes()))
     }
 }
 

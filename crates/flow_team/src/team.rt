@@ -1,8 +1,12 @@
 // An analysis by a team of workers.
-ghost use Rattle.std.specs.Prelude.{◌≡◌, ◌↔◌, ◌⊎◌, ◌<◌, IfOk, Err};
+ghost use Rattle.std.specs.Prelude.{◌≡◌, ◌↔◌, ◌⊎◌, ◌<◌, ◌≤◌, IfOk, Err};
+ghost use Rattle.flow_graph.specs.Analyses.{is_backward};
 ghost use Rattle.flow_graph.specs.Universes.{bits as bits_of};
+ghost use Rattle.gk_solve.specs.Solved.{direction_of};
+ghost use Rattle.slice_board.specs.Boards.{IsOf};
 ghost use Rattle.flow_team.specs.Tables.{IsTableOf};
 
+use crate::OutOfMemory;
 use crate::fault::TeamFault;
 use crate::gate::Gate;
 use crate::job::Job;
@@ -11,8 +15,81 @@ use crate::table::Table;
 use crate::workers::run_workers;
 use bit_rows::Cut;
 use flow_graph::{Analysis, Graph};
+use gk_solve::Routes;
+use slice_board::Pass;
 use std::alloc::Global;
 use std::thread::Threads;
+
+// Has the workers work until no slice is left, and closes the job. Tells what another analysis of the same direction can use.
+fn worked<'g, 'p, R: Threads + Sync, G: Gate>(
+    rt: &R,
+    alloc: Global,
+    graph: &'g Graph<'p>,
+    analysis: Analysis,
+    job: Job<GraphSets<'g, 'p>>,
+    pass: Pass<GraphSets<'g, 'p>>,
+    workers: u32,
+    gate: &G,
+) -> Result<(Table, Routes<'g, 'p>), OutOfMemory>
+    requires some { 0 < workers }
+    requires few { workers ≤ 64 }
+    requires wanted { job.wanted ≡ record { program = graph.now; analysis = analysis } }
+    requires pass { IsOf job pass }
+    ensures analysis { IfOk result (λ r. r.0.analysis ≡ analysis) }
+    ensures table { IfOk result (λ r. IsTableOf graph.now r.0) }
+    ensures routes { IfOk result (λ r. r.1 ≡ direction_of (record { program = graph.now; analysis = analysis })) }
+{
+    let pass = run_workers(rt, alloc, &job, gate, 0, workers, pass)?;
+    match job.close_with_routes(pass) {
+        Some(closed) => Ok(closed),
+        // A worker's slice was lost with its pass: all is solved here.
+        None => GraphSets::solved(alloc, graph, analysis),
+    }
+}
+
+// The table of an analysis, and what another of the same direction can use.
+fn first_table<'g, 'p, R: Threads + Sync, G: Gate>(
+    rt: &R,
+    alloc: Global,
+    graph: &'g Graph<'p>,
+    analysis: Analysis,
+    cut: Cut,
+    workers: u32,
+    gate: &G,
+) -> Result<(Table, Routes<'g, 'p>), OutOfMemory>
+    requires some { 0 < workers }
+    requires few { workers ≤ 64 }
+    requires cut { cut.bits ≡ bits_of graph.now analysis }
+    ensures analysis { IfOk result (λ r. r.0.analysis ≡ analysis) }
+    ensures table { IfOk result (λ r. IsTableOf graph.now r.0) }
+    ensures routes { IfOk result (λ r. r.1 ≡ direction_of (record { program = graph.now; analysis = analysis })) }
+{
+    let (job, pass) = Job::open(alloc, graph, analysis, cut)?;
+    worked(rt, alloc, graph, analysis, job, pass, workers, gate)
+}
+
+// The table of another analysis of the same direction.
+fn second_table<'g, 'p, R: Threads + Sync, G: Gate>(
+    rt: &R,
+    alloc: Global,
+    graph: &'g Graph<'p>,
+    analysis: Analysis,
+    cut: Cut,
+    routes: Routes<'g, 'p>,
+    workers: u32,
+    gate: &G,
+) -> Result<(Table, Routes<'g, 'p>), OutOfMemory>
+    requires some { 0 < workers }
+    requires few { workers ≤ 64 }
+    requires cut { cut.bits ≡ bits_of graph.now analysis }
+    requires routes { routes ≡ direction_of (record { program = graph.now; analysis = analysis }) }
+    ensures analysis { IfOk result (λ r. r.0.analysis ≡ analysis) }
+    ensures table { IfOk result (λ r. IsTableOf graph.now r.0) }
+    ensures routes { IfOk result (λ r. r.1 ≡ direction_of (record { program = graph.now; analysis = analysis })) }
+{
+    let (job, pass) = Job::open_over(alloc, graph, analysis, cut, routes)?;
+    worked(rt, alloc, graph, analysis, job, pass, workers, gate)
+}
 
 /// The table of an analysis of a graph, by so many workers, in slices of its bits: at each point exactly the union (may) or
 /// intersection (must) over all interprocedurally valid paths, whatever the workers, the cut, and the order of their steps.
@@ -40,11 +117,37 @@ pub fn analyse<R: Threads + Sync, G: Gate>(
     if workers == 0 || workers > 64 {
         return Err(TeamFault::BadWorkers);
     }
-    let (job, pass) = Job::open(alloc, graph, analysis, cut)?;
-    let pass = run_workers(rt, alloc, &job, gate, 0, workers, pass)?;
-    match job.close(pass) {
-        Ok(table) => Ok(table),
-        // A worker's slice was lost with its pass: all is solved here.
-        Err(_) => Ok(GraphSets::solved(alloc, graph, analysis)?),
+    let (table, _) = first_table(rt, alloc, graph, analysis, cut, workers, gate)?;
+    Ok(table)
+}
+
+/// The tables of two analyses of one direction, each as [`analyse`] has it: the edges, their order and the path flags are found
+/// once. The conditions: each cut is of as many bits as its analysis has, and both analyses are forward, or both backward.
+///
+/// - `BadWorkers`: the number of workers is not one of 1 to 64. This is checked first.
+/// - `OutOfMemory`: memory was refused, here or to a worker; all workers have ended.
+pub fn analyse_both<R: Threads + Sync, G: Gate>(
+    rt: &R,
+    alloc: Global,
+    graph: &Graph<'_>,
+    first: (Analysis, Cut),
+    second: (Analysis, Cut),
+    workers: u32,
+    gate: &G,
+) -> Result<(Table, Table), TeamFault>
+    requires first_cut { first.1.bits ≡ bits_of graph.now first.0 }
+    requires second_cut { second.1.bits ≡ bits_of graph.now second.0 }
+    requires direction { is_backward first.0 ≡ is_backward second.0 }
+    ensures first { IfOk result (λ r. (r.0.analysis ≡ first.0) × IsTableOf graph.now r.0) }
+    ensures second { IfOk result (λ r. (r.1.analysis ≡ second.0) × IsTableOf graph.now r.1) }
+    ensures bad_workers { (result ≡ Err TeamFault.BadWorkers) ↔ ((workers ≡ 0) ⊎ (64 < workers)) }
+{
+    if workers == 0 || 64 < workers {
+        return Err(TeamFault::BadWorkers);
     }
+    let (analysis, cut) = first;
+    let (table, routes) = first_table(rt, alloc, graph, analysis, cut, workers, gate)?;
+    let (analysis, cut) = second;
+    let (other, _) = second_table(rt, alloc, graph, analysis, cut, routes, workers, gate)?;
+    Ok((table, other))
 }

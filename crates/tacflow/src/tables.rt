@@ -1,11 +1,12 @@
 ghost use Rattle.std.specs.Prelude.{◌≡◌, IfOk};
+ghost use Rattle.flow_graph.specs.Analyses.{is_backward};
 ghost use Rattle.flow_team.specs.Tables.{IsTableOf};
 ghost use Rattle.tacflow.specs.Reports.{AreTablesOf};
 
 use crate::options::Options;
 use bit_rows::Cut;
 use flow_graph::{Analysis, Graph, OutOfMemory};
-use flow_team::{OpenGate, Table, analyse};
+use flow_team::{OpenGate, Table, analyse, analyse_both};
 use std::alloc::{AllocError, Global};
 use std::thread::Threads;
 
@@ -25,6 +26,40 @@ pub(crate) fn table_of<R: Threads + Sync>(
     };
     match analyse(rt, alloc, graph, analysis, cut, options.workers, &OpenGate) {
         Ok(table) => Ok(table),
+        Err(_) => Err(AllocError),
+    }
+}
+
+// The tables of two analyses of one direction, which share its edges and path flags.
+fn both_tables_of<R: Threads + Sync>(
+    rt: &R,
+    alloc: Global,
+    graph: &Graph<'_>,
+    first: Analysis,
+    second: Analysis,
+    options: Options,
+) -> Result<(Table, Table), OutOfMemory>
+    requires { is_backward first ≡ is_backward second }
+    ensures first { IfOk result (λ tables. (tables.0.analysis ≡ first) × IsTableOf graph.now tables.0) }
+    ensures second { IfOk result (λ tables. (tables.1.analysis ≡ second) × IsTableOf graph.now tables.1) }
+{
+    let Ok(first_cut) = Cut::even(alloc, graph.bits(first), options.cut) else {
+        return Err(AllocError);
+    };
+    let Ok(second_cut) = Cut::even(alloc, graph.bits(second), options.cut) else {
+        return Err(AllocError);
+    };
+    let found = analyse_both(
+        rt,
+        alloc,
+        graph,
+        (first, first_cut),
+        (second, second_cut),
+        options.workers,
+        &OpenGate,
+    );
+    match found {
+        Ok(tables) => Ok(tables),
         Err(_) => Err(AllocError),
     }
 }
@@ -52,10 +87,22 @@ impl Tables {
     ) -> Result<Tables, OutOfMemory>
         ensures { IfOk result (λ tables. AreTablesOf graph.now tables) }
     {
-        let reach = table_of(rt, alloc, graph, Analysis::Reach, options)?;
-        let live = table_of(rt, alloc, graph, Analysis::Live, options)?;
-        let avail = table_of(rt, alloc, graph, Analysis::Avail, options)?;
-        let busy = table_of(rt, alloc, graph, Analysis::Busy, options)?;
+        let (reach, avail) = both_tables_of(
+            rt,
+            alloc,
+            graph,
+            Analysis::Reach,
+            Analysis::Avail,
+            options,
+        )?;
+        let (live, busy) = both_tables_of(
+            rt,
+            alloc,
+            graph,
+            Analysis::Live,
+            Analysis::Busy,
+            options,
+        )?;
         Ok(Tables {
             reach,
             live,

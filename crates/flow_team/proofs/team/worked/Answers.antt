@@ -1,5 +1,5 @@
 use Rattle.flow_team.proofs.Sent.{solver_crosses}
-use Rattle.flow_team.proofs.team.analyse.Goals as goal
+use Rattle.flow_team.proofs.team.worked.Goals as goal
 
 pub run_workers-requires-send-S : goal.run_workers-requires-send-S
 run_workers-requires-send-S g c = λ κs lives. search solver_crosses depth 60
