@@ -10,7 +10,7 @@ use crate::texts::{
 };
 use bit_rows::Cut;
 use flow_graph::{Analysis, Graph};
-use flow_team::{Gate, OpenGate, Table, TeamFault, analyse};
+use flow_team::{Gate, OpenGate, Table, TeamFault, analyse, analyse_both};
 use std::alloc::Global;
 use std::process::Abort;
 use std::test::Fail;
@@ -20,6 +20,10 @@ const WORKERS: [u32; 4] = [1, 2, 3, 64];
 
 const CALLEE_LOOPS: &str = "proc main\ncall f\na = b + c\nend\nproc f\nL: goto L\nend\n";
 
+const CALLEE_LOOPS_REACH: &str = "0: 0 1 2\n1 (no path):\n2 (no path):\n3: 0 1 2\n4 (no path):\n";
+
+const CALLEE_LOOPS_AVAIL: &str = "0:\n1 (no path): 0\n2 (no path): 0\n3:\n4 (no path): 0\n";
+
 const ON_BOTH_BRANCHES: &str =
     "proc main\nread b\nread c\nif c goto L\nx = b + c\nprint x\nreturn\nL: y = b + c\nprint y\nend\n";
 
@@ -27,16 +31,8 @@ const ON_BOTH_BRANCHES: &str =
 const TABLES: [(&str, Analysis, &str); 7] = [
     ("proc main\nprint 1\nend\n", Analysis::Avail, "0:\n1:\n"),
     (RECURSIVE, Analysis::Reach, RECURSIVE_REACH),
-    (
-        CALLEE_LOOPS,
-        Analysis::Reach,
-        "0: 0 1 2\n1 (no path):\n2 (no path):\n3: 0 1 2\n4 (no path):\n",
-    ),
-    (
-        CALLEE_LOOPS,
-        Analysis::Avail,
-        "0:\n1 (no path): 0\n2 (no path): 0\n3:\n4 (no path): 0\n",
-    ),
+    (CALLEE_LOOPS, Analysis::Reach, CALLEE_LOOPS_REACH),
+    (CALLEE_LOOPS, Analysis::Avail, CALLEE_LOOPS_AVAIL),
     (
         CALLEE_LOOPS,
         Analysis::Busy,
@@ -187,6 +183,47 @@ fn many_workers_on_one_slice(rt: HostRuntime) -> Result<(), Fail> {
 #[test]
 fn many_workers_on_many_slices(rt: HostRuntime) -> Result<(), Fail> {
     check_prints(&rt, rt.alloc(), 1)
+}
+
+// The two forward tables of a graph, by so many workers.
+fn both_tables<R: Threads + Sync>(
+    rt: &R,
+    alloc: Global,
+    graph: &Graph<'_>,
+    workers: u32,
+) -> Result<(Table, Table), Fail>
+    ensures { IfOk result (λ tables. IsTableOf graph.now tables.0 × IsTableOf graph.now tables.1) }
+{
+    let reach = (Analysis::Reach, slices(alloc, graph, Analysis::Reach, 1)?);
+    let avail = (Analysis::Avail, slices(alloc, graph, Analysis::Avail, 1)?);
+    match analyse_both(rt, alloc, graph, reach, avail, workers, &OpenGate) {
+        Ok(tables) => Ok(tables),
+        Err(_) => Err(Fail::new("refused")),
+    }
+}
+
+// Their lines.
+fn both_lines<R: Threads + Sync>(
+    rt: &R,
+    alloc: Global,
+    graph: &Graph<'_>,
+    workers: u32,
+) -> Result<(String, String), Fail> {
+    let (reach, avail) = both_tables(rt, alloc, graph, workers)?;
+    let reach = lines(alloc, graph, &reach)?;
+    Ok((reach, lines(alloc, graph, &avail)?))
+}
+
+#[test]
+fn two_tables_of_one_direction(rt: HostRuntime) -> Result<(), Fail> {
+    let program = program(rt.alloc(), CALLEE_LOOPS)?;
+    let graph = graph(rt.alloc(), &program)?;
+    for workers in WORKERS {
+        let (reach, avail) = both_lines(&rt, rt.alloc(), &graph, workers)?;
+        assert_eq!(rt; reach.as_str(), CALLEE_LOOPS_REACH, "{workers} workers");
+        assert_eq!(rt; avail.as_str(), CALLEE_LOOPS_AVAIL, "{workers} workers");
+    }
+    Ok(())
 }
 
 // Whether so many workers are refused as a bad number.
