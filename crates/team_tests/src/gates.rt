@@ -15,6 +15,7 @@ pub struct Recorder {
 }
 
 impl Recorder {
+    /// A gate that noted nothing yet.
     pub fn new() -> Recorder {
         Recorder {
             claimed: AtomicU64::new(0),
@@ -66,6 +67,7 @@ pub struct Meeting {
 const NOBODY: u32 = 99;
 
 impl Meeting {
+    /// A gate that no slice came to yet.
     pub fn new() -> Meeting {
         Meeting {
             begun: [AtomicBool::new(false), AtomicBool::new(false)],

@@ -72,7 +72,7 @@ fn check_last_slice<S: Solve, R: Abort>(
     Ok(())
 }
 
-// The table of a job whose slices are all finished.
+/// The table of a job whose slices are all finished.
 pub fn closed<'g, 'p>(
     job: Job<GraphSets<'g, 'p>>,
     pass: Pass<GraphSets<'g, 'p>>,
