@@ -1,0 +1,134 @@
+"""Programs of tacflow's language while they are made: variables, statements, procedures."""
+
+from dataclasses import dataclass, field
+
+
+@dataclass(eq=False)
+class Variable:
+    """A variable of the program, which stands for one of the C program or for a value that gcc made.
+
+    source: its name in C, or empty. owner: the procedure whose local it is, or None. is_addressed: a pointer may lead to it.
+    """
+    wish: str
+    source: str = ""
+    owner: object = None
+    is_addressed: bool = False
+    is_parameter: bool = False
+    name: str = ""
+
+
+@dataclass(frozen=True)
+class Number:
+    """A number that stands for a constant of the C program; `text` is how C writes it."""
+    value: int
+    text: str
+
+
+@dataclass(eq=False)
+class Label:
+    """A place in a procedure."""
+    name: str = ""
+
+
+@dataclass(eq=False)
+class Step:
+    """One statement of the program.
+
+    kind: 'set', 'read', 'use', 'fork', 'goto', 'call', 'return', 'label', 'note'. A set has `variable` and, for an expression,
+    `operator` and `operands`; one that is `weak` may also leave the variable as it is. A use reads its operands, and leads to
+    `label` or on where it is a test. A fork leads to `label` or on. A note stands for no statement: it says that the
+    variables of `touched` may be written from there on, through an address or a part.
+    """
+    kind: str
+    variable: Variable = None
+    operator: str = ""
+    operands: tuple = ()
+    label: Label = None
+    callees: list = field(default_factory=list)
+    weak: bool = False
+    touched: tuple = ()
+    ends_life: bool = False
+    origin: object = None
+    slot: int = 0
+    role: str = "made"
+    unset: tuple = ()
+    result_of_call: bool = False
+    is_element: bool = False
+
+    def reads(self):
+        """The variables that it reads."""
+        return [operand for operand in self.operands if isinstance(operand, Variable)]
+
+
+@dataclass(eq=False)
+class Procedure:
+    """A procedure of the program. `function` is the C function's dump, or None where the front end made it."""
+    wish: str
+    source: str = ""
+    function: object = None
+    steps: list = field(default_factory=list)
+    parameters: list = field(default_factory=list)
+    result: Variable = None
+    stop: Label = None
+    name: str = ""
+
+    def locals(self):
+        """The variables of its own that its statements name."""
+        found = {}
+        for step in self.steps:
+            for variable in [step.variable, *step.operands, *step.touched]:
+                if isinstance(variable, Variable) and variable.owner is self:
+                    found[variable] = None
+        return list(found)
+
+
+class Builder:
+    """Puts steps behind one another in a procedure."""
+
+    def __init__(self, procedure):
+        self.procedure = procedure
+        self.origin = None
+        self.role = "made"
+        self.slot = 0
+
+    def add(self, kind, **parts):
+        """Adds a step of this kind for the C statement at hand."""
+        self.slot += 1
+        parts.setdefault("role", self.role)
+        step = Step(kind, origin=self.origin, slot=self.slot, **parts)
+        self.procedure.steps.append(step)
+        return step
+
+    def label(self, label=None):
+        """Sets a label, a new one unless one is given."""
+        label = label or Label()
+        self.procedure.steps.append(Step("label", label=label))
+        return label
+
+    def use(self, variables, role=None):
+        """Reads the variables, two a statement."""
+        variables = list(dict.fromkeys(variables))
+        for at in range(0, len(variables), 2):
+            after = Label()
+            self.add("use", operands=tuple(variables[at:at + 2]), label=after, role=role or self.role)
+            self.label(after)
+
+    def set(self, variable, operands=(), operator="", **parts):
+        """Sets a variable to an expression, a copy, or a value that is not told."""
+        return self.add("set", variable=variable, operands=tuple(operands), operator=operator, **parts)
+
+    def call(self, callees):
+        """Calls one of these procedures, eight a statement, more by tests."""
+        callees = list(dict.fromkeys(callees))
+        done = Label()
+        for at in range(0, len(callees), 8):
+            is_last = at + 8 >= len(callees)
+            other = Label()
+            if not is_last:
+                self.add("fork", label=other, role="made")
+            self.add("call", callees=callees[at:at + 8])
+            if not is_last:
+                self.add("goto", label=done, role="made")
+                self.label(other)
+        if len(callees) > 8:
+            self.label(done)

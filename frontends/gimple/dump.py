@@ -1,0 +1,229 @@
+"""Reading gcc's dump `-fdump-tree-lower-raw-lineno-uid`: functions, what they declare, and their statements."""
+
+import re
+from dataclasses import dataclass, field
+
+from . import operands
+from .faults import Refusal
+
+HEADER = re.compile(r";; Function (?P<name>\S+) \((?P<linkage>[^,]*), .*decl_uid=(?P<uid>\d+)")
+STATEMENT = re.compile(r"gimple_(?P<kind>\w+) <(?P<words>.*)>(?P<rest>[^>]*)$")
+CASE = re.compile(r"(?:default|case [^:]*): <([^>]*)>")
+
+
+@dataclass(frozen=True)
+class Place:
+    """A place in a C source."""
+    file: str
+    line: int
+    column: int
+
+    def __str__(self):
+        return f"{self.file}:{self.line}:{self.column}"
+
+
+@dataclass(eq=False)
+class Statement:
+    """A statement: its kind, its words as the dump has them, and its place, None where gcc made it."""
+    kind: str
+    words: list
+    place: Place
+    number: int
+    file: str
+    rest: str = ""
+
+
+@dataclass(eq=False)
+class Try:
+    """Statements, and others that run whenever the first ones are left."""
+    body: list
+    cleanup: list
+
+
+@dataclass(eq=False)
+class Function:
+    """A function's dump: what it declares, by names as `xD.12`, and its statements."""
+    name: str
+    linkage: str
+    uid: int
+    file: str
+    is_noreturn: bool = False
+    parameters: list = field(default_factory=list)
+    locals: list = field(default_factory=list)
+    statics: list = field(default_factory=list)
+    body: list = field(default_factory=list)
+
+
+class Reader:
+    """A reader of one dump's lines."""
+
+    def __init__(self, text, file):
+        self.lines = text.split("\n")
+        self.at = 0
+        self.file = file
+        self.count = 0
+        self.last_place = None
+
+    def functions(self):
+        """All functions of the dump."""
+        found = []
+        while self.at < len(self.lines):
+            header = HEADER.match(self.lines[self.at])
+            self.at += 1
+            if header:
+                found.append(self.function(header))
+        return found
+
+    def next_line(self):
+        """The next line, which has to be there."""
+        if self.at >= len(self.lines):
+            raise Refusal("the dump ends within a function", self.file)
+        self.at += 1
+        return self.lines[self.at - 1]
+
+    def function(self, header):
+        """The function whose header was read."""
+        name = header["name"]
+        function = Function(name, header["linkage"], int(header["uid"]), self.file)
+        before = []
+        line = self.next_line()
+        while line != "{":
+            before.append(line)
+            line = self.next_line()
+        heading = " ".join(before)
+        if f"{name}D.{function.uid}" not in heading:
+            raise Refusal("no raw dump with numbers; run gcc with -fdump-tree-lower-raw-lineno-uid", self.file)
+        function.is_noreturn = "noreturn" in heading.split(f"{name}D.{function.uid}")[0]
+        function.parameters = parameters_in(heading, f"{name}D.{function.uid}")
+        self.declarations(function)
+        function.body = self.block("}")
+        return function
+
+    def declarations(self, function):
+        """The declarations, up to the first statement."""
+        depth = 0
+        text = ""
+        line = self.next_line()
+        while not self.is_statement(line):
+            line = line.strip()
+            text += " " + line
+            depth += line.count("{") - line.count("}")
+            if depth == 0 and line.endswith(";"):
+                declare(function, text.strip())
+                text = ""
+            line = self.next_line()
+        self.at -= 1
+
+    @staticmethod
+    def is_statement(line):
+        """Whether a line is the first one behind the declarations."""
+        plain = operands.PLACE.sub("", line.strip(), count=1)
+        return line == "}" or plain.startswith(("gimple_", "//"))
+
+    def block(self, closing):
+        """The statements up to this closing line."""
+        found = []
+        while True:
+            line = self.next_line().strip()
+            if line == closing:
+                return found
+            place, line = place_of(line)
+            self.last_place = place or self.last_place
+            if line.startswith("gimple_try <"):
+                found.append(self.try_block(line))
+            elif line and not line.startswith(("//", "#")):
+                found.append(self.statement(line, place))
+
+    def try_block(self, line):
+        """A try with its cleanup, the first line passed."""
+        if "GIMPLE_TRY_FINALLY" not in line:
+            raise Refusal(f"{line.split('<')[1].rstrip(',')} can't be turned", self.last_place)
+        self.pass_line("EVAL <")
+        body = self.block(">")
+        self.pass_line("CLEANUP <")
+        cleanup = self.block(">")
+        self.pass_line(">")
+        return Try(body, cleanup)
+
+    def pass_line(self, wanted):
+        """Passes a line that has to be there."""
+        line = self.next_line().strip()
+        if line != wanted:
+            raise Refusal(f"a dump in which '{line}' stands where '{wanted}' should", self.last_place)
+
+    def statement(self, line, place):
+        """A statement of one line."""
+        self.count += 1
+        if line.startswith("gimple_switch") and place is None:
+            place = first_place(line)
+        if line.startswith("gimple_asm"):
+            raise Refusal("assembler can't be turned", place or self.last_place)
+        found = STATEMENT.match(line)
+        if not found:
+            if line.startswith("gimple_nop"):
+                return Statement("nop", [], place, self.count, self.file)
+            raise Refusal(f"a statement that is not known: {line[:60]}", place or self.last_place)
+        return Statement(found["kind"], operands.split_words(found["words"]), place, self.count, self.file,
+                         found["rest"])
+
+
+def place_of(line):
+    """The place that a line begins with, or None, and the line without it."""
+    found = operands.PLACE.match(line)
+    if not found:
+        return None, line
+    rest = line[found.end():]
+    if found[1] == "<built-in>" or found[2] == "0":
+        return None, rest
+    return Place(found[1], int(found[2]), int(found[3])), rest
+
+
+def first_place(line):
+    """The first place that a line names: a switch of which gcc tells none is placed at its first case."""
+    places = [place_of(found.group())[0] for found in operands.PLACE.finditer(line)]
+    return min(filter(None, places), key=lambda place: (place.line, place.column), default=None)
+
+
+def closing_bracket(text):
+    """The place of the bracket that closes the text's first one."""
+    depth = 0
+    for at, sign in enumerate(text):
+        depth += (sign == "(") - (sign == ")")
+        if depth == 0:
+            return at
+    return len(text)
+
+
+def parameters_in(heading, name):
+    """The declared names of the parameters in a function's heading, in order."""
+    inside = heading[heading.index(name) + len(name):].strip()
+    names = []
+    for word in operands.split_words(inside[1:closing_bracket(inside)]):
+        declared = re.findall(operands.DECLARED, word)
+        if declared:
+            names.append(declared[-1])
+    return names
+
+
+def declare(function, text):
+    """Takes in one declaration."""
+    plain = text.rstrip(";")
+    plain = re.split(r" = | \[value-expr:", plain)[0]
+    plain = re.sub(r"\[[^\[\]]*\]", "", re.sub(r"(\[[^\[\]]*\])+$", "", plain))
+    declared = re.findall(operands.DECLARED, plain)
+    if not declared:
+        return
+    if plain.startswith("static "):
+        function.statics.append(declared[-1])
+    elif not plain.startswith("extern ") and "[value-expr:" not in text:
+        function.locals.append(declared[-1])
+
+
+def cases_of(statement):
+    """The labels of a switch, the default first."""
+    return CASE.findall(operands.without_places(", ".join(statement.words[1:])))
+
+
+def read(text, file):
+    """The functions of a dump."""
+    return Reader(text, file).functions()

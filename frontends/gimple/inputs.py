@@ -1,0 +1,44 @@
+"""Finding and reading the dumps of C files."""
+
+import glob
+import re
+
+from . import dump, symbols
+from .faults import Refusal
+from .world import File
+
+LOWER = re.compile(r"(?P<stem>.*)\.\d+t\.lower$")
+
+
+def read_text(path):
+    """A file's text; bytes that are no text are kept as they are."""
+    try:
+        with open(path, encoding="utf-8", errors="surrogateescape", newline="\n") as file:
+            return file.read()
+    except OSError as fault:
+        raise Refusal(f"{path}: {fault.strerror}") from None
+
+
+def beside(path, stem, ending, option):
+    """The other dump of the same C file."""
+    found = sorted(glob.glob(glob.escape(stem) + ".*" + ending))
+    if not found:
+        raise Refusal(f"{path}: there is no {stem}.*{ending} beside it; run gcc with {option} too")
+    return found[-1]
+
+
+def read_file(path, name=None):
+    """A C file by the dump of this path and the two that stand beside it; `name` is what messages call it."""
+    match = LOWER.match(path)
+    if not match:
+        raise Refusal(f"{path}: a dump's name ends with .lower, as in a.c.010t.lower")
+    stem = match["stem"]
+    text = read_text(path)
+    known = symbols.Symbols()
+    symbols.read_table(read_text(beside(path, stem, ".cgraph", "-fdump-ipa-cgraph")), known)
+    symbols.read_blocks(read_text(beside(path, stem, ".ssa", "-fdump-tree-ssa-lineno-uid-blocks")), known)
+    name = name or stem
+    try:
+        return File(name, dump.read(text, name), known)
+    except (ValueError, IndexError):
+        raise Refusal("a dump that is not written as expected", name) from None

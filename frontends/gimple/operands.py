@@ -1,0 +1,265 @@
+"""The operands of gcc's raw dumps: splitting a statement's words, and what an operand reads, writes or points to."""
+
+import re
+from dataclasses import dataclass, field
+
+PLACE = re.compile(r"\[([^\[\]\"]*):(\d+):(\d+)(?: discrim \d+)?\] ?")
+STRING = re.compile(r'[uUL8]{0,2}"(?:\\.|[^"\\])*"')
+DECLARED = r"(?:[\w$]+?(?:\.[\w$]+?)*?)??D\.\d+"
+TEMPORARY = r"(?:[A-Za-z_$][\w$]*(?:\.\d+)?)?_\d+(?:\(D\))?(?![\w.$])"
+PIECE = re.compile(rf"(?P<name>{DECLARED}|{TEMPORARY}|<retval>)|(?P<word>[A-Za-z_$][\w$.]*)|(?P<arrow>->)"
+                   r"|(?P<number>[-+]?\d+(?:\.\d+)?(?:[eE][-+]\d+)?\w*)|(?P<sign>\S)")
+OPENING = {"<": ">", "(": ")", "[": "]", "{": "}"}
+
+
+def without_places(text):
+    """The text with gcc's [file:line:column] marks taken out, strings left alone."""
+    parts = []
+    at = 0
+    for string in STRING.finditer(text):
+        parts.append(PLACE.sub("", text[at:string.start()]))
+        parts.append(string.group())
+        at = string.end()
+    parts.append(PLACE.sub("", text[at:]))
+    return "".join(parts)
+
+
+def split_words(text):
+    """The words between the commas of the outermost level."""
+    words = []
+    depth = 0
+    start = at = 0
+    while at < len(text):
+        string = STRING.match(text, at)
+        if string:
+            at = string.end()
+            continue
+        if text.startswith("->", at):
+            at += 2
+            continue
+        sign = text[at]
+        if sign in "<([{":
+            depth += 1
+        elif sign in ">)]}":
+            depth -= 1
+        elif sign == "," and depth == 0:
+            words.append(text[start:at].strip())
+            start = at + 1
+        at += 1
+    words.append(text[start:].strip())
+    return words
+
+
+def is_declared(text):
+    """Whether a text is one declared name, as `xD.12`, and no field of one."""
+    found = re.match(DECLARED, text)
+    return bool(found) and found.end() == len(text)
+
+
+def split_declared(name):
+    """A dump's `xD.12` as the source's name, empty where gcc made the variable, and the number 12."""
+    source, number = name.rsplit("D.", 1)
+    return source, int(number)
+
+
+@dataclass
+class Reference:
+    """What an operand stands for.
+
+    base: the name of the variable that is read or written, in whole or in part; None behind a pointer and for constants.
+    is_whole: whether that is the whole variable. is_memory: whether it is read or written through a pointer.
+    is_address: whether it is an address, so that `base` is not read. reads: names read to find the place.
+    index: the name or number in `base[index]`, where the operand is just that. constant: the text of a constant.
+    """
+    base: str = None
+    is_whole: bool = True
+    is_memory: bool = False
+    is_address: bool = False
+    reads: list = field(default_factory=list)
+    addressed: list = field(default_factory=list)
+    index: str = None
+    constant: str = None
+
+
+class Parser:
+    """A parser of one operand. `parse` answers a Reference, or None where the form is not known."""
+
+    def __init__(self, text):
+        self.pieces = [(piece.lastgroup, piece.group()) for piece in PIECE.finditer(text)]
+        self.at = 0
+
+    def next_is(self, sign):
+        """Whether the next piece is this sign, which is then passed."""
+        if self.at < len(self.pieces) and self.pieces[self.at][1] == sign:
+            self.at += 1
+            return True
+        return False
+
+    def expect(self, sign):
+        """Passes the sign, or gives up."""
+        if not self.next_is(sign):
+            raise ValueError(sign)
+
+    def parse(self):
+        """The whole operand."""
+        try:
+            reference = self.place()
+            return reference if self.at == len(self.pieces) else None
+        except (ValueError, IndexError):
+            return None
+
+    def place(self):
+        """A place with the fields and indices behind it."""
+        reference = self.beginning()
+        while self.at < len(self.pieces):
+            if self.next_is("."):
+                self.at += 1
+                self.make_part(reference)
+            elif self.next_is("->"):
+                self.at += 1
+                reference = self.behind(reference)
+            elif self.next_is("["):
+                self.take_index(reference)
+            else:
+                break
+        return reference
+
+    @staticmethod
+    def make_part(reference):
+        """The reference is now to a part of what it was to."""
+        reference.is_whole = False
+        reference.index = None
+
+    def take_index(self, reference):
+        """An index in brackets, the first one passed already."""
+        index = self.place()
+        was_whole = reference.is_whole and not reference.is_memory
+        self.skip_to("]")
+        self.make_part(reference)
+        reference.reads += names_read(index)
+        reference.addressed += index.addressed
+        if was_whole and not index.is_address:
+            reference.index = index.base if index.base and index.is_whole else index.constant
+
+    def skip_to(self, closing):
+        """Passes pieces up to this closing sign of the level, and the sign."""
+        depth = 0
+        while True:
+            sign = self.pieces[self.at][1]
+            self.at += 1
+            if depth == 0 and sign == closing:
+                return
+            if sign in OPENING:
+                depth += 1
+            elif sign in OPENING.values():
+                depth -= 1
+
+    @staticmethod
+    def behind(pointer):
+        """What the pointer points to."""
+        if pointer.is_address and not pointer.is_memory and pointer.base:
+            return Reference(base=pointer.base, is_whole=False, reads=pointer.reads, addressed=pointer.addressed)
+        return Reference(is_memory=True, is_whole=False, reads=names_read(pointer), addressed=pointer.addressed)
+
+    def beginning(self):
+        """What a place begins with."""
+        kind, text = self.pieces[self.at]
+        self.at += 1
+        if kind == "name":
+            return Reference(base=text)
+        if text == "*":
+            return self.behind(self.place())
+        if text == "&":
+            return self.address()
+        if text == "(":
+            return self.bracketed()
+        if text == "MEM":
+            return self.memory()
+        if text == "VIEW_CONVERT_EXPR":
+            self.expect("<")
+            self.skip_to(">")
+            self.expect("(")
+            return self.part_up_to(")")
+        if text in ("BIT_FIELD_REF", "REALPART_EXPR", "IMAGPART_EXPR"):
+            self.expect("<")
+            return self.part_up_to(">")
+        if text == "{":
+            return self.elements()
+        return self.number(kind, text)
+
+    def number(self, kind, text):
+        """A constant: a number, a string's stand-in, or a word such as Inf."""
+        if kind == "word" and self.next_is("("):
+            self.skip_to(")")
+        if kind in ("number", "word"):
+            return Reference(constant=text)
+        if text in "+-" and self.at < len(self.pieces):
+            self.at += 1
+            return Reference(constant=text + self.pieces[self.at - 1][1])
+        raise ValueError(text)
+
+    def part_up_to(self, closing):
+        """A place of which a part is meant, up to this closing sign."""
+        reference = self.place()
+        self.skip_to(closing)
+        self.make_part(reference)
+        return reference
+
+    def address(self):
+        """Behind an ampersand."""
+        reference = self.place()
+        if reference.base is None:
+            return Reference(constant="address", reads=reference.reads, addressed=reference.addressed)
+        return Reference(base=reference.base, is_address=True, reads=reference.reads,
+                         addressed=[*reference.addressed, reference.base])
+
+    def bracketed(self):
+        """A place in brackets, or a cast before one."""
+        start = self.at
+        try:
+            reference = self.place()
+            if self.next_is(")"):
+                return reference
+        except (ValueError, IndexError):
+            pass
+        self.at = start
+        self.skip_to(")")
+        return self.place()
+
+    def memory(self):
+        """MEM[(type)pointer + offset] or MEM <type> [..]."""
+        if self.next_is("<"):
+            self.skip_to(">")
+        self.expect("[")
+        pointer = self.place()
+        self.skip_to("]")
+        return self.behind(pointer)
+
+    def elements(self):
+        """A constructor in braces."""
+        whole = Reference(constant="elements")
+        while not self.next_is("}"):
+            if self.next_is(",") or self.next_is("="):
+                continue
+            if self.next_is("."):
+                self.at += 1
+                continue
+            element = self.place()
+            whole.reads += names_read(element)
+            whole.addressed += element.addressed
+        return whole
+
+
+def names_read(reference):
+    """The names that are read when the value of a reference is taken; not what is behind a pointer."""
+    own = [reference.base] if reference.base and not reference.is_address else []
+    return own + reference.reads
+
+
+def parse(text):
+    """The Reference of an operand's text, or None where its form is not known."""
+    plain = without_places(text)
+    if plain.startswith("{CLOBBER"):
+        return Reference(constant="clobber")
+    plain = STRING.sub(" string_ ", plain)
+    return Parser(plain).parse()

@@ -1,0 +1,225 @@
+"""All files together: which variable or function a name of a dump stands for, and what pointers may lead to."""
+
+import re
+from dataclasses import dataclass, field
+
+from . import operands
+from .code import Procedure, Variable
+from .dump import Try
+from .faults import Refusal
+
+ARTIFICIAL = re.compile(r"^$|\.|^<|^__(?:PRETTY_)?(?:func|FUNCTION)__$")
+
+VALUES = {"assign": slice(1, None), "call": slice(1, None), "cond": slice(1, 3), "switch": slice(0, 1), "return": slice(0, 1)}
+
+
+@dataclass(eq=False)
+class Callee:
+    """A function that is named: its procedure where it has a body here."""
+    name: str
+    procedure: Procedure = None
+    is_replaceable: bool = False
+    is_endless: bool = False
+
+
+@dataclass(eq=False)
+class File:
+    """A file's dumps: its functions, and what is known beside."""
+    name: str
+    functions: list
+    symbols: object
+    statics: dict = field(default_factory=dict)
+    by_uid: dict = field(default_factory=dict)
+
+
+class World:
+    """The variables and functions of all files. `is_whole`: no other file names them but the C library's."""
+
+    def __init__(self, files, is_whole):
+        self.files = files
+        self.is_whole = is_whole
+        self.globals = {}
+        self.locals = {}
+        self.procedures = {}
+        self.public = {}
+        self.addressed_procedures = {}
+        self.visible = {}
+        self.own_starts = []
+        self.defined_here = {symbol.linkage for file in files for symbol in file.symbols.by_name.values()
+                             if symbol.is_public and symbol.is_defined}
+        for file in files:
+            self.take_functions(file)
+        for file in files:
+            self.take_symbols(file)
+
+    def take_functions(self, file):
+        """Takes in a file's functions and the statics in them."""
+        for function in file.functions:
+            procedure = Procedure(function.name, function.name, function)
+            self.procedures[file, function.uid] = procedure
+            file.by_uid[function.uid] = procedure
+            symbol = file.symbols.by_name.get(function.name)
+            if symbol and symbol.is_public and "." not in function.linkage:
+                if symbol.linkage in self.public:
+                    raise Refusal(f"{function.name} has a body here, and in {self.public[symbol.linkage].function.file} too", file.name)
+                self.public[symbol.linkage] = procedure
+            for name in function.statics:
+                source, uid = operands.split_declared(name)
+                file.statics[uid] = self.new_static(file, function, name, source)
+
+    def new_static(self, file, function, name, source):
+        """The variable of a static in a function."""
+        variable = Variable(f"{function.name}__{source or 'static'}", "" if ARTIFICIAL.search(source) else source)
+        variable.is_addressed = source in file.symbols.addressed
+        self.globals[file, name] = variable
+        return variable
+
+    def take_symbols(self, file):
+        """Marks what the symbol table knows: who is called from outside, who runs by itself, whose address is taken."""
+        for symbol in file.symbols.by_name.values():
+            if not symbol.is_function:
+                continue
+            procedure = self.defined(file, symbol.name)
+            if procedure is None:
+                continue
+            if symbol.is_addressed:
+                self.addressed_procedures[procedure] = None
+            if symbol.is_public and not self.is_whole:
+                self.visible[procedure] = None
+            if symbol.runs_alone:
+                self.own_starts.append(procedure)
+
+    def defined(self, file, name):
+        """The procedure of a function of a file's own level, or None."""
+        symbol = file.symbols.by_name.get(name)
+        if symbol and symbol.alias_of:
+            return self.defined(file, symbol.alias_of)
+        if symbol and symbol.is_public and symbol.linkage in self.public:
+            return self.public[symbol.linkage]
+        for function in file.functions:
+            if function.name == name and "." not in function.linkage:
+                return file.by_uid[function.uid]
+        return self.public.get(name) if symbol is None else None
+
+    def callee(self, file, declared):
+        """The function that a declared name stands for."""
+        source, uid = operands.split_declared(declared)
+        if uid in file.by_uid:
+            procedure = file.by_uid[uid]
+        else:
+            procedure = self.defined(file, source)
+        symbol = file.symbols.by_name.get(source)
+        endless = source in file.symbols.endless or bool(procedure and procedure.function.is_noreturn)
+        name = symbol.linkage if symbol and not source.startswith("__builtin_") else source
+        return Callee(name, procedure, bool(symbol and symbol.is_weak and not self.is_whole), endless)
+
+    def is_function(self, file, declared):
+        """Whether a declared name that is no variable of the function at hand is a function."""
+        source, uid = operands.split_declared(declared)
+        if uid in file.by_uid:
+            return True
+        symbol = file.symbols.by_name.get(source)
+        return bool(symbol and symbol.is_function and uid not in file.statics)
+
+    def variable(self, file, procedure, declared):
+        """The variable of a declared name in a procedure, or None where it is volatile and may not be followed."""
+        if declared in file.symbols.volatile:
+            return None
+        if declared == "<retval>" or self.is_local(procedure, declared):
+            return self.local(procedure, declared)
+        source, uid = operands.split_declared(declared)
+        if uid in file.statics:
+            return file.statics[uid]
+        if ARTIFICIAL.search(source):
+            key = (file, declared)
+            return self.globals.setdefault(key, Variable("made"))
+        return self.file_variable(file, source)
+
+    @staticmethod
+    def is_local(procedure, declared):
+        """Whether a declared name is a parameter or local of the procedure."""
+        function = procedure.function
+        return declared in function.parameters or declared in function.locals
+
+    def local(self, procedure, declared):
+        """The variable of a parameter or local."""
+        key = (procedure, declared)
+        if key not in self.locals:
+            source = "" if declared == "<retval>" else operands.split_declared(declared)[0]
+            wish = f"{procedure.wish}__{re.sub(r'[^A-Za-z0-9_]', '_', source) or 'value'}"
+            variable = Variable(wish, "" if ARTIFICIAL.search(source) else source, procedure)
+            variable.is_parameter = declared in procedure.function.parameters
+            self.locals[key] = variable
+        return self.locals[key]
+
+    def file_variable(self, file, source):
+        """The variable of a name of the file's own level."""
+        symbol = file.symbols.by_name.get(source)
+        if symbol and symbol.alias_of:
+            return self.file_variable(file, symbol.alias_of)
+        is_public = symbol is None or symbol.is_public
+        key = symbol.linkage if symbol else source
+        key = key if is_public else (file, source)
+        if key not in self.globals:
+            self.globals[key] = Variable(source, source)
+        variable = self.globals[key]
+        if source in file.symbols.addressed:
+            variable.is_addressed = True
+        if is_public and not (self.is_whole and key in self.defined_here):
+            variable.is_addressed = True
+        return variable
+
+    def reached_by_pointers(self):
+        """The variables that a pointer may lead to, or that other files may name."""
+        found = [*self.globals.values(), *self.locals.values()]
+        return [variable for variable in found if variable.is_addressed]
+
+    def take_addresses(self):
+        """Marks each variable and function whose address the statements take."""
+        for file in self.files:
+            for function in file.functions:
+                procedure = file.by_uid[function.uid]
+                for statement in statements_in(function.body):
+                    self.take_addresses_in(file, procedure, statement)
+
+    def take_addresses_in(self, file, procedure, statement):
+        """Marks what one statement takes the address of."""
+        words = statement.words[VALUES.get(statement.kind, slice(0, 0))]
+        if "[static-chain:" in statement.rest:
+            words.append(statement.rest.split("[static-chain:")[1].rstrip("] "))
+        for word in words:
+            reference = operands.parse(word)
+            if reference is None or (reference.base is None and reference.constant is None and not reference.is_memory):
+                raise Refusal(f"an operand that is not known: {operands.without_places(word)}",
+                              statement.place or function_place(file, procedure))
+            for name in [*reference.addressed, *operands.names_read(reference)]:
+                self.take_name(file, procedure, name, name in reference.addressed)
+
+    def take_name(self, file, procedure, name, is_address):
+        """Marks a name that an operand has."""
+        if not operands.is_declared(name):
+            return
+        is_own = self.is_local(procedure, name)
+        if not is_own and self.is_function(file, name):
+            found = self.callee(file, name).procedure
+            if found:
+                self.addressed_procedures[found] = None
+            return
+        variable = self.variable(file, procedure, name)
+        if is_address and variable:
+            variable.is_addressed = True
+
+
+def function_place(file, procedure):
+    """What a message names where a statement has no place."""
+    return f"{file.name}: in {procedure.source}"
+
+
+def statements_in(body):
+    """All statements of a body, those of cleanups too."""
+    for item in body:
+        if isinstance(item, Try):
+            yield from statements_in(item.body)
+            yield from statements_in(item.cleanup)
+        else:
+            yield item

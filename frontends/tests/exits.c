@@ -1,0 +1,38 @@
+/* Ends of the program: exit, abort, and a function that never comes back. */
+/* options: --whole */
+#include <stdlib.h>
+#include <stdio.h>
+
+static int code;
+
+static void fatal(const char *why) __attribute__((noreturn));
+static void fatal(const char *why)
+{
+    puts(why);
+    exit(code);
+    puts("never");          /* gcc itself leaves out what stands behind such a call: nothing is told */
+}
+
+static int need(int n)
+{
+    int r;
+    if (n > 0)
+        r = n;
+    else if (n == 0)
+        fatal("zero");
+    else
+        abort();
+    return r;               /* the other two ways don't come here */
+}
+
+int main(int argc, char **argv)
+{
+    int gone = argc * 2;    /* expect: assignment to 'gone' is dead */
+    code = argc;            /* fatal reads it */
+    gone = need(argc);
+    if (gone > 5) {
+        int last = gone;    /* expect: assignment to 'last' is dead */
+        exit(gone);
+    }
+    return gone;
+}
