@@ -1,0 +1,78 @@
+/* What each call answers to bad input: an error number, and nothing written. Prints one line for each that goes wrong. */
+#include "tacflow.h"
+
+#include <stdio.h>
+#include <string.h>
+
+static int wrong;
+
+static void expect(const char *what, int wanted, int got) {
+    if (wanted != got) {
+        printf("%s: status %d in place of %d\n", what, got, wanted);
+        wrong = 1;
+    }
+}
+
+int main(void) {
+    /* Three points, two variables, three definitions, one expression. */
+    static const char text[] = "proc main\n  x = y + 1\n  print x\nend\n";
+    static const char no_program[] = "proc main\n  x = = 1\nend\n";
+    const size_t length = sizeof text - 1;
+    tacflow_place place = {7, 7, 7};
+    tacflow_sizes_of_program sizes;
+    tacflow_point points[4];
+    tacflow_definition definitions[4];
+    tacflow_expression expressions[2];
+    size_t ends[3];
+    char names[16];
+    uint8_t flags[4];
+    uint64_t words[4], before[4];
+    memset(words, 0x55, sizeof words), memset(before, 0x55, sizeof before), memset(flags, 9, sizeof flags), memset(names, '.', sizeof names);
+
+    expect("sizes", TACFLOW_OK, tacflow_sizes(text, length, &sizes, &place));
+    if (sizes.procedures != 1 || sizes.points != 3 || sizes.variables != 2 || sizes.definitions != 3 || sizes.expressions != 1)
+        wrong = puts("sizes: others than by hand") || 1;
+    expect("no text", TACFLOW_BAD_POINTER, tacflow_sizes(NULL, length, &sizes, &place));
+    expect("no sizes", TACFLOW_BAD_POINTER, tacflow_sizes(text, length, NULL, &place));
+    expect("no place", TACFLOW_BAD_POINTER, tacflow_sizes(text, length, &sizes, NULL));
+    expect("empty text", TACFLOW_REFUSED, tacflow_sizes(NULL, 0, &sizes, &place));
+    if (place.number != 6 || place.line != 1 || place.column != 1) wrong = puts("empty text: another place than 1:1, refusal 6") || 1;
+    expect("no program", TACFLOW_REFUSED, tacflow_sizes(no_program, sizeof no_program - 1, &sizes, &place));
+    if (place.number != 4 || place.line != 2 || place.column != 7) wrong = puts("no program: another place than 2:7, refusal 4") || 1;
+
+    expect("points", TACFLOW_OK, tacflow_points(text, length, points, 3, &place));
+    if (points[1].line != 3 || points[1].place != 1 || strncmp(text + points[1].start, "print x", points[1].end - points[1].start) || points[2].line)
+        wrong = puts("points: others than by hand") || 1;
+    expect("a point too few", TACFLOW_BAD_ROOM, tacflow_points(text, length, points, 2, &place));
+    expect("a point too many", TACFLOW_BAD_ROOM, tacflow_points(text, length, points, 4, &place));
+    expect("no points", TACFLOW_BAD_POINTER, tacflow_points(text, length, NULL, 3, &place));
+    expect("definitions", TACFLOW_OK, tacflow_definitions(text, length, definitions, 3, &place));
+    if (definitions[0].point != TACFLOW_NO_POINT || definitions[2].point != 0 || definitions[2].variable != 0)
+        wrong = puts("definitions: others than by hand") || 1;
+    expect("a definition too few", TACFLOW_BAD_ROOM, tacflow_definitions(text, length, definitions, 2, &place));
+    expect("expressions", TACFLOW_OK, tacflow_expressions(text, length, expressions, 1, &place));
+    if (strcmp(tacflow_sign[expressions[0].operator_number], "+") || expressions[0].left.kind != TACFLOW_VARIABLE || expressions[0].left.variable != 1
+        || expressions[0].right.kind != TACFLOW_NUMBER || expressions[0].right.number != 1)
+        wrong = puts("expressions: others than by hand") || 1;
+    expect("an expression too many", TACFLOW_BAD_ROOM, tacflow_expressions(text, length, expressions, 2, &place));
+    expect("variables", TACFLOW_OK, tacflow_variables(text, length, ends, 2, names, sizeof names, &place));
+    if (strncmp(names, "xy..", 4) || ends[0] != 1 || ends[1] != 2) wrong = puts("variables: others than by hand") || 1;
+    expect("a byte too few", TACFLOW_BAD_ROOM, tacflow_variables(text, length, ends, 2, names, 1, &place));
+    expect("an end too few", TACFLOW_BAD_ROOM, tacflow_variables(text, length, ends, 1, names, sizeof names, &place));
+    expect("procedures", TACFLOW_OK, tacflow_procedures(text, length, ends, 1, names, sizeof names, &place));
+
+    expect("bad analysis", TACFLOW_BAD_ANALYSIS, tacflow_facts(text, length, 4, 0, 2, flags, 3, words, 3, &place));
+    expect("range turned round", TACFLOW_BAD_RANGE, tacflow_facts(text, length, TACFLOW_LIVE, 2, 1, flags, 3, words, 3, &place));
+    expect("range too far", TACFLOW_BAD_RANGE, tacflow_facts(text, length, TACFLOW_LIVE, 0, 3, flags, 3, words, 3, &place));
+    expect("a flag too few", TACFLOW_BAD_ROOM, tacflow_facts(text, length, TACFLOW_LIVE, 0, 2, flags, 2, words, 3, &place));
+    expect("a word too many", TACFLOW_BAD_ROOM, tacflow_facts(text, length, TACFLOW_LIVE, 0, 2, flags, 3, words, 4, &place));
+    expect("no words", TACFLOW_BAD_POINTER, tacflow_facts(text, length, TACFLOW_LIVE, 0, 2, flags, 3, NULL, 3, &place));
+    if (memcmp(words, before, sizeof words) || flags[0] != 9) wrong = puts("a fault: something was written") || 1;
+    expect("no bits", TACFLOW_OK, tacflow_facts(text, length, TACFLOW_LIVE, 0, 0, flags, 3, NULL, 0, &place));
+    expect("facts", TACFLOW_OK, tacflow_facts(text, length, TACFLOW_LIVE, 0, 2, flags, 3, words, 3, &place));
+    if (words[0] != 2 || words[1] != 1 || words[2] != 0 || words[3] != before[3] || flags[0] != 1 || flags[2] != 1)
+        wrong = puts("facts: others than by hand") || 1;
+    expect("one bit", TACFLOW_OK, tacflow_facts(text, length, TACFLOW_LIVE, 1, 2, flags, 3, words, 3, &place));
+    if (words[0] != 2 || words[1] != 0) wrong = puts("one bit: others than by hand") || 1;
+    return wrong;
+}

@@ -1,0 +1,196 @@
+/* tacflow: the data-flow facts of a program of three-address code, found in the caller's process.
+ *
+ * Facts hold at points: one before each statement of a procedure and one at its end (docs/ANALYSES.md). A program is a text
+ * (docs/LANGUAGE.md). Each call reads the text anew, keeps nothing behind, starts no thread and waits for nobody. What it answers
+ * is proved to be exactly what the definitions say of the text (crates/tacflow_c); the checks of pointers in this header are not
+ * proved, but short.
+ *
+ * All memory is the caller's. Texts, names and spans are counted in bytes; lines and columns from 1; all other numbers from 0.
+ * A call that takes room takes a pointer and how many elements it points to, and wants exactly as many as there are, but for bytes
+ * of names, where there may be more. tacflow_sizes tells how many. After a status other than TACFLOW_OK nothing was written, but
+ * the place of a refusal.
+ *
+ * Calls may be made by several threads at once, each with room of its own. The program's malloc, realloc and free are called.
+ * Link with libtacflow_c.a and the kit's heap.c (bindings/check shows how). */
+#ifndef TACFLOW_H
+#define TACFLOW_H
+
+#include <stddef.h>
+#include <stdint.h>
+
+#ifdef __cplusplus
+extern "C" {
+#endif
+
+/* What a call answers. */
+enum tacflow_status {
+    TACFLOW_OK = 0,
+    TACFLOW_REFUSED = 1,          /* the text is no program: the place says why and where */
+    TACFLOW_OUT_OF_MEMORY = 2,    /* memory was refused */
+    TACFLOW_BAD_ANALYSIS = 3,     /* there is no analysis of this number */
+    TACFLOW_BAD_RANGE = 4,        /* lo..hi are no bits of the analysis */
+    TACFLOW_BAD_ROOM = 5,         /* the room is not as large as the answer */
+    TACFLOW_BAD_POINTER = 6,      /* a pointer is null */
+    TACFLOW_TOO_MANY_POINTS = 21, /* the program has more than 16,384 points */
+    TACFLOW_TOO_MANY_BITS = 22    /* some analysis has more than 4,096 bits */
+};
+
+/* The analyses. The bits of reach are definitions, those of live variables, those of avail and busy expressions. */
+enum tacflow_analysis {
+    TACFLOW_REACH = 0, /* reaching definitions: those that some valid path brings to the point */
+    TACFLOW_LIVE = 1,  /* live variables: those that some valid path from the point reads before writing them */
+    TACFLOW_AVAIL = 2, /* available expressions: those that every valid path to the point evaluates, no operand written since */
+    TACFLOW_BUSY = 3   /* very busy expressions: those that every valid path from the point evaluates before an operand is written */
+};
+
+/* Why a text is refused (the number of docs/LANGUAGE.md's table) and where. */
+typedef struct {
+    uint32_t number;
+    uint32_t line;
+    uint32_t column;
+} tacflow_place;
+
+/* How large a program is. */
+typedef struct {
+    uint32_t procedures;
+    uint32_t points;
+    uint32_t variables;   /* the bits of live */
+    uint32_t definitions; /* the bits of reach: first one for each variable's value at the beginning, then one for each statement that sets a variable */
+    uint32_t expressions; /* the bits of avail and of busy */
+} tacflow_sizes_of_program;
+
+/* A point: its procedure, how many of its statements stand before, and the line and the bytes start..end of the statement at the point.
+ * These three are 0 at a procedure's end, where no statement is. */
+typedef struct {
+    uint32_t procedure;
+    uint32_t place;
+    uint32_t line;
+    uint32_t start;
+    uint32_t end;
+} tacflow_point;
+
+#define TACFLOW_NO_POINT UINT32_MAX
+
+/* A definition: its variable, and the point of its statement, or TACFLOW_NO_POINT for the value at the beginning. */
+typedef struct {
+    uint32_t variable;
+    uint32_t point;
+} tacflow_definition;
+
+enum tacflow_kind { TACFLOW_NOTHING = 0, TACFLOW_VARIABLE = 1, TACFLOW_NUMBER = 2 };
+
+/* What an operator works on: its kind, and the variable's number or the number itself; the other one is 0. */
+typedef struct {
+    uint32_t kind;
+    uint32_t variable;
+    uint64_t number;
+} tacflow_operand;
+
+/* The operators, in the order of tacflow_sign. */
+static const char *const tacflow_sign[] = {"+", "-", "*", "/", "%", "&", "|", "^", "<<", ">>", "<", "<=", ">", ">=", "==", "!=", "~", "!"};
+
+/* An expression: its operator, and what stands left and right of it. A unary one has TACFLOW_NOTHING on its left. */
+typedef struct {
+    uint32_t operator_number;
+    tacflow_operand left;
+    tacflow_operand right;
+} tacflow_expression;
+
+/* The longest name has so many bytes. */
+#define TACFLOW_LONGEST_NAME 64
+
+/* The proved calls: no pointer may be null, also where it points to no element. */
+uint32_t tacflow_c_sizes(const uint8_t *text, size_t length, tacflow_sizes_of_program *sizes, tacflow_place *place);
+uint32_t tacflow_c_points(const uint8_t *text, size_t length, tacflow_point *points, size_t count, tacflow_place *place);
+uint32_t tacflow_c_definitions(const uint8_t *text, size_t length, tacflow_definition *definitions, size_t count, tacflow_place *place);
+uint32_t tacflow_c_expressions(const uint8_t *text, size_t length, tacflow_expression *expressions, size_t count, tacflow_place *place);
+uint32_t tacflow_c_procedures(const uint8_t *text, size_t length, size_t *ends, size_t count, uint8_t *bytes, size_t room, tacflow_place *place);
+uint32_t tacflow_c_variables(const uint8_t *text, size_t length, size_t *ends, size_t count, uint8_t *bytes, size_t room, tacflow_place *place);
+uint32_t tacflow_c_facts(const uint8_t *text, size_t length, uint32_t analysis, uint32_t lo, uint32_t hi, uint8_t *flags, size_t flag_count,
+                         uint64_t *words, size_t word_count, tacflow_place *place);
+
+/* Memory that a null pointer to no elements stands for. */
+static inline void *tacflow_some(const void *pointer, size_t count, void *nothing) {
+    return pointer || count ? (void *)(uintptr_t)pointer : nothing;
+}
+
+/* How large a text's program is. */
+static inline int tacflow_sizes(const char *text, size_t length, tacflow_sizes_of_program *sizes, tacflow_place *place) {
+    uint64_t nothing = 0;
+    const uint8_t *bytes = (const uint8_t *)tacflow_some(text, length, &nothing);
+    if (!bytes || !sizes || !place) return TACFLOW_BAD_POINTER;
+    return (int)tacflow_c_sizes(bytes, length, sizes, place);
+}
+
+/* What each point is. count is the number of points. */
+static inline int tacflow_points(const char *text, size_t length, tacflow_point *points, size_t count, tacflow_place *place) {
+    uint64_t nothing = 0;
+    const uint8_t *bytes = (const uint8_t *)tacflow_some(text, length, &nothing);
+    points = (tacflow_point *)tacflow_some(points, count, &nothing);
+    if (!bytes || !points || !place) return TACFLOW_BAD_POINTER;
+    return (int)tacflow_c_points(bytes, length, points, count, place);
+}
+
+/* What each definition is, by its bit. count is the number of definitions. */
+static inline int tacflow_definitions(const char *text, size_t length, tacflow_definition *definitions, size_t count, tacflow_place *place) {
+    uint64_t nothing = 0;
+    const uint8_t *bytes = (const uint8_t *)tacflow_some(text, length, &nothing);
+    definitions = (tacflow_definition *)tacflow_some(definitions, count, &nothing);
+    if (!bytes || !definitions || !place) return TACFLOW_BAD_POINTER;
+    return (int)tacflow_c_definitions(bytes, length, definitions, count, place);
+}
+
+/* What each expression is, by its bit. count is the number of expressions. */
+static inline int tacflow_expressions(const char *text, size_t length, tacflow_expression *expressions, size_t count, tacflow_place *place) {
+    uint64_t nothing = 0;
+    const uint8_t *bytes = (const uint8_t *)tacflow_some(text, length, &nothing);
+    expressions = (tacflow_expression *)tacflow_some(expressions, count, &nothing);
+    if (!bytes || !expressions || !place) return TACFLOW_BAD_POINTER;
+    return (int)tacflow_c_expressions(bytes, length, expressions, count, place);
+}
+
+/* The names of the procedures, one after the other, and where each ends: name n stands at ends[n - 1]..ends[n], the first from 0.
+ * count is the number of procedures, and 64 bytes for each are always room enough. What is left of the bytes stays as it is. */
+static inline int tacflow_procedures(const char *text, size_t length, size_t *ends, size_t count, char *names, size_t room, tacflow_place *place) {
+    uint64_t nothing = 0;
+    const uint8_t *bytes = (const uint8_t *)tacflow_some(text, length, &nothing);
+    ends = (size_t *)tacflow_some(ends, count, &nothing);
+    names = (char *)tacflow_some(names, room, &nothing);
+    if (!bytes || !ends || !names || !place) return TACFLOW_BAD_POINTER;
+    return (int)tacflow_c_procedures(bytes, length, ends, count, (uint8_t *)names, room, place);
+}
+
+/* The same of the variables. */
+static inline int tacflow_variables(const char *text, size_t length, size_t *ends, size_t count, char *names, size_t room, tacflow_place *place) {
+    uint64_t nothing = 0;
+    const uint8_t *bytes = (const uint8_t *)tacflow_some(text, length, &nothing);
+    ends = (size_t *)tacflow_some(ends, count, &nothing);
+    names = (char *)tacflow_some(names, room, &nothing);
+    if (!bytes || !ends || !names || !place) return TACFLOW_BAD_POINTER;
+    return (int)tacflow_c_variables(bytes, length, ends, count, (uint8_t *)names, room, place);
+}
+
+/* How many words each point has in the facts of the bits lo..hi. */
+static inline size_t tacflow_words(uint32_t lo, uint32_t hi) {
+    return (size_t)(hi / 64 + (hi % 64 != 0)) - lo / 64;
+}
+
+/* The facts of an analysis on the bits lo..hi: for each point a flag, 1 where some valid path leads to it (for live and busy: from it to
+ * the end of main) and else 0, and its words, the points one after the other. Bit b of lo..hi is in the set of point p exactly where
+ * bit b % 64 of words[p * tacflow_words(lo, hi) + b / 64 - lo / 64] is 1; all other places are 0. flag_count is the number of points,
+ * word_count that number times tacflow_words(lo, hi). Several threads may each ask for a range of their own. */
+static inline int tacflow_facts(const char *text, size_t length, int analysis, uint32_t lo, uint32_t hi, uint8_t *flags, size_t flag_count,
+                                uint64_t *words, size_t word_count, tacflow_place *place) {
+    uint64_t nothing = 0;
+    const uint8_t *bytes = (const uint8_t *)tacflow_some(text, length, &nothing);
+    flags = (uint8_t *)tacflow_some(flags, flag_count, &nothing);
+    words = (uint64_t *)tacflow_some(words, word_count, &nothing);
+    if (!bytes || !flags || !words || !place) return TACFLOW_BAD_POINTER;
+    return (int)tacflow_c_facts(bytes, length, (uint32_t)analysis, lo, hi, flags, flag_count, words, word_count, place);
+}
+
+#ifdef __cplusplus
+}
+#endif
+
+#endif

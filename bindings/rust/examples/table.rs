@@ -1,0 +1,75 @@
+//! Prints the table of an analysis as `tacflow --show` does: `table KIND FILE [THREADS]`. With threads each of them asks for some
+//! of the bits.
+
+use std::error::Error;
+use std::io::Write;
+use std::{env, fs, io, thread};
+use tacflow::{Analysis, Expression, Operand, Program, Table};
+
+fn operand(program: &Program, operand: Operand) -> String {
+    match operand {
+        Operand::Variable(variable) => program.variables()[variable as usize].clone(),
+        Operand::Number(number) => number.to_string(),
+    }
+}
+
+fn expression(program: &Program, expression: &Expression) -> String {
+    let right = operand(program, expression.right);
+    match expression.left {
+        None => format!("{}{right}", expression.operator),
+        Some(left) => format!("{} {} {right}", operand(program, left), expression.operator),
+    }
+}
+
+fn bit(program: &Program, analysis: Analysis, bit: u32) -> String {
+    match analysis {
+        Analysis::Live => program.variables()[bit as usize].clone(),
+        Analysis::Avail | Analysis::Busy => expression(program, &program.expressions()[bit as usize]),
+        Analysis::Reach => {
+            let definition = program.definitions()[bit as usize];
+            let name = &program.variables()[definition.variable as usize];
+            match definition.point {
+                None => format!("{name}@entry"),
+                Some(point) => format!("{name}@{}", program.points()[point as usize].line),
+            }
+        }
+    }
+}
+
+// The tables of ranges of the bits, one a thread.
+fn tables(program: &Program, analysis: Analysis, threads: u32) -> Result<Vec<Table>, tacflow::Error> {
+    let bits = program.bits(analysis);
+    thread::scope(|scope| {
+        let asked: Vec<_> = (0..threads)
+            .map(|n| (bits * n / threads)..(bits * (n + 1) / threads))
+            .map(|range| scope.spawn(move || program.facts_of(analysis, range)))
+            .collect();
+        asked.into_iter().map(|thread| thread.join().expect("no thread panics")).collect()
+    })
+}
+
+fn main() -> Result<(), Box<dyn Error>> {
+    let words: Vec<String> = env::args().collect();
+    let analysis = match words.get(1).map(String::as_str) {
+        Some("reach") => Analysis::Reach,
+        Some("live") => Analysis::Live,
+        Some("avail") => Analysis::Avail,
+        Some("busy") => Analysis::Busy,
+        _ => return Err("the first word is reach, live, avail or busy".into()),
+    };
+    let program = Program::read(fs::read(words.get(2).ok_or("the second word is a file")?)?)?;
+    let threads = words.get(3).map_or(Ok(1), |word| word.parse::<u32>())?.max(1);
+    let tables = tables(&program, analysis, threads)?;
+
+    let mut out = io::BufWriter::new(io::stdout().lock());
+    for (number, point) in (0..).zip(program.points()) {
+        let set: Vec<String> =
+            tables.iter().flat_map(|table| table.set(number)).map(|n| bit(&program, analysis, n)).collect();
+        let name = &program.procedures()[point.procedure as usize];
+        let mark = if tables[0].has_path(number) { "" } else { " (no path)" };
+        let set = if set.is_empty() { "-".into() } else { set.join(", ") };
+        writeln!(out, "{name} {}{mark}: {set}", point.place)?;
+    }
+    out.flush()?;
+    Ok(())
+}

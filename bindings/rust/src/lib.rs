@@ -1,0 +1,342 @@
+//! The data-flow facts of programs of three-address code: reaching definitions, live variables, available and very busy
+//! expressions, exact over all interprocedurally valid paths. What is found is proved to be what the definitions say; this crate is
+//! a thin layer over those calls, and not proved. `docs/LANGUAGE.md` of the repository has the language, `docs/ANALYSES.md` the analyses.
+//!
+//! ```
+//! use tacflow::{Analysis, Program};
+//!
+//! let program = Program::read("proc main\n  read x\n  y = x\n  print x\nend\n")?;
+//! let live = program.facts(Analysis::Live)?;
+//! let names: Vec<&str> = live.set(1).map(|bit| program.variables()[bit as usize].as_str()).collect();
+//! assert_eq!(names, ["x"]);
+//! # Ok::<(), tacflow::Error>(())
+//! ```
+#![deny(unsafe_code)]
+
+#[allow(unsafe_code)]
+mod raw;
+
+pub use raw::Sizes;
+use std::fmt;
+use std::ops::Range;
+
+/// How many bytes the longest name has.
+pub const LONGEST_NAME: usize = 64;
+
+/// The four analyses (Aho, Lam, Sethi, Ullman, 2nd edition, 9.2 and 9.5).
+#[derive(Clone, Copy, Debug, PartialEq, Eq, Hash)]
+pub enum Analysis {
+    /// Reaching definitions: which some valid path brings to the point.
+    Reach = 0,
+    /// Live variables: which some valid path from the point reads before writing them.
+    Live = 1,
+    /// Available expressions: which every valid path to the point evaluates, with no operand written since.
+    Avail = 2,
+    /// Very busy expressions: which every valid path from the point evaluates before an operand is written.
+    Busy = 3,
+}
+
+/// Why there is no answer.
+#[derive(Clone, Copy, Debug, PartialEq, Eq)]
+pub enum Error {
+    /// The text is no program: the refusal's number in the language's table, its line and its column, from 1.
+    Refused {
+        /// The refusal's number.
+        number: u32,
+        /// The line.
+        line: u32,
+        /// The column, in bytes.
+        column: u32,
+    },
+    /// The program has more than 16,384 points.
+    TooManyPoints,
+    /// Some analysis of the program has more than 4,096 bits.
+    TooManyBits,
+    /// The range is no range of the analysis's bits.
+    BadRange,
+    /// Memory was refused.
+    OutOfMemory,
+}
+
+impl fmt::Display for Error {
+    fn fmt(&self, f: &mut fmt::Formatter<'_>) -> fmt::Result {
+        match self {
+            Error::Refused { number, line, column } => write!(f, "{line}:{column}: refusal {number}"),
+            Error::TooManyPoints => f.write_str("the program has too many points"),
+            Error::TooManyBits => f.write_str("an analysis of the program has too many bits"),
+            Error::BadRange => f.write_str("the range is none of the analysis's bits"),
+            Error::OutOfMemory => f.write_str("out of memory"),
+        }
+    }
+}
+
+impl std::error::Error for Error {}
+
+/// A point: its procedure, and how many of its statements stand before.
+#[repr(C)]
+#[derive(Clone, Copy, Debug, Default, PartialEq, Eq)]
+pub struct Point {
+    /// The procedure, by number.
+    pub procedure: u32,
+    /// How many statements of the procedure stand before the point.
+    pub place: u32,
+    /// The line of the statement at the point, from 1; 0 at a procedure's end.
+    pub line: u32,
+    start: u32,
+    end: u32,
+}
+
+impl Point {
+    /// The bytes of the text that the statement at the point has; none at a procedure's end.
+    pub fn span(&self) -> Option<Range<usize>> {
+        (self.line != 0).then_some(self.start as usize..self.end as usize)
+    }
+}
+
+/// A definition: its variable, and the point of its statement, or none for the value at the program's beginning.
+#[derive(Clone, Copy, Debug, PartialEq, Eq)]
+pub struct Definition {
+    /// The variable, by number.
+    pub variable: u32,
+    /// The point of its statement.
+    pub point: Option<u32>,
+}
+
+/// What an operator works on.
+#[derive(Clone, Copy, Debug, PartialEq, Eq)]
+pub enum Operand {
+    /// A variable, by number.
+    Variable(u32),
+    /// A number.
+    Number(u64),
+}
+
+/// An expression: what stands left of its operator, which a unary one has not, its operator and what stands right.
+#[derive(Clone, Copy, Debug, PartialEq, Eq)]
+pub struct Expression {
+    /// What stands left of the operator.
+    pub left: Option<Operand>,
+    /// The operator, as it is written.
+    pub operator: &'static str,
+    /// What stands right of it.
+    pub right: Operand,
+}
+
+const SIGNS: [&str; 18] =
+    ["+", "-", "*", "/", "%", "&", "|", "^", "<<", ">>", "<", "<=", ">", ">=", "==", "!=", "~", "!"];
+
+fn operand(raw: raw::RawOperand) -> Option<Operand> {
+    match raw.kind {
+        1 => Some(Operand::Variable(raw.variable)),
+        2 => Some(Operand::Number(raw.number)),
+        _ => None,
+    }
+}
+
+fn expression(raw: raw::RawExpression) -> Expression {
+    Expression {
+        left: operand(raw.left),
+        operator: SIGNS[raw.operator as usize],
+        right: operand(raw.right).unwrap_or(Operand::Number(0)),
+    }
+}
+
+fn definition(raw: raw::RawDefinition) -> Definition {
+    Definition { variable: raw.variable, point: (raw.point != u32::MAX).then_some(raw.point) }
+}
+
+/// A program that was read: its text, its points, and what the bits of its analyses are.
+#[derive(Clone, Debug)]
+pub struct Program {
+    text: Vec<u8>,
+    sizes: Sizes,
+    points: Vec<Point>,
+    procedures: Vec<String>,
+    variables: Vec<String>,
+    definitions: Vec<Definition>,
+    expressions: Vec<Expression>,
+}
+
+impl Program {
+    /// Reads a program.
+    ///
+    /// # Errors
+    ///
+    /// `Refused` where the text is no program; `TooManyPoints` or `TooManyBits` where it is one beyond the limits.
+    pub fn read(text: impl Into<Vec<u8>>) -> Result<Program, Error> {
+        let text = text.into();
+        let sizes = raw::sizes(&text)?;
+        Ok(Program {
+            sizes,
+            points: raw::points(&text, sizes.points)?,
+            procedures: raw::procedures(&text, sizes.procedures)?,
+            variables: raw::variables(&text, sizes.variables)?,
+            definitions: raw::definitions(&text, sizes.definitions)?.into_iter().map(definition).collect(),
+            expressions: raw::expressions(&text, sizes.expressions)?.into_iter().map(expression).collect(),
+            text,
+        })
+    }
+
+    /// The text.
+    pub fn text(&self) -> &[u8] {
+        &self.text
+    }
+
+    /// How large it is.
+    pub fn sizes(&self) -> Sizes {
+        self.sizes
+    }
+
+    /// The points, procedures in the order of the text and in each the places upwards.
+    pub fn points(&self) -> &[Point] {
+        &self.points
+    }
+
+    /// The names of the procedures, by number.
+    pub fn procedures(&self) -> &[String] {
+        &self.procedures
+    }
+
+    /// The names of the variables, by number: the bits of live variables.
+    pub fn variables(&self) -> &[String] {
+        &self.variables
+    }
+
+    /// The definitions: the bits of reaching definitions.
+    pub fn definitions(&self) -> &[Definition] {
+        &self.definitions
+    }
+
+    /// The expressions: the bits of available and of very busy expressions.
+    pub fn expressions(&self) -> &[Expression] {
+        &self.expressions
+    }
+
+    /// How many bits an analysis has.
+    pub fn bits(&self, analysis: Analysis) -> u32 {
+        match analysis {
+            Analysis::Reach => self.sizes.definitions,
+            Analysis::Live => self.sizes.variables,
+            Analysis::Avail | Analysis::Busy => self.sizes.expressions,
+        }
+    }
+
+    /// The facts of an analysis.
+    ///
+    /// # Errors
+    ///
+    /// `OutOfMemory` where memory was refused.
+    pub fn facts(&self, analysis: Analysis) -> Result<Table, Error> {
+        self.facts_of(analysis, 0..self.bits(analysis))
+    }
+
+    /// The facts of an analysis on some of its bits. Several threads may each ask for a range of their own; together they are
+    /// the facts.
+    ///
+    /// # Errors
+    ///
+    /// `BadRange` where the bits are none of the analysis; `OutOfMemory` where memory was refused.
+    pub fn facts_of(&self, analysis: Analysis, bits: Range<u32>) -> Result<Table, Error> {
+        if bits.end < bits.start || self.bits(analysis) < bits.end {
+            return Err(Error::BadRange);
+        }
+        let width = bits.end.div_ceil(64) as usize - bits.start as usize / 64;
+        let mut table = Table {
+            flags: vec![0; self.points.len()],
+            words: vec![0; self.points.len() * width],
+            width,
+            bits,
+        };
+        raw::facts(&self.text, analysis, table.bits.start, table.bits.end, &mut table.flags, &mut table.words)?;
+        Ok(table)
+    }
+}
+
+/// Facts: for each point whether it has a valid path, and which bits hold there.
+#[derive(Clone, Debug)]
+pub struct Table {
+    bits: Range<u32>,
+    flags: Vec<u8>,
+    words: Vec<u64>,
+    width: usize,
+}
+
+impl Table {
+    /// The bits of which it tells.
+    pub fn bits(&self) -> Range<u32> {
+        self.bits.clone()
+    }
+
+    /// Whether some valid path leads to the point; for live variables and very busy expressions: from it to the end of `main`.
+    ///
+    /// # Panics
+    ///
+    /// Where there is no such point.
+    pub fn has_path(&self, point: u32) -> bool {
+        self.flags[point as usize] == 1
+    }
+
+    /// The words of a point's set. Bit b stands in word `b / 64 - bits().start / 64`, at place `b % 64`.
+    ///
+    /// # Panics
+    ///
+    /// Where there is no such point.
+    pub fn words(&self, point: u32) -> &[u64] {
+        let start = point as usize * self.width;
+        &self.words[start..start + self.width]
+    }
+
+    /// Whether a bit is in a point's set; not where it is outside the table's bits.
+    ///
+    /// # Panics
+    ///
+    /// Where there is no such point.
+    pub fn contains(&self, point: u32, bit: u32) -> bool {
+        let words = self.words(point);
+        self.bits.contains(&bit) && words[(bit / 64 - self.bits.start / 64) as usize] >> (bit % 64) & 1 == 1
+    }
+
+    /// The bits of a point's set, upwards.
+    ///
+    /// # Panics
+    ///
+    /// Where there is no such point.
+    pub fn set(&self, point: u32) -> Set<'_> {
+        Set { words: self.words(point), word: 0, first: self.bits.start / 64 }.started()
+    }
+}
+
+/// The bits of a set, upwards.
+#[derive(Clone, Debug)]
+pub struct Set<'a> {
+    words: &'a [u64],
+    word: u64,
+    first: u32,
+}
+
+impl Set<'_> {
+    // Takes the first word up.
+    fn started(mut self) -> Self {
+        if let Some((word, rest)) = self.words.split_first() {
+            self.word = *word;
+            self.words = rest;
+        }
+        self
+    }
+}
+
+impl Iterator for Set<'_> {
+    type Item = u32;
+
+    fn next(&mut self) -> Option<u32> {
+        while self.word == 0 {
+            let (word, rest) = self.words.split_first()?;
+            self.word = *word;
+            self.words = rest;
+            self.first += 1;
+        }
+        let bit = 64 * self.first + self.word.trailing_zeros();
+        self.word &= self.word - 1;
+        Some(bit)
+    }
+}

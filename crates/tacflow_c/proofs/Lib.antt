@@ -1,0 +1,5 @@
+pub mod FactWords
+pub mod Filling
+pub mod Graphs
+pub mod JoinedNames
+pub mod Told

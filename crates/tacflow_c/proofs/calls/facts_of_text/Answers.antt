@@ -1,0 +1,18 @@
+-- The facts of a text, and why there are none.
+use Rattle.std.proofs.Common.{◌∙◌, sym}
+use Rattle.tacflow_c.proofs.Graphs.{bad_table, facts_of_text, has_graph}
+use Rattle.tacflow_c.proofs.calls.facts_of_text.Goals as goal
+
+pub returns-in-Err-clause-fault : goal.returns-in-Err-clause-fault
+returns-in-Err-clause-fault c =
+    let is = c.in_ok-graph.ensures.graph ∙ c.in_ok-program.ensures.program in
+    let graph = has_graph c.args.text.now c.in_ok-program.program c.in_ok-program.ensures.program c.in_ok-program.ensures.accepted
+    c.in_ok-graph.ensures.few_points c.in_ok-graph.ensures.few_bits in
+    bad_table c.args.text.now c.in_ok-graph.graph c.args.number c.in-Some.analysis _ _ _ _ _ is graph (sym c.in-Some.ensures) c.in-Err.ensures.fault
+
+pub returns-in-Ok-clause-facts : goal.returns-in-Ok-clause-facts
+returns-in-Ok-clause-facts c =
+    let is = c.in_ok-graph.ensures.graph ∙ c.in_ok-program.ensures.program in
+    let graph = has_graph c.args.text.now c.in_ok-program.program c.in_ok-program.ensures.program c.in_ok-program.ensures.accepted
+    c.in_ok-graph.ensures.few_points c.in_ok-graph.ensures.few_bits in
+    facts_of_text c.args.text.now c.in_ok-graph.graph c.args.number c.in-Some.analysis _ _ _ _ is graph (sym c.in-Some.ensures) c.in-Ok.ensures.facts

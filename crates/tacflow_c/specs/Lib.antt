@@ -1,0 +1,5 @@
+pub mod Facts
+pub mod Names
+pub mod Parts
+pub mod Statuses
+pub mod code

@@ -1,0 +1,27 @@
+-- The names of a program, one after the other.
+use Rattle.std.specs.Prelude.{◌≡◌, ℕ, ◌+◌, ◌<◌, ◌≤◌, None, Some, List, ◌++◌, length, take, drop, slice_index}
+use Rattle.std.specs.List.{concat}
+use Rattle.tac_reader.specs.Faults.{refusal_of}
+use Rattle.tac_reader.specs.Programs.{Program, program_of}
+use Rattle.tacflow_c.specs.declared.names.Named.{Named}
+use Rattle.tacflow_c.specs.declared.names.Named.TheVariants.{Procedures, Variables}
+use Rattle.tacflow_c.specs.declared.fault.Fault.{Fault}
+use Rattle.tacflow_c.specs.declared.fault.Fault.TheVariants as fault
+
+abbrev pub names_of : Named → Program → List (List ℕ)
+names_of Procedures program = program.procedure_names
+names_of Variables program = program.variable_names
+
+-- The bytes begin with the names and are otherwise as they were, and each end is that of its name.
+pub record AreNames (names : List (List ℕ)) (ends old new : List ℕ) : Type 0 where
+  pub count : length ends ≡ length names
+  pub end : (n : ℕ) → n < length names → slice_index ends n ≡ length (concat (take (n + 1) names))
+  pub bytes : new ≡ concat names ++ drop (length (concat names)) old
+
+-- why a text has no names in so many ends and bytes
+abbrev pub IsNamesFault : List ℕ → Named → ℕ → ℕ → Fault → Type 0
+IsNamesFault text named ends bytes (fault.Refused refusal) = refusal_of text ≡ Some refusal
+IsNamesFault text named ends bytes fault.BadRoom =
+    (refusal_of text ≡ None) × (¬ ((ends ≡ length (names_of named (program_of text))) × (length (concat (names_of named (program_of text))) ≤ bytes)))
+IsNamesFault text named ends bytes fault.OutOfMemory = Unit {0}
+IsNamesFault text named ends bytes _ = ⊥

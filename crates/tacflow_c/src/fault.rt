@@ -1,0 +1,68 @@
+// Why a call has no answer.
+
+ghost use Rattle.std.specs.Prelude.{◌≡◌, Some};
+ghost use Rattle.tacflow_c.specs.Statuses.{fault_in, place_after, status_of};
+
+use tac_reader::Refusal;
+
+/// Why a call has no answer.
+#[derive(Clone, Copy)]
+pub(crate) enum Fault {
+    /// The text is no program.
+    Refused(Refusal),
+    /// It has more points than a graph may have.
+    TooManyPoints,
+    /// It has more bits in some analysis than a graph may have.
+    TooManyBits,
+    /// Memory was refused.
+    OutOfMemory,
+    /// There is no analysis of this number.
+    BadAnalysis,
+    /// The bits are none of the analysis.
+    BadRange,
+    /// The room does not fit the answer.
+    BadRoom,
+}
+
+/// Why a text is no program, and where: the refusal's number, its line, from 1, and its column, in bytes from 1.
+#[repr(C)]
+#[derive(Clone, Copy)]
+pub struct Place {
+    pub number: u32,
+    pub line: u32,
+    pub column: u32,
+}
+
+// The status of a fault. The place of a refusal is told too.
+fn told_fault(fault: Fault, place: &mut Place) -> u32
+    ensures status { result ≡ status_of (Some fault) }
+    ensures place { place.new ≡ place_after (Some fault) place.old }
+{
+    match fault {
+        Fault::Refused(refusal) => {
+            *place = Place {
+                number: u32::from(refusal.kind.number()),
+                line: refusal.line,
+                column: refusal.column,
+            };
+            1
+        }
+        Fault::OutOfMemory => 2,
+        Fault::BadAnalysis => 3,
+        Fault::BadRange => 4,
+        Fault::BadRoom => 5,
+        Fault::TooManyPoints => 21,
+        Fault::TooManyBits => 22,
+    }
+}
+
+/// The status of an answer: 0, or that of a fault. The place of a refusal is told too.
+pub(crate) fn told_status(answer: Result<(), Fault>, place: &mut Place) -> u32
+    ensures status { result ≡ status_of (fault_in answer) }
+    ensures place { place.new ≡ place_after (fault_in answer) place.old }
+{
+    match answer {
+        Ok(()) => 0,
+        Err(fault) => told_fault(fault, place),
+    }
+}

@@ -1,0 +1,139 @@
+// The facts of an analysis in a caller's memory.
+
+ghost use Rattle.std.specs.Prelude.{◌≡◌, ℕ, ◌+◌, ◌*◌, ◌/◌, ◌<◌, ◌≤◌, ◌&&◌, not, List, length, slice_index, IfErr, OnOk, OnErr, if◌then◌else◌};
+ghost use Rattle.bit_rows.specs.RowSet.{contains, full_set};
+ghost use Rattle.bit_rows.specs.Words.{has_bit, word_count};
+ghost use Rattle.flow_graph.specs.Analyses.{is_must};
+ghost use Rattle.flow_graph.specs.Points.{point_count};
+ghost use Rattle.flow_graph.specs.Universes.{bits as bits_of};
+ghost use Rattle.gk_solve.specs.Solved.{AreMeetWords, HasPathFlags, IsSliceOf};
+ghost use Rattle.tacflow_c.specs.Facts.{AreFactsOf, IsFactWord};
+ghost use Rattle.tacflow_c.specs.code.Filled.{AreFilled, IsRowFilled};
+ghost use Rattle.tacflow_c.specs.code.Flags.{AreNumbers};
+
+use bit_rows::Row;
+use flow_graph::{Analysis, Graph, Problem};
+use gk_solve::{SliceWords, Solver};
+use std::alloc::{AllocError, Global};
+
+// What a word of the may form tells: itself, or for a must analysis which bits of the slice are not in it.
+fn told(bits: u64, full: &Row, word: u32, must: bool) -> u64
+    ensures { (k : ℕ) → k < 64 → has_bit result k ≡ (if must then not (has_bit bits k) && contains full.now (64 * word + k) else has_bit bits k) }
+{
+    if must { !bits & full.word(word) } else { bits }
+}
+
+// How a caller's words stand: how many each point has, the number of the first, and whether they are a complement.
+#[derive(Clone, Copy)]
+struct Layout {
+    count: u32,
+    first: u32,
+    must: bool,
+}
+
+// Puts the words that were solved last into those of a point: from one up to another.
+fn put_row(
+    solver: &Solver<'_, '_>,
+    slice: &SliceWords,
+    full: &Row,
+    layout: Layout,
+    solved: (u32, u32),
+    point: u32,
+    words: &mut [u64],
+)
+    requires slice { IsSliceOf solver.now slice.now }
+    requires meets { AreMeetWords solver.now slice.now }
+    requires full { full.now ≡ full_set slice.now.lo slice.now.hi }
+    requires must { layout.must ≡ is_must solver.now.analysis }
+    requires start { solved.0 ≡ slice.now.from }
+    requires end { solved.1 ≡ slice.now.until }
+    requires ordered { solved.0 ≤ solved.1 }
+    requires first { layout.first ≤ solved.0 }
+    requires last { solved.1 ≤ layout.first + layout.count }
+    requires point { point < slice.now.points }
+    requires room { point * layout.count + layout.count ≤ length words.old }
+    ensures { IsRowFilled (IsFactWord solver.now.program solver.now.analysis slice.now.lo slice.now.hi point) (point * layout.count)
+        layout.first solved.0 solved.1 words.old words.new }
+{
+    let at = point as usize * layout.count as usize;
+    for word in solved.0..solved.1 {
+        let bits = slice.word(point, word);
+        words[at + (word - layout.first) as usize] = told(bits, full, word, layout.must);
+    }
+}
+
+// Puts the words that were solved last into those of all points: from one up to another.
+fn put_words(
+    solver: &Solver<'_, '_>,
+    slice: &SliceWords,
+    full: &Row,
+    layout: Layout,
+    solved: (u32, u32),
+    words: &mut [u64],
+)
+    requires slice { IsSliceOf solver.now slice.now }
+    requires meets { AreMeetWords solver.now slice.now }
+    requires full { full.now ≡ full_set slice.now.lo slice.now.hi }
+    requires must { layout.must ≡ is_must solver.now.analysis }
+    requires start { solved.0 ≡ slice.now.from }
+    requires end { solved.1 ≡ slice.now.until }
+    requires ordered { solved.0 ≤ solved.1 }
+    requires first { layout.first ≤ solved.0 }
+    requires last { solved.1 ≤ layout.first + layout.count }
+    requires room { length words.old ≡ slice.now.points * layout.count }
+    ensures { AreFilled (IsFactWord solver.now.program solver.now.analysis slice.now.lo slice.now.hi) slice.now.points layout.count
+        layout.first solved.0 solved.1 words.old words.new }
+{
+    for point in 0..slice.points() {
+        put_row(solver, slice, full, layout, solved, point, words);
+    }
+}
+
+// Puts the path flags of all points, 1 or 0 each.
+fn put_flags(paths: &[bool], flags: &mut [u8])
+    requires { length flags.old ≡ length paths.now }
+    ensures { AreNumbers paths.now flags.new }
+{
+    for point in 0..paths.len() {
+        flags[point] = paths[point] as u8;
+    }
+}
+
+/// Puts the facts of an analysis on the bits `lo..hi` into flags and words.
+pub(crate) fn put_facts(
+    alloc: Global,
+    graph: &Graph<'_>,
+    analysis: Analysis,
+    range: (u32, u32),
+    flags: &mut [u8],
+    words: &mut [u64],
+) -> Result<(), AllocError>
+    requires ordered { range.0 ≤ range.1 }
+    requires within { range.1 ≤ bits_of graph.now analysis }
+    requires flags { length flags.old ≡ point_count graph.now }
+    requires words { length words.old ≡ point_count graph.now * word_count range.0 range.1 }
+    ensures facts { OnOk result (AreFactsOf graph.now analysis range.0 range.1 flags.new words.new) }
+    ensures kept { OnErr result ((flags.new ≡ flags.old) × (words.new ≡ words.old)) }
+{
+    let (lo, hi) = range;
+    let solver = Solver::of(alloc, Problem::of(alloc, graph, analysis)?)?;
+    let must = solver.problem().complements();
+    let paths = solver.flags(alloc)?;
+    let full = Row::full(alloc, lo, hi)?;
+    let mut slice = solver.slice(alloc, lo, hi)?;
+    put_flags(&paths, flags);
+    let end = hi.div_ceil(64);
+    let first = lo / 64;
+    let layout = Layout {
+        count: end - first,
+        first,
+        must,
+    };
+    let mut word = first;
+    while word < end {
+        let until = solver.solve_from(&mut slice, word);
+        put_words(&solver, &slice, &full, layout, (word, until), words);
+        word = until;
+    }
+    Ok(())
+}
