@@ -2,7 +2,7 @@
 use Rattle.std.proofs.Common.{◌≡◌, ℕ, ◌+◌, ◌<◌, length, flat_map, ap, ◌∙◌, length-append}
 use Rattle.std.specs.List.{range_with_len}
 use Rattle.tac_reader.specs.Programs.{Program}
-use Rattle.flow_graph.specs.Effects.{IsEffect, IsNumberedEffect}
+use Rattle.flow_graph.specs.code.Effects.{IsEffect, IsNumberedEffect}
 use Rattle.flow_graph.specs.Points.{point_count}
 use Rattle.flow_graph.specs.Universes.{Analysis, Reach, Live, Avail, Busy, definition_at}
 use Rattle.flow_graph.specs.declared.effect.Effect.{Effect}

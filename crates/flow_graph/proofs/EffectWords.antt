@@ -1,12 +1,12 @@
 -- In which words a statement generates or kills bits
-use Rattle.std.proofs.Common.{◌≡◌, ◌∙◌, ◌⊎◌, ℕ, ◌+◌, ◌*◌, ◌/◌, ◌<◌, ◌≤◌, Bool, true, false, ◌||◌, not, Option, Some, None, option_map, unwrap_or, List, length, inl, inr, refl, sym, ap, subst, bit_or, arith}
+use Rattle.std.proofs.Common.{◌≡◌, ◌∙◌, ◌⊎◌, ℕ, ◌+◌, ◌*◌, ◌/◌, ◌<◌, Bool, true, false, ◌||◌, option_map, unwrap_or, List, length, inl, inr, refl, sym, ap, bit_or, arith}
 use Rattle.bit_rows.specs.Words.{has_bit}
 use Rattle.bit_rows.proofs.WordBits.{has_bit-or}
 use Rattle.tac_reader.specs.Programs.{Program}
-use Rattle.flow_graph.specs.BitTables.{table_has}
-use Rattle.flow_graph.specs.Effects.{AreDependenceWords, IsEffect, depends, effect_owns, gen_from, kill_from, marks, owns, touches}
-use Rattle.flow_graph.specs.Problems.{IsAffected, MayForm, may_gens, may_kills}
-use Rattle.flow_graph.specs.Universes.{Analysis, Reach, Live, Avail, Busy, bits, target_at}
+use Rattle.flow_graph.specs.code.BitTables.{table_has}
+use Rattle.flow_graph.specs.code.Effects.{AreDependenceWords, IsEffect, depends, gen_from, kill_from, marks, owns, touches}
+use Rattle.flow_graph.specs.Problems.{IsAffected}
+use Rattle.flow_graph.specs.Universes.{Analysis, Reach, Live, Avail, Busy, bits}
 use Rattle.flow_graph.specs.declared.effect.Effect.{Effect}
 use Rattle.flow_graph.proofs.MayWords.{may_gens_are, may_kills_are}
 

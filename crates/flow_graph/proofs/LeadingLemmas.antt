@@ -9,8 +9,9 @@ use Rattle.smallvec.specs.SmallVec.{SmallVec}
 use Rattle.tac_reader.specs.Programs.{Program}
 use Rattle.tac_reader.specs.Sound.{IsSound}
 use Rattle.flow_graph.specs.Analyses.{shape_of}
-use Rattle.flow_graph.specs.Leading.{AreSources, LeadsTo, TellLeading, sources_of, Search, search_of, with_known}
-use Rattle.flow_graph.specs.NumberLists.{contents}
+use Rattle.flow_graph.specs.Leading.{LeadsTo, TellLeading}
+use Rattle.flow_graph.specs.code.Searching.{AreSources, sources_of, Search, search_of, with_known}
+use Rattle.flow_graph.specs.code.NumberLists.{contents}
 use Rattle.flow_graph.specs.Paths.{Edge, IsPath, target_of}
 use Rattle.flow_graph.specs.Points.{point_count}
 use Rattle.flow_graph.proofs.Membership.{Contains-first, Contains-later, Contains-nil, Contains-cons, Contains-one, Contains-in_range, Contains-range}

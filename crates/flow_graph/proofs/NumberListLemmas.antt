@@ -4,7 +4,7 @@ use Rattle.std.specs.List.{list_any, filter, range_with_len}
 use Rattle.std.proofs.lemmas.List.{map-set, get_or-map}
 use Rattle.std.proofs.lemmas.List.Elements.{filter-append}
 use Rattle.smallvec.specs.SmallVec.{SmallVec}
-use Rattle.flow_graph.specs.NumberLists.{contents, with_last, AreLists}
+use Rattle.flow_graph.specs.code.NumberLists.{contents, with_last, AreLists}
 use Rattle.flow_graph.proofs.Ranges.{range_more}
 
 -- one list is longer, and the others stay

@@ -6,7 +6,7 @@ use Rattle.std.proofs.lemmas.List.{length-map}
 use Rattle.std.proofs.lemmas.List.FromFn.{length-range_with_len}
 use Rattle.std.proofs.lemmas.Option.{slice_get_past}
 use Rattle.tac_reader.specs.Programs.{Program}
-use Rattle.flow_graph.specs.Effects.{marks, owns, numbered}
+use Rattle.flow_graph.specs.code.Effects.{marks, owns, numbered}
 use Rattle.flow_graph.specs.Points.{point_count, points}
 use Rattle.flow_graph.specs.Transfers.{is_made_at}
 use Rattle.flow_graph.specs.Universes.{Definition, Expr, Reach, Avail, definition_at, dummies, evaluated_at, expression_at, expressions, noted, same_expression, some_expression, target_at}

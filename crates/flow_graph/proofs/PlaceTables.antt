@@ -5,7 +5,7 @@ use Rattle.std.proofs.lemmas.Bool.{cases_lt}
 use Rattle.std.proofs.lemmas.Option.{slice_get_past, slice_get-get_or, slice_get_read}
 use Rattle.tac_reader.specs.Programs.{Procedure, Program}
 use Rattle.flow_graph.specs.Points.{Place, size_of, first_point, place_of, procedure_at, end_place, point_of, point_count}
-use Rattle.flow_graph.specs.PointTables.{AreFirstPoints, AreProcedures}
+use Rattle.flow_graph.specs.code.PointTables.{AreFirstPoints, AreProcedures}
 use Rattle.flow_graph.specs.ProgramLaws.{IsPlaceOf}
 use Rattle.flow_graph.proofs.PointLemmas.{points_have_places, places_have_points}
 

@@ -5,7 +5,7 @@ use Rattle.std.proofs.lemmas.Option.{get_or_from_slice_get, slice_get_within}
 use Rattle.std.proofs.lemmas.Slice.Eq.{bytes_eq-Decides}
 use Rattle.tac_reader.specs.Programs.{number_of}
 use Rattle.tac_reader.specs.Sound.{AllDiffer}
-use Rattle.flow_graph.specs.Effects.{marks}
+use Rattle.flow_graph.specs.code.Effects.{marks}
 use Rattle.flow_graph.proofs.OwnBits.{is_at, is_at-position, passing}
 
 -- a name that differs from all others is found where it stands

@@ -6,7 +6,7 @@ use Rattle.std.proofs.lemmas.Nat.{one_shl, same_from_place}
 use Rattle.std.proofs.lemmas.Nat.Bits.{bit_at_ones, bit_at_ones_above}
 use Rattle.bit_rows.specs.Words.{has_bit}
 use Rattle.bit_rows.proofs.WordBits.{has_bit-or, has_bit-zero, has_bit-shifted_same, has_bit-shifted_other}
-use Rattle.flow_graph.specs.BitTables.{HasRow, table_has}
+use Rattle.flow_graph.specs.code.BitTables.{HasRow, table_has}
 
 pub nat_eq-same : (a b : ℕ) → a ≡ b → nat_eq a b ≡ true
 nat_eq-same a b same = grind arith

@@ -6,7 +6,7 @@ use Rattle.tac_reader.specs.Sound.{IsSound, AllDiffer}
 use Rattle.tac_reader.specs.declared.program.StmtKind.{StmtKind}
 use Rattle.tac_reader.specs.declared.program.StmtKind.TheVariants as kind
 use Rattle.flow_graph.specs.Edges.{callees_of, callees_at, calls}
-use Rattle.flow_graph.specs.NumberLists.{with_last, AreLists}
+use Rattle.flow_graph.specs.code.NumberLists.{with_last, AreLists}
 use Rattle.flow_graph.specs.Points.{kind_at, point_count}
 use Rattle.flow_graph.proofs.NumberListLemmas.{put_in_each, filter-range_more}
 use Rattle.flow_graph.proofs.Standing.{stands}

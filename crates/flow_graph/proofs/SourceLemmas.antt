@@ -4,8 +4,8 @@ use Rattle.std.specs.List.{range_with_len}
 use Rattle.tac_reader.specs.Programs.{Program}
 use Rattle.tac_reader.specs.Sound.{IsSound}
 use Rattle.flow_graph.specs.Edges.{edges, edges_from}
-use Rattle.flow_graph.specs.Leading.{sources_among, sources_of}
-use Rattle.flow_graph.specs.NumberLists.{with_last, AreLists}
+use Rattle.flow_graph.specs.code.Searching.{sources_among, sources_of}
+use Rattle.flow_graph.specs.code.NumberLists.{with_last, AreLists}
 use Rattle.flow_graph.specs.Paths.{Edge, source_of, target_of}
 use Rattle.flow_graph.specs.Points.{points, point_count}
 use Rattle.flow_graph.proofs.EdgeLemmas.{IsFrom, a_step, a_call, a_return, edges_from_are, edges_are, leaves}

@@ -8,12 +8,12 @@ use Rattle.smallvec.specs.SmallVec.{SmallVec}
 use Rattle.tac_reader.specs.Programs.{Procedure, Program}
 use Rattle.tac_reader.specs.declared.program.Stmt.{Stmt}
 use Rattle.flow_graph.specs.Edges.{calls, returns_of, edges_from, edges_of}
-use Rattle.flow_graph.specs.Labels.{labels_at}
-use Rattle.flow_graph.specs.NumberLists.{contents}
+use Rattle.flow_graph.specs.code.Labels.{labels_at}
+use Rattle.flow_graph.specs.code.NumberLists.{contents}
 use Rattle.flow_graph.specs.Paths.{Edge, Ret}
 use Rattle.flow_graph.specs.Points.{points, procedure_at, end_place, end_point, kind_at, point_count, point_of, statement_at}
 use Rattle.flow_graph.specs.ProgramLaws.{IsPlaceOf}
-use Rattle.flow_graph.specs.Sites.{AreSites, sites_of}
+use Rattle.flow_graph.specs.code.Sites.{AreSites, sites_of}
 use Rattle.flow_graph.proofs.EdgeLemmas.{at_end}
 use Rattle.flow_graph.proofs.PointLemmas.{places_have_points, points_have_places}
 

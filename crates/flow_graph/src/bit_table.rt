@@ -2,7 +2,7 @@
 
 ghost use Rattle.std.specs.Prelude.{◌≡◌, ◌+◌, ◌*◌, ◌/◌, ◌<◌, ◌≤◌, ◌||◌, ◌&&◌, ℕ, length, IfOk, nat_eq};
 ghost use Rattle.bit_rows.specs.Words.{has_bit};
-ghost use Rattle.flow_graph.specs.BitTables.{HasRow, IsBlank, table_has};
+ghost use Rattle.flow_graph.specs.code.BitTables.{HasRow, IsBlank, table_has};
 
 use std::alloc::{AllocError, Global};
 

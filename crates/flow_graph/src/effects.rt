@@ -2,8 +2,8 @@
 
 ghost use Rattle.std.specs.List.{list_any};
 ghost use Rattle.std.specs.Prelude.{◌≡◌, ◌*◌, ◌/◌, ◌<◌, ◌≤◌, ◌&&◌, ◌||◌, ℕ, IfOk, IfSome, length, nat_eq, option_map};
-ghost use Rattle.flow_graph.specs.BitTables.{table_has};
-ghost use Rattle.flow_graph.specs.Effects.{AreDependenceWords, AreEffects, IsDependence, IsNumberedEffect, depends, marks, owns_numbered};
+ghost use Rattle.flow_graph.specs.code.BitTables.{table_has};
+ghost use Rattle.flow_graph.specs.code.Effects.{AreDependenceWords, AreEffects, IsDependence, IsNumberedEffect, depends, marks, owns_numbered};
 ghost use Rattle.flow_graph.specs.Points.{point_count};
 ghost use Rattle.flow_graph.specs.Transfers.{has_operand, is_variable, operands_of, reads};
 ghost use Rattle.flow_graph.specs.Universes.{bits, target_at};

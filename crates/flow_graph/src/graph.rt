@@ -38,10 +38,10 @@ pub struct Graph<'p> {
 
 impl<'p> Model for Graph<'p> {
     ghost use Rattle.std.specs.Prelude.{◌≡◌};
-    ghost use Rattle.flow_graph.specs.Evaluated.{AreEvaluated};
+    ghost use Rattle.flow_graph.specs.code.Evaluated.{AreEvaluated};
     ghost use Rattle.flow_graph.specs.Limits.{HasFewBits};
-    ghost use Rattle.flow_graph.specs.NumberLists.{contents};
-    ghost use Rattle.flow_graph.specs.Sites.{AreSites};
+    ghost use Rattle.flow_graph.specs.code.NumberLists.{contents};
+    ghost use Rattle.flow_graph.specs.code.Sites.{AreSites};
     ghost use Rattle.flow_graph.specs.Universes.{definitions as definitions_of, expressions as expressions_of};
     ghost use Rattle.tac_reader.specs.Programs.{Program};
 

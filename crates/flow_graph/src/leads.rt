@@ -2,8 +2,9 @@
 
 ghost use Rattle.std.specs.Prelude.{◌≡◌, ◌<◌, false, length, fold, get_or, All, IfOk, OnOk};
 ghost use Rattle.std.specs.List.{filter, range_with_len};
-ghost use Rattle.flow_graph.specs.Leading.{AreSources, TellLeading, search_of, with_known};
-ghost use Rattle.flow_graph.specs.NumberLists.{contents, with_last};
+ghost use Rattle.flow_graph.specs.Leading.{TellLeading};
+ghost use Rattle.flow_graph.specs.code.Searching.{AreSources, search_of, with_known};
+ghost use Rattle.flow_graph.specs.code.NumberLists.{contents, with_last};
 ghost use Rattle.flow_graph.specs.Paths.{target_of};
 ghost use Rattle.flow_graph.specs.Points.{point_count};
 

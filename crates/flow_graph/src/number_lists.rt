@@ -1,7 +1,7 @@
 // Tables of lists of numbers.
 
 ghost use Rattle.std.specs.Prelude.{◌≡◌, ◌<◌, [], length, IfOk, OnOk};
-ghost use Rattle.flow_graph.specs.NumberLists.{AreLists, contents, with_last};
+ghost use Rattle.flow_graph.specs.code.NumberLists.{AreLists, contents, with_last};
 
 use smallvec::SmallVec;
 use std::alloc::{AllocError, Global};

@@ -2,7 +2,7 @@
 
 ghost use Rattle.std.specs.Prelude.{◌≡◌, ◌≢◌, ◌+◌, ◌<◌, ◌≤◌, length, Err, ◌↔◌, IfOk, OnOk, IsErrOf, IsTrue, option_copied};
 ghost use Rattle.flow_graph.specs.Limits.{HasFewPoints, HasManyPoints};
-ghost use Rattle.flow_graph.specs.PointTables.{AreFirstPoints, AreProcedures};
+ghost use Rattle.flow_graph.specs.code.PointTables.{AreFirstPoints, AreProcedures};
 ghost use Rattle.flow_graph.specs.Points.{end_place, place_of, point_count, point_of, statement_at};
 ghost use Rattle.tac_reader.specs.Sound.{IsSound};
 ghost use Rattle.flow_graph.specs.declared.fault.GraphFault.TheVariants.{TooManyPoints, TooManyBits};
@@ -26,7 +26,7 @@ pub struct Points<'p> {
 
 impl<'p> Model for Points<'p> {
     ghost use Rattle.flow_graph.specs.Limits.{HasFewPoints};
-    ghost use Rattle.flow_graph.specs.PointTables.{AreFirstPoints, AreProcedures};
+    ghost use Rattle.flow_graph.specs.code.PointTables.{AreFirstPoints, AreProcedures};
     ghost use Rattle.tac_reader.specs.Programs.{Program};
     ghost use Rattle.tac_reader.specs.Sound.{IsSound};
 

@@ -1,7 +1,7 @@
 ghost use Rattle.std.specs.Prelude.{◌≡◌, ◌+◌, ◌*◌, ◌/◌, ◌<◌, ℕ, false, true, IfOk, IfSome, length, option_map, unwrap_or};
 ghost use Rattle.bit_rows.specs.Words.{has_bit};
 ghost use Rattle.flow_graph.specs.Analyses.{is_backward as is_backward_of, is_must, main_procedure, may_shape};
-ghost use Rattle.flow_graph.specs.Effects.{depends};
+ghost use Rattle.flow_graph.specs.code.Effects.{depends};
 ghost use Rattle.flow_graph.specs.Limits.{HasFewBits, HasFewPoints};
 ghost use Rattle.flow_graph.specs.Paths.{IsWellFormed};
 ghost use Rattle.flow_graph.specs.Points.{end_point, point_count, procedure_at};
@@ -37,7 +37,7 @@ impl<'g, 'p> Model for Problem<'g, 'p> {
     ghost use Rattle.flow_graph.specs.Problems.{MayForm};
     ghost use Rattle.std.specs.Prelude.{◌≡◌};
     ghost use Rattle.flow_graph.specs.Analyses.{may_shape};
-    ghost use Rattle.flow_graph.specs.Effects.{AreEffects, AreDependenceWords, IsDependence};
+    ghost use Rattle.flow_graph.specs.code.Effects.{AreEffects, AreDependenceWords, IsDependence};
     ghost use Rattle.flow_graph.specs.Paths.{IsWellFormed};
 
     ghost Value = { MayForm };

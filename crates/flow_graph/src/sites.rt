@@ -2,9 +2,9 @@
 
 ghost use Rattle.std.specs.Prelude.{◌≡◌, ◌<◌, length, fold, All, IfOk, OnOk};
 ghost use Rattle.flow_graph.specs.Edges.{callees_at};
-ghost use Rattle.flow_graph.specs.NumberLists.{contents, with_last};
+ghost use Rattle.flow_graph.specs.code.NumberLists.{contents, with_last};
 ghost use Rattle.flow_graph.specs.Points.{point_count};
-ghost use Rattle.flow_graph.specs.Sites.{AreSites};
+ghost use Rattle.flow_graph.specs.code.Sites.{AreSites};
 
 use crate::number_lists::{NumberList, empty_lists, put_last};
 use crate::points::Points;

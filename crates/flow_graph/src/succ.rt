@@ -2,7 +2,7 @@
 
 ghost use Rattle.std.specs.Prelude.{◌≡◌, ◌<◌, suc, [], ◌∷◌, length, map, All, Some, IfOk};
 ghost use Rattle.flow_graph.specs.Edges.{edges_from, edges_of, label_point, two_steps};
-ghost use Rattle.flow_graph.specs.Labels.{labels_at};
+ghost use Rattle.flow_graph.specs.code.Labels.{labels_at};
 ghost use Rattle.flow_graph.specs.Limits.{HasFewPoints, most_points};
 ghost use Rattle.flow_graph.specs.Points.{end_point, entry_point, kind_at, point_count, procedure_at};
 ghost use Rattle.flow_graph.specs.declared.edge.Edge.TheVariants.{Step, Call, Ret};

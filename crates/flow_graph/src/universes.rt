@@ -2,7 +2,7 @@
 
 ghost use Rattle.std.specs.List.{range_with_len};
 ghost use Rattle.std.specs.Prelude.{◌≡◌, ◌<◌, ◌^◌, None, IfOk, OnOk, fold, length, map};
-ghost use Rattle.flow_graph.specs.Evaluated.{AreEvaluated, IsNumberOf};
+ghost use Rattle.flow_graph.specs.code.Evaluated.{AreEvaluated, IsNumberOf};
 ghost use Rattle.flow_graph.specs.Points.{point_count};
 ghost use Rattle.flow_graph.specs.Universes.{definitions as definitions_of, expression_at, expression_of, expressions as expressions_of, noted, some_expression, target_at, target_of};
 

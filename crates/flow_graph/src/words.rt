@@ -2,7 +2,7 @@
 
 ghost use Rattle.std.specs.Prelude.{◌≡◌, ◌+◌, ◌*◌, ◌<◌, ℕ, nat_lt, ◌/◌, true};
 ghost use Rattle.bit_rows.specs.Words.{has_bit};
-ghost use Rattle.flow_graph.specs.Effects.{effect_owns, gen_from, kill_from, marks};
+ghost use Rattle.flow_graph.specs.code.Effects.{effect_owns, gen_from, kill_from, marks};
 
 use crate::analysis::Analysis;
 use crate::effect::Effect;

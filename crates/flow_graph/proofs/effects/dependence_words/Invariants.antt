@@ -1,6 +1,6 @@
 use Rattle.std.proofs.Common.{◌≡◌, ◌*◌, ◌/◌, ◌<◌, ◌≤◌, ℕ, true, length}
-use Rattle.flow_graph.specs.BitTables.{table_has}
-use Rattle.flow_graph.specs.Effects.{depends}
+use Rattle.flow_graph.specs.code.BitTables.{table_has}
+use Rattle.flow_graph.specs.code.Effects.{depends}
 use Rattle.flow_graph.specs.Universes.{bits}
 use Rattle.flow_graph.proofs.effects.dependence_words.Given as goal
 

@@ -1,6 +1,6 @@
 use Rattle.std.proofs.Common.{rules, ◌≡◌, ◌+◌, ◌∷◌, [], ℕ, ◌<◌, ◌≤◌, List, Option, flat_map, length, get_or, ap, ◌∙◌, sym, subst, arith, length-append}
 use Rattle.std.specs.List.{range_with_len}
-use Rattle.flow_graph.specs.Effects.{IsEffect}
+use Rattle.flow_graph.specs.code.Effects.{IsEffect}
 use Rattle.flow_graph.specs.Points.{point_count}
 use Rattle.flow_graph.specs.Universes.{Live, definition_at}
 use Rattle.flow_graph.specs.declared.effect.Effect.{Effect}

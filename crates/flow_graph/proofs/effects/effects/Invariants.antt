@@ -1,6 +1,6 @@
 use Rattle.std.proofs.Common.{◌≡◌, ◌+◌, ◌<◌, ◌≤◌, ℕ, length, flat_map, get_or}
 use Rattle.std.specs.List.{range_with_len}
-use Rattle.flow_graph.specs.Effects.{IsEffect}
+use Rattle.flow_graph.specs.code.Effects.{IsEffect}
 use Rattle.flow_graph.specs.Universes.{definition_at}
 use Rattle.flow_graph.specs.declared.effect.Effect.{Effect}
 use Rattle.flow_graph.proofs.effects.effects.Given as goal

@@ -1,5 +1,5 @@
 use Rattle.std.proofs.Common.{◌≡◌, fold, take}
-use Rattle.flow_graph.specs.Leading.{search_of, with_known}
+use Rattle.flow_graph.specs.code.Searching.{search_of, with_known}
 use Rattle.flow_graph.proofs.leads.know_all.Given as goal
 
 abbrev pub invariant-loop-point : goal.invariant-loop-point

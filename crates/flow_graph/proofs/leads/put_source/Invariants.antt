@@ -1,5 +1,5 @@
 use Rattle.std.proofs.Common.{◌≡◌, fold, take}
-use Rattle.flow_graph.specs.NumberLists.{contents, with_last}
+use Rattle.flow_graph.specs.code.NumberLists.{contents, with_last}
 use Rattle.flow_graph.specs.Paths.{target_of}
 use Rattle.flow_graph.proofs.leads.put_source.Given as goal
 

@@ -1,6 +1,6 @@
 use Rattle.std.proofs.Common.{◌≡◌, ◌<◌, ◌∙◌, List, length, fold, All, sym, ap, subst, arith}
 use Rattle.flow_graph.specs.Edges.{edges_from}
-use Rattle.flow_graph.specs.NumberLists.{contents, with_last}
+use Rattle.flow_graph.specs.code.NumberLists.{contents, with_last}
 use Rattle.flow_graph.specs.Paths.{Edge, target_of}
 use Rattle.flow_graph.specs.Points.{point_count}
 use Rattle.flow_graph.proofs.SourceLemmas.{targets_are_points, one_point_more}

@@ -1,4 +1,4 @@
-use Rattle.flow_graph.specs.NumberLists.{AreLists, contents}
+use Rattle.flow_graph.specs.code.NumberLists.{AreLists, contents}
 use Rattle.flow_graph.specs.Points.{point_count}
 use Rattle.flow_graph.proofs.SourceLemmas.{sources_before}
 use Rattle.flow_graph.proofs.leads.sources.Given as goal

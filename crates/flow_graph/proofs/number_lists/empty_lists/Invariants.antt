@@ -1,5 +1,5 @@
 use Rattle.std.proofs.Common.{[]}
-use Rattle.flow_graph.specs.NumberLists.{AreLists, contents}
+use Rattle.flow_graph.specs.code.NumberLists.{AreLists, contents}
 use Rattle.flow_graph.proofs.number_lists.empty_lists.Given as goal
 
 abbrev pub invariant-loop : goal.invariant-loop

@@ -1,6 +1,6 @@
 use Rattle.std.proofs.Common.{◌<◌, ◌∙◌, List, ℕ, length, fold, All, sym, ap, subst, arith}
 use Rattle.tac_reader.specs.Sound.{IsSound}
-use Rattle.flow_graph.specs.NumberLists.{contents, with_last}
+use Rattle.flow_graph.specs.code.NumberLists.{contents, with_last}
 use Rattle.flow_graph.specs.Points.{point_count}
 use Rattle.flow_graph.proofs.SiteLemmas.{callees_are, one_site_more}
 use Rattle.flow_graph.proofs.sites.call_sites.Goals as goal

@@ -1,5 +1,5 @@
 use Rattle.std.proofs.Common.{length, take, ap, ◌∙◌, arith}
-use Rattle.flow_graph.specs.NumberLists.{contents}
+use Rattle.flow_graph.specs.code.NumberLists.{contents}
 use Rattle.flow_graph.proofs.NumberListLemmas.{length-put}
 use Rattle.flow_graph.proofs.sites.put_site.Goals as goal
 

@@ -1,5 +1,5 @@
 use Rattle.std.proofs.Common.{◌≡◌, fold, take}
-use Rattle.flow_graph.specs.NumberLists.{contents, with_last}
+use Rattle.flow_graph.specs.code.NumberLists.{contents, with_last}
 use Rattle.flow_graph.proofs.sites.put_site.Given as goal
 
 abbrev pub invariant-loop-callee : goal.invariant-loop-callee

@@ -1,7 +1,7 @@
 use Rattle.std.proofs.Common.{◌≡◌, ◌+◌, ◌∷◌, [], ℕ, List, Option, fold, flat_map, length, get_or, rules, ap, ◌∙◌, sym, subst, arith, length-append}
 use Rattle.std.specs.List.{range_with_len}
 use Rattle.std.proofs.lemmas.Grind.{fold-append}
-use Rattle.flow_graph.specs.Evaluated.{IsNumberOf}
+use Rattle.flow_graph.specs.code.Evaluated.{IsNumberOf}
 use Rattle.flow_graph.specs.Points.{point_count}
 use Rattle.flow_graph.specs.Universes.{Expr, noted, some_expression, expression_at, expressions}
 use Rattle.flow_graph.proofs.Noted.{numbers-stay, one_more_noted, number_is}

@@ -1,6 +1,6 @@
 use Rattle.std.proofs.Common.{◌≡◌, ◌<◌, ◌≤◌, ℕ, [], length, flat_map, fold, get_or, Option}
 use Rattle.std.specs.List.{range_with_len}
-use Rattle.flow_graph.specs.Evaluated.{IsNumberOf}
+use Rattle.flow_graph.specs.code.Evaluated.{IsNumberOf}
 use Rattle.flow_graph.specs.Universes.{noted, some_expression, expression_at}
 use Rattle.flow_graph.proofs.universes.expressions.Given as goal
 

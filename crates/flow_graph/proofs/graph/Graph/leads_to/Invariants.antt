@@ -1,4 +1,4 @@
-use Rattle.flow_graph.specs.Leading.{search_of}
+use Rattle.flow_graph.specs.code.Searching.{search_of}
 use Rattle.flow_graph.proofs.LeadingLemmas.{Searches, remaining}
 use Rattle.flow_graph.proofs.graph.Graph.leads_to.Given as goal
 

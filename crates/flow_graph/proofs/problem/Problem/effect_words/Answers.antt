@@ -1,5 +1,5 @@
-use Rattle.std.proofs.Common.{◌≡◌, ◌*◌, ◌/◌, ◌<◌, ◌≤◌, ℕ, sym, subst, arith}
-use Rattle.flow_graph.specs.Effects.{IsEffect}
+use Rattle.std.proofs.Common.{◌*◌, ◌<◌, ◌≤◌, sym, subst, arith}
+use Rattle.flow_graph.specs.code.Effects.{IsEffect}
 use Rattle.flow_graph.specs.Points.{point_count}
 use Rattle.flow_graph.specs.Problems.{MayForm}
 use Rattle.flow_graph.specs.Universes.{bits}

@@ -1,6 +1,6 @@
 use Rattle.std.proofs.Common.{◌+◌, ◌*◌, ◌<◌, nat_lt, ap, ◌∙◌, sym, subst}
 use Rattle.bit_rows.specs.Words.{has_bit}
-use Rattle.flow_graph.specs.Effects.{IsEffect, gen_from}
+use Rattle.flow_graph.specs.code.Effects.{IsEffect, gen_from}
 use Rattle.flow_graph.specs.Points.{point_count}
 use Rattle.flow_graph.specs.Problems.{MayForm}
 use Rattle.flow_graph.specs.declared.effect.Effect.{Effect}

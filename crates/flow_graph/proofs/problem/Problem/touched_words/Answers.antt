@@ -1,5 +1,5 @@
-use Rattle.std.proofs.Common.{◌≡◌, ◌∙◌, ℕ, ◌<◌, true, false, option_map, unwrap_or, IfSome, length, sym, ap, subst}
-use Rattle.flow_graph.specs.Effects.{depends}
+use Rattle.std.proofs.Common.{◌≡◌, ◌∙◌, ◌<◌, true, false, option_map, unwrap_or, IfSome, length, sym, ap, subst}
+use Rattle.flow_graph.specs.code.Effects.{depends}
 use Rattle.flow_graph.specs.Problems.{MayForm}
 use Rattle.flow_graph.specs.Universes.{bits}
 use Rattle.flow_graph.proofs.EffectWords.{dependent_word}

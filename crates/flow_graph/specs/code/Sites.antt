@@ -3,7 +3,7 @@ use Rattle.std.specs.Prelude.{ℕ, List, length}
 use Rattle.std.specs.List.{filter}
 use Rattle.tac_reader.specs.Programs.{Program}
 use Rattle.flow_graph.specs.Edges.{calls}
-use Rattle.flow_graph.specs.NumberLists.{AreLists}
+use Rattle.flow_graph.specs.code.NumberLists.{AreLists}
 use Rattle.flow_graph.specs.Points.{points}
 
 -- the points whose statement may call a procedure, in their order

@@ -1,0 +1,8 @@
+pub mod BitTables
+pub mod Effects
+pub mod Evaluated
+pub mod Labels
+pub mod NumberLists
+pub mod PointTables
+pub mod Searching
+pub mod Sites
