@@ -12,9 +12,9 @@ use Rattle.flow_graph.specs.Points.{point_count, procedure_at, entry_point}
 use Rattle.flow_graph.specs.ProgramLaws.{IsPlaced}
 use Rattle.flow_graph.specs.declared.analysis.Analysis.{Analysis}
 use Rattle.flow_graph.specs.Limits.{HasFewPoints}
-use Rattle.flow_graph.proofs.GraphLaws.{graphs_are_well_formed, edges_join_points, entry_in, end_in, calls_return_behind_sites, returns_have_calls_at_sites}
-use Rattle.flow_graph.proofs.PointLemmas.{points_have_places}
-use Rattle.flow_graph.proofs.Reversal.{edge_reversed, edge_back, reversed_is_well_formed}
+use Rattle.flow_graph.proofs.graphs.GraphLaws.{graphs_are_well_formed, edges_join_points, entry_in, end_in, calls_return_behind_sites, returns_have_calls_at_sites}
+use Rattle.flow_graph.proofs.places.PointLemmas.{points_have_places}
+use Rattle.flow_graph.proofs.paths.Reversal.{edge_reversed, edge_back, reversed_is_well_formed}
 use Rattle.flow_links.specs.Tables.EdgeLists.{key_of, keys_of}
 use Rattle.flow_links.specs.declared.list_kind.ListKind.{ListKind}
 use Rattle.flow_links.specs.declared.list_kind.ListKind.TheVariants.{Steps, Calls, Callers, Sites}

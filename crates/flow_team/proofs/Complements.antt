@@ -9,7 +9,7 @@ use Rattle.flow_graph.specs.Analyses.{is_must, may_shape, may_transfer}
 use Rattle.flow_graph.specs.Paths.{SomePathHas}
 use Rattle.flow_graph.specs.Universes.{bits}
 use Rattle.flow_graph.specs.declared.analysis.Analysis.{Analysis}
-use Rattle.flow_graph.proofs.MayForms.{flags_are_may_forms, may_tables_are_may_forms, must_tables_are_may_forms}
+use Rattle.flow_graph.proofs.graphs.MayForms.{flags_are_may_forms, may_tables_are_may_forms, must_tables_are_may_forms}
 use Rattle.gk_solve.specs.Solved.{IsMeetOverPaths}
 use Rattle.tac_reader.specs.Programs.{Program}
 use Rattle.flow_team.specs.Tables.{IsTableOf}

@@ -1,8 +1,8 @@
 -- Must and backward problems, by complement and reversal
 use Rattle.std.proofs.Common.{false, ◌↔◌}
 use Rattle.flow_graph.specs.Paths.{Transfer, complemented_transfer, reversed_shape, reversed_transfer}
-use Rattle.flow_graph.proofs.Complement.{meets_complement}
-use Rattle.flow_graph.proofs.Reversal.{meets_reverse, reversed_is_well_formed}
+use Rattle.flow_graph.proofs.paths.Complement.{meets_complement}
+use Rattle.flow_graph.proofs.paths.Reversal.{meets_reverse, reversed_is_well_formed}
 use Rattle.gk_solve.specs.Laws.{ForwardMustIsComplement, BackwardFlagsAreReversed, BackwardMayIsReversed, BackwardMustIsReversedComplement}
 use Rattle.gk_solve.proofs.Meet.{solution_is_meet}
 

@@ -2,8 +2,8 @@
 use Rattle.std.proofs.Common.{◌≡◌, ℕ, Bool, true, false, not, List, ◌⊎◌, ◌↔◌, inl, inr, refl, sym, ◌∙◌}
 use Rattle.flow_graph.specs.declared.edge.Edge.{Edge}
 use Rattle.flow_graph.specs.Paths.{Shape, Transfer, IsValidPath, IsBackwardValidPath, value_after, value_before, HasBackwardPath, EveryPathHas, EveryBackwardPathHas, SomePathHas, SomeBackwardPathHas, IsWellFormed, complemented_transfer, reversed_shape, reversed_transfer}
-use Rattle.flow_graph.proofs.Complement.{value_after-complemented, value_before-complemented, meets_complement}
-use Rattle.flow_graph.proofs.RunLemmas.{runs_extend, undoubted_finishes}
+use Rattle.flow_graph.proofs.paths.Complement.{value_after-complemented, value_before-complemented, meets_complement}
+use Rattle.flow_graph.proofs.paths.RunLemmas.{runs_extend, undoubted_finishes}
 use Rattle.gk_solve.specs.Laws.{SolutionIsDecided, MeetsAreDecided, BackwardMeetsAreDecided, EachUndoubtedRunExtends}
 use Rattle.gk_solve.proofs.Meet.{solution_is_meet}
 use Rattle.gk_solve.proofs.Backward.{backward_flags_are_reversed, backward_may_is_reversed}

@@ -3,7 +3,7 @@ use Rattle.std.proofs.Common.{◌≡◌, ℕ, true, List, [], ◌∷◌, ◌<◌
 use Rattle.flow_graph.specs.declared.edge.Edge.{Edge}
 use Rattle.flow_graph.specs.declared.edge.Edge.TheVariants.{Call}
 use Rattle.flow_graph.specs.Paths.{Shape, Transfer, root, IsValidPath, EndsInCallOf, IsEnteringPath, value_after, IsWellFormed}
-use Rattle.flow_graph.proofs.PathLemmas.{path_split, value_after-append, valid_front}
+use Rattle.flow_graph.proofs.paths.PathLemmas.{path_split, value_after-append, valid_front}
 use Rattle.gk_solve.specs.Equations.{Entered, root_is_entered, Brought, brought_by_boundary}
 use Rattle.gk_solve.specs.Laws.{EntriesArePaths}
 use Rattle.gk_solve.proofs.Sound.{entered_path, brought_path}

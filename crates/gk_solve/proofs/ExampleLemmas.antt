@@ -4,8 +4,8 @@ use Rattle.std.specs.List.{list_all}
 use Rattle.flow_graph.specs.declared.edge.Edge.{Edge}
 use Rattle.flow_graph.specs.declared.edge.Edge.TheVariants.{Step, Call, Ret}
 use Rattle.flow_graph.specs.Paths.{Shape, Transfer, IsEdge}
-use Rattle.flow_graph.proofs.ExampleLemmas.{edges_pass, all_below, below}
-use Rattle.flow_graph.proofs.PathLemmas.{nat_eq_same}
+use Rattle.flow_graph.proofs.graphs.ExampleLemmas.{edges_pass, all_below, below}
+use Rattle.flow_graph.proofs.paths.PathLemmas.{nat_eq_same}
 use Rattle.gk_solve.specs.Equations.{CallsAt, ReturnsTo, HasFlag, Made, Brought, Kept, IsInSolution, IsClosedReached, IsClosedKept, IsClosedMade, IsClosedEntered, IsClosedBrought}
 use Rattle.gk_solve.specs.Laws.{Passes}
 use Rattle.gk_solve.proofs.Least.{reached_least, made_least, kept_least, brought_least}

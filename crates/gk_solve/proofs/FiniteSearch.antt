@@ -2,7 +2,7 @@
 use Rattle.std.proofs.Common.{◌≡◌, ℕ, zero, suc, Bool, true, false, ◌&&◌, ◌||◌, nat_eq, List, [], ◌∷◌, length, Contains, ◌<◌, ◌≤◌, ◌⊎◌, inl, inr, refl, sym, ap, ◌∙◌, arith}
 use Rattle.std.specs.List.{list_any}
 use Rattle.std.proofs.lemmas.List.Folds.{list_any_at}
-use Rattle.flow_graph.proofs.ExampleLemmas.{is_one_of}
+use Rattle.flow_graph.proofs.graphs.ExampleLemmas.{is_one_of}
 
 pub nat_eq_is : (m n : ℕ) → nat_eq m n ≡ true → m ≡ n
 nat_eq_is m n same = grind arith

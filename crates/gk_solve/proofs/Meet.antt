@@ -2,7 +2,7 @@
 use Rattle.std.proofs.Common.{◌≡◌, ℕ, Bool, true, false, List, [], ◌<◌, inl, inr, ◌⊎◌}
 use Rattle.flow_graph.specs.declared.edge.Edge.{Edge}
 use Rattle.flow_graph.specs.Paths.{Shape, Transfer, IsValidPath, IsPathFromEntry, value_after, is_kept_along, HasPath, SomePathHas, IsWellFormed}
-use Rattle.flow_graph.proofs.PathLemmas.{some_sites}
+use Rattle.flow_graph.proofs.paths.PathLemmas.{some_sites}
 use Rattle.gk_solve.specs.Equations.{Reached, Kept, Made, made_by_step, made_before_step, made_by_callee, made_before_call, root_is_entered, Brought, brought_by_boundary, HasFlag, IsInSolution}
 use Rattle.gk_solve.specs.Laws.{SummariesArePaths, SolutionIsMeet}
 use Rattle.gk_solve.proofs.Sound.{flag_path, set_path, reached_path, kept_path, made_path, value_after-kept}

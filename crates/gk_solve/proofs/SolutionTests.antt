@@ -5,9 +5,9 @@ use Rattle.std.proofs.lemmas.List.Folds.{list_any-append}
 use Rattle.flow_graph.specs.declared.edge.Edge.{Edge}
 use Rattle.flow_graph.specs.declared.edge.Edge.TheVariants.{Step, Call, Ret}
 use Rattle.flow_graph.specs.Paths.{target_of, Shape, Transfer, IsEdge}
-use Rattle.flow_graph.proofs.ExampleLemmas.{is_one_of}
-use Rattle.flow_graph.proofs.PathLemmas.{nat_eq_same}
-use Rattle.flow_graph.proofs.Reversal.{Contains-map}
+use Rattle.flow_graph.proofs.graphs.ExampleLemmas.{is_one_of}
+use Rattle.flow_graph.proofs.paths.PathLemmas.{nat_eq_same}
+use Rattle.flow_graph.proofs.paths.Reversal.{Contains-map}
 use Rattle.gk_solve.specs.Equations.{CallsAt, ReturnsTo, Reached, entry_is_reached, reached_by_step, reached_by_call, Kept, kept_at_entry, kept_by_step, kept_by_call, Made, made_by_step, made_before_step, made_by_callee, made_before_call, Entered, root_is_entered, entered_by_call, Brought, brought_by_boundary, brought_where_made, brought_where_kept, HasFlag, IsInSolution, IsClosedReached, IsClosedKept, IsClosedMade, IsClosedEntered}
 use Rattle.gk_solve.specs.Laws.{Passes}
 use Rattle.gk_solve.proofs.FiniteSearch.{nat_eq_is, or_left, or_right, or_either, and_parts, and_both, contains_any, any_contains, any_below, some_below, below_some, Test, decided, least_test}

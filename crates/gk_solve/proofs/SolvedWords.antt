@@ -7,7 +7,7 @@ use Rattle.flow_graph.specs.Analyses.{is_backward, may_shape, may_transfer}
 use Rattle.flow_graph.specs.Paths.{AgreesOnSteps, IsWellFormed}
 use Rattle.flow_graph.specs.Problems.{MayForm, may_gens, may_kills, may_boundary}
 use Rattle.flow_graph.specs.Universes.{bits as bits_of}
-use Rattle.flow_graph.proofs.MayForms.{steps_have_statements}
+use Rattle.flow_graph.proofs.graphs.MayForms.{steps_have_statements}
 use Rattle.flow_graph.specs.Points.{point_count}
 use Rattle.flow_links.specs.Shapes.{IsNumbered, LinkedProgram, directed_shape}
 use Rattle.gk_solve.specs.Equations.{IsInSolution}

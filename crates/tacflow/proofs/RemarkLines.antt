@@ -18,9 +18,9 @@ use Rattle.flow_graph.specs.Transfers.{is_variable, operands_of, reads}
 use Rattle.flow_graph.specs.Universes.{bits, evaluated_at, definition_at, dummies, Definition}
 use Rattle.flow_graph.specs.declared.analysis.Analysis.{Analysis}
 use Rattle.flow_graph.specs.declared.analysis.Analysis.TheVariants.{Reach}
-use Rattle.flow_graph.proofs.EdgeLemmas.{next_in}
-use Rattle.flow_graph.proofs.SetWords.{nat_eq-same}
-use Rattle.flow_graph.proofs.Standing.{Stands, stands}
+use Rattle.flow_graph.proofs.edges.EdgeLemmas.{next_in}
+use Rattle.flow_graph.proofs.bits.SetWords.{nat_eq-same}
+use Rattle.flow_graph.proofs.places.Standing.{Stands, stands}
 use Rattle.tacflow.specs.Findings.{remark_lines, unset_lines, computed_lines, computed_text, busy_lines, dead_lines, dead_text}
 use Rattle.tacflow.specs.Reports.{Knowledge, assigned, lines_at, remark, remarks_at, unset_at}
 use Rattle.flow_team.specs.Tables.{TableRows, IsTableOf}

@@ -2,7 +2,7 @@
 use Rattle.std.proofs.Common.{◌≡◌, ℕ, zero, suc, ◌+◌, ◌<◌, ◌≤◌, ◌⊎◌, inl, inr, Bool, true, false, ◌&&◌, ◌||◌, List, [], ◌∷◌, cond, nat_eq, slice_index, refl, sym, ap, ◌∙◌, subst, arith, eq-or-lt_of_le}
 use Rattle.std.specs.List.{filter, list_any, range_with_len}
 use Rattle.std.specs.List.Sorted.{IsStrictlyIncreasing}
-use Rattle.flow_graph.proofs.SetWords.{nat_eq-same, nat_eq-other}
+use Rattle.flow_graph.proofs.bits.SetWords.{nat_eq-same, nat_eq-other}
 
 -- Each number is at least the one before it and one more, and the first at least this.
 abbrev pub RisesFrom : ℕ → List ℕ → Type 0

@@ -7,8 +7,8 @@ use Rattle.flow_graph.specs.Analyses.{shape_of, accesses_of}
 use Rattle.flow_graph.specs.Points.{kind_at, point_count}
 use Rattle.flow_graph.specs.Runs.{ReadsBeforeWriting}
 use Rattle.flow_graph.specs.declared.analysis.Analysis.TheVariants.{Reach, Live, Avail, Busy}
-use Rattle.flow_graph.proofs.GraphLaws.{dead_variables_are_safe}
-use Rattle.flow_graph.proofs.Standing.{Stands, stands}
+use Rattle.flow_graph.proofs.graphs.GraphLaws.{dead_variables_are_safe}
+use Rattle.flow_graph.proofs.places.Standing.{Stands, stands}
 use Rattle.tacflow.specs.Findings.{AreFindings, TellDoubtful, knowledge_of}
 use Rattle.tacflow.specs.Reports.{IsKnowledge, IsListedDead, IsReport, Knowledge, ListsSafely, assigned, dead_at, report_of}
 use Rattle.tacflow.specs.declared.findings.Findings.{Findings}

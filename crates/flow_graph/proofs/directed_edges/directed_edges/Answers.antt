@@ -4,8 +4,8 @@ use Rattle.std.proofs.lemmas.List.{map-append}
 use Rattle.flow_graph.specs.Edges.{edges_from}
 use Rattle.flow_graph.specs.Points.{point_count}
 use Rattle.flow_graph.specs.Problems.{directed_edge}
-use Rattle.flow_graph.proofs.DirectedEdges.{edges_are_directed}
-use Rattle.flow_graph.proofs.Ranges.{flat_map-range_more}
+use Rattle.flow_graph.proofs.edges.DirectedEdges.{edges_are_directed}
+use Rattle.flow_graph.proofs.lists.Ranges.{flat_map-range_more}
 use Rattle.flow_graph.proofs.directed_edges.directed_edges.Goals as goal
 
 pub loop-point-preserved : goal.loop-point-preserved

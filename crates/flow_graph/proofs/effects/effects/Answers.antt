@@ -4,9 +4,9 @@ use Rattle.flow_graph.specs.code.Effects.{IsEffect}
 use Rattle.flow_graph.specs.Points.{point_count}
 use Rattle.flow_graph.specs.Universes.{Live, definition_at}
 use Rattle.flow_graph.specs.declared.effect.Effect.{Effect}
-use Rattle.flow_graph.proofs.EffectSteps.{effect_of_numbered, definitions_more}
-use Rattle.flow_graph.proofs.OwnBits.{added}
-use Rattle.flow_graph.proofs.Ranges.{pushed_each}
+use Rattle.flow_graph.proofs.bits.EffectSteps.{effect_of_numbered, definitions_more}
+use Rattle.flow_graph.proofs.bits.OwnBits.{added}
+use Rattle.flow_graph.proofs.lists.Ranges.{pushed_each}
 use Rattle.flow_graph.proofs.effects.effects.Goals as goal
 use Rattle.flow_graph.proofs.effects.effects.Goals.{in-Some, in-None}
 

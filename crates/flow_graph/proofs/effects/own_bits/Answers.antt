@@ -1,6 +1,6 @@
 use Rattle.std.proofs.Common.{Bool, false, true, ◌≡◌, ◌||◌, refl, sym, ap, ◌∙◌}
 use Rattle.flow_graph.specs.code.Effects.{marks, owns_numbered}
-use Rattle.flow_graph.proofs.OwnBits.{expression_is_own}
+use Rattle.flow_graph.proofs.bits.OwnBits.{expression_is_own}
 use Rattle.flow_graph.proofs.effects.own_bits.Goals as goal
 
 alone : (t : Bool) → (t || false) ≡ t

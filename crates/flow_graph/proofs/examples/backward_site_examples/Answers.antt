@@ -1,7 +1,7 @@
 use Rattle.std.proofs.Common.{◌∷◌, refl}
 use Rattle.flow_graph.specs.declared.edge.Edge.TheVariants.{Call}
 use Rattle.flow_graph.specs.Examples.{two_prints, out_of_first_call}
-use Rattle.flow_graph.proofs.ExampleLemmas.{path_is}
+use Rattle.flow_graph.proofs.graphs.ExampleLemmas.{path_is}
 use Rattle.flow_graph.proofs.examples.backward_site_examples.Goals as goal
 
 pub returns-clause-out_is_valid : goal.returns-clause-out_is_valid

@@ -1,7 +1,7 @@
 use Rattle.std.proofs.Common.{[], ◌∷◌, refl}
 use Rattle.flow_graph.specs.declared.edge.Edge.TheVariants.{Step, Call, Ret}
 use Rattle.flow_graph.specs.Examples.{endless_loop, live_in_loop, one_call, uncalled_caller}
-use Rattle.flow_graph.proofs.ExampleLemmas.{path_is, never_live, no_backward_path, not_doubtful}
+use Rattle.flow_graph.proofs.graphs.ExampleLemmas.{path_is, never_live, no_backward_path, not_doubtful}
 use Rattle.flow_graph.proofs.examples.doubtful_point_examples.Goals as goal
 
 pub returns-clause-before_loop : goal.returns-clause-before_loop

@@ -1,6 +1,6 @@
 use Rattle.std.proofs.Common.{[], ◌∷◌, refl}
 use Rattle.flow_graph.specs.Examples.{endless_callee}
-use Rattle.flow_graph.proofs.ExampleLemmas.{no_backward_path}
+use Rattle.flow_graph.proofs.graphs.ExampleLemmas.{no_backward_path}
 use Rattle.flow_graph.proofs.examples.endless_callee_examples.Goals as goal
 
 pub returns-clause-none_before_call : goal.returns-clause-none_before_call

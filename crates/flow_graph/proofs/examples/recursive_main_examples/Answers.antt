@@ -1,6 +1,6 @@
 use Rattle.std.proofs.Common.{refl}
 use Rattle.flow_graph.specs.Examples.{recursive_main, into_main, through_main}
-use Rattle.flow_graph.proofs.ExampleLemmas.{path_is}
+use Rattle.flow_graph.proofs.graphs.ExampleLemmas.{path_is}
 use Rattle.flow_graph.proofs.examples.recursive_main_examples.Goals as goal
 
 pub returns-clause-into_is_valid : goal.returns-clause-into_is_valid

@@ -1,6 +1,6 @@
 use Rattle.std.proofs.Common.{refl}
 use Rattle.flow_graph.specs.Examples.{recursive_procedure, through_recursion}
-use Rattle.flow_graph.proofs.ExampleLemmas.{path_is}
+use Rattle.flow_graph.proofs.graphs.ExampleLemmas.{path_is}
 use Rattle.flow_graph.proofs.examples.recursive_procedure_examples.Goals as goal
 
 pub returns-clause-is_valid : goal.returns-clause-is_valid

@@ -1,6 +1,6 @@
 use Rattle.std.proofs.Common.{refl}
 use Rattle.flow_graph.specs.Examples.{two_calls, right_return, wrong_return}
-use Rattle.flow_graph.proofs.ExampleLemmas.{path_is}
+use Rattle.flow_graph.proofs.graphs.ExampleLemmas.{path_is}
 use Rattle.flow_graph.proofs.examples.return_site_examples.Goals as goal
 
 pub returns-clause-right_is_valid : goal.returns-clause-right_is_valid

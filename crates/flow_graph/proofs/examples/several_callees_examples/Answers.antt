@@ -1,6 +1,6 @@
 use Rattle.std.proofs.Common.{refl}
 use Rattle.flow_graph.specs.Examples.{several_callees, through_first_callee, through_second_callee}
-use Rattle.flow_graph.proofs.ExampleLemmas.{path_is}
+use Rattle.flow_graph.proofs.graphs.ExampleLemmas.{path_is}
 use Rattle.flow_graph.proofs.examples.several_callees_examples.Goals as goal
 
 pub returns-clause-first_is_valid : goal.returns-clause-first_is_valid

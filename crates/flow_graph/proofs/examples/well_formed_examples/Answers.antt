@@ -1,6 +1,6 @@
 use Rattle.std.proofs.Common.{◌≡◌, ℕ, nat_eq, if◌then◌else◌, refl, arith}
 use Rattle.flow_graph.specs.Examples.{two_calls, recursive_procedure, recursive_main, several_callees, endless_callee, uncalled_caller}
-use Rattle.flow_graph.proofs.ExampleLemmas.{calls_return_as, well_formed_is}
+use Rattle.flow_graph.proofs.graphs.ExampleLemmas.{calls_return_as, well_formed_is}
 use Rattle.flow_graph.proofs.examples.well_formed_examples.Goals as goal
 
 pub returns-clause-two_calls : goal.returns-clause-two_calls

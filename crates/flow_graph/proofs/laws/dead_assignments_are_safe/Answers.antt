@@ -1,4 +1,4 @@
-use Rattle.flow_graph.proofs.RunLemmas.{dead_is_safe}
+use Rattle.flow_graph.proofs.paths.RunLemmas.{dead_is_safe}
 use Rattle.flow_graph.proofs.laws.dead_assignments_are_safe.Goals as goal
 
 pub returns : goal.returns

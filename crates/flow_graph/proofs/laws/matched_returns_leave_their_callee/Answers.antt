@@ -1,4 +1,4 @@
-use Rattle.flow_graph.proofs.Splitting.{matched_returns_leave_their_callee}
+use Rattle.flow_graph.proofs.paths.Splitting.{matched_returns_leave_their_callee}
 use Rattle.flow_graph.proofs.laws.matched_returns_leave_their_callee.Goals as goal
 
 pub returns : goal.returns

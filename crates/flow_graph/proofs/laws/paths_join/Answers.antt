@@ -1,4 +1,4 @@
-use Rattle.flow_graph.proofs.Splitting.{steps_join, callee_paths_join, calls_enter}
+use Rattle.flow_graph.proofs.paths.Splitting.{steps_join, callee_paths_join, calls_enter}
 use Rattle.flow_graph.proofs.laws.paths_join.Goals as goal
 
 pub returns-clause-step : goal.returns-clause-step

@@ -1,4 +1,4 @@
-use Rattle.flow_graph.proofs.Reversal.{valid_paths_reverse, values_reverse, meets_reverse, reversal_undoes_itself, reversed_is_well_formed}
+use Rattle.flow_graph.proofs.paths.Reversal.{valid_paths_reverse, values_reverse, meets_reverse, reversal_undoes_itself, reversed_is_well_formed}
 use Rattle.flow_graph.proofs.laws.paths_reverse.Goals as goal
 
 pub returns-clause-paths : goal.returns-clause-paths

@@ -1,4 +1,4 @@
-use Rattle.flow_graph.proofs.Splitting.{paths_compose, fronts_are_valid, valid_paths_split}
+use Rattle.flow_graph.proofs.paths.Splitting.{paths_compose, fronts_are_valid, valid_paths_split}
 use Rattle.flow_graph.proofs.laws.paths_split.Goals as goal
 
 pub returns-clause-anywhere : goal.returns-clause-anywhere

@@ -1,4 +1,4 @@
-use Rattle.flow_graph.proofs.SameEdges.{same_edges_same_paths, same_edges_same_backward_paths}
+use Rattle.flow_graph.proofs.edges.SameEdges.{same_edges_same_paths, same_edges_same_backward_paths}
 use Rattle.flow_graph.proofs.laws.same_edges_have_same_paths.Goals as goal
 
 pub returns-clause-forward : goal.returns-clause-forward

@@ -1,4 +1,4 @@
-use Rattle.flow_graph.proofs.Complement.{transfer_complement, values_complement, meets_complement, complement_of_reversed}
+use Rattle.flow_graph.proofs.paths.Complement.{transfer_complement, values_complement, meets_complement, complement_of_reversed}
 use Rattle.flow_graph.proofs.laws.transfers_complement.Goals as goal
 
 pub returns-clause-transfer : goal.returns-clause-transfer

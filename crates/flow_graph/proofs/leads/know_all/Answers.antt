@@ -1,6 +1,6 @@
 use Rattle.std.proofs.Common.{length, take, ap, ◌∙◌, arith}
 use Rattle.flow_graph.specs.code.Searching.{Search, search_of}
-use Rattle.flow_graph.proofs.LeadingLemmas.{length-known}
+use Rattle.flow_graph.proofs.edges.LeadingLemmas.{length-known}
 use Rattle.flow_graph.proofs.leads.know_all.Goals as goal
 
 pub know-requires : goal.know-requires

@@ -1,6 +1,6 @@
 use Rattle.std.proofs.Common.{◌≡◌, ◌∷◌, [], ◌++◌, ℕ, Bool, true, false, get_or, if◌then◌else◌, append-nil, ap, ◌∙◌, sym}
 use Rattle.std.specs.List.{filter, range_with_len}
-use Rattle.flow_graph.proofs.NumberListLemmas.{filter-range_more}
+use Rattle.flow_graph.proofs.lists.NumberListLemmas.{filter-range_more}
 use Rattle.flow_graph.proofs.leads.marked_points.Goals as goal
 use Rattle.flow_graph.proofs.leads.marked_points.Goals.{then-marked-point+in_ok-push, else-marked-point}
 

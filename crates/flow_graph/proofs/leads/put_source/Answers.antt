@@ -1,7 +1,7 @@
 use Rattle.std.proofs.Common.{◌<◌, ℕ, length, take, ap, ◌∙◌, arith}
 use Rattle.flow_graph.specs.code.NumberLists.{contents}
 use Rattle.flow_graph.specs.Paths.{Step, target_of}
-use Rattle.flow_graph.proofs.SourceLemmas.{length-put_sources, get_or_any}
+use Rattle.flow_graph.proofs.edges.SourceLemmas.{length-put_sources, get_or_any}
 use Rattle.flow_graph.proofs.leads.put_source.Goals as goal
 
 pub put_last-requires : goal.put_last-requires

@@ -3,7 +3,7 @@ use Rattle.flow_graph.specs.Edges.{edges_from}
 use Rattle.flow_graph.specs.code.NumberLists.{contents, with_last}
 use Rattle.flow_graph.specs.Paths.{Edge, target_of}
 use Rattle.flow_graph.specs.Points.{point_count}
-use Rattle.flow_graph.proofs.SourceLemmas.{targets_are_points, one_point_more}
+use Rattle.flow_graph.proofs.edges.SourceLemmas.{targets_are_points, one_point_more}
 use Rattle.flow_graph.proofs.leads.sources.Goals as goal
 
 pub put_source-requires : goal.put_source-requires

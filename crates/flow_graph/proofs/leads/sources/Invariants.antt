@@ -1,6 +1,6 @@
 use Rattle.flow_graph.specs.code.NumberLists.{AreLists, contents}
 use Rattle.flow_graph.specs.Points.{point_count}
-use Rattle.flow_graph.proofs.SourceLemmas.{sources_before}
+use Rattle.flow_graph.proofs.edges.SourceLemmas.{sources_before}
 use Rattle.flow_graph.proofs.leads.sources.Given as goal
 
 abbrev pub invariant-loop-point : goal.invariant-loop-point

@@ -1,6 +1,6 @@
 use Rattle.std.proofs.Common.{◌<◌, length, arith}
 use Rattle.std.proofs.lemmas.List.{length-map}
-use Rattle.flow_graph.proofs.NumberListLemmas.{contents-put}
+use Rattle.flow_graph.proofs.lists.NumberListLemmas.{contents-put}
 use Rattle.flow_graph.proofs.number_lists.put_last.Goals as goal
 
 pub returns : goal.returns

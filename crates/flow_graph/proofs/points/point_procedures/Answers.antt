@@ -1,7 +1,7 @@
 use Rattle.std.proofs.Common.{rules, ◌≡◌, ◌+◌, ◌<◌, ◌≤◌, ℕ, length, take, get_or, sum_by, vec_len, ap, ◌∙◌, sym, subst, refl, arith}
 use Rattle.tac_reader.specs.Programs.{Program}
 use Rattle.flow_graph.specs.Points.{size_of}
-use Rattle.flow_graph.proofs.PlaceTables.{procedures_before, one_more}
+use Rattle.flow_graph.proofs.places.PlaceTables.{procedures_before, one_more}
 use Rattle.flow_graph.proofs.points.point_procedures.Goals as goal
 use Rattle.std.proofs.lemmas.List.Sums.{sum_by-take-le}
 

@@ -1,4 +1,4 @@
-use Rattle.flow_graph.proofs.GraphLaws.{live_is_liveness, dead_variables_are_safe}
+use Rattle.flow_graph.proofs.graphs.GraphLaws.{live_is_liveness, dead_variables_are_safe}
 use Rattle.flow_graph.proofs.program_laws.dead_variables_are_safe.Goals as goal
 
 pub returns-clause-liveness : goal.returns-clause-liveness

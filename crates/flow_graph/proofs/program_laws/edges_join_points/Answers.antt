@@ -1,4 +1,4 @@
-use Rattle.flow_graph.proofs.GraphLaws.{edges_join_points}
+use Rattle.flow_graph.proofs.graphs.GraphLaws.{edges_join_points}
 use Rattle.flow_graph.proofs.program_laws.edges_join_points.Goals as goal
 
 pub returns : goal.returns

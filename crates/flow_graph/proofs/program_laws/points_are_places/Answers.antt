@@ -1,4 +1,4 @@
-use Rattle.flow_graph.proofs.PointLemmas.{places_have_points, points_have_places}
+use Rattle.flow_graph.proofs.places.PointLemmas.{places_have_points, points_have_places}
 use Rattle.flow_graph.proofs.program_laws.points_are_places.Goals as goal
 
 pub returns-clause-places : goal.returns-clause-places

@@ -1,4 +1,4 @@
-use Rattle.flow_graph.proofs.MayForms.{flags_are_may_forms, may_tables_are_may_forms, must_tables_are_may_forms, steps_have_statements}
+use Rattle.flow_graph.proofs.graphs.MayForms.{flags_are_may_forms, may_tables_are_may_forms, must_tables_are_may_forms, steps_have_statements}
 use Rattle.flow_graph.proofs.program_laws.tables_are_may_forms.Goals as goal
 
 pub returns-clause-flags : goal.returns-clause-flags

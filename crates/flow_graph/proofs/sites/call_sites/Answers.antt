@@ -2,7 +2,7 @@ use Rattle.std.proofs.Common.{◌<◌, ◌∙◌, List, ℕ, length, fold, All, 
 use Rattle.tac_reader.specs.Sound.{IsSound}
 use Rattle.flow_graph.specs.code.NumberLists.{contents, with_last}
 use Rattle.flow_graph.specs.Points.{point_count}
-use Rattle.flow_graph.proofs.SiteLemmas.{callees_are, one_site_more}
+use Rattle.flow_graph.proofs.edges.SiteLemmas.{callees_are, one_site_more}
 use Rattle.flow_graph.proofs.sites.call_sites.Goals as goal
 
 pub put_site-requires : goal.put_site-requires

@@ -1,6 +1,6 @@
 use Rattle.std.proofs.Common.{length, take, ap, ◌∙◌, arith}
 use Rattle.flow_graph.specs.code.NumberLists.{contents}
-use Rattle.flow_graph.proofs.NumberListLemmas.{length-put}
+use Rattle.flow_graph.proofs.lists.NumberListLemmas.{length-put}
 use Rattle.flow_graph.proofs.sites.put_site.Goals as goal
 
 pub put_last-requires : goal.put_last-requires

@@ -1,8 +1,8 @@
 use Rattle.std.proofs.Common.{rules, ◌≡◌, ◌<◌, List, length, get_or, ap, ◌∙◌, arith}
 use Rattle.tac_reader.specs.Programs.{Program, Procedure}
 use Rattle.flow_graph.specs.Points.{Place, procedure_at}
-use Rattle.flow_graph.proofs.PointLemmas.{points_have_places}
-use Rattle.flow_graph.proofs.SuccessorLemmas.{reads_end}
+use Rattle.flow_graph.proofs.places.PointLemmas.{points_have_places}
+use Rattle.flow_graph.proofs.edges.SuccessorLemmas.{reads_end}
 use Rattle.flow_graph.proofs.succ.end_target.Goals as goal
 
 pub bounds-procs-procedure : goal.bounds-procs-procedure

@@ -1,7 +1,7 @@
 use Rattle.std.proofs.Common.{◌≡◌, ◌+◌, ◌∷◌, [], ◌++◌, ℕ, List, Option, Some, None, flat_map, append_assoc, append-nil, ap, ◌∙◌, sym}
 use Rattle.std.specs.List.{range_with_len}
 use Rattle.flow_graph.specs.Universes.{Definition, definition_at, dummies}
-use Rattle.flow_graph.proofs.Ranges.{flat_map-range_more}
+use Rattle.flow_graph.proofs.lists.Ranges.{flat_map-range_more}
 use Rattle.flow_graph.proofs.universes.definitions.Goals as goal
 use Rattle.flow_graph.proofs.universes.definitions.Goals.{in-Some+in_ok-push-in-Some, in-None}
 

@@ -1,5 +1,5 @@
 use Rattle.std.proofs.Common.{◌∷◌, [], ◌++◌, None, ap, ◌∙◌, sym}
-use Rattle.flow_graph.proofs.Ranges.{map-range_more}
+use Rattle.flow_graph.proofs.lists.Ranges.{map-range_more}
 use Rattle.flow_graph.proofs.universes.dummies.Goals as goal
 
 pub loop-variable-preserved : goal.loop-variable-preserved

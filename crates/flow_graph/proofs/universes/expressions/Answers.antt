@@ -4,8 +4,8 @@ use Rattle.std.proofs.lemmas.Grind.{fold-append}
 use Rattle.flow_graph.specs.code.Evaluated.{IsNumberOf}
 use Rattle.flow_graph.specs.Points.{point_count}
 use Rattle.flow_graph.specs.Universes.{Expr, noted, some_expression, expression_at, expressions}
-use Rattle.flow_graph.proofs.Noted.{numbers-stay, one_more_noted, number_is}
-use Rattle.flow_graph.proofs.Ranges.{flat_map-range_more, pushed_each}
+use Rattle.flow_graph.proofs.bits.Noted.{numbers-stay, one_more_noted, number_is}
+use Rattle.flow_graph.proofs.lists.Ranges.{flat_map-range_more, pushed_each}
 use Rattle.flow_graph.proofs.universes.expressions.Goals as goal
 
 pub loop-point-preserved : goal.loop-point-preserved

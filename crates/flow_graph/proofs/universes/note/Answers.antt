@@ -1,6 +1,6 @@
 use Rattle.std.proofs.Common.{◌≡◌, fold, Some, refl, sym, ap, ◌∙◌}
 use Rattle.flow_graph.specs.Universes.{noted, some_expression}
-use Rattle.flow_graph.proofs.Noted.{set-notes, set-numbers}
+use Rattle.flow_graph.proofs.bits.Noted.{set-notes, set-numbers}
 use Rattle.flow_graph.proofs.universes.note.Goals as goal
 
 pub returns-in_ok-number-in-Some-clause-noted : goal.returns-in_ok-number-in-Some-clause-noted

@@ -1,5 +1,5 @@
 use Rattle.std.proofs.Common.{arith}
-use Rattle.flow_graph.proofs.SetWords.{low_word, whole_word}
+use Rattle.flow_graph.proofs.bits.SetWords.{low_word, whole_word}
 use Rattle.flow_graph.proofs.words.full_word.Goals as goal
 
 pub returns-then-count-lt64 : goal.returns-then-count-lt64

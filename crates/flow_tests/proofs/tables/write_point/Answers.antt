@@ -1,5 +1,5 @@
 use Rattle.std.proofs.Common.{◌<◌, length, subst, sym}
-use Rattle.flow_graph.proofs.PointLemmas.{points_have_places}
+use Rattle.flow_graph.proofs.places.PointLemmas.{points_have_places}
 use Rattle.flow_tests.proofs.tables.write_point.Goals as goal
 
 -- src/tables.rt:160:47

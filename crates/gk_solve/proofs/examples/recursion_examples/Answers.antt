@@ -1,7 +1,7 @@
 use Rattle.std.proofs.Common.{true, false, [], ◌∷◌, refl}
 use Rattle.flow_graph.specs.declared.edge.Edge.TheVariants.{Step}
 use Rattle.flow_graph.specs.Examples.{recursive_procedure, inner_definition, through_recursion, recursive_main, only_definition, into_main, value_at_entry}
-use Rattle.flow_graph.proofs.ExampleLemmas.{is_one_of, path_is, well_formed_is}
+use Rattle.flow_graph.proofs.graphs.ExampleLemmas.{is_one_of, path_is, well_formed_is}
 use Rattle.gk_solve.proofs.ExampleLemmas.{not_in_solution}
 use Rattle.gk_solve.proofs.Meet.{solution_is_meet}
 use Rattle.gk_solve.proofs.examples.recursion_examples.Goals as goal

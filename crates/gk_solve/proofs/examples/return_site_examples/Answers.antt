@@ -1,7 +1,7 @@
 use Rattle.std.proofs.Common.{true, ◌<◌, [], ◌∷◌, refl, arith, inl}
 use Rattle.flow_graph.specs.declared.edge.Edge.TheVariants.{Step, Call, Ret}
 use Rattle.flow_graph.specs.Examples.{two_calls, earlier_definition, later_definition}
-use Rattle.flow_graph.proofs.ExampleLemmas.{edge_is, is_one_of, path_is, well_formed_is}
+use Rattle.flow_graph.proofs.graphs.ExampleLemmas.{edge_is, is_one_of, path_is, well_formed_is}
 use Rattle.gk_solve.specs.Equations.{Reached, Made, Kept, entry_is_reached, reached_by_step, reached_by_call, kept_at_entry, kept_by_step, made_by_step, made_before_call, root_is_entered}
 use Rattle.gk_solve.proofs.ExampleLemmas.{not_in_solution}
 use Rattle.gk_solve.proofs.Meet.{solution_is_meet}

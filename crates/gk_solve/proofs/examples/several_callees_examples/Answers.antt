@@ -1,6 +1,6 @@
 use Rattle.std.proofs.Common.{true, false, [], ◌∷◌, refl}
 use Rattle.flow_graph.specs.Examples.{several_callees, outer_definition, inner_of_first, through_first_callee, through_second_callee}
-use Rattle.flow_graph.proofs.ExampleLemmas.{is_one_of, path_is, well_formed_is}
+use Rattle.flow_graph.proofs.graphs.ExampleLemmas.{is_one_of, path_is, well_formed_is}
 use Rattle.gk_solve.proofs.Meet.{solution_is_meet}
 use Rattle.gk_solve.proofs.ExampleLemmas.{not_in_solution}
 use Rattle.gk_solve.proofs.examples.several_callees_examples.Goals as goal

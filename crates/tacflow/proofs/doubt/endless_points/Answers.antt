@@ -1,5 +1,5 @@
 use Rattle.std.proofs.Common.{◌≡◌, ℕ, Bool, [], ◌∷◌, ◌++◌, not, ap, ◌∙◌, sym}
-use Rattle.flow_graph.proofs.Ranges.{map-range_more}
+use Rattle.flow_graph.proofs.lists.Ranges.{map-range_more}
 use Rattle.flow_team.specs.Tables.{facts_of}
 use Rattle.tacflow.proofs.doubt.endless_points.Goals as goal
 

@@ -1,6 +1,6 @@
 use Rattle.std.proofs.Common.{◌≡◌, ℕ, zero, suc, List, ◌+◌, ◌<◌, ◌++◌, ◌∷◌, [], get_or, map, length, length-append, refl, ap, subst, ◌∙◌, arith}
 use Rattle.std.proofs.lemmas.List.{length-map, map-append}
-use Rattle.flow_graph.proofs.Ranges.{pushed_each}
+use Rattle.flow_graph.proofs.lists.Ranges.{pushed_each}
 use Rattle.tacflow.specs.Lists.{AreTexts, text_at}
 use Rattle.tacflow.specs.Tables.{bit_text}
 use Rattle.tacflow.proofs.table_text.bit_texts.Goals as goal

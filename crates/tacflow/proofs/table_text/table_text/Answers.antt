@@ -1,7 +1,7 @@
 use Rattle.std.proofs.Common.{◌≡◌, ◌++◌, flat_map, sym, ap, ◌∙◌, arith}
 use Rattle.std.specs.List.{range_with_len}
 use Rattle.flow_graph.specs.Points.{point_count}
-use Rattle.flow_graph.proofs.Ranges.{flat_map-range_more}
+use Rattle.flow_graph.proofs.lists.Ranges.{flat_map-range_more}
 use Rattle.flow_team.specs.Tables.{facts_of}
 use Rattle.tacflow.specs.Tables.{point_line}
 use Rattle.tacflow.proofs.table_text.table_text.Goals as goal

@@ -1,6 +1,6 @@
 use Rattle.std.proofs.Common.{◌≡◌, ◌<◌, length, sym, ap, subst, arith}
 use Rattle.flow_graph.specs.Points.{procedure_at}
-use Rattle.flow_graph.proofs.PointLemmas.{points_have_places}
+use Rattle.flow_graph.proofs.places.PointLemmas.{points_have_places}
 use Rattle.tacflow.proofs.table_text.write_place.Goals as goal
 
 pub procedure-requires : goal.procedure-requires

@@ -1,4 +1,4 @@
-use Rattle.flow_graph.proofs.SetWords.{set_bit}
+use Rattle.flow_graph.proofs.bits.SetWords.{set_bit}
 use Rattle.flow_graph.proofs.bit_table.BitTable.set.Goals as goal
 
 pub returns-clause-bits : goal.returns-clause-bits

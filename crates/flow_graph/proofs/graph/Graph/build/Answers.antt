@@ -2,7 +2,7 @@ use Rattle.std.proofs.Common.{rules, ◌≡◌, ◌≤◌, length, ap, subst, ar
 use Rattle.tac_reader.specs.Programs.{Program}
 use Rattle.flow_graph.specs.Limits.{HasFewBits}
 use Rattle.flow_graph.specs.Universes.{definitions}
-use Rattle.flow_graph.proofs.Counts.{few_bits}
+use Rattle.flow_graph.proofs.lists.Counts.{few_bits}
 use Rattle.flow_graph.proofs.graph.Graph.build.Goals as goal
 
 pub invariant_of-result : goal.invariant_of-result

@@ -1,7 +1,7 @@
 use Rattle.std.proofs.Common.{rules, ◌≡◌, ◌<◌, ◌∷◌, [], ℕ, List, length, vec_len, All, refl, ap₂, ◌∙◌, sym, subst, arith}
 use Rattle.std.proofs.lemmas.List.{length-map}
 use Rattle.flow_graph.specs.code.Searching.{Search, search_of}
-use Rattle.flow_graph.proofs.LeadingLemmas.{Searches, search_begins, search_tells, looked_at_inside, reads_sources, sources_are_points, step_taken}
+use Rattle.flow_graph.proofs.edges.LeadingLemmas.{Searches, search_begins, search_tells, looked_at_inside, reads_sources, sources_are_points, step_taken}
 use Rattle.flow_graph.proofs.graph.Graph.leads_to.Goals as goal
 
 pub loop-point-init : goal.loop-point-init

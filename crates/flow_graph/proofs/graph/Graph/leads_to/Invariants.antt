@@ -1,5 +1,5 @@
 use Rattle.flow_graph.specs.code.Searching.{search_of}
-use Rattle.flow_graph.proofs.LeadingLemmas.{Searches, remaining}
+use Rattle.flow_graph.proofs.edges.LeadingLemmas.{Searches, remaining}
 use Rattle.flow_graph.proofs.graph.Graph.leads_to.Given as goal
 
 abbrev pub invariant-loop-point : goal.invariant-loop-point

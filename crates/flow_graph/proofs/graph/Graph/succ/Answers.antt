@@ -4,8 +4,8 @@ use Rattle.tac_reader.specs.Programs.{Program}
 use Rattle.flow_graph.specs.Paths.{Edge}
 use Rattle.flow_graph.specs.Edges.{edges_from}
 use Rattle.flow_graph.specs.Points.{Place, point_count, procedure_at}
-use Rattle.flow_graph.proofs.PointLemmas.{points_have_places}
-use Rattle.flow_graph.proofs.SuccessorLemmas.{reads_sites}
+use Rattle.flow_graph.proofs.places.PointLemmas.{points_have_places}
+use Rattle.flow_graph.proofs.edges.SuccessorLemmas.{reads_sites}
 use Rattle.flow_graph.proofs.graph.Graph.succ.Goals as goal
 
 pub index-requires : goal.index-requires

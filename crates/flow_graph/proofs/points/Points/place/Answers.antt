@@ -1,7 +1,7 @@
 use Rattle.std.proofs.Common.{◌≡◌, ◌-◌, ◌<◌, vec_len, rules, length, sym, subst}
 use Rattle.tac_reader.specs.Programs.{Program}
 use Rattle.flow_graph.specs.Points.{point_count, place_of}
-use Rattle.flow_graph.proofs.PlaceTables.{found, procedure_found}
+use Rattle.flow_graph.proofs.places.PlaceTables.{found, procedure_found}
 use Rattle.flow_graph.proofs.points.Points.place.Goals as goal
 
 pub index-requires : goal.index-requires

@@ -3,8 +3,8 @@ use Rattle.std.proofs.lemmas.Option.{slice_get_read}
 use Rattle.tac_reader.specs.Programs.{Program, Procedure}
 use Rattle.flow_graph.specs.Points.{Place, place_of, statements_of}
 use Rattle.flow_graph.specs.ProgramLaws.{IsPlaceOf}
-use Rattle.flow_graph.proofs.PlaceTables.{copied_is_get}
-use Rattle.flow_graph.proofs.PointLemmas.{points_have_places}
+use Rattle.flow_graph.proofs.places.PlaceTables.{copied_is_get}
+use Rattle.flow_graph.proofs.places.PointLemmas.{points_have_places}
 use Rattle.flow_graph.proofs.points.Points.stmt.Goals as goal
 
 pub bounds-procs-place : goal.bounds-procs-place

@@ -3,7 +3,7 @@ use Rattle.bit_rows.proofs.WordBits.{has_bit-max, has_bit-zero}
 use Rattle.tac_reader.specs.Programs.{Program}
 use Rattle.flow_graph.specs.Problems.{MayForm, may_boundary}
 use Rattle.flow_graph.specs.Universes.{Reach, Live, Avail, Busy}
-use Rattle.flow_graph.proofs.Boundaries.{dummies_come_first}
+use Rattle.flow_graph.proofs.bits.Boundaries.{dummies_come_first}
 use Rattle.flow_graph.proofs.problem.Problem.boundary_places.Goals as goal
 
 pub returns-in-Reach : goal.returns-in-Reach

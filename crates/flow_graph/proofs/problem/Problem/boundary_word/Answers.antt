@@ -1,7 +1,7 @@
 use Rattle.std.proofs.Common.{◌+◌, ◌*◌, nat_lt, ap, ◌∙◌}
 use Rattle.flow_graph.specs.Problems.{MayForm, may_boundary}
 use Rattle.flow_graph.specs.Universes.{bits}
-use Rattle.flow_graph.proofs.MayWords.{is_word}
+use Rattle.flow_graph.proofs.bits.MayWords.{is_word}
 use Rattle.flow_graph.proofs.problem.Problem.boundary_word.Goals as goal
 
 pub returns : goal.returns

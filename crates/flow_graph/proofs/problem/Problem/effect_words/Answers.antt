@@ -4,7 +4,7 @@ use Rattle.flow_graph.specs.Points.{point_count}
 use Rattle.flow_graph.specs.Problems.{MayForm}
 use Rattle.flow_graph.specs.Universes.{bits}
 use Rattle.flow_graph.specs.declared.effect.Effect.{Effect}
-use Rattle.flow_graph.proofs.EffectWords.{affected_word}
+use Rattle.flow_graph.proofs.bits.EffectWords.{affected_word}
 use Rattle.flow_graph.proofs.problem.Problem.effect_words.Goals as goal
 
 pub returns : goal.returns

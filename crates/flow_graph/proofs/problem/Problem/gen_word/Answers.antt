@@ -4,7 +4,7 @@ use Rattle.flow_graph.specs.code.Effects.{IsEffect, gen_from}
 use Rattle.flow_graph.specs.Points.{point_count}
 use Rattle.flow_graph.specs.Problems.{MayForm}
 use Rattle.flow_graph.specs.declared.effect.Effect.{Effect}
-use Rattle.flow_graph.proofs.MayWords.{word_of_gens}
+use Rattle.flow_graph.proofs.bits.MayWords.{word_of_gens}
 use Rattle.flow_graph.proofs.problem.Problem.gen_word.Goals as goal
 
 pub returns : goal.returns

@@ -1,6 +1,6 @@
 use Rattle.flow_graph.specs.Problems.{may_gens}
 use Rattle.flow_graph.specs.Universes.{bits}
-use Rattle.flow_graph.proofs.MayWords.{bit_of_word}
+use Rattle.flow_graph.proofs.bits.MayWords.{bit_of_word}
 use Rattle.flow_graph.proofs.problem.Problem.gens.Goals as goal
 
 pub returns : goal.returns

@@ -4,7 +4,7 @@ use Rattle.flow_graph.specs.code.Effects.{IsEffect, kill_from}
 use Rattle.flow_graph.specs.Points.{point_count}
 use Rattle.flow_graph.specs.Problems.{MayForm}
 use Rattle.flow_graph.specs.declared.effect.Effect.{Effect}
-use Rattle.flow_graph.proofs.MayWords.{word_of_kills}
+use Rattle.flow_graph.proofs.bits.MayWords.{word_of_kills}
 use Rattle.flow_graph.proofs.problem.Problem.kill_word.Goals as goal
 
 pub returns : goal.returns

@@ -1,7 +1,7 @@
 use Rattle.std.proofs.Common.{subst}
 use Rattle.tac_reader.specs.Programs.{Program}
 use Rattle.tac_reader.specs.Sound.{IsSound}
-use Rattle.flow_graph.proofs.GraphLaws.{may_forms_are_well_formed}
+use Rattle.flow_graph.proofs.graphs.GraphLaws.{may_forms_are_well_formed}
 use Rattle.flow_graph.proofs.problem.Problem.of.Goals as goal
 
 pub invariant_of-result : goal.invariant_of-result

@@ -2,7 +2,7 @@ use Rattle.std.proofs.Common.{◌≡◌, ◌∙◌, ◌<◌, true, false, option
 use Rattle.flow_graph.specs.code.Effects.{depends}
 use Rattle.flow_graph.specs.Problems.{MayForm}
 use Rattle.flow_graph.specs.Universes.{bits}
-use Rattle.flow_graph.proofs.EffectWords.{dependent_word}
+use Rattle.flow_graph.proofs.bits.EffectWords.{dependent_word}
 use Rattle.flow_graph.proofs.problem.Problem.touched_words.Goals as goal
 
 pub returns-in-None : goal.returns-in-None

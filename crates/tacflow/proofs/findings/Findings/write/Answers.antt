@@ -1,6 +1,6 @@
 use Rattle.std.proofs.Common.{◌≡◌, List, ℕ, ◌+◌, ◌++◌, flat_map, ap, ◌∙◌, sym, append_assoc}
 use Rattle.std.specs.List.{range_with_len}
-use Rattle.flow_graph.proofs.Ranges.{flat_map-range_more}
+use Rattle.flow_graph.proofs.lists.Ranges.{flat_map-range_more}
 use Rattle.tac_reader.specs.Programs.{Program}
 use Rattle.tacflow.specs.Findings.{knowledge_of}
 use Rattle.tacflow.specs.Reports.{count_line, lines_at}

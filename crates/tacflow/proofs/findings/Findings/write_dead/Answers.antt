@@ -1,6 +1,6 @@
 -- The assigned variable is there, and so is the point after the assignment.
 use Rattle.std.proofs.Common.{◌≡◌, ◌<◌, true, List, ℕ, ◌++◌, length, codes, decimal, ap, ◌∙◌, sym, subst, append-nil, append_assoc}
-use Rattle.flow_graph.proofs.Standing.{stands}
+use Rattle.flow_graph.proofs.places.Standing.{stands}
 use Rattle.tac_reader.specs.Programs.{Program}
 use Rattle.tacflow.specs.Findings.{dead_text, knowledge_of}
 use Rattle.tacflow.specs.Reports.{remark}

@@ -14,8 +14,8 @@ use Rattle.flow_graph.specs.code.Searching.{AreSources, sources_of, Search, sear
 use Rattle.flow_graph.specs.code.NumberLists.{contents}
 use Rattle.flow_graph.specs.Paths.{Edge, IsPath, target_of}
 use Rattle.flow_graph.specs.Points.{point_count}
-use Rattle.flow_graph.proofs.Membership.{Contains-first, Contains-later, Contains-nil, Contains-cons, Contains-one, Contains-in_range, Contains-range}
-use Rattle.flow_graph.proofs.SourceLemmas.{HasEdge, get_or_any, sources_have_edges, edges_have_sources}
+use Rattle.flow_graph.proofs.lists.Membership.{Contains-first, Contains-later, Contains-nil, Contains-cons, Contains-one, Contains-in_range, Contains-range}
+use Rattle.flow_graph.proofs.edges.SourceLemmas.{HasEdge, get_or_any, sources_have_edges, edges_have_sources}
 
 -- whether a point is known
 abbrev pub Knows : List Bool → ℕ → Type 0

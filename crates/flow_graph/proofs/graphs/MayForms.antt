@@ -5,8 +5,8 @@ use Rattle.flow_graph.specs.Paths.{reversed_shape, reversed_transfer}
 use Rattle.flow_graph.specs.ProgramLaws.{FlagsAreMayForms, MayTablesAreMayForms, MustTablesAreMayForms, StepsHaveStatements}
 use Rattle.flow_graph.specs.Problems.{may_gens, may_kills, may_boundary}
 use Rattle.flow_graph.specs.Universes.{Analysis, Reach, Live, Avail, Busy}
-use Rattle.flow_graph.proofs.Reversal.{meets_reverse}
-use Rattle.flow_graph.proofs.Complement.{meets_complement}
+use Rattle.flow_graph.proofs.paths.Reversal.{meets_reverse}
+use Rattle.flow_graph.proofs.paths.Complement.{meets_complement}
 
 pub flags_are_may_forms : FlagsAreMayForms
 flags_are_may_forms program Reach point = (λ has. has, λ has. has)

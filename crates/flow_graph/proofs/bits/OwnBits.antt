@@ -10,10 +10,10 @@ use Rattle.flow_graph.specs.code.Effects.{marks, owns, numbered}
 use Rattle.flow_graph.specs.Points.{point_count, points}
 use Rattle.flow_graph.specs.Transfers.{is_made_at}
 use Rattle.flow_graph.specs.Universes.{Definition, Expr, Reach, Avail, definition_at, dummies, evaluated_at, expression_at, expressions, noted, same_expression, some_expression, target_at}
-use Rattle.flow_graph.proofs.ExpressionEquality.{same_is_equal}
-use Rattle.flow_graph.proofs.Noted.{is_itself}
-use Rattle.flow_graph.proofs.Ranges.{flat_map-range_more}
-use Rattle.flow_graph.proofs.SetWords.{nat_eq-same, nat_eq-other}
+use Rattle.flow_graph.proofs.bits.ExpressionEquality.{same_is_equal}
+use Rattle.flow_graph.proofs.bits.Noted.{is_itself}
+use Rattle.flow_graph.proofs.lists.Ranges.{flat_map-range_more}
+use Rattle.flow_graph.proofs.bits.SetWords.{nat_eq-same, nat_eq-other}
 
 module _ {A : Type 0} where
   -- whether a list has an element at a place that passes a test

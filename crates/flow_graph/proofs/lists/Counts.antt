@@ -9,7 +9,7 @@ use Rattle.tac_reader.specs.declared.program.StmtKind.TheVariants as kind
 use Rattle.flow_graph.specs.Limits.{HasFewBits}
 use Rattle.flow_graph.specs.Points.{points, kind_at}
 use Rattle.flow_graph.specs.Universes.{Expr, Definition, Analysis, Reach, Live, Avail, Busy, bits, target_of, definition_at, dummies, definitions, expression_of, expression_at, some_expression, noted, expressions}
-use Rattle.flow_graph.proofs.Noted.{one_more_noted}
+use Rattle.flow_graph.proofs.bits.Noted.{one_more_noted}
 
 -- what a statement that writes a variable defines
 abbrev defined : ℕ → Option ℕ → List Definition

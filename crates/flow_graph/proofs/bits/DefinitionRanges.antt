@@ -8,8 +8,8 @@ use Rattle.tac_reader.specs.declared.program.StmtKind.TheVariants as kind
 use Rattle.flow_graph.specs.Points.{points, point_count, kind_at}
 use Rattle.flow_graph.specs.Universes.{Definition, definition_at, definitions, dummies, target_at, target_of, IsDefinitionIn}
 use Rattle.std.proofs.lemmas.List.Elements.{Contains-append_cases}
-use Rattle.flow_graph.proofs.Membership.{Contains-first, Contains-later, Contains-nil, Contains-one, Contains-in_map, Contains-in_flat_map, Contains-in_range}
-use Rattle.flow_graph.proofs.Standing.{stands}
+use Rattle.flow_graph.proofs.lists.Membership.{Contains-first, Contains-later, Contains-nil, Contains-one, Contains-in_map, Contains-in_flat_map, Contains-in_range}
+use Rattle.flow_graph.proofs.places.Standing.{stands}
 
 slice_get_contains : {A : Type 0} (xs : List A) (i : ℕ) (x : A) → slice_get xs i ≡ Some x → Contains xs x
 slice_get_contains [] i x at = absurd (cc at)

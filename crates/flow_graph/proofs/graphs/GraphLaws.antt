@@ -16,12 +16,12 @@ use Rattle.flow_graph.specs.Points.{Place, points, procedure_at, kind_at, statem
 use Rattle.flow_graph.specs.ProgramLaws.{EdgesJoinPoints, GraphsAreWellFormed, MayFormsAreWellFormed, CallsOfProgramsReturn, CallsReturnBehindSites, ReturnsHaveCallsAtSites, LiveIsLiveness, DeadVariablesAreSafe}
 use Rattle.flow_graph.specs.Transfers.{reads, operands_of, is_variable}
 use Rattle.flow_graph.specs.Universes.{Reach, Live, Avail, Busy}
-use Rattle.flow_graph.proofs.EdgeLemmas.{IsIn, IsFrom, a_step, a_call, a_return, in_procedure, next_in, edges_are, leaves}
-use Rattle.flow_graph.proofs.Membership.{Contains-flat_map, Contains-range, Contains-first}
-use Rattle.flow_graph.proofs.PointLemmas.{places_have_points, points_have_places}
-use Rattle.flow_graph.proofs.Reversal.{reversed_is_well_formed, Contains-map}
-use Rattle.flow_graph.proofs.RunLemmas.{dead_is_safe}
-use Rattle.flow_graph.proofs.Standing.{stands}
+use Rattle.flow_graph.proofs.edges.EdgeLemmas.{IsIn, IsFrom, a_step, a_call, a_return, in_procedure, next_in, edges_are, leaves}
+use Rattle.flow_graph.proofs.lists.Membership.{Contains-flat_map, Contains-range, Contains-first}
+use Rattle.flow_graph.proofs.places.PointLemmas.{places_have_points, points_have_places}
+use Rattle.flow_graph.proofs.paths.Reversal.{reversed_is_well_formed, Contains-map}
+use Rattle.flow_graph.proofs.paths.RunLemmas.{dead_is_safe}
+use Rattle.flow_graph.proofs.places.Standing.{stands}
 
 -- what an edge says of the point that it leaves
 step_of : (program : Program) (point x y : ℕ) (edge : Edge) → IsFrom program point edge → edge ≡ Step x y → (x ≡ point) × IsIn program (procedure_at program point) y

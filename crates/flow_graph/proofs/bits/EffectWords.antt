@@ -8,7 +8,7 @@ use Rattle.flow_graph.specs.code.Effects.{AreDependenceWords, IsEffect, depends,
 use Rattle.flow_graph.specs.Problems.{IsAffected}
 use Rattle.flow_graph.specs.Universes.{Analysis, Reach, Live, Avail, Busy, bits}
 use Rattle.flow_graph.specs.declared.effect.Effect.{Effect}
-use Rattle.flow_graph.proofs.MayWords.{may_gens_are, may_kills_are}
+use Rattle.flow_graph.proofs.bits.MayWords.{may_gens_are, may_kills_are}
 
 -- what is generated or killed is the statement's own, or touched
 generated_from : (analysis : Analysis) (own touched : Bool) → gen_from analysis own touched ≡ true → (own ≡ true) ⊎ (touched ≡ true)

@@ -14,8 +14,8 @@ use Rattle.flow_graph.specs.Paths.{Edge, Ret}
 use Rattle.flow_graph.specs.Points.{points, procedure_at, end_place, end_point, kind_at, point_count, point_of, statement_at}
 use Rattle.flow_graph.specs.ProgramLaws.{IsPlaceOf}
 use Rattle.flow_graph.specs.code.Sites.{AreSites, sites_of}
-use Rattle.flow_graph.proofs.EdgeLemmas.{at_end}
-use Rattle.flow_graph.proofs.PointLemmas.{places_have_points, points_have_places}
+use Rattle.flow_graph.proofs.edges.EdgeLemmas.{at_end}
+use Rattle.flow_graph.proofs.places.PointLemmas.{places_have_points, points_have_places}
 
 -- the procedure of a point, as it is read
 pub record Reads (program : Program) (point : ℕ) (p : Procedure) : Type 0 where

@@ -7,7 +7,7 @@ use Rattle.tac_reader.specs.Programs.{Procedure, Program}
 use Rattle.flow_graph.specs.Points.{Place, size_of, first_point, place_of, procedure_at, end_place, point_of, point_count}
 use Rattle.flow_graph.specs.code.PointTables.{AreFirstPoints, AreProcedures}
 use Rattle.flow_graph.specs.ProgramLaws.{IsPlaceOf}
-use Rattle.flow_graph.proofs.PointLemmas.{points_have_places, places_have_points}
+use Rattle.flow_graph.proofs.places.PointLemmas.{points_have_places, places_have_points}
 
 -- what is read for a point: its procedure p, and that procedure's first point f
 pub record Found (program : Program) (firsts : List ℕ) (point p f : ℕ) : Type 0 where

@@ -6,8 +6,8 @@ use Rattle.flow_graph.specs.code.Effects.{IsEffect, IsNumberedEffect}
 use Rattle.flow_graph.specs.Points.{point_count}
 use Rattle.flow_graph.specs.Universes.{Analysis, Reach, Live, Avail, Busy, definition_at}
 use Rattle.flow_graph.specs.declared.effect.Effect.{Effect}
-use Rattle.flow_graph.proofs.OwnBits.{definition_is_own}
-use Rattle.flow_graph.proofs.Ranges.{flat_map-range_more}
+use Rattle.flow_graph.proofs.bits.OwnBits.{definition_is_own}
+use Rattle.flow_graph.proofs.lists.Ranges.{flat_map-range_more}
 
 pub definitions_more : (program : Program) (n : ℕ)
     → length (flat_map (definition_at program) (range_with_len 0 (n + 1))) ≡ length (flat_map (definition_at program) (range_with_len 0 n)) + length (definition_at program n)

@@ -11,7 +11,7 @@ use Rattle.flow_graph.specs.Problems.{IsWordOf, MayForm, may_gens, may_kills}
 use Rattle.flow_graph.specs.Transfers.{has_operand, is_made_at}
 use Rattle.flow_graph.specs.Universes.{Analysis, Reach, Live, Avail, Busy, Definition, Expr, bits, definitions, expression_at, expressions, same_expression, target_at}
 use Rattle.flow_graph.specs.declared.effect.Effect.{Effect}
-use Rattle.flow_graph.proofs.SetWords.{nat_eq-sym}
+use Rattle.flow_graph.proofs.bits.SetWords.{nat_eq-sym}
 
 -- ---- definitions: what is written and is no own one is killed
 reach_kills : (d : Option Definition) (point : ℕ) (target : Option ℕ)

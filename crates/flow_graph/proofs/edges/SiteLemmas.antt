@@ -8,8 +8,8 @@ use Rattle.tac_reader.specs.declared.program.StmtKind.TheVariants as kind
 use Rattle.flow_graph.specs.Edges.{callees_of, callees_at, calls}
 use Rattle.flow_graph.specs.code.NumberLists.{with_last, AreLists}
 use Rattle.flow_graph.specs.Points.{kind_at, point_count}
-use Rattle.flow_graph.proofs.NumberListLemmas.{put_in_each, filter-range_more}
-use Rattle.flow_graph.proofs.Standing.{stands}
+use Rattle.flow_graph.proofs.lists.NumberListLemmas.{put_in_each, filter-range_more}
+use Rattle.flow_graph.proofs.places.Standing.{stands}
 
 -- what is known of the procedures that a statement may call
 pub record AreCallees (program : Program) (callees : List ℕ) : Type 0 where

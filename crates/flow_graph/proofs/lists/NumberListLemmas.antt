@@ -5,7 +5,7 @@ use Rattle.std.proofs.lemmas.List.{map-set, get_or-map}
 use Rattle.std.proofs.lemmas.List.Elements.{filter-append}
 use Rattle.smallvec.specs.SmallVec.{SmallVec}
 use Rattle.flow_graph.specs.code.NumberLists.{contents, with_last, AreLists}
-use Rattle.flow_graph.proofs.Ranges.{range_more}
+use Rattle.flow_graph.proofs.lists.Ranges.{range_more}
 
 -- one list is longer, and the others stay
 pub put_lists : (lists : List (List ℕ)) (many : ℕ) (list_of : ℕ → List ℕ) (index x : ℕ) → AreLists lists many list_of → index < many

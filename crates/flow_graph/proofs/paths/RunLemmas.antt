@@ -3,9 +3,9 @@ use Rattle.std.proofs.Common.{◌≡◌, ℕ, Bool, true, false, not, ◌&&◌, 
 use Rattle.flow_graph.specs.Paths.{Edge, Step, Call, Ret, source_of, Shape, Transfer, IsEdge, final, IsPath, open_sites_after, value_across, HasBackwardPath, IsBackwardValidPath, sites_before_edge, open_sites_before, value_before, IsWellFormed, reversed_path, reversed_shape}
 use Rattle.flow_graph.specs.Runs.{run_sites_after, IsRun, Accesses, is_unwritten_along, CallsReturn, IsLiveness}
 use Rattle.flow_graph.specs.RunLaws.{ContinuationsAreRuns, FrontsOfRunsAreRuns, WhatFinishesIsNotDoubtful, UndoubtedFinishes, RunsExtend, UndoubtedRunsExtend, DeadIsSafe}
-use Rattle.flow_graph.proofs.PathLemmas.{IsPath-append, path_split, valid_front, open_sites_after-append, open_sites_after-none, some_sites, nat_eq_same, same_site}
-use Rattle.flow_graph.proofs.Reversal.{path_back, open_sites_after-reversed, reversed_path-twice, valid_reversed, reversed_is_well_formed}
-use Rattle.flow_graph.proofs.Splitting.{sites_kept, valid_split, OpenCalls}
+use Rattle.flow_graph.proofs.paths.PathLemmas.{IsPath-append, path_split, valid_front, open_sites_after-append, open_sites_after-none, some_sites, nat_eq_same, same_site}
+use Rattle.flow_graph.proofs.paths.Reversal.{path_back, open_sites_after-reversed, reversed_path-twice, valid_reversed, reversed_is_well_formed}
+use Rattle.flow_graph.proofs.paths.Splitting.{sites_kept, valid_split, OpenCalls}
 
 run_sites_after-none : (path : List Edge) → run_sites_after path None ≡ None
 run_sites_after-none [] = refl

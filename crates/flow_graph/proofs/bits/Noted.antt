@@ -8,7 +8,7 @@ use Rattle.tac_reader.specs.declared.program.Operand.{Operand}
 use Rattle.tac_reader.specs.declared.program.Operand.TheVariants.{Variable, Number}
 use Rattle.flow_graph.specs.Universes.{Expr, Unary, Binary, same_expression, same_operand, noted, some_expression}
 use Rattle.flow_graph.specs.code.Evaluated.{IsNumberOf}
-use Rattle.flow_graph.proofs.ExpressionEquality.{equal_is_same}
+use Rattle.flow_graph.proofs.bits.ExpressionEquality.{equal_is_same}
 use Rattle.flow_graph.specs.contracts.expression.ExprPartialEq.TheImpl as derived
 
 module _ {A : Type 0} where

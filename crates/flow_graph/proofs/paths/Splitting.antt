@@ -2,7 +2,7 @@
 use Rattle.std.proofs.Common.{◌≡◌, ℕ, List, [], ◌∷◌, ◌++◌, Option, Some, None, ◌<◌, inl, inr, refl, sym, ap, ◌∙◌, subst, append_assoc, append-nil}
 use Rattle.flow_graph.specs.Paths.{Edge, Step, Call, Ret, Shape, IsEdge, root, IsPath, open_sites_after, IsValidPath, IsPathFromEntry, IsEnteringPath, IsWellFormed}
 use Rattle.flow_graph.specs.PathLaws.{MatchedReturnsLeaveTheirCallee, StepsJoin, CalleePathsJoin, CallsEnter, ValidPathsSplit, PathsCompose, FrontsAreValid}
-use Rattle.flow_graph.proofs.PathLemmas.{IsPath-append, path_split, open_sites_after-append, open_sites_after-none, open_sites_after-below, some_sites, nat_eq_same, same_site, valid_front}
+use Rattle.flow_graph.proofs.paths.PathLemmas.{IsPath-append, path_split, open_sites_after-append, open_sites_after-none, open_sites_after-below, some_sites, nat_eq_same, same_site, valid_front}
 
 -- a matched path leaves the sites that were open before it as they were
 pub sites_kept : (path : List Edge) → open_sites_after path (Some []) ≡ Some [] → (sites : List ℕ) → open_sites_after path (Some sites) ≡ Some sites

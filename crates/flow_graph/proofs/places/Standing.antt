@@ -8,7 +8,7 @@ use Rattle.tac_reader.specs.declared.program.Stmt.{Stmt}
 use Rattle.tac_reader.specs.declared.program.StmtKind.{StmtKind}
 use Rattle.flow_graph.specs.Points.{place_of, procedure_at, statements_of, statement_at, kind_at, end_place, point_of, point_count}
 use Rattle.flow_graph.specs.ProgramLaws.{IsPlaceOf}
-use Rattle.flow_graph.proofs.PointLemmas.{points_have_places}
+use Rattle.flow_graph.proofs.places.PointLemmas.{points_have_places}
 
 pub All-slice_get : {A : Type 0} (P : A → Type 0) (xs : List A) (i : ℕ) (x : A) → All P xs → slice_get xs i ≡ Some x → P x
 All-slice_get P xs i x all at = subst P (get_or_from_slice_get xs i x x at) (All-get_or P xs i x (slice_get_within xs i x at) all)

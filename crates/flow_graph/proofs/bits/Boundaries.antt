@@ -8,7 +8,7 @@ use Rattle.tac_reader.specs.Programs.{Program}
 use Rattle.flow_graph.specs.Points.{points}
 use Rattle.flow_graph.specs.Transfers.{is_in_boundary}
 use Rattle.flow_graph.specs.Universes.{Definition, Reach, definition_at, dummies, target_at}
-use Rattle.flow_graph.proofs.OwnBits.{added, is_at, is_at-left, is_at-right}
+use Rattle.flow_graph.proofs.bits.OwnBits.{added, is_at, is_at-left, is_at-right}
 
 abbrev is_dummy : Definition → Bool
 is_dummy d = not (is_some d.1)

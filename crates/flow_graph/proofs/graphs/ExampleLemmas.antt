@@ -6,7 +6,7 @@ use Rattle.std.proofs.lemmas.List.Sums.{AllPass-from_list_all}
 use Rattle.std.proofs.lemmas.List.Elements.{All-contains}
 use Rattle.flow_graph.specs.Paths.{Edge, Step, Call, Ret, source_of, target_of, Shape, Transfer, IsEdge, final, IsPath, value_across, value_before, HasBackwardPath, SomeBackwardPathHas, IsWellFormed}
 use Rattle.flow_graph.specs.Runs.{IsDoubtful, CallsReturn}
-use Rattle.flow_graph.proofs.PathLemmas.{nat_eq_same}
+use Rattle.flow_graph.proofs.paths.PathLemmas.{nat_eq_same}
 
 nat_eq_is : (m n : ℕ) → nat_eq m n ≡ true → m ≡ n
 nat_eq_is m n same = grind arith

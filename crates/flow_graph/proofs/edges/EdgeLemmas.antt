@@ -12,9 +12,9 @@ use Rattle.flow_graph.specs.Edges.{label_point, two_steps, edges_of, callees_of,
 use Rattle.flow_graph.specs.Paths.{Edge, Step, Call, Ret}
 use Rattle.flow_graph.specs.Points.{Place, points, place_of, procedure_at, statements_of, statement_at, kind_at, end_place, end_point, entry_point, point_of, point_count}
 use Rattle.flow_graph.specs.ProgramLaws.{IsPlaceOf}
-use Rattle.flow_graph.proofs.Membership.{Contains-one, Contains-cons, Contains-nil, Contains-in_map, Contains-in_flat_map, Contains-flat_map, Contains-in_range, Contains-range}
-use Rattle.flow_graph.proofs.PointLemmas.{places_have_points, points_have_places}
-use Rattle.flow_graph.proofs.Standing.{All-slice_get, slice_get_some, mapped_none, Stands, stands}
+use Rattle.flow_graph.proofs.lists.Membership.{Contains-one, Contains-cons, Contains-nil, Contains-in_map, Contains-in_flat_map, Contains-flat_map, Contains-in_range, Contains-range}
+use Rattle.flow_graph.proofs.places.PointLemmas.{places_have_points, points_have_places}
+use Rattle.flow_graph.proofs.places.Standing.{All-slice_get, slice_get_some, mapped_none, Stands, stands}
 
 -- a point of a procedure
 pub record IsIn (program : Program) (procedure point : ℕ) : Type 0 where

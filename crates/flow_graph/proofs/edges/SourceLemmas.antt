@@ -8,11 +8,11 @@ use Rattle.flow_graph.specs.code.Searching.{sources_among, sources_of}
 use Rattle.flow_graph.specs.code.NumberLists.{with_last, AreLists}
 use Rattle.flow_graph.specs.Paths.{Edge, source_of, target_of}
 use Rattle.flow_graph.specs.Points.{points, point_count}
-use Rattle.flow_graph.proofs.EdgeLemmas.{IsFrom, a_step, a_call, a_return, edges_from_are, edges_are, leaves}
-use Rattle.flow_graph.proofs.GraphLaws.{edges_join_points}
-use Rattle.flow_graph.proofs.Membership.{Contains-first, Contains-nil, Contains-one, Contains-in_flat_map, Contains-flat_map, Contains-in_range, Contains-range}
-use Rattle.flow_graph.proofs.NumberListLemmas.{put_lists}
-use Rattle.flow_graph.proofs.Ranges.{flat_map-range_more}
+use Rattle.flow_graph.proofs.edges.EdgeLemmas.{IsFrom, a_step, a_call, a_return, edges_from_are, edges_are, leaves}
+use Rattle.flow_graph.proofs.graphs.GraphLaws.{edges_join_points}
+use Rattle.flow_graph.proofs.lists.Membership.{Contains-first, Contains-nil, Contains-one, Contains-in_flat_map, Contains-flat_map, Contains-in_range, Contains-range}
+use Rattle.flow_graph.proofs.lists.NumberListLemmas.{put_lists}
+use Rattle.flow_graph.proofs.lists.Ranges.{flat_map-range_more}
 
 -- there are as many lists
 pub length-put_sources : (lists : List (List ℕ)) (x : ℕ) (among : List Edge) → length (fold (λ known edge. with_last known (target_of edge) x) lists among) ≡ length lists

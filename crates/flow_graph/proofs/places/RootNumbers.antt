@@ -6,7 +6,7 @@ use Rattle.std.proofs.lemmas.Slice.Eq.{bytes_eq-Decides}
 use Rattle.tac_reader.specs.Programs.{number_of}
 use Rattle.tac_reader.specs.Sound.{AllDiffer}
 use Rattle.flow_graph.specs.code.Effects.{marks}
-use Rattle.flow_graph.proofs.OwnBits.{is_at, is_at-position, passing}
+use Rattle.flow_graph.proofs.bits.OwnBits.{is_at, is_at-position, passing}
 
 -- a name that differs from all others is found where it stands
 module _ (names : List (List ℕ)) (differ : AllDiffer names) (s : List ℕ) where

@@ -1,0 +1,9 @@
+pub mod Boundaries
+pub mod DefinitionRanges
+pub mod EffectSteps
+pub mod EffectWords
+pub mod ExpressionEquality
+pub mod MayWords
+pub mod Noted
+pub mod OwnBits
+pub mod SetWords

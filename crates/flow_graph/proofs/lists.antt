@@ -1,0 +1,4 @@
+pub mod Counts
+pub mod Membership
+pub mod NumberListLemmas
+pub mod Ranges

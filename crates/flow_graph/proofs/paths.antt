@@ -1,0 +1,5 @@
+pub mod Complement
+pub mod PathLemmas
+pub mod Reversal
+pub mod RunLemmas
+pub mod Splitting
