@@ -1,5 +1,6 @@
 pub mod Boundaries
 pub mod DefinitionRanges
+pub mod Dummies
 pub mod EffectSteps
 pub mod EffectWords
 pub mod ExpressionEquality

@@ -36,12 +36,12 @@ edges_of program point kind.Return = Step point (end_point program (procedure_at
 edges_of program point _ = next_step point
 
 -- the procedures that the statement at a point may call
-abbrev pub callees_of : StmtKind → List ℕ
-callees_of (kind.Call callees) = callees
-callees_of _ = []
+abbrev pub callees_named : StmtKind → List ℕ
+callees_named (kind.Call callees) = callees
+callees_named _ = []
 
 abbrev pub callees_at : Program → ℕ → List ℕ
-callees_at program point = unwrap_or (option_map callees_of (kind_at program point)) []
+callees_at program point = unwrap_or (option_map callees_named (kind_at program point)) []
 
 abbrev pub calls : Program → ℕ → ℕ → Bool
 calls program site procedure = list_any (nat_eq procedure) (callees_at program site)

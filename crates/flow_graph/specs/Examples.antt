@@ -5,16 +5,16 @@ use Rattle.flow_graph.specs.Paths.{Edge, Step, Call, Ret, Shape, Transfer}
 use Rattle.flow_graph.specs.Runs.{Accesses}
 
 -- the definition that the statement at a point makes, where the statements at the others define its variable too
-abbrev pub definition_at : ℕ → List ℕ → Transfer
-definition_at point others = record { gen = λ x y. nat_eq x point; kill = λ x y. list_any (nat_eq x) others; boundary = false }
+abbrev pub definition_made_at : ℕ → List ℕ → Transfer
+definition_made_at point others = record { gen = λ x y. nat_eq x point; kill = λ x y. list_any (nat_eq x) others; boundary = false }
 
 -- the value that a variable has at the program's beginning, where the statements at these points define the variable
 abbrev pub definition_at_entry : List ℕ → Transfer
 definition_at_entry others = record { gen = λ x y. false; kill = λ x y. list_any (nat_eq x) others; boundary = true }
 
 -- an expression in a backward problem: evaluated at these points, an operand assigned at the others
-abbrev pub expression_at : List ℕ → List ℕ → Transfer
-expression_at evaluated assigned = record { gen = λ x y. list_any (nat_eq x) evaluated; kill = λ x y. list_any (nat_eq x) assigned; boundary = false }
+abbrev pub expression_evaluated_at : List ℕ → List ℕ → Transfer
+expression_evaluated_at evaluated assigned = record { gen = λ x y. list_any (nat_eq x) evaluated; kill = λ x y. list_any (nat_eq x) assigned; boundary = false }
 
 -- main: 0 a = 1, 1 call p, 2 print a, 3 a = 2, 4 call p, 5 print a, 6 its end; p: 7 skip, 8 its end
 abbrev pub two_calls : Shape
@@ -29,10 +29,10 @@ two_calls = record {
 
 -- its two definitions of a
 abbrev pub earlier_definition : Transfer
-earlier_definition = definition_at 0 (3 ∷ [])
+earlier_definition = definition_made_at 0 (3 ∷ [])
 
 abbrev pub later_definition : Transfer
-later_definition = definition_at 3 (0 ∷ [])
+later_definition = definition_made_at 3 (0 ∷ [])
 
 -- through both calls, each return to its own site
 abbrev pub right_return : List Edge
@@ -55,7 +55,7 @@ recursive_procedure = record {
 
 -- f's definition of x
 abbrev pub inner_definition : Transfer
-inner_definition = definition_at 6 (0 ∷ [])
+inner_definition = definition_made_at 6 (0 ∷ [])
 
 -- the innermost of three activations jumps to its end, the one around it defines x and returns to the outermost
 abbrev pub through_recursion : List Edge
@@ -75,7 +75,7 @@ recursive_main = record {
 
 -- its definition of a, and the value that a has at the beginning
 abbrev pub only_definition : Transfer
-only_definition = definition_at 1 []
+only_definition = definition_made_at 1 []
 
 abbrev pub value_at_entry : Transfer
 value_at_entry = definition_at_entry (1 ∷ [])
@@ -100,7 +100,7 @@ endless_callee = record {
 
 -- b + c in it
 abbrev pub sum_expression : Transfer
-sum_expression = expression_at (1 ∷ []) []
+sum_expression = expression_evaluated_at (1 ∷ []) []
 
 -- main: 0 call p, 1 print a, 2 call p, 3 print b, 4 its end; p: 5 skip, 6 its end
 abbrev pub two_prints : Shape
@@ -115,7 +115,7 @@ two_prints = record {
 
 -- where a is live in it
 abbrev pub live_first : Transfer
-live_first = expression_at (1 ∷ []) []
+live_first = expression_evaluated_at (1 ∷ []) []
 
 -- from p's entry, out to the first call's site, and from there through the second call
 abbrev pub out_of_first_call : List Edge
@@ -138,7 +138,7 @@ printed_in_loop = record { reads = λ point. nat_eq point 3; writes = λ point. 
 
 -- where x is live in it
 abbrev pub live_in_loop : Transfer
-live_in_loop = expression_at (3 ∷ []) (0 ∷ [])
+live_in_loop = expression_evaluated_at (3 ∷ []) (0 ∷ [])
 
 -- main: 0 x = 1, 1 call p | q, 2 print x, 3 its end; p: 4 x = 2, 5 its end; q: 6 skip, 7 its end
 abbrev pub several_callees : Shape
@@ -153,11 +153,11 @@ several_callees = record {
 
 -- main's definition of x
 abbrev pub outer_definition : Transfer
-outer_definition = definition_at 0 (4 ∷ [])
+outer_definition = definition_made_at 0 (4 ∷ [])
 
 -- p's
 abbrev pub inner_of_first : Transfer
-inner_of_first = definition_at 4 (0 ∷ [])
+inner_of_first = definition_made_at 4 (0 ∷ [])
 
 abbrev pub through_first_callee : List Edge
 through_first_callee = Step 0 1 ∷ Call 1 1 4 ∷ Step 4 5 ∷ Ret 1 5 2 ∷ []

@@ -1,5 +1,5 @@
 -- What is proved of the points, edges and problems of every program that can be read.
-use Rattle.std.specs.Prelude.{◌≡◌, ◌↔◌, ◌/◌, ◌%◌, ◌^◌, ◌<◌, ◌≤◌, ℕ, suc, Bool, if◌then◌else◌, true, false, length, Contains}
+use Rattle.std.specs.Prelude.{◌≡◌, ◌↔◌, ◌/◌, ◌%◌, ◌^◌, ◌<◌, ◌≤◌, ℕ, suc, Bool, if◌then◌else◌, true, false, length, Contains, Some, None, slice_get}
 use Rattle.bit_rows.specs.Words.{has_bit}
 use Rattle.tac_reader.specs.Programs.{Program}
 use Rattle.tac_reader.specs.Sound.{IsSound}
@@ -9,7 +9,7 @@ use Rattle.flow_graph.specs.Paths.{Edge, Call, Ret, source_of, target_of, IsWell
 use Rattle.flow_graph.specs.Points.{point_count, point_of, place_of, end_place, end_point, entry_point, procedure_at}
 use Rattle.flow_graph.specs.Problems.{IsWordOf, MayForm, may_gens, may_kills, may_boundary}
 use Rattle.flow_graph.specs.Runs.{IsDoubtful, ReadsBeforeWriting, CallsReturn, IsLiveness}
-use Rattle.flow_graph.specs.Universes.{Analysis, Live}
+use Rattle.flow_graph.specs.Universes.{Analysis, Live, Definition, definitions}
 
 -- Each place of a procedure has a point, and the point tells the place.
 abbrev pub PlacesHavePoints : Type 0
@@ -95,6 +95,12 @@ StepsHaveStatements =
     → ((may_transfer form.program form.analysis bit).gen x y ≡ may_gens form (if is_backward form.analysis then y else x) bit)
     × ((may_transfer form.program form.analysis bit).kill x y ≡ may_kills form (if is_backward form.analysis then y else x) bit)
     × ((may_transfer form.program form.analysis bit).boundary ≡ may_boundary form bit)
+
+-- The definition of a variable's number is its dummy: the value that it has at the program's beginning.
+abbrev pub DummiesComeFirst : Type 0
+DummiesComeFirst =
+    (program : Program) (variable : ℕ) → variable < length program.variable_names
+    → slice_get (definitions program) variable ≡ Some (let dummy : Definition = (variable, None) in dummy)
 
 -- A word of a set tells each bit of it that is there, and is told by them.
 abbrev pub WordsTellBits : Type 0

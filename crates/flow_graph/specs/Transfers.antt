@@ -10,9 +10,9 @@ use Rattle.tac_reader.specs.declared.program.StmtKind.TheVariants as kind
 use Rattle.flow_graph.specs.Points.{kind_at}
 use Rattle.flow_graph.specs.Universes.{Expr, Unary, Binary, Analysis, Reach, Live, Avail, Busy, Definition, target_at, definitions, expression_at, expressions, same_expression}
 
-abbrev pub is_variable : ℕ → Operand → Bool
-is_variable x (Variable y) = nat_eq x y
-is_variable x (Number n) = false
+abbrev pub names_variable : ℕ → Operand → Bool
+names_variable x (Variable y) = nat_eq x y
+names_variable x (Number n) = false
 
 -- the operands that a statement reads
 abbrev pub operands_of : StmtKind → List Operand
@@ -27,15 +27,15 @@ operands_of _ = []
 
 -- whether the statement at a point reads the variable, and whether it writes it
 abbrev pub reads : Program → ℕ → ℕ → Bool
-reads program point x = list_any (is_variable x) (unwrap_or (option_map operands_of (kind_at program point)) [])
+reads program point x = list_any (names_variable x) (unwrap_or (option_map operands_of (kind_at program point)) [])
 
 abbrev pub writes : Program → ℕ → ℕ → Bool
 writes program point x = unwrap_or (option_map (nat_eq x) (target_at program point)) false
 
 -- whether a variable is an operand of the expression, and whether the statement at a point writes an operand of it
 abbrev pub has_operand : Expr → ℕ → Bool
-has_operand (Unary op y) x = is_variable x y
-has_operand (Binary y op z) x = is_variable x y || is_variable x z
+has_operand (Unary op y) x = names_variable x y
+has_operand (Binary y op z) x = names_variable x y || names_variable x z
 
 abbrev pub changes : Program → ℕ → Expr → Bool
 changes program point e = unwrap_or (option_map (has_operand e) (target_at program point)) false

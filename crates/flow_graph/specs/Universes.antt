@@ -15,15 +15,15 @@ pub use Rattle.flow_graph.specs.declared.analysis.Analysis.TheVariants.{Reach, L
 use Rattle.flow_graph.specs.Points.{points, point_count, kind_at}
 
 -- the variable that a statement defines
-abbrev pub target_of : StmtKind → Option ℕ
-target_of (kind.Copy x y) = Some x
-target_of (kind.Unary x op y) = Some x
-target_of (kind.Binary x y op z) = Some x
-target_of (kind.Read x) = Some x
-target_of _ = None
+abbrev pub defined_variable : StmtKind → Option ℕ
+defined_variable (kind.Copy x y) = Some x
+defined_variable (kind.Unary x op y) = Some x
+defined_variable (kind.Binary x y op z) = Some x
+defined_variable (kind.Read x) = Some x
+defined_variable _ = None
 
 abbrev pub target_at : Program → ℕ → Option ℕ
-target_at program point = option_and_then target_of (kind_at program point)
+target_at program point = option_and_then defined_variable (kind_at program point)
 
 -- A definition: its variable, and the point of the statement that makes it. The dummy definition of a variable stands for
 -- the value at the program's beginning and has no point.

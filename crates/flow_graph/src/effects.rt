@@ -5,7 +5,7 @@ ghost use Rattle.std.specs.Prelude.{◌≡◌, ◌*◌, ◌/◌, ◌<◌, ◌≤
 ghost use Rattle.flow_graph.specs.code.BitTables.{table_has};
 ghost use Rattle.flow_graph.specs.code.Effects.{AreDependenceWords, AreEffects, IsDependence, IsNumberedEffect, depends, marks, owns_numbered};
 ghost use Rattle.flow_graph.specs.Points.{point_count};
-ghost use Rattle.flow_graph.specs.Transfers.{has_operand, is_variable, operands_of, reads};
+ghost use Rattle.flow_graph.specs.Transfers.{has_operand, names_variable, operands_of, reads};
 ghost use Rattle.flow_graph.specs.Universes.{bits, target_at};
 
 use crate::analysis::Analysis;
@@ -19,7 +19,7 @@ use tac_reader::{Operand, StmtKind};
 
 /// The variable that an operand is.
 fn variable(operand: Operand) -> Option<u32>
-    ensures { (x : ℕ) → marks result x ≡ is_variable x operand }
+    ensures { (x : ℕ) → marks result x ≡ names_variable x operand }
 {
     match operand {
         Operand::Variable(variable) => Some(variable),
@@ -29,7 +29,7 @@ fn variable(operand: Operand) -> Option<u32>
 
 /// The variables that a statement reads.
 fn read_variables(kind: &StmtKind) -> (Option<u32>, Option<u32>)
-    ensures { (x : ℕ) → (marks result.0 x || marks result.1 x) ≡ list_any (is_variable x) (operands_of kind.now) }
+    ensures { (x : ℕ) → (marks result.0 x || marks result.1 x) ≡ list_any (names_variable x) (operands_of kind.now) }
 {
     match kind {
         StmtKind::Copy { value, .. } => (variable(*value), None),

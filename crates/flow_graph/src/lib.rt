@@ -47,7 +47,7 @@ pub use program_examples::{
     step_examples,
 };
 pub use program_laws::{
-    dead_variables_are_safe, edges_join_points, graphs_are_well_formed, points_are_places,
-    tables_are_may_forms, words_tell_bits,
+    dead_variables_are_safe, dummies_come_first, edges_join_points, graphs_are_well_formed,
+    points_are_places, tables_are_may_forms, words_tell_bits,
 };
 pub use std::alloc::AllocError as OutOfMemory;

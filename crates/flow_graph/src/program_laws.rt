@@ -1,6 +1,6 @@
 //! Laws of every program's graph and of its four problems: each is the clause of a function without a body.
 
-ghost use Rattle.flow_graph.specs.ProgramLaws.{PlacesHavePoints, PointsHavePlaces, EdgesJoinPoints, GraphsAreWellFormed, MayFormsAreWellFormed, CallsOfProgramsReturn, CallsReturnBehindSites, ReturnsHaveCallsAtSites, LiveIsLiveness, FlagsAreMayForms, MayTablesAreMayForms, MustTablesAreMayForms, DeadVariablesAreSafe, StepsHaveStatements, WordsTellBits, WordsAreTheirBits};
+ghost use Rattle.flow_graph.specs.ProgramLaws.{PlacesHavePoints, PointsHavePlaces, EdgesJoinPoints, GraphsAreWellFormed, MayFormsAreWellFormed, CallsOfProgramsReturn, CallsReturnBehindSites, ReturnsHaveCallsAtSites, LiveIsLiveness, FlagsAreMayForms, MayTablesAreMayForms, MustTablesAreMayForms, DeadVariablesAreSafe, StepsHaveStatements, WordsTellBits, WordsAreTheirBits, DummiesComeFirst};
 
 /// Points and places are one to one.
 pub fn points_are_places()
@@ -35,6 +35,11 @@ pub fn tables_are_may_forms()
 pub fn dead_variables_are_safe()
     ensures liveness { LiveIsLiveness }
     ensures safe { DeadVariablesAreSafe }
+{}
+
+/// The first definitions are the dummies, and each has the number of its variable.
+pub fn dummies_come_first()
+    ensures { DummiesComeFirst }
 {}
 
 /// A word of a set tells each of its bits, and the bits tell the word.

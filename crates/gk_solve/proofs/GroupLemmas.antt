@@ -11,7 +11,7 @@ use Rattle.flow_links.specs.LinkLists.{IsCallLink, IsSiteLink}
 use Rattle.gk_solve.specs.Tables.Brought.{AreBroughtOf, AreSoundBrought, brought_word}
 use Rattle.gk_solve.specs.Tables.Flags.{IsFlagged}
 use Rattle.gk_solve.specs.Tables.Groups.{AreOf, AreSameBut, AreSoundSummaries, IsGroupFrame, IsKeptAcross, IsMadeAcross, IsSummaryCallSettled, group_of, kept_word, made_word, summary_at}
-use Rattle.gk_solve.specs.Tables.Words.{HasBit, IsBrought, IsKept, IsMade, place_gens, place_kills, statement_of}
+use Rattle.gk_solve.specs.Tables.Words.{HasBit, IsBrought, IsKept, IsMade, place_gens, place_kills, step_statement}
 use Rattle.gk_solve.specs.declared.group_frame.GroupFrame.{GroupFrame}
 use Rattle.flow_links.specs.declared.link.CallLink.{CallLink}
 use Rattle.flow_links.specs.declared.link.SiteLink.{SiteLink}
@@ -27,12 +27,12 @@ module _ (width : ℕ) (frame : GroupFrame) (is : IsGroupFrame width frame) wher
   pub same_points : point_count frame.links.now.program ≡ point_count frame.problem.now.program
   same_points = ap (λ (linked : LinkedProgram). point_count linked.program) is.direction
 
-  pub statement_low : (at to point : ℕ) → IsEdge (directed_shape frame.links.now) (Step at to) → point ≡ statement_of frame.links.now.backward at to → point < point_count frame.problem.now.program
+  pub statement_low : (at to point : ℕ) → IsEdge (directed_shape frame.links.now) (Step at to) → point ≡ step_statement frame.links.now.backward at to → point < point_count frame.problem.now.program
   statement_low at to point there point_is =
       let ends = is.numbered.edge_in_range (Step at to) there in
       subst (λ n. point < n) same_points (subst (λ n. n < point_count frame.links.now.program) (sym point_is) (either_end frame.links.now.backward ends.0 ends.1))
     where
-      either_end : (b : Bool) → at < point_count frame.links.now.program → to < point_count frame.links.now.program → statement_of b at to < point_count frame.links.now.program
+      either_end : (b : Bool) → at < point_count frame.links.now.program → to < point_count frame.links.now.program → step_statement b at to < point_count frame.links.now.program
       either_end true first second = second
       either_end false first second = first
 
@@ -41,7 +41,7 @@ module _ (width : ℕ) (frame : GroupFrame) (is : IsGroupFrame width frame) wher
 
   -- the step of a point's statement
   module _ {W : ℕ} (table : List (Summary W)) (sound : AreSoundSummaries (group_of frame width) table) (at to point : ℕ) (there : IsEdge (directed_shape frame.links.now) (Step at to))
-      (point_is : point ≡ statement_of frame.links.now.backward at to) (path : IsFlagged frame.paths.now at) (within : at < length table) (before more : Summary W) (read : before ≡ get_or table at before)
+      (point_is : point ≡ step_statement frame.links.now.backward at to) (path : IsFlagged frame.paths.now at) (within : at < length table) (before more : Summary W) (read : before ≡ get_or table at before)
       (kept : (w k : ℕ) → w < width → k < 64 → has_bit (get_or more.kept w 0) k ≡ (has_bit (get_or before.kept w 0) k && not (place_kills frame.problem.now point (64 * (frame.first + w) + k))))
       (made : (w k : ℕ) → w < width → k < 64 → has_bit (get_or more.made w 0) k
       ≡ (place_gens frame.problem.now point (64 * (frame.first + w) + k) || (has_bit (get_or before.made w 0) k && not (place_kills frame.problem.now point (64 * (frame.first + w) + k))))) where

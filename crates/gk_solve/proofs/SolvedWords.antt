@@ -14,7 +14,7 @@ use Rattle.gk_solve.specs.Equations.{IsInSolution}
 use Rattle.gk_solve.specs.Solved.{SliceTable, AreSolved, AreMeetWords, HasPathFlags, direction_of, word_at}
 use Rattle.gk_solve.specs.Tables.Flags.{ArePathFlags}
 use Rattle.gk_solve.specs.Tables.Groups.{AreEffectWords, IsGroupFrame, made_word}
-use Rattle.gk_solve.specs.Tables.Words.{HasBit, place_boundary, place_gens, place_kills, place_transfer, statement_of}
+use Rattle.gk_solve.specs.Tables.Words.{HasBit, place_boundary, place_gens, place_kills, place_transfer, step_statement}
 use Rattle.gk_solve.specs.declared.group_frame.GroupFrame.{GroupFrame}
 use Rattle.gk_solve.specs.declared.summary.Summary.{Summary}
 use Rattle.gk_solve.proofs.Least.{bits_are_apart}
@@ -24,8 +24,8 @@ agrees : (form : MayForm) (bit : ℕ) → bit < bits_of form.program form.analys
     → AgreesOnSteps (may_shape form.program form.analysis) (place_transfer (is_backward form.analysis) form bit) (may_transfer form.program form.analysis bit)
 unfolding place_gens place_kills place_boundary
 agrees form bit below = record {
-  same_gen = λ x y edge. ap (λ b. b && may_gens form (statement_of (is_backward form.analysis) x y) bit) (lt-ltb bit (bits_of form.program form.analysis) below) ∙ sym ((steps_have_statements form x y bit).0);
-  same_kill = λ x y edge. ap (λ b. b && may_kills form (statement_of (is_backward form.analysis) x y) bit) (lt-ltb bit (bits_of form.program form.analysis) below) ∙ sym ((steps_have_statements form x y bit).1);
+  same_gen = λ x y edge. ap (λ b. b && may_gens form (step_statement (is_backward form.analysis) x y) bit) (lt-ltb bit (bits_of form.program form.analysis) below) ∙ sym ((steps_have_statements form x y bit).0);
+  same_kill = λ x y edge. ap (λ b. b && may_kills form (step_statement (is_backward form.analysis) x y) bit) (lt-ltb bit (bits_of form.program form.analysis) below) ∙ sym ((steps_have_statements form x y bit).1);
   same_boundary = ap (λ b. b && may_boundary form bit) (lt-ltb bit (bits_of form.program form.analysis) below) ∙ sym ((steps_have_statements form 0 0 bit).2);
 }
 

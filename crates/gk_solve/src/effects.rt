@@ -4,7 +4,7 @@ ghost use Rattle.bit_rows.specs.Words.{has_bit};
 ghost use Rattle.flow_graph.specs.Paths.{Shape};
 ghost use Rattle.flow_graph.specs.Points.{point_count};
 ghost use Rattle.gk_solve.specs.Tables.Groups.{AreEffectWords, IsGroupFrame, IsIdle, IsKeptAcross, IsMadeAcross, group_of};
-ghost use Rattle.gk_solve.specs.Tables.Words.{place_gens, place_kills, statement_of};
+ghost use Rattle.gk_solve.specs.Tables.Words.{place_gens, place_kills, step_statement};
 
 use crate::OutOfMemory;
 use crate::group_frame::GroupFrame;

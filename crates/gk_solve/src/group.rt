@@ -12,7 +12,7 @@ ghost use Rattle.work_list.specs.Marks.{IsMarked, AreClear};
 ghost use Rattle.gk_solve.specs.Tables.Flags.{IsFlagged};
 ghost use Rattle.gk_solve.specs.Tables.Groups.{AreCompleteSummaries, AreJoined, AreOf, AreSameBut, AreSoundSummaries, IsGroupFrame, IsSummaryCallSettled, IsSummaryClosedAt, IsWoken, SummarySpreads, group_of, kept_word, made_word, room_of_summary};
 ghost use Rattle.gk_solve.specs.Tables.Visits.{IsSettled};
-ghost use Rattle.gk_solve.specs.Tables.Words.{HasBit, IsKept, IsMade, statement_of};
+ghost use Rattle.gk_solve.specs.Tables.Words.{HasBit, IsKept, IsMade, step_statement};
 
 use crate::effects::across;
 use crate::group_frame::GroupFrame;
@@ -79,7 +79,7 @@ fn put<const W: usize>(
 
 // The point of a step's statement.
 fn statement_point(backward: bool, from: u32, to: u32) -> u32
-    ensures { result ≡ statement_of backward from to }
+    ensures { result ≡ step_statement backward from to }
 {
     if backward { to } else { from }
 }

@@ -14,7 +14,7 @@ use Rattle.tac_reader.specs.declared.program.Stmt.{Stmt}
 use Rattle.tac_reader.specs.declared.program.StmtKind.{StmtKind}
 use Rattle.tac_reader.specs.declared.program.StmtKind.TheVariants as kind
 use Rattle.flow_graph.specs.Points.{kind_at, point_count, points, statement_at}
-use Rattle.flow_graph.specs.Transfers.{is_variable, operands_of, reads}
+use Rattle.flow_graph.specs.Transfers.{names_variable, operands_of, reads}
 use Rattle.flow_graph.specs.Universes.{bits, evaluated_at, definition_at, dummies, Definition}
 use Rattle.flow_graph.specs.declared.analysis.Analysis.{Analysis}
 use Rattle.flow_graph.specs.declared.analysis.Analysis.TheVariants.{Reach}
@@ -81,27 +81,27 @@ variables_have_dummies program =
     omega (arith, so_many, length-append (dummies program) (flat_map (definition_at program) (points program)))
 
 -- a variable that a sound operand reads is there
-operand_there : (variables x : ℕ) (y : Operand) → IsSoundOperand variables y → is_variable x y ≡ true → x < variables
+operand_there : (variables x : ℕ) (y : Operand) → IsSoundOperand variables y → names_variable x y ≡ true → x < variables
 operand_there variables x (Variable y) sound reading =
     let same : x ≡ y = grind arith in
     omega (arith, same, sound)
 operand_there variables x (Number n) sound reading = absurd (cc reading)
 
-one_there : (variables x : ℕ) (y : Operand) → IsSoundOperand variables y → list_any (is_variable x) (y ∷ []) ≡ true → x < variables
-one_there variables x y sound reading = by_test (is_variable x y) refl reading
+one_there : (variables x : ℕ) (y : Operand) → IsSoundOperand variables y → list_any (names_variable x) (y ∷ []) ≡ true → x < variables
+one_there variables x y sound reading = by_test (names_variable x y) refl reading
   where
-    by_test : (b : Bool) → is_variable x y ≡ b → (b || false) ≡ true → x < variables
+    by_test : (b : Bool) → names_variable x y ≡ b → (b || false) ≡ true → x < variables
     by_test true is any = operand_there variables x y sound is
     by_test false is any = absurd (cc any)
 
-two_there : (variables x : ℕ) (y z : Operand) → IsSoundOperand variables y → IsSoundOperand variables z → list_any (is_variable x) (y ∷ z ∷ []) ≡ true → x < variables
-two_there variables x y z left right reading = by_test (is_variable x y) refl reading
+two_there : (variables x : ℕ) (y z : Operand) → IsSoundOperand variables y → IsSoundOperand variables z → list_any (names_variable x) (y ∷ z ∷ []) ≡ true → x < variables
+two_there variables x y z left right reading = by_test (names_variable x y) refl reading
   where
-    by_test : (b : Bool) → is_variable x y ≡ b → (b || list_any (is_variable x) (z ∷ [])) ≡ true → x < variables
+    by_test : (b : Bool) → names_variable x y ≡ b → (b || list_any (names_variable x) (z ∷ [])) ≡ true → x < variables
     by_test true is any = operand_there variables x y left is
     by_test false is any = one_there variables x z right any
 
-read_there : (program : Program) (point x : ℕ) (k : StmtKind) → Stands program point k → list_any (is_variable x) (operands_of k) ≡ true → x < length program.variable_names
+read_there : (program : Program) (point x : ℕ) (k : StmtKind) → Stands program point k → list_any (names_variable x) (operands_of k) ≡ true → x < length program.variable_names
 read_there program point x (kind.Copy t y) stand reading = one_there (length program.variable_names) x y stand.sound.1 reading
 read_there program point x (kind.Unary t o y) stand reading = one_there (length program.variable_names) x y stand.sound.operand reading
 read_there program point x (kind.Binary t y o z) stand reading = two_there (length program.variable_names) x y z stand.sound.left stand.sound.right reading
@@ -118,7 +118,7 @@ read_there program point x kind.Skip stand reading = absurd (cc reading)
 -- The variables that a statement reads, in order and each once
 pub record AreRead (k : StmtKind) (variables : List ℕ) : Type 0 where
   pub rising : IsStrictlyIncreasing variables
-  pub read : (variable : ℕ) → list_any (nat_eq variable) variables ≡ list_any (is_variable variable) (operands_of k)
+  pub read : (variable : ℕ) → list_any (nat_eq variable) variables ≡ list_any (names_variable variable) (operands_of k)
 
 pub variables_are_there : (program : Program) (point : ℕ) (k : StmtKind) (variables : List ℕ) → IsSound program → point < point_count program → kind_at program point ≡ Some k → AreRead k variables
     → (x : ℕ) → list_any (nat_eq x) variables ≡ true → x < length program.variable_names
@@ -140,7 +140,7 @@ unset_are program known point k variables sound below at are =
     (filter (known.reach.contains point))
     (filter_rising (length program.variable_names) 0 variables (reads program point) (rises variables are.rising)
     (λ x any. omega (arith, variables_are_there program point k variables sound below at are x any))
-    (λ x above. are.read x ∙ ap (λ o. list_any (is_variable x) (unwrap_or (option_map operands_of o) [])) (sym at)))
+    (λ x above. are.read x ∙ ap (λ o. list_any (names_variable x) (unwrap_or (option_map operands_of o) [])) (sym at)))
 
 -- the expression that the statement evaluates, where it is available
 pub computed_is : (program : Program) (known : Knowledge) (point bit : ℕ) → evaluated_at program point ≡ Some bit → known.avail.contains point bit ≡ true

@@ -3,7 +3,7 @@
 ghost use Rattle.std.specs.Prelude.{◌≡◌, ℕ, [], ◌∷◌, nat_eq};
 ghost use Rattle.std.specs.List.{list_any};
 ghost use Rattle.std.specs.List.Sorted.{IsStrictlyIncreasing};
-ghost use Rattle.flow_graph.specs.Transfers.{is_variable, operands_of};
+ghost use Rattle.flow_graph.specs.Transfers.{names_variable, operands_of};
 ghost use Rattle.tacflow.specs.Operands.{numbers_of};
 ghost use Rattle.tacflow.specs.Reports.{assigned as assigned_by, is_test as is_test_of};
 
@@ -32,7 +32,7 @@ fn read_of_two(left: u32, right: u32) -> VariablesRead
 
 fn read_by_operand(operand: Operand) -> VariablesRead
     ensures rising { IsStrictlyIncreasing (numbers_of result) }
-    ensures read { (variable : ℕ) → list_any (nat_eq variable) (numbers_of result) ≡ list_any (is_variable variable) (operand ∷ []) }
+    ensures read { (variable : ℕ) → list_any (nat_eq variable) (numbers_of result) ≡ list_any (names_variable variable) (operand ∷ []) }
 {
     match operand {
         Operand::Variable(variable) => VariablesRead::One(variable),
@@ -42,7 +42,7 @@ fn read_by_operand(operand: Operand) -> VariablesRead
 
 fn read_by_operands(left: Operand, right: Operand) -> VariablesRead
     ensures rising { IsStrictlyIncreasing (numbers_of result) }
-    ensures read { (variable : ℕ) → list_any (nat_eq variable) (numbers_of result) ≡ list_any (is_variable variable) (left ∷ right ∷ []) }
+    ensures read { (variable : ℕ) → list_any (nat_eq variable) (numbers_of result) ≡ list_any (names_variable variable) (left ∷ right ∷ []) }
 {
     match left {
         Operand::Number(_) => read_by_operand(right),
@@ -56,7 +56,7 @@ fn read_by_operands(left: Operand, right: Operand) -> VariablesRead
 /// The variables that a statement reads.
 pub(crate) fn variables_read(kind: &StmtKind) -> VariablesRead
     ensures rising { IsStrictlyIncreasing (numbers_of result) }
-    ensures read { (variable : ℕ) → list_any (nat_eq variable) (numbers_of result) ≡ list_any (is_variable variable) (operands_of kind.now) }
+    ensures read { (variable : ℕ) → list_any (nat_eq variable) (numbers_of result) ≡ list_any (names_variable variable) (operands_of kind.now) }
 {
     match kind {
         StmtKind::Copy { value, .. } => read_by_operand(*value),

@@ -14,8 +14,8 @@ use Rattle.tacflow_c.specs.declared.fault.Fault.TheVariants as fault
 use Rattle.tacflow_c.specs.declared.fault.Place.{Place}
 
 -- a refusal by its numbers
-abbrev pub place_of : Refusal → Place
-place_of refusal = record { number = number_of_kind refusal.kind; line = refusal.line; column = refusal.column }
+abbrev pub refusal_place : Refusal → Place
+refusal_place refusal = record { number = number_of_kind refusal.kind; line = refusal.line; column = refusal.column }
 
 -- The text is a program whose graph is within its limits.
 abbrev pub HasGraph : List ℕ → Type 0
@@ -84,7 +84,7 @@ fault_in (Err fault) = Some fault
 
 -- where a text is refused, once a call has told its fault
 abbrev pub place_after : Option Fault → Place → Place
-place_after (Some (fault.Refused refusal)) old = place_of refusal
+place_after (Some (fault.Refused refusal)) old = refusal_place refusal
 place_after _ old = old
 
 -- Without a fault the answer holds; with one all is as it was, and it has a cause.

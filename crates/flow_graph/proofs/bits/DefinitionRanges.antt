@@ -6,7 +6,7 @@ use Rattle.tac_reader.specs.Sound.{IsSound, IsSoundStatement}
 use Rattle.tac_reader.specs.declared.program.StmtKind.{StmtKind}
 use Rattle.tac_reader.specs.declared.program.StmtKind.TheVariants as kind
 use Rattle.flow_graph.specs.Points.{points, point_count, kind_at}
-use Rattle.flow_graph.specs.Universes.{Definition, definition_at, definitions, dummies, target_at, target_of, IsDefinitionIn}
+use Rattle.flow_graph.specs.Universes.{Definition, definition_at, definitions, dummies, target_at, defined_variable, IsDefinitionIn}
 use Rattle.std.proofs.lemmas.List.Elements.{Contains-append_cases}
 use Rattle.flow_graph.proofs.lists.Membership.{Contains-first, Contains-later, Contains-nil, Contains-one, Contains-in_map, Contains-in_flat_map, Contains-in_range}
 use Rattle.flow_graph.proofs.places.Standing.{stands}
@@ -17,14 +17,14 @@ slice_get_contains (y ∷ xs) zero x at = subst (Contains (y ∷ xs)) (cc at) (C
 slice_get_contains (y ∷ xs) (suc i) x at = Contains-later y xs x (slice_get_contains xs i x at)
 
 -- what a sound statement sets is there
-target_there : (variables labels procedures : ℕ) (k : StmtKind) (x : ℕ) → IsSoundStatement variables labels procedures k → target_of k ≡ Some x → x < variables
+target_there : (variables labels procedures : ℕ) (k : StmtKind) (x : ℕ) → IsSoundStatement variables labels procedures k → defined_variable k ≡ Some x → x < variables
 target_there variables labels procedures (kind.Copy y z) x sound is = subst (λ v. v < variables) (cc is) sound.0
 target_there variables labels procedures (kind.Unary y o z) x sound is = subst (λ v. v < variables) (cc is) sound.target
 target_there variables labels procedures (kind.Binary y l o r) x sound is = subst (λ v. v < variables) (cc is) sound.target
 target_there variables labels procedures (kind.Read y) x sound is = subst (λ v. v < variables) (cc is) sound
 target_there variables labels procedures _ x sound is = absurd (cc is)
 
-at_target : (program : Program) (point : ℕ) (k : Option StmtKind) (x : ℕ) → option_and_then target_of k ≡ Some x → (s : StmtKind) × (k ≡ Some s) × (target_of s ≡ Some x)
+at_target : (program : Program) (point : ℕ) (k : Option StmtKind) (x : ℕ) → option_and_then defined_variable k ≡ Some x → (s : StmtKind) × (k ≡ Some s) × (defined_variable s ≡ Some x)
 at_target program point None x is = absurd (cc is)
 at_target program point (Some s) x is = (s, refl, is)
 

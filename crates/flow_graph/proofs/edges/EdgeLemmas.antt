@@ -8,7 +8,7 @@ use Rattle.tac_reader.specs.declared.program.Label.{Label}
 use Rattle.tac_reader.specs.declared.program.Stmt.{Stmt}
 use Rattle.tac_reader.specs.declared.program.StmtKind.{StmtKind}
 use Rattle.tac_reader.specs.declared.program.StmtKind.TheVariants as kind
-use Rattle.flow_graph.specs.Edges.{label_point, two_steps, edges_of, callees_of, callees_at, calls, return_to, returns_of, edges_from, edges}
+use Rattle.flow_graph.specs.Edges.{label_point, two_steps, edges_of, callees_named, callees_at, calls, return_to, returns_of, edges_from, edges}
 use Rattle.flow_graph.specs.Paths.{Edge, Step, Call, Ret}
 use Rattle.flow_graph.specs.Points.{Place, points, place_of, procedure_at, statements_of, statement_at, kind_at, end_place, end_point, entry_point, point_of, point_count}
 use Rattle.flow_graph.specs.ProgramLaws.{IsPlaceOf}
@@ -86,7 +86,7 @@ calls_are : (program : Program) (point : ℕ) (callees : List ℕ) (edge : Edge)
     → Contains (map (λ callee. Call point point (entry_point program callee)) callees) edge → IsFrom program point edge
 calls_are program point callees edge is there at =
     let (callee, among, same) = Contains-in_map (λ callee. Call point point (entry_point program callee)) callees edge at in
-    let listed : callees_at program point ≡ callees = ap (λ o. unwrap_or (option_map callees_of o) []) is in
+    let listed : callees_at program point ≡ callees = ap (λ o. unwrap_or (option_map callees_named o) []) is in
     let calling : calls program point callee ≡ true = ap (list_any (nat_eq callee)) listed ∙ any_of callee callees among in
     subst (IsFrom program point) (sym same) (a_call callee (All-Contains (λ p. p < length program.procedures) callees callee there among) calling)
 

@@ -5,7 +5,7 @@ use Rattle.tac_reader.specs.Programs.{Program}
 use Rattle.tac_reader.specs.Sound.{IsSound, AllDiffer}
 use Rattle.tac_reader.specs.declared.program.StmtKind.{StmtKind}
 use Rattle.tac_reader.specs.declared.program.StmtKind.TheVariants as kind
-use Rattle.flow_graph.specs.Edges.{callees_of, callees_at, calls}
+use Rattle.flow_graph.specs.Edges.{callees_named, callees_at, calls}
 use Rattle.flow_graph.specs.code.NumberLists.{with_last, AreLists}
 use Rattle.flow_graph.specs.Points.{kind_at, point_count}
 use Rattle.flow_graph.proofs.lists.NumberListLemmas.{put_in_each, filter-range_more}
@@ -22,7 +22,7 @@ no_callees program = record { there = λ k d below. absurd (omega arith); differ
 pub callees_are : (program : Program) (point : ℕ) → IsSound program → point < point_count program → AreCallees program (callees_at program point)
 callees_are program point sound below = by_kind (kind_at program point) refl
   where
-    by_kind : (k : Option StmtKind) → kind_at program point ≡ k → AreCallees program (unwrap_or (option_map callees_of k) [])
+    by_kind : (k : Option StmtKind) → kind_at program point ≡ k → AreCallees program (unwrap_or (option_map callees_named k) [])
     by_kind None is = no_callees program
     by_kind (Some (kind.Call callees)) is = let stand = stands program sound point (kind.Call callees) below is in record { there = stand.sound.there; differ = stand.sound.differ }
     by_kind (Some (kind.Copy x y)) is = no_callees program

@@ -10,11 +10,11 @@ use Rattle.tac_reader.specs.declared.program.Stmt.{Stmt}
 use Rattle.tac_reader.specs.declared.program.StmtKind.{StmtKind}
 use Rattle.tac_reader.specs.declared.program.StmtKind.TheVariants as kind
 use Rattle.flow_graph.specs.Analyses.{main_procedure, shape_of, transfer_of, accesses_of}
-use Rattle.flow_graph.specs.Edges.{callees_of, callees_at, calls, edges_of, edges_from, edges, return_to, returns_of}
+use Rattle.flow_graph.specs.Edges.{callees_named, callees_at, calls, edges_of, edges_from, edges, return_to, returns_of}
 use Rattle.flow_graph.specs.Paths.{Edge, Step, Call, Ret, source_of, target_of, IsEdge}
 use Rattle.flow_graph.specs.Points.{Place, points, procedure_at, kind_at, statements_of, end_place, end_point, entry_point, point_count}
 use Rattle.flow_graph.specs.ProgramLaws.{EdgesJoinPoints, GraphsAreWellFormed, MayFormsAreWellFormed, CallsOfProgramsReturn, CallsReturnBehindSites, ReturnsHaveCallsAtSites, LiveIsLiveness, DeadVariablesAreSafe}
-use Rattle.flow_graph.specs.Transfers.{reads, operands_of, is_variable}
+use Rattle.flow_graph.specs.Transfers.{reads, operands_of, names_variable}
 use Rattle.flow_graph.specs.Universes.{Reach, Live, Avail, Busy}
 use Rattle.flow_graph.proofs.edges.EdgeLemmas.{IsIn, IsFrom, a_step, a_call, a_return, in_procedure, next_in, edges_are, leaves}
 use Rattle.flow_graph.proofs.lists.Membership.{Contains-flat_map, Contains-range, Contains-first}
@@ -64,7 +64,7 @@ return_of program point site x y edge (a_return other below calling none ends) s
 pub a_site_calls : (program : Program) (site procedure : ℕ) → calls program site procedure ≡ true → (callees : List ℕ) × (kind_at program site ≡ Some (kind.Call callees))
 a_site_calls program site procedure calling = by_kind (kind_at program site) refl calling
   where
-    by_kind : (k : Option StmtKind) → kind_at program site ≡ k → list_any (nat_eq procedure) (unwrap_or (option_map callees_of k) []) ≡ true
+    by_kind : (k : Option StmtKind) → kind_at program site ≡ k → list_any (nat_eq procedure) (unwrap_or (option_map callees_named k) []) ≡ true
         → (callees : List ℕ) × (kind_at program site ≡ Some (kind.Call callees))
     by_kind None is any = absurd (cc any)
     by_kind (Some (kind.Copy x y)) is any = absurd (cc any)
@@ -178,7 +178,7 @@ has_call program site procedure below calling =
     let edge : Edge = Call site site (entry_point program procedure) in
     let enter = λ (callee : ℕ). Call site site (entry_point program callee) in
     let (callees, is) = a_site_calls program site procedure calling in
-    let listed : callees_at program site ≡ callees = ap (λ o. unwrap_or (option_map callees_of o) []) is in
+    let listed : callees_at program site ≡ callees = ap (λ o. unwrap_or (option_map callees_named o) []) is in
     let among : Contains callees procedure = Contains-from_any {eq = nat_eq} (λ x y same. grind arith) procedure callees (sym (ap (list_any (nat_eq procedure)) listed) ∙ calling) in
     let from : edges_from program site ≡ map enter callees =
     ap (λ k. elim k [ Some k ↦ edges_of program site k | None ↦ returns_of program (procedure_at program site) ]) is in
@@ -203,8 +203,8 @@ returns_have_calls_at_sites program site x y z sound is_return =
     )
 
 reads_of : (program : Program) (point variable : ℕ) (k : Option StmtKind) → kind_at program point ≡ k
-    → reads program point variable ≡ list_any (is_variable variable) (unwrap_or (option_map operands_of k) [])
-reads_of program point variable k is = ap (λ o. list_any (is_variable variable) (unwrap_or (option_map operands_of o) [])) is
+    → reads program point variable ≡ list_any (names_variable variable) (unwrap_or (option_map operands_of k) [])
+reads_of program point variable k is = ap (λ o. list_any (names_variable variable) (unwrap_or (option_map operands_of o) [])) is
 
 -- only steps leave a statement that reads
 reader_steps_of : (program : Program) (point variable : ℕ) (edge : Edge) → IsFrom program point edge → reads program point variable ≡ true → (x : ℕ) × (y : ℕ) × (edge ≡ Step x y)

@@ -8,7 +8,7 @@ use Rattle.tac_reader.specs.declared.program.StmtKind.{StmtKind}
 use Rattle.tac_reader.specs.declared.program.StmtKind.TheVariants as kind
 use Rattle.flow_graph.specs.Limits.{HasFewBits}
 use Rattle.flow_graph.specs.Points.{points, kind_at}
-use Rattle.flow_graph.specs.Universes.{Expr, Definition, Analysis, Reach, Live, Avail, Busy, bits, target_of, definition_at, dummies, definitions, expression_of, expression_at, some_expression, noted, expressions}
+use Rattle.flow_graph.specs.Universes.{Expr, Definition, Analysis, Reach, Live, Avail, Busy, bits, defined_variable, definition_at, dummies, definitions, expression_of, expression_at, some_expression, noted, expressions}
 use Rattle.flow_graph.proofs.bits.Noted.{one_more_noted}
 
 -- what a statement that writes a variable defines
@@ -16,7 +16,7 @@ abbrev defined : ℕ → Option ℕ → List Definition
 defined point target = elim target [ Some x ↦ (x, Some point) ∷ [] | None ↦ [] ]
 
 -- what evaluates an expression defines a variable
-evaluates_defines : (point : ℕ) (k : Option StmtKind) → length (some_expression (option_and_then expression_of k)) ≤ length (defined point (option_and_then target_of k))
+evaluates_defines : (point : ℕ) (k : Option StmtKind) → length (some_expression (option_and_then expression_of k)) ≤ length (defined point (option_and_then defined_variable k))
 evaluates_defines point None = omega arith
 evaluates_defines point (Some (kind.Copy x y)) = omega arith
 evaluates_defines point (Some (kind.Unary x o y)) = omega arith

@@ -11,8 +11,8 @@ use Rattle.flow_links.specs.Shapes.{after_site}
 use Rattle.gk_solve.specs.Tables.Flags.{IsFlagged}
 
 -- the point of a step's statement: its beginning in a program's own direction, its end where it is reversed
-abbrev pub statement_of : Bool → ℕ → ℕ → ℕ
-statement_of backward x y = if backward then y else x
+abbrev pub step_statement : Bool → ℕ → ℕ → ℕ
+step_statement backward x y = if backward then y else x
 
 -- the step of the statement at a point generates a bit that is there
 unfoldable pub place_gens : MayForm → ℕ → ℕ → Bool
@@ -29,8 +29,8 @@ place_boundary form bit = nat_lt bit (bits_of form.program form.analysis) && may
 -- A place's transfer: that of the bit it stands for, and nothing past the last bit.
 abbrev pub place_transfer : Bool → MayForm → ℕ → Transfer
 place_transfer backward form bit = record {
-  gen = λ x y. place_gens form (statement_of backward x y) bit;
-  kill = λ x y. place_kills form (statement_of backward x y) bit;
+  gen = λ x y. place_gens form (step_statement backward x y) bit;
+  kill = λ x y. place_kills form (step_statement backward x y) bit;
   boundary = place_boundary form bit;
 }
 
