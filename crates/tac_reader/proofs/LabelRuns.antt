@@ -1,5 +1,5 @@
 -- Labels, one line after another.
-use Rattle.std.proofs.Common.{◌≡◌, ℕ, zero, suc, ◌+◌, ◌-◌, ◌*◌, ◌/◌, ◌<◌, ◌≤◌, Bool, true, false, List, [], ◌∷◌, ◌++◌, length, map, drop, refl, sym, ap, ◌∙◌, subst, arith, slice_index_or, length-append, append_assoc, drop-drop, Bor, true≢false, if◌then◌else◌, ◌&&◌}
+use Rattle.std.proofs.Common.{◌≡◌, ℕ, zero, suc, ◌+◌, ◌*◌, ◌<◌, ◌≤◌, Bool, true, false, List, [], ◌∷◌, ◌++◌, length, map, drop, refl, sym, ap, ◌∙◌, subst, arith, slice_index_or, length-append, append_assoc, drop-drop, true≢false, if◌then◌else◌, ◌&&◌}
 use Rattle.std.specs.List.Sorted.{IsNonDecreasing}
 use Rattle.std.proofs.lemmas.List.{at_drop_more}
 use Rattle.tac_reader.specs.Tokens.{Token}
@@ -9,6 +9,7 @@ use Rattle.tac_reader.specs.Procedures.{labels_at}
 use Rattle.tac_reader.specs.Programs.{label_places, labels_from, LabelsRise}
 use Rattle.tac_reader.specs.Views.{token_view, tokens_view, starts_label}
 use Rattle.tac_reader.specs.declared.program.Label.{Label}
+use Rattle.tac_reader.specs.declared.formed.Line.{Line}
 use Rattle.tac_reader.specs.declared.token.Token.{Token as Lexed}
 use Rattle.tac_reader.proofs.StatementRuns.{line_views}
 
@@ -91,13 +92,12 @@ labels_rise labels body e =
     subst IsNonDecreasing (sym (ap (map (λ l. l.place)) e ∙ places_are 0 (label_places 0 body))) (rising 0 (label_places 0 body) (places_rise 0 body))
 
 -- One line of the code's more.
-pub lines_on : (text : List ℕ) (lines : List (Bor (List Lexed))) (at : ℕ) (d : Bor (List Lexed)) (tokens : List Lexed) (labels pushed : List Label) (place named next : ℕ) (whole : List Label) → at < length lines → tokens_view text tokens ≡ behind_labels (tokens_view text (slice_index_or lines at d).now) → length (slice_index_or lines at d).now ≡ length tokens + 2 * length (labels_of (tokens_view text (slice_index_or lines at d).now)) → pushed ≡ labels ++ labels_at (length labels) named ((length (slice_index_or lines at d).now - length tokens) / 2) → named ≡ place → next ≡ place + length (unless_empty (tokens_view text tokens)) → labels ++ labels_from (length labels) (label_places place (line_views text (drop at lines))) ≡ whole → pushed ++ labels_from (length pushed) (label_places next (line_views text (drop (at + 1) lines))) ≡ whole
-lines_on text lines at d tokens labels pushed place named next whole below behind sizes added here moved before =
+pub lines_on : (text : List ℕ) (lines : List Line) (at : ℕ) (d : Line) (tokens : List Lexed) (labels pushed : List Label) (place named next count : ℕ) (whole : List Label) → at < length lines → tokens_view text tokens ≡ behind_labels (tokens_view text (slice_index_or lines at d).tokens.now) → count ≡ length (labels_of (tokens_view text (slice_index_or lines at d).tokens.now)) → pushed ≡ labels ++ labels_at (length labels) named count → named ≡ place → next ≡ place + length (unless_empty (tokens_view text tokens)) → labels ++ labels_from (length labels) (label_places place (line_views text (drop at lines))) ≡ whole → pushed ++ labels_from (length pushed) (label_places next (line_views text (drop (at + 1) lines))) ≡ whole
+lines_on text lines at d tokens labels pushed place named next count whole below behind counted added here moved before =
     let line = slice_index_or lines at d in
-    let count : (length line.now - length tokens) / 2 ≡ length (labels_of (tokens_view text line.now)) = omega (arith, sizes) in
-    line_on labels pushed place next ((length line.now - length tokens) / 2) (tokens_view text line.now) (line_views text (drop (at + 1) lines)) whole
-    (added ∙ ap (λ p. labels ++ labels_at (length labels) p ((length line.now - length tokens) / 2)) here)
-    count
+    line_on labels pushed place next count (tokens_view text line.tokens.now) (line_views text (drop (at + 1) lines)) whole
+    (added ∙ ap (λ p. labels ++ labels_at (length labels) p count) here)
+    counted
     (moved ∙ ap (λ ts. place + length (unless_empty ts)) behind)
     (sym (at_drop_more (λ rest. labels ++ labels_from (length labels) (label_places place (line_views text rest))) lines at d below) ∙ before)
 

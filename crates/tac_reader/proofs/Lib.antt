@@ -18,6 +18,7 @@ pub mod FaultPlaces
 pub mod LexSteps
 pub mod Rows
 pub mod StatementWords
+pub mod FormedLines
 pub mod BuiltWords
 pub mod LabelPlaces
 pub mod ListingTexts

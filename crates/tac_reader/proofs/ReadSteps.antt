@@ -1,5 +1,5 @@
 -- From the steps of reading to the text's program.
-use Rattle.std.proofs.Common.{◌≡◌, ℕ, List, [], ◌∷◌, map, refl, sym, ap, ◌∙◌, Some, None, Bor, false, length, ◌≤◌}
+use Rattle.std.proofs.Common.{◌≡◌, ℕ, List, [], ◌∷◌, map, refl, sym, ap, ◌∙◌, Some, None, false, length, ◌≤◌}
 use Rattle.tac_reader.specs.Tokens.{rows}
 use Rattle.tac_reader.specs.Sections.{Section, sections, sections_in, token_lines, titles}
 use Rattle.tac_reader.specs.Programs.{Program, program_of, procedures_from, names_in, variables_in}
@@ -11,14 +11,14 @@ use Rattle.tac_reader.proofs.NameFaults.{first_1, name_fault}
 use Rattle.tac_reader.specs.declared.fault.Stop.{Stop}
 use Rattle.tac_reader.specs.declared.fault.Stop.TheVariants as stop
 use Rattle.tac_reader.specs.declared.lexed.Lexed.{Lexed}
-use Rattle.tac_reader.specs.declared.token.Token.{Token as Placed}
+use Rattle.tac_reader.specs.declared.formed.Line.{Line}
 
-views : (text : List ℕ) (lines : List (Bor (List Placed))) → map (λ line. tokens_view text line.now) lines ≡ map (tokens_view text) (map (λ line. line.now) lines)
+views : (text : List ℕ) (lines : List Line) → map (λ line. tokens_view text line.tokens.now) lines ≡ map (tokens_view text) (map (λ line. line.tokens.now) lines)
 views text [] = refl
-views text (l ∷ ls) = ap (λ r. tokens_view text l.now ∷ r) (views text ls)
+views text (l ∷ ls) = ap (λ r. tokens_view text l.tokens.now ∷ r) (views text ls)
 
-pub sections_are : (text : List ℕ) (lexed : Lexed) (lines now : List (Bor (List Placed))) (found : List Section) → found ≡ sections_in (map (λ line. tokens_view text line.now) now) → now ≡ lines → map (λ line. line.now) lines ≡ lexed_view lexed → text_lines text lexed ≡ token_lines (rows text) → found ≡ sections text
-sections_are text lexed lines now found e f g h = e ∙ ap (λ ls. sections_in (map (λ line. tokens_view text line.now) ls)) f ∙ ap sections_in (views text lines ∙ ap (map (tokens_view text)) g ∙ h)
+pub sections_are : (text : List ℕ) (lexed : Lexed) (lines now : List Line) (found : List Section) → found ≡ sections_in (map (λ line. tokens_view text line.tokens.now) now) → now ≡ lines → map (λ line. line.tokens.now) lines ≡ lexed_view lexed → text_lines text lexed ≡ token_lines (rows text) → found ≡ sections text
+sections_are text lexed lines now found e f g h = e ∙ ap (λ ls. sections_in (map (λ line. tokens_view text line.tokens.now) ls)) f ∙ ap sections_in (views text lines ∙ ap (map (tokens_view text)) g ∙ h)
 
 pub program_is : (text : List ℕ) (ss : List Section) (procedures variables : List (List ℕ)) → ss ≡ sections text → procedures ≡ names_in (titles ss) → variables ≡ variables_in ss → (let p : Program = record { procedures = procedures_from text procedures variables 0 ss; procedure_names = procedures; variable_names = variables } in p) ≡ program_of text
 program_is text ss procedures variables e f g = λ i.

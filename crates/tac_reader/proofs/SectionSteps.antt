@@ -1,12 +1,13 @@
 -- Procedures and labels, one line after another.
-use Rattle.std.proofs.Common.{◌≡◌, ℕ, zero, suc, ◌+◌, ◌-◌, ◌<◌, ◌≤◌, Bool, true, false, cond, ◌&&◌, List, [], ◌∷◌, ◌++◌, length, map, take, drop, refl, sym, ap, ◌∙◌, arith, true≢false, if◌then◌else◌, slice_index_or, take_while, take_all, length-drop, drop-drop, append_assoc, Bor}
+use Rattle.std.proofs.Common.{◌≡◌, ℕ, zero, suc, ◌+◌, ◌-◌, ◌<◌, ◌≤◌, Bool, true, false, cond, ◌&&◌, List, [], ◌∷◌, ◌++◌, length, map, take, drop, refl, sym, ap, ◌∙◌, arith, true≢false, if◌then◌else◌, slice_index_or, take_while, take_all, length-drop, drop-drop, append_assoc, slice_get}
 use Rattle.std.specs.List.{prefix_len}
 use Rattle.std.proofs.Math.Seq.{drop-cons}
 use Rattle.std.proofs.lemmas.List.{map-append, take-map, get_or-drop}
 use Rattle.tac_reader.specs.Tokens.{Token}
-use Rattle.tac_reader.specs.Forms.{proc_form, has_form, labels_of, label, key, fills}
+use Rattle.tac_reader.specs.Forms.{Slot, proc_form, has_form, labels_of, label, key, fills}
 use Rattle.tac_reader.specs.Sections.{Section, opened_by, sections_in}
-use Rattle.tac_reader.specs.Views.{token_view, tokens_view, starts_label}
+use Rattle.tac_reader.specs.Views.{token_view, tokens_view, starts_label, fills_at}
+use Rattle.tac_reader.specs.declared.formed.Line.{Line}
 use Rattle.tac_reader.specs.declared.token.Token.{Token as Lexed}
 
 module _ {L : Type 0} where
@@ -68,19 +69,24 @@ module _ (text : List ℕ) where
       ∙ ap (λ r. tokens_view text found ++ r) (sym step)
       ∙ before
 
+  -- Tokens whose first does not fit have no form that begins so.
+  pub no_front : (s : Slot) (slots : List Slot) (ts : List Lexed) → fills_at text s (slice_get ts 0) ≡ false → has_form (s ∷ slots) (tokens_view text ts) ≡ false
+  no_front s slots [] h = refl
+  no_front s slots (t ∷ ts) h = ap (λ b. b && has_form slots (tokens_view text ts)) h
+
   pub proc_two : (line : List Lexed) → has_form proc_form (tokens_view text line) ≡ true → 1 < length line
   proc_two [] h = absurd (true≢false (sym h))
   proc_two (t ∷ []) h = absurd (not_single (fills (key (112 ∷ 114 ∷ 111 ∷ 99 ∷ [])) (token_view text t).word) h)
   proc_two (t ∷ u ∷ ts) h = omega arith
 
-  abbrev pub line_view : Bor (List Lexed) → List Token
-  line_view line = tokens_view text line.now
+  abbrev pub line_view : Line → List Token
+  line_view line = tokens_view text line.tokens.now
 
-  abbrev rest_in : List (Bor (List Lexed)) → List Section
+  abbrev rest_in : List Line → List Section
   rest_in lines = sections_in (map line_view lines)
 
   -- A line that opens no procedure.
-  pub sections_past : (lines : List (Bor (List Lexed))) (at : ℕ) (d : Bor (List Lexed)) (found whole : List Section) → at < length lines → has_form proc_form (tokens_view text (slice_index_or lines at d).now) ≡ false → found ++ sections_in (map line_view (drop at lines)) ≡ whole → found ++ sections_in (map line_view (drop (at + 1) lines)) ≡ whole
+  pub sections_past : (lines : List Line) (at : ℕ) (d : Line) (found whole : List Section) → at < length lines → has_form proc_form (tokens_view text (slice_index_or lines at d).tokens.now) ≡ false → found ++ sections_in (map line_view (drop at lines)) ≡ whole → found ++ sections_in (map line_view (drop (at + 1) lines)) ≡ whole
   sections_past lines at d found whole below fails before =
       ap (λ r. found ++ r)
       (sym (ap rest_in (rest_at lines at d below)

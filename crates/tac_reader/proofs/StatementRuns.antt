@@ -1,15 +1,16 @@
 -- The statements of lines, one line after another.
-use Rattle.std.proofs.Common.{◌≡◌, ℕ, suc, ◌+◌, ◌<◌, ◌==◌, true, false, List, [], ◌∷◌, ◌++◌, length, map, drop, refl, sym, ap, ◌∙◌, arith, slice_index_or, append_assoc, Bor, true≢false}
+use Rattle.std.proofs.Common.{◌≡◌, ℕ, suc, ◌+◌, ◌<◌, ◌==◌, true, false, List, [], ◌∷◌, ◌++◌, length, map, drop, refl, sym, ap, ◌∙◌, arith, slice_index_or, append_assoc, true≢false}
 use Rattle.std.proofs.lemmas.List.{at_drop_more}
 use Rattle.tac_reader.specs.Tokens.{Token}
 use Rattle.tac_reader.specs.Forms.{behind_labels}
 use Rattle.tac_reader.specs.Sections.{unless_empty, statements_of}
 use Rattle.tac_reader.specs.Views.{tokens_view}
+use Rattle.tac_reader.specs.declared.formed.Line.{Line}
 use Rattle.tac_reader.specs.declared.token.Token.{Token as Lexed}
 
 module _ (text : List ℕ) where
-  abbrev pub line_views : List (Bor (List Lexed)) → List (List Token)
-  line_views lines = map (λ line. tokens_view text line.now) lines
+  abbrev pub line_views : List Line → List (List Token)
+  line_views lines = map (λ line. tokens_view text line.tokens.now) lines
 
   pub unless_some : (tokens : List Lexed) → (length tokens == 0) ≡ false → unless_empty (tokens_view text tokens) ≡ tokens_view text tokens ∷ []
   unless_some [] h = absurd (true≢false h)
@@ -19,7 +20,7 @@ module _ (text : List ℕ) where
   unless_none [] h = refl
   unless_none (t ∷ tokens) h = absurd (let never : ⊥ = grind (arith, h) in never)
 
-  module _ (lines : List (Bor (List Lexed))) (at : ℕ) (d : Bor (List Lexed)) (tokens : List Lexed) (below : at < length lines) (behind : tokens_view text tokens ≡ behind_labels (tokens_view text (slice_index_or lines at d).now)) where
+  module _ (lines : List Line) (at : ℕ) (d : Line) (tokens : List Lexed) (below : at < length lines) (behind : tokens_view text tokens ≡ behind_labels (tokens_view text (slice_index_or lines at d).tokens.now)) where
     step : statements_of (line_views (drop at lines)) ≡ unless_empty (tokens_view text tokens) ++ statements_of (line_views (drop (at + 1) lines))
     step = at_drop_more (λ rest. statements_of (line_views rest)) lines at d below ∙ ap (λ ts. unless_empty ts ++ statements_of (line_views (drop (at + 1) lines))) (sym behind)
 

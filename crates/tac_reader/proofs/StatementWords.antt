@@ -17,7 +17,7 @@ form_length (s ∷ ss) [] h = absurd (true≢false (sym h))
 form_length (s ∷ ss) (t ∷ ts) h = ap suc (form_length ss ts (and_parts (fills s t.word) (has_form ss ts) h).1)
 
 -- The row that is found has the tokens.
-found_row : (ts : List Token) (rows : List (Form × List Slot)) (row : Form × List Slot) → find (λ r. has_form r.1 ts) rows ≡ Some row → has_form row.1 ts ≡ true
+pub found_row : (ts : List Token) (rows : List (Form × List Slot)) (row : Form × List Slot) → find (λ r. has_form r.1 ts) rows ≡ Some row → has_form row.1 ts ≡ true
 found_row ts [] row e = absurd (cc e)
 found_row ts (r ∷ rs) row e = go (has_form r.1 ts) refl e (λ k. found_row ts rs row k) where
   same : (x y : Form × List Slot) → ◌≡◌ {A = Option (Form × List Slot)} (Some x) (Some y) → x ≡ y
@@ -34,6 +34,41 @@ pub row_form : (ts : List Token) (row : Form × List Slot) → statement_row ts 
 row_form ts row e = ap (λ o. elim o as (λ _. Form) [ None ↦ form.Skip | Some r ↦ r.0 ]) e
 
 module _ (names : Names) (cs : List ℕ) where
+  pub copy_words : (ts : List Token) → length ts ≡ 3 → kind.Copy (variable_of names (word_nth ts 0)) (operand_of names (word_nth ts 2)) ≡ kind_of names cs form.Copy (map (λ t. t.word) ts)
+  copy_words [] h = absurd (omega (arith, h))
+  copy_words (a ∷ []) h = absurd (omega (arith, h))
+  copy_words (a ∷ b ∷ []) h = absurd (omega (arith, h))
+  copy_words (a ∷ b ∷ c ∷ cs) h = refl
+
+  pub jump_words : (ts : List Token) → length ts ≡ 2 → kind.Goto (label_of names (word_nth ts 1)) ≡ kind_of names cs form.Jump (map (λ t. t.word) ts)
+  jump_words [] h = absurd (omega (arith, h))
+  jump_words (a ∷ []) h = absurd (omega (arith, h))
+  jump_words (a ∷ b ∷ bs) h = refl
+
+  pub test_words : (ts : List Token) → length ts ≡ 4 → kind.If (operand_of names (word_nth ts 1)) (label_of names (word_nth ts 3)) ≡ kind_of names cs form.Test (map (λ t. t.word) ts)
+  test_words [] h = absurd (omega (arith, h))
+  test_words (a ∷ []) h = absurd (omega (arith, h))
+  test_words (a ∷ b ∷ []) h = absurd (omega (arith, h))
+  test_words (a ∷ b ∷ c ∷ []) h = absurd (omega (arith, h))
+  test_words (a ∷ b ∷ c ∷ d ∷ ds) h = refl
+
+  pub negated_words : (ts : List Token) → length ts ≡ 4 → kind.IfFalse (operand_of names (word_nth ts 1)) (label_of names (word_nth ts 3)) ≡ kind_of names cs form.NegatedTest (map (λ t. t.word) ts)
+  negated_words [] h = absurd (omega (arith, h))
+  negated_words (a ∷ []) h = absurd (omega (arith, h))
+  negated_words (a ∷ b ∷ []) h = absurd (omega (arith, h))
+  negated_words (a ∷ b ∷ c ∷ []) h = absurd (omega (arith, h))
+  negated_words (a ∷ b ∷ c ∷ d ∷ ds) h = refl
+
+  pub read_words : (ts : List Token) → length ts ≡ 2 → kind.Read (variable_of names (word_nth ts 1)) ≡ kind_of names cs form.Read (map (λ t. t.word) ts)
+  read_words [] h = absurd (omega (arith, h))
+  read_words (a ∷ []) h = absurd (omega (arith, h))
+  read_words (a ∷ b ∷ bs) h = refl
+
+  pub print_words : (ts : List Token) → length ts ≡ 2 → kind.Print (operand_of names (word_nth ts 1)) ≡ kind_of names cs form.Print (map (λ t. t.word) ts)
+  print_words [] h = absurd (omega (arith, h))
+  print_words (a ∷ []) h = absurd (omega (arith, h))
+  print_words (a ∷ b ∷ bs) h = refl
+
   pub unary_words : (ts : List Token) → length ts ≡ 4 → kind.Unary (variable_of names (word_nth ts 0)) (operator_of (word_nth ts 2)) (operand_of names (word_nth ts 3)) ≡ kind_of names cs form.Unary (map (λ t. t.word) ts)
   unary_words [] h = absurd (omega (arith, h))
   unary_words (a ∷ []) h = absurd (omega (arith, h))

@@ -1,6 +1,7 @@
 pub mod Text
 pub mod Tokens
 pub mod Forms
+pub mod Formed
 pub mod Sections
 pub mod Programs
 pub mod Faults

@@ -1,5 +1,6 @@
 -- What a table of names holds.
-use Rattle.std.specs.Prelude.{ℕ, List, map, Vec}
+use Rattle.std.specs.Prelude.{ℕ, List, map}
+use Rattle.tac_reader.specs.declared.name_keys.NameKey.{NameKey}
 
-abbrev pub texts : {A : Type 0} → List (Vec ℕ A) → List (List ℕ)
-texts names = map (λ name. name.items) names
+abbrev pub texts : List NameKey → List (List ℕ)
+texts names = map (λ name. name.bytes.items) names

@@ -9,11 +9,11 @@ ghost use Rattle.tac_reader.specs.Views.{token_view, tokens_view};
 ghost use Rattle.tac_reader.specs.declared.program.StmtKind.TheVariants.{Binary, IfCompare};
 
 use crate::form::Form;
+use crate::formed::Statement;
 use crate::line::stop_of;
 use crate::names::NameTable;
 use crate::piece::number_value;
 use crate::program::{Callees, Op, Operand, Span, Stmt, StmtKind};
-use crate::statement::{Role, cells, statement_form};
 use crate::token::{Token, TokenKind};
 use std::alloc::AllocError;
 
@@ -93,11 +93,12 @@ fn comparison(names: Names<'_>, text: &[u8], tokens: &[Token]) -> StmtKind
     }
 }
 
-/// What the tokens of a statement say; `callees` are a call's.
-pub fn kind(names: Names<'_>, text: &[u8], tokens: &[Token], callees: Callees) -> StmtKind
-    ensures { result ≡ kind_of (names_view names.entry) callees (form_in (tokens_view text.now tokens.now)) (map (λ t. t.word) (tokens_view text.now tokens.now)) }
+/// What a statement says; `callees` are a call's.
+pub fn kind(names: Names<'_>, text: &[u8], statement: Statement<'_>, callees: Callees) -> StmtKind
+    ensures { result ≡ kind_of (names_view names.entry) callees (form_in (tokens_view text.now statement.entry.tokens.now)) (map (λ t. t.word) (tokens_view text.now statement.entry.tokens.now)) }
 {
-    match statement_form(tokens) {
+    let tokens = statement.tokens;
+    match statement.form() {
         Some(Form::Copy) => StmtKind::Copy {
             target: number_at(names.variables, text, tokens, 0),
             value: operand_at(names, text, tokens, 2),

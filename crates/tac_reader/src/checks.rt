@@ -14,7 +14,7 @@ ghost use Rattle.tac_reader.specs.Views.{tokens_view};
 ghost use Rattle.tac_reader.specs.declared.refusal.RefusalKind.TheVariants.{DuplicateCallee, DuplicateLabel, DuplicateProcedure, NoMain, TooManyProcedures, UnknownLabel, UnknownProcedure};
 
 use crate::fault::{Fault, Stop};
-use crate::line::behind_labels;
+use crate::name_hashers::NameHashers;
 use crate::names::NameTable;
 use crate::refusal::RefusalKind;
 use crate::section::{Section, labels, section_cells};
@@ -112,6 +112,7 @@ fn titles(alloc: Global, sections: &[Section<'_>]) -> Result<Vec<Token>, AllocEr
 /// the first name that stands before.
 pub fn check_procedures(
     alloc: Global,
+    hashers: NameHashers,
     text: &[u8],
     sections: &[Section<'_>],
 ) -> Result<NameTable, Stop>
@@ -119,7 +120,7 @@ pub fn check_procedures(
     ensures names { IfOk result (λ names. names ≡ names_in (titles_of (sections_view text.now sections.now))) }
     ensures fault { IfErr result (IfFault (λ f. head_of (repeated DuplicateProcedure [] (titles_of (sections_view text.now sections.now))) ≡ Some f)) }
 {
-    let mut names = NameTable::new(alloc);
+    let mut names = NameTable::new(alloc, hashers);
     note_names(
         alloc,
         RefusalKind::DuplicateProcedure,
@@ -133,6 +134,7 @@ pub fn check_procedures(
 /// The names of a procedure's labels, where no two have one name; `found` is a buffer.
 fn section_labels(
     alloc: Global,
+    hashers: NameHashers,
     found: &mut Vec<Token>,
     text: &[u8],
     section: &Section<'_>,
@@ -143,7 +145,7 @@ fn section_labels(
 {
     found.clear();
     labels(found, section.lines)?;
-    let mut names = NameTable::new(alloc);
+    let mut names = NameTable::new(alloc, hashers);
     note_names(alloc, RefusalKind::DuplicateLabel, &mut names, text, found)?;
     Ok(names)
 }
@@ -160,6 +162,7 @@ fn push_table(tables: &mut Vec<NameTable>, names: NameTable) -> Result<(), Alloc
 /// Fails with `DuplicateLabel` at the first label that stands before in its procedure.
 pub fn check_labels(
     alloc: Global,
+    hashers: NameHashers,
     text: &[u8],
     sections: &[Section<'_>],
 ) -> Result<Vec<NameTable>, Stop>
@@ -172,7 +175,7 @@ pub fn check_labels(
     for section in sections {
         push_table(
             &mut tables,
-            section_labels(alloc, &mut found, text, section)?,
+            section_labels(alloc, hashers, &mut found, text, section)?,
         )?;
     }
     Ok(tables)
@@ -259,7 +262,7 @@ fn repeated_callee(
 {
     for line in section.lines {
         found.clear();
-        cells(found, Role::Callee, behind_labels(line))?;
+        cells(found, Role::Callee, line.statement())?;
         if let Some(fault) = first_repeated(RefusalKind::DuplicateCallee, text, found) {
             return Ok(Some(fault));
         }
@@ -303,11 +306,11 @@ pub fn check_main(procedures: &NameTable) -> Option<Fault>
 pub fn check_count(sections: &[Section<'_>]) -> Option<Fault>
     ensures { (text : List ℕ) → result ≡ head_of (flat_map (λ t. at TooManyProcedures t.start) (drop most_procedures (titles_of (sections_view text sections.now)))) }
 {
-    match sections.get(MOST_PROCEDURES) {
-        None => None,
-        Some(section) => Some(Fault {
-            kind: RefusalKind::TooManyProcedures,
-            place: section.title.start,
-        }),
+    if sections.len() <= MOST_PROCEDURES {
+        return None;
     }
+    Some(Fault {
+        kind: RefusalKind::TooManyProcedures,
+        place: sections[MOST_PROCEDURES].title.start,
+    })
 }

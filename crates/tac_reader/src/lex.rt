@@ -10,13 +10,14 @@ ghost use Rattle.tac_reader.specs.Lexed.{lexed_view, some_of, text_lines, IfFaul
 ghost use Rattle.tac_reader.specs.Views.{tokens_view};
 
 use crate::fault::{Fault, Stop};
-use crate::form::{END, PROC, Walk, follow};
+use crate::form::{END, PROC, Slot, Walk, fits_at, follow};
+use crate::formed::counted;
 use crate::lexed::{Lexed, LineRange};
 use crate::line::row_fault;
 use crate::piece::line_run;
 use crate::refusal::RefusalKind;
 use crate::row::read_row;
-use crate::token::Token;
+use crate::token::{Keyword, Token};
 use std::alloc::{AllocError, Global};
 
 /// Where the line that begins at `start` ends, behind its line feed.
@@ -34,6 +35,9 @@ fn line_stop(text: &[u8], start: usize) -> usize
 pub fn is_proc(tokens: &[Token]) -> bool
     ensures { (text : List ℕ) → has_form proc_form (tokens_view text tokens.now) ≡ result }
 {
+    if !fits_at(Slot::Keyword(Keyword::Proc), tokens, 0) {
+        return false;
+    }
     matches!(follow(&PROC, tokens), Walk::Whole)
 }
 
@@ -41,6 +45,9 @@ pub fn is_proc(tokens: &[Token]) -> bool
 pub fn is_end(tokens: &[Token]) -> bool
     ensures { (text : List ℕ) → has_form end_form (tokens_view text tokens.now) ≡ result }
 {
+    if !fits_at(Slot::Keyword(Keyword::End), tokens, 0) {
+        return false;
+    }
     matches!(follow(&END, tokens), Walk::Whole)
 }
 
@@ -55,10 +62,10 @@ fn inside_after(inside: bool, tokens: &[Token]) -> bool
 fn push_line(lexed: &mut Lexed, row: &[Token]) -> Result<(), AllocError>
     ensures { OnOk result (lexed_view lexed.new ≡ lexed_view lexed.old ++ some_of row.now) }
 {
-    let first = lexed.tokens.len();
+    let first = counted(lexed.tokens.len())?;
     if !row.is_empty() {
         lexed.tokens.extend_from_slice(row)?;
-        let end = lexed.tokens.len();
+        let end = counted(lexed.tokens.len())?;
         lexed.lines.push(LineRange { first, end })?;
     }
     Ok(())

@@ -8,8 +8,8 @@ use crate::token::Token;
 /// A line's tokens, by their places among all: `first..end`.
 #[derive(Clone, Copy, Debug)]
 pub struct LineRange {
-    pub first: usize,
-    pub end: usize,
+    pub first: u32,
+    pub end: u32,
 }
 
 /// The tokens of a text in one list, and the lines that have some.

@@ -5,6 +5,8 @@ ghost use Rattle.tac_reader.specs.Tokens.{is_one_of};
 ghost use Rattle.tac_reader.specs.Listings.{name_at};
 ghost use Rattle.tac_reader.specs.Programs.{noted};
 
+use crate::name_hashers::NameHashers;
+use crate::name_keys::{NameKey, Spelling};
 use indexmap::IndexSet;
 use std::alloc::{AllocError, Global};
 use std::marker::Model;
@@ -12,7 +14,7 @@ use std::marker::Model;
 /// Names, each once, by number from 0. A table has at most `u32::MAX` of them.
 #[derive(Debug, Drop)]
 pub struct NameTable {
-    names: IndexSet<Vec<u8>>,
+    names: IndexSet<NameKey, NameHashers>,
 }
 
 impl Model for NameTable {
@@ -28,11 +30,11 @@ impl Model for NameTable {
 
 impl NameTable {
     /// A table of no names, which takes no memory until the first.
-    pub fn new(alloc: Global) -> Self
+    pub fn new(alloc: Global, hashers: NameHashers) -> Self
         ensures { result ≡ [] }
     {
         NameTable {
-            names: IndexSet::new(alloc),
+            names: IndexSet::with_hasher(alloc, hashers),
         }
     }
 
@@ -48,7 +50,7 @@ impl NameTable {
         requires { number < length self.now }
         ensures { slice_get self.now number ≡ Some result.now }
     {
-        self.names.as_slice()[number as usize].as_slice()
+        self.names.as_slice()[number as usize].bytes.as_slice()
     }
 
     /// The name of this number, or no bytes where it is none's.
@@ -67,7 +69,7 @@ impl NameTable {
         ensures number { result ≡ position (bytes_eq name.now) self.now }
         ensures within { IfSome result (λ n. n < length self.now) }
     {
-        match self.names.get_index_of(name) {
+        match self.names.get_index_of(Spelling { bytes: name }) {
             None => None,
             Some(number) => Some(number as u32),
         }
@@ -84,8 +86,8 @@ impl NameTable {
         if self.len() == u32::MAX {
             return Err(AllocError);
         }
-        let owned = Vec::from_slice(alloc, name)?;
-        let _ = self.names.insert_full(owned)?;
+        let bytes = Vec::from_slice(alloc, name)?;
+        let _ = self.names.insert_full(NameKey { bytes })?;
         Ok(true)
     }
 }

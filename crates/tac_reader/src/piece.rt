@@ -205,6 +205,10 @@ pub fn number_value(digits: &[u8]) -> u64
 {
     let mut value: u64 = 0;
     for digit in digits {
+        // A run of leading zeros may be as long as the text.
+        if value == 0 && *digit == b'0' {
+            continue;
+        }
         let next = value
             .saturating_mul(10)
             .saturating_add(u64::from(digit.saturating_sub(b'0')));

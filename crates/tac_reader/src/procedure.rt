@@ -11,7 +11,9 @@ ghost use Rattle.tac_reader.specs.Views.{tokens_view};
 
 use crate::build::{Names, kind};
 use crate::cursor::LineCursor;
-use crate::line::{behind_labels, stop_of};
+use crate::formed::{Line, Statement, counted};
+use crate::line::stop_of;
+use crate::name_hashers::NameHashers;
 use crate::names::NameTable;
 use crate::program::{Callees, Label, Proc, Program, Span, Stmt};
 use crate::section::{Section, section_cells};
@@ -30,13 +32,13 @@ struct Tables<'a> {
 fn callees(
     procedures: &NameTable,
     text: &[u8],
-    tokens: &[Token],
+    statement: Statement<'_>,
     found: &mut Vec<Token>,
 ) -> Result<Callees, AllocError>
-    ensures { IfOk result (λ callees. callees ≡ call_numbers procedures.now (tokens_view text.now tokens.now)) }
+    ensures { IfOk result (λ callees. callees ≡ call_numbers procedures.now (tokens_view text.now statement.entry.tokens.now)) }
 {
     found.clear();
-    cells(found, Role::Callee, tokens)?;
+    cells(found, Role::Callee, statement)?;
     let mut callees = Callees::new();
     for token in &*found {
         callees.push(procedures.find(token.spelling(text)).unwrap_or(0));
@@ -59,33 +61,33 @@ fn start_of(tokens: &[Token]) -> u32
 fn statement(
     names: Names<'_>,
     cursor: &mut LineCursor<'_>,
-    tokens: &[Token],
+    formed: Statement<'_>,
     found: &mut Vec<Token>,
 ) -> Result<Stmt, AllocError>
-    ensures statement { IfOk result (λ s. s ≡ statement_of cursor.old (names_view names.entry) (tokens_view cursor.old tokens.now)) }
+    ensures statement { IfOk result (λ s. s ≡ statement_of cursor.old (names_view names.entry) (tokens_view cursor.old formed.entry.tokens.now)) }
     ensures text { cursor.new ≡ cursor.old }
 {
     let text = cursor.text();
-    let callees = callees(names.procedures, text, tokens, found)?;
-    let start = start_of(tokens);
+    let callees = callees(names.procedures, text, formed, found)?;
+    let start = start_of(formed.tokens);
     let span = Span {
         line: cursor.line_at(start),
         start,
-        end: stop_of(tokens),
+        end: stop_of(formed.tokens),
     };
     Ok(Stmt {
-        kind: kind(names, text, tokens, callees),
+        kind: kind(names, text, formed, callees),
         span,
     })
 }
 
 /// How many lines have a statement.
-fn statement_count(lines: &[&[Token]]) -> usize
-    ensures { (text : List ℕ) → length (statements_of (map (λ line. tokens_view text line.now) lines.now)) ≡ result }
+fn statement_count(lines: &[Line<'_>]) -> usize
+    ensures { (text : List ℕ) → length (statements_of (map (λ line. tokens_view text line.tokens.now) lines.now)) ≡ result }
 {
     let mut count = 0;
     for line in lines {
-        if !behind_labels(line).is_empty() {
+        if !line.statement().tokens.is_empty() {
             count += 1;
         }
     }
@@ -97,27 +99,20 @@ fn statements(
     alloc: Global,
     names: Names<'_>,
     cursor: &mut LineCursor<'_>,
-    lines: &[&[Token]],
+    lines: &[Line<'_>],
     found: &mut Vec<Token>,
 ) -> Result<Vec<Stmt>, AllocError>
-    ensures statements { IfOk result (λ stmts. stmts.items ≡ map (statement_of cursor.old (names_view names.entry)) (statements_of (map (λ line. tokens_view cursor.old line.now) lines.now))) }
+    ensures statements { IfOk result (λ stmts. stmts.items ≡ map (statement_of cursor.old (names_view names.entry)) (statements_of (map (λ line. tokens_view cursor.old line.tokens.now) lines.now))) }
     ensures text { cursor.new ≡ cursor.old }
 {
     let mut stmts = Vec::with_capacity(alloc, statement_count(lines))?;
     for line in lines {
-        let tokens = behind_labels(line);
-        if !tokens.is_empty() {
-            stmts.push(statement(names, cursor, tokens, found)?)?;
+        let formed = line.statement();
+        if !formed.tokens.is_empty() {
+            stmts.push(statement(names, cursor, formed, found)?)?;
         }
     }
     Ok(stmts)
-}
-
-/// A count, in the width that programs count in.
-fn counted(count: usize) -> Result<u32, AllocError>
-    ensures { IfOk result (λ n. n ≡ count) }
-{
-    u32::try_from(count).map_err(|_| AllocError)
 }
 
 /// Appends so many labels for one place, numbered on.
@@ -132,19 +127,14 @@ fn push_labels(labels: &mut Vec<Label>, count: usize, place: u32) -> Result<(), 
 }
 
 /// The labels of the lines, of which there are so many: by number, each with its place.
-fn section_labels(alloc: Global, count: u32, lines: &[&[Token]]) -> Result<Vec<Label>, AllocError>
-    ensures { IfOk result (λ labels. (text : List ℕ) → labels.items ≡ labels_from 0 (label_places 0 (map (λ line. tokens_view text line.now) lines.now))) }
+fn section_labels(alloc: Global, count: u32, lines: &[Line<'_>]) -> Result<Vec<Label>, AllocError>
+    ensures { IfOk result (λ labels. (text : List ℕ) → labels.items ≡ labels_from 0 (label_places 0 (map (λ line. tokens_view text line.tokens.now) lines.now))) }
 {
     let mut labels = Vec::with_capacity(alloc, count as usize)?;
     let mut place = 0;
     for line in lines {
-        let tokens = behind_labels(line);
-        push_labels(
-            &mut labels,
-            (line.len() - tokens.len()) / 2,
-            counted(place)?,
-        )?;
-        if !tokens.is_empty() {
+        push_labels(&mut labels, line.labels(), counted(place)?)?;
+        if !line.statement().tokens.is_empty() {
             place += 1;
         }
     }
@@ -250,12 +240,13 @@ fn note_names(
 /// The variables of the sections' statements, by first occurrence. Fails where memory does.
 pub fn variables(
     alloc: Global,
+    hashers: NameHashers,
     text: &[u8],
     sections: &[Section<'_>],
 ) -> Result<NameTable, AllocError>
     ensures { IfOk result (λ table. table ≡ variables_in (sections_view text.now sections.now)) }
 {
-    let mut table = NameTable::new(alloc);
+    let mut table = NameTable::new(alloc, hashers);
     let mut found = Vec::new(alloc);
     for section in sections {
         found.clear();

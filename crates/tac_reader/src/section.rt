@@ -8,9 +8,10 @@ ghost use Rattle.tac_reader.specs.SectionViews.{sections_view};
 ghost use Rattle.tac_reader.specs.Sections.{is_inner as is_inner_line, sections_in, statements_of};
 ghost use Rattle.tac_reader.specs.Views.{tokens_view};
 
+use crate::formed::Line;
 use crate::lex::{is_end, is_proc};
 use crate::lexed::{Lexed, LineRange};
-use crate::line::{behind_labels, label_at};
+use crate::line::label_at;
 use crate::statement::{Role, cells};
 use crate::token::Token;
 use std::alloc::{AllocError, Global};
@@ -19,25 +20,25 @@ use std::alloc::{AllocError, Global};
 #[derive(Clone, Copy, Debug)]
 pub struct Section<'a> {
     pub title: Token,
-    pub lines: &'a [&'a [Token]],
+    pub lines: &'a [Line<'a>],
 }
 
 /// The tokens of a line; of a range that goes past the tokens, those that there are.
 fn line_tokens<'a>(tokens: &'a [Token], line: LineRange) -> &'a [Token]
     ensures { result.now ≡ slice_range tokens.now line.first line.end }
 {
-    let end = tokens.len().min(line.end);
-    let first = end.min(line.first);
+    let end = tokens.len().min(line.end as usize);
+    let first = end.min(line.first as usize);
     &tokens[first..end]
 }
 
 /// The lines of a text that have tokens, each by them.
-pub fn token_lines<'a>(alloc: Global, lexed: &'a Lexed) -> Result<Vec<&'a [Token]>, AllocError>
-    ensures { IfOk result (λ lines. map (λ line. line.now) lines.items ≡ lexed_view lexed.now) }
+pub fn token_lines<'a>(alloc: Global, lexed: &'a Lexed) -> Result<Vec<Line<'a>>, AllocError>
+    ensures { IfOk result (λ lines. map (λ line. line.tokens.now) lines.items ≡ lexed_view lexed.now) }
 {
     let mut lines = Vec::with_capacity(alloc, lexed.lines.len())?;
     for line in &lexed.lines {
-        lines.push(line_tokens(&lexed.tokens, *line))?;
+        lines.push(Line::of(line_tokens(&lexed.tokens, *line))?)?;
     }
     Ok(lines)
 }
@@ -50,24 +51,24 @@ fn is_inner(line: &[Token]) -> bool
 }
 
 /// The lines up to the next one that opens or closes a procedure.
-fn inner_lines<'a>(lines: &'a [&'a [Token]]) -> &'a [&'a [Token]]
-    ensures { (text : List ℕ) → map (λ line. tokens_view text line.now) result.now ≡ take_while is_inner_line (map (λ line. tokens_view text line.now) lines.now) }
+fn inner_lines<'a>(lines: &'a [Line<'a>]) -> &'a [Line<'a>]
+    ensures { (text : List ℕ) → map (λ line. tokens_view text line.tokens.now) result.now ≡ take_while is_inner_line (map (λ line. tokens_view text line.tokens.now) lines.now) }
 {
     let mut at = 0;
-    while at < lines.len() && is_inner(lines[at]) {
+    while at < lines.len() && is_inner(lines[at].tokens) {
         at += 1;
     }
     &lines[..at]
 }
 
 /// The procedures in text order: one for each `proc` line, with the lines up to the next `proc` or `end`.
-pub fn sections<'a>(alloc: Global, lines: &'a [&'a [Token]]) -> Result<Vec<Section<'a>>, AllocError>
-    ensures { IfOk result (λ found. (text : List ℕ) → sections_view text found.items ≡ sections_in (map (λ line. tokens_view text line.now) lines.now)) }
+pub fn sections<'a>(alloc: Global, lines: &'a [Line<'a>]) -> Result<Vec<Section<'a>>, AllocError>
+    ensures { IfOk result (λ found. (text : List ℕ) → sections_view text found.items ≡ sections_in (map (λ line. tokens_view text line.tokens.now) lines.now)) }
 {
     let mut found = Vec::new(alloc);
     let mut at = 0;
     while at < lines.len() {
-        let line = lines[at];
+        let line = lines[at].tokens;
         at += 1;
         if is_proc(line) {
             found.push(Section {
@@ -93,12 +94,12 @@ fn line_labels(found: &mut Vec<Token>, line: &[Token]) -> Result<(), AllocError>
 }
 
 /// Appends all labels of the lines. What is found already stays, also where memory runs out.
-pub fn labels(found: &mut Vec<Token>, lines: &[&[Token]]) -> Result<(), AllocError>
+pub fn labels(found: &mut Vec<Token>, lines: &[Line<'_>]) -> Result<(), AllocError>
     ensures kept { take (vec_len found.old) found.new.items ≡ found.old.items }
-    ensures appended { OnOk result ((text : List ℕ) → tokens_view text found.new.items ≡ tokens_view text found.old.items ++ flat_map labels_of (map (λ line. tokens_view text line.now) lines.now)) }
+    ensures appended { OnOk result ((text : List ℕ) → tokens_view text found.new.items ≡ tokens_view text found.old.items ++ flat_map labels_of (map (λ line. tokens_view text line.tokens.now) lines.now)) }
 {
     for line in lines {
-        line_labels(found, line)?;
+        line_labels(found, line.tokens)?;
     }
     Ok(())
 }
@@ -108,13 +109,13 @@ pub fn labels(found: &mut Vec<Token>, lines: &[&[Token]]) -> Result<(), AllocErr
 pub fn section_cells(
     found: &mut Vec<Token>,
     role: Role,
-    lines: &[&[Token]],
+    lines: &[Line<'_>],
 ) -> Result<(), AllocError>
     ensures kept { take (vec_len found.old) found.new.items ≡ found.old.items }
-    ensures appended { OnOk result ((text : List ℕ) → tokens_view text found.new.items ≡ tokens_view text found.old.items ++ flat_map (λ statement. in_slot (role_test role) (cells_of statement)) (statements_of (map (λ line. tokens_view text line.now) lines.now))) }
+    ensures appended { OnOk result ((text : List ℕ) → tokens_view text found.new.items ≡ tokens_view text found.old.items ++ flat_map (λ statement. in_slot (role_test role) (cells_of statement)) (statements_of (map (λ line. tokens_view text line.tokens.now) lines.now))) }
 {
     for line in lines {
-        cells(found, role, behind_labels(line))?;
+        cells(found, role, line.statement())?;
     }
     Ok(())
 }

@@ -1,11 +1,13 @@
 // Statements: their forms, and the names in them.
 
 ghost use Rattle.std.specs.Prelude.{◌≡◌, ◌++◌, ℕ, List, option_map, length, take, vec_len, OnOk};
+ghost use Rattle.tac_reader.specs.Formed.{has_role as has_role_in};
 ghost use Rattle.tac_reader.specs.Forms.{cells_of, in_slot, paired, statement_row};
 ghost use Rattle.tac_reader.specs.Roles.{role_test};
 ghost use Rattle.tac_reader.specs.Views.{form_slots, slot_view, slots_view, tokens_view};
 
 use crate::form::{Form, Slot, Walk, follow, form_of, slots_of};
+use crate::formed::Statement;
 use crate::token::Token;
 use std::alloc::AllocError;
 
@@ -60,14 +62,47 @@ fn filled(
     }
 }
 
+/// Whether some place of the form has that role.
+fn has_role(form: Form, role: Role) -> bool
+    ensures { result ≡ has_role_in role form }
+{
+    match role {
+        Role::Label => match form {
+            Form::Jump => true,
+            Form::Test => true,
+            Form::NegatedTest => true,
+            Form::Comparison => true,
+            _ => false,
+        },
+        Role::Callee => match form {
+            Form::Call => true,
+            _ => false,
+        },
+        Role::Variable => match form {
+            Form::Jump => false,
+            Form::Call => false,
+            Form::Return => false,
+            Form::Skip => false,
+            _ => true,
+        },
+    }
+}
+
 /// Appends the statement's tokens that stand in a place of that role; none where they are no statement.
 /// What is found already stays, also where memory runs out.
-pub fn cells(found: &mut Vec<Token>, role: Role, statement: &[Token]) -> Result<(), AllocError>
+pub fn cells(found: &mut Vec<Token>, role: Role, statement: Statement<'_>) -> Result<(), AllocError>
     ensures kept { take (vec_len found.old) found.new.items ≡ found.old.items }
-    ensures appended { OnOk result ((text : List ℕ) → tokens_view text found.new.items ≡ tokens_view text found.old.items ++ in_slot (role_test role) (cells_of (tokens_view text statement.now))) }
+    ensures appended { OnOk result ((text : List ℕ) → tokens_view text found.new.items ≡ tokens_view text found.old.items ++ in_slot (role_test role) (cells_of (tokens_view text statement.entry.tokens.now))) }
 {
-    match statement_form(statement) {
+    match statement.form() {
         None => Ok(()),
-        Some(form) => filled(found, role, slots_of(form, statement.len()), statement),
+        Some(form) => {
+            if has_role(form, role) {
+                let slots = slots_of(form, statement.tokens.len());
+                filled(found, role, slots, statement.tokens)
+            } else {
+                Ok(())
+            }
+        }
     }
 }

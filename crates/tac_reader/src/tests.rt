@@ -16,6 +16,10 @@ const SPACING: &[u8] = b"proc main # start\nL:M: x=y+007\nz=- x\nif x<3 goto L\n
 
 const NAME_64: &str = "nnnnnnnnnnnnnnnnnnnnnnnnnnnnnnnnnnnnnnnnnnnnnnnnnnnnnnnnnnnnnnnn";
 
+/// Labels whose names fall together in a table, if no digest of the text is hashed before them.
+const FALLING_TOGETHER: &[u8] =
+    b"aaclN:aacou:aacSa:aadzl:aafLs:aakj_:aaoeZ:aarFo:aav8S:aayiC:aazv0:aazAO:aaBPd:aaBRe:aaC2C:aaEaq:aaHT1:aaINk:aaJOU:aaMcN:aaMjO:aaNld:aaNrZ:aaQlw:aaQs8:aaQIY:aaRgy:aaV7v:aaWwp:aaXJU:aaXZI:aa_nh:aa2h1:aa4c4:aa4A7:aa6xw:aa7eC:aa7Kj:aa9r0:abaf5:abbLs:abb4Y:abnFo:abpGz:abqmd:abtIc:abtL4:abvJz:abvKK:abw5e:abxCt:abAjS:abCRb:abJau:abJsG:abM6T:abNag:abOWD:abO09:abQij:abR0J:abTRa:abVk_:ab2oP:ab3Tg:ab4tY:ab5BR:ab5C6:ab6Of:acdDn:acfuG:acipF:acixh:aclKQ:acmB_:acpOk:actrU:acv6B:aczVi:acC7e:acGAz:acMHI:acOwA:acQbZ:acQlZ:acRjW:acVNu:acW20:ac_sN:ac4mh:ac8FA:ac9Dh:adcSr:adeMo:adgAk:adlL_:adl6g:adm0Z:adnE5:adnVX:adroh:advvv:adx9H:adzv7:adBYY:adCWp:adKm8:adKOO:adLms:adMEh:adNs1:adOuW:adQX2:adQ6I:adRF3:adTkd:adT5B:adYHF:ad_dG:ad0nf:ad0AR:ad1He:ad7us:aeaVa:aefIg:aejra:aekOb:aeuxL:aeuRG:aexkG:aeybL:aezqe:aeAuQ:aeC0E:aeDxO:aeEvk:aeEwM:aeE2m:aeFtJ:aeF6n:aeGrQ:aeHte:aeHBI:aeJdK:aeJFt:aeKEm:aePfa:aeReA:aeVyE:aeYA8:ae_dS:ae4_U:ae5bg:ae5JT:ae61v:afb3a:afcZW:affnT:afhmY:afjzd:afpOy:afrbP:afrdF:afrsX:afu4m:afABo:afE7L:afHkb:afIK0:afKvq:afL3e:afOpp:afO8X:afQEL:afRuC:afWBu:afYFD:af04D:af3Zr:af6YB:af7oy:af9uS:af9vP:agbzk:agdX0:aggAm:aggEK:agg7Y:agi8_:agjIR:agj_F:agj8O:agmgy:agoJg:agph9:agtB_:ague3:agA6G:agCd0:agCvk:agCRT:agK5F:agPji:agRnc:agVsZ:agX0t:ag0OX:ag6QF:ag6_w:ag8Y3:ahaXp:ahbpK:ahdEc:ahdJN:ahmR0:ahnM1:ahp9u:ahrbG:ahtDb:ahtM8:ahudO:ahuzw:ahyGe:ahCze:ahCOb:ahDkg:ahElb:ahGFN:ahHgD:ahHAK:ahIDI:ahK2R:ahL5H:ahQpa:ahQAu:ahR9R:ahSZK:ahUbF:ahVOv:ahWIH:ahXOz:ah2BR:ah2Ce:ah6h1:ah6Tg:ah7Bw:ah9wF:aidM5:aifir:aihfg:aij3a:aikQV:aioZy:aiqAS:ait4h:aiuLu:aivzZ:aiv2R:aiwW2:aiyKH:aiAuc:aiBi5:aiBCC:aiCqe:aiC01:aiDLW:aiFu1:aiKhy:aiKzr:aiLUz:";
+
 /// The listing of a program, or the message of why the text is none.
 fn answer(alloc: Global, text: &[u8]) -> Result<String, AllocError> {
     match read(alloc, text) {
@@ -314,5 +318,38 @@ fn numbers_and_spans(rt: HostRuntime) -> Result<(), Fail> {
             .as_slice()
         );
     }
+    Ok(())
+}
+
+/// A program of these labels on one line, and this one behind them.
+fn labelled(alloc: Global, labels: &[u8], last: &[u8]) -> Result<Vec<u8>, AllocError> {
+    let mut text = Vec::new(alloc);
+    text.extend_from_slice(b"proc main\n")?;
+    text.extend_from_slice(labels)?;
+    text.extend_from_slice(last)?;
+    text.extend_from_slice(b"\nend\n")?;
+    Ok(text)
+}
+
+#[test]
+fn names_that_fall_together(rt: HostRuntime) -> Result<(), Fail> {
+    let alloc = rt.alloc();
+    let text = labelled(alloc, FALLING_TOGETHER, b"")?;
+    let listed = answer(alloc, &text)?;
+    // 270 labels of five bytes, each on a line of its own, between `proc main` and `end`.
+    assert_eq!(rt; listed.len(), 10 + 270 * 7 + 4);
+    let again = answer(alloc, listed.as_bytes())?;
+    assert_eq!(rt; again.as_str(), listed.as_str());
+    Ok(())
+}
+
+#[test]
+fn a_name_twice_among_them(rt: HostRuntime) -> Result<(), Fail> {
+    let alloc = rt.alloc();
+    let text = labelled(alloc, FALLING_TOGETHER, b"aaclN:")?;
+    assert_eq!(rt;
+        answer(alloc, &text)?.as_str(),
+        "2:1621: refusal 8: DuplicateLabel"
+    );
     Ok(())
 }

@@ -1,5 +1,5 @@
-use Rattle.std.proofs.Common.{◌∙◌, sym, [], List, flat_map}
-use Rattle.tac_reader.specs.Faults.{repeated}
+use Rattle.std.proofs.Common.{◌∙◌, ap, sym, [], List, flat_map}
+use Rattle.tac_reader.specs.Faults.{head_of, repeated}
 use Rattle.tac_reader.specs.Sections.{Section, callees_of, statements_of}
 use Rattle.tac_reader.specs.SectionViews.{section_view}
 use Rattle.tac_reader.specs.declared.fault.Fault.{Fault}
@@ -12,8 +12,8 @@ faults s = flat_map (λ c. repeated DuplicateCallee [] (callees_of c)) (statemen
 
 pub returns-in-Some-clause-fault : goal.returns-in-Some-clause-fault
 returns-in-Some-clause-fault c =
-    fault_here faults (section_view c.args.text.now) c.args.sections.now c.loop-section.section-index _ _ c.in-Some.fault c.loop-section-test.true (sym c.in-Some.is ∙ c.in_ok-fault.ensures) c.loop-section.invariant
+    fault_here faults (section_view c.args.text.now) c.args.sections.now c.loop-section.section-index c.section-item.result _ c.in-Some.fault c.loop-section-test.true (sym c.in-Some.is ∙ c.in_ok-fault.ensures ∙ ap (λ s. head_of (faults (section_view c.args.text.now s))) c.section-item.is) c.loop-section.invariant
 
 pub loop-section-preserved : goal.loop-section-preserved
 loop-section-preserved c =
-    fault_past faults (section_view c.args.text.now) c.args.sections.now c.loop-section.section-index _ _ c.loop-section-test.true (sym c.in_default.is ∙ c.in_ok-fault.ensures) c.loop-section.invariant
+    fault_past faults (section_view c.args.text.now) c.args.sections.now c.loop-section.section-index c.section-item.result _ c.loop-section-test.true (sym c.in_default.is ∙ c.in_ok-fault.ensures ∙ ap (λ s. head_of (faults (section_view c.args.text.now s))) c.section-item.is) c.loop-section.invariant

@@ -7,5 +7,5 @@ use Rattle.tac_reader.proofs.procedure.section_labels.Given as goal
 abbrev pub invariant-loop-line : goal.invariant-loop-line
 invariant-loop-line l = record {
   within : l.place ≤ l.line-index;
-  rest : (text : List ℕ) → l.labels.items ++ labels_from (length l.labels.items) (label_places l.place (map (λ line. tokens_view text line.now) (drop l.line-index l.lines))) ≡ labels_from 0 (label_places 0 (map (λ line. tokens_view text line.now) l.lines));
+  rest : (text : List ℕ) → l.labels.items ++ labels_from (length l.labels.items) (label_places l.place (map (λ line. tokens_view text line.tokens.now) (drop l.line-index l.lines))) ≡ labels_from 0 (label_places 0 (map (λ line. tokens_view text line.tokens.now) l.lines));
 }

@@ -9,7 +9,7 @@ pub returns-clause-statement : goal.returns-clause-statement
 returns-clause-statement c =
     let text = c.args.cursor.now in
     let names = names_view c.args.names in
-    let tokens = c.args.tokens.now in
+    let tokens = c.args.formed.tokens.now in
     let starts = c.start_of-start.ensures text in
     let ends = c.stop_of.ensures text in
     let line = c.line_at.ensures.line ∙ ap (λ n. line_after (take n text)) (sym starts) in

@@ -7,5 +7,5 @@ use Rattle.tac_reader.proofs.procedure.statement_count.Given as goal
 abbrev pub invariant-loop-line : goal.invariant-loop-line
 invariant-loop-line l = record {
   within : l.count ≤ l.line-index;
-  rest : (text : List ℕ) → l.count + length (statements_of (map (λ line. tokens_view text line.now) (drop l.line-index l.lines))) ≡ length (statements_of (map (λ line. tokens_view text line.now) l.lines));
+  rest : (text : List ℕ) → l.count + length (statements_of (map (λ line. tokens_view text line.tokens.now) (drop l.line-index l.lines))) ≡ length (statements_of (map (λ line. tokens_view text line.tokens.now) l.lines));
 }

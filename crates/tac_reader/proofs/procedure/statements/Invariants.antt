@@ -9,5 +9,5 @@ use Rattle.tac_reader.proofs.procedure.statements.Given as goal
 abbrev pub invariant-loop-line : goal.invariant-loop-line
 invariant-loop-line l = record {
   text : l.cursor ≡ l.fn.cursor;
-  rest : l.stmts.items ++ map (statement_of l.fn.cursor (names_view l.names)) (statements_of (map (λ line. tokens_view l.fn.cursor line.now) (drop l.line-index l.lines))) ≡ map (statement_of l.fn.cursor (names_view l.names)) (statements_of (map (λ line. tokens_view l.fn.cursor line.now) l.lines));
+  rest : l.stmts.items ++ map (statement_of l.fn.cursor (names_view l.names)) (statements_of (map (λ line. tokens_view l.fn.cursor line.tokens.now) (drop l.line-index l.lines))) ≡ map (statement_of l.fn.cursor (names_view l.names)) (statements_of (map (λ line. tokens_view l.fn.cursor line.tokens.now) l.lines));
 }

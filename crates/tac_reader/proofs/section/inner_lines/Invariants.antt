@@ -8,7 +8,7 @@ use Rattle.tac_reader.proofs.section.inner_lines.Given as goal
 abbrev pub invariant-loop-at : goal.invariant-loop-at
 invariant-loop-at l = record {
   within : l.at ≤ length l.lines;
-  run : (text : List ℕ) → l.at + prefix_len is_inner (map (λ line. tokens_view text line.now) (drop l.at l.lines)) ≡ prefix_len is_inner (map (λ line. tokens_view text line.now) l.lines);
+  run : (text : List ℕ) → l.at + prefix_len is_inner (map (λ line. tokens_view text line.tokens.now) (drop l.at l.lines)) ≡ prefix_len is_inner (map (λ line. tokens_view text line.tokens.now) l.lines);
 }
 
 abbrev pub decreases-loop-at : goal.decreases-loop-at

@@ -7,5 +7,5 @@ use Rattle.tac_reader.proofs.section.labels.Given as goal
 abbrev pub invariant-loop-line : goal.invariant-loop-line
 invariant-loop-line l = record {
   kept : take (vec_len l.fn.found) l.found.items ≡ l.fn.found.items;
-  rest : (text : List ℕ) → tokens_view text l.found.items ++ flat_map labels_of (map (λ line. tokens_view text line.now) (drop l.line-index l.lines)) ≡ tokens_view text l.fn.found.items ++ flat_map labels_of (map (λ line. tokens_view text line.now) l.lines);
+  rest : (text : List ℕ) → tokens_view text l.found.items ++ flat_map labels_of (map (λ line. tokens_view text line.tokens.now) (drop l.line-index l.lines)) ≡ tokens_view text l.fn.found.items ++ flat_map labels_of (map (λ line. tokens_view text line.tokens.now) l.lines);
 }

@@ -8,7 +8,7 @@ use Rattle.tac_reader.proofs.section.sections.Given as goal
 abbrev pub invariant-loop-at : goal.invariant-loop-at
 invariant-loop-at l = record {
   within : l.at ≤ length l.lines;
-  rest : (text : List ℕ) → sections_view text l.found.items ++ sections_in (map (λ line. tokens_view text line.now) (drop l.at l.lines)) ≡ sections_in (map (λ line. tokens_view text line.now) l.lines);
+  rest : (text : List ℕ) → sections_view text l.found.items ++ sections_in (map (λ line. tokens_view text line.tokens.now) (drop l.at l.lines)) ≡ sections_in (map (λ line. tokens_view text line.tokens.now) l.lines);
 }
 
 abbrev pub decreases-loop-at : goal.decreases-loop-at
