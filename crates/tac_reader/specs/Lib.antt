@@ -1,7 +1,6 @@
 pub mod Text
 pub mod Tokens
 pub mod Forms
-pub mod Formed
 pub mod Sections
 pub mod Programs
 pub mod Faults
@@ -9,12 +8,4 @@ pub mod Listings
 pub mod Examples
 pub mod Sound
 pub mod Laws
-pub mod Names
-pub mod Views
-pub mod Lexed
-pub mod Ranges
-pub mod Roles
-pub mod Built
-pub mod ReadFaults
-pub mod SectionViews
-pub mod Procedures
+pub mod code

@@ -2,7 +2,7 @@
 
 ghost use Rattle.std.specs.Prelude.{◌≡◌, ℕ, List, [], ◌∷◌, map, option_map, slice_get, length};
 ghost use Rattle.tac_reader.specs.Forms.{fills, first_wrong, has_form, comparison, unary, statement_forms};
-ghost use Rattle.tac_reader.specs.Views.{GoesAsFar, token_view, tokens_view, word_at, slot_view, slots_view, form_slots, fills_at, of_key, wrong_of, is_whole};
+ghost use Rattle.tac_reader.specs.code.Views.{GoesAsFar, token_view, tokens_view, word_at, slot_view, slots_view, form_slots, fills_at, of_key, wrong_of, is_whole};
 
 use crate::program::Op;
 use crate::token::{Keyword, Token, TokenKind};

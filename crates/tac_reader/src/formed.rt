@@ -1,9 +1,9 @@
 // Lines and statements with the form that they have, so that it is looked for once.
 
 ghost use Rattle.std.specs.Prelude.{◌≡◌, ◌-◌, ◌*◌, ℕ, List, IsTrue, IfOk, length, option_map};
-ghost use Rattle.tac_reader.specs.Formed.{is_formed};
+ghost use Rattle.tac_reader.specs.code.Formed.{is_formed};
 ghost use Rattle.tac_reader.specs.Forms.{behind_labels as without_labels, labels_of, statement_row};
-ghost use Rattle.tac_reader.specs.Views.{form_slots, tokens_view};
+ghost use Rattle.tac_reader.specs.code.Views.{form_slots, tokens_view};
 
 use crate::form::Form;
 use crate::line::behind_labels;

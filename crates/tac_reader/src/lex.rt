@@ -6,8 +6,8 @@ ghost use Rattle.tac_reader.specs.Forms.{has_form, proc_form, end_form};
 ghost use Rattle.tac_reader.specs.Sections.{token_lines};
 ghost use Rattle.tac_reader.specs.Text.{lines};
 ghost use Rattle.tac_reader.specs.Tokens.{rows};
-ghost use Rattle.tac_reader.specs.Lexed.{lexed_view, some_of, text_lines, IfFault};
-ghost use Rattle.tac_reader.specs.Views.{tokens_view};
+ghost use Rattle.tac_reader.specs.code.Lexed.{lexed_view, some_of, text_lines, IfFault};
+ghost use Rattle.tac_reader.specs.code.Views.{tokens_view};
 
 use crate::fault::{Fault, Stop};
 use crate::form::{END, PROC, Slot, Walk, fits_at, follow};

@@ -1,7 +1,7 @@
 // The tokens of a text.
 
 ghost use Rattle.std.specs.Prelude.{vec_len};
-ghost use Rattle.tac_reader.specs.Ranges.{EndsWithin};
+ghost use Rattle.tac_reader.specs.code.Ranges.{EndsWithin};
 
 use crate::token::Token;
 

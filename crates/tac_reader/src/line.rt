@@ -4,7 +4,7 @@ ghost use Rattle.std.specs.Prelude.{◌≡◌, ℕ, ◌+◌, ◌*◌, ◌<◌, �
 ghost use Rattle.tac_reader.specs.Faults.{first_by_place, form_fault as form_faults, row_faults, word_fault as word_faults};
 ghost use Rattle.tac_reader.specs.Forms.{behind_labels as without_labels, forms_for, labels_of};
 ghost use Rattle.tac_reader.specs.Programs.{stop_of as end_of};
-ghost use Rattle.tac_reader.specs.Views.{GoesAsFar, fault_list, line_forms, merged, others_of, prefix_of, verdict, slots_view, starts_label, token_view, tokens_view};
+ghost use Rattle.tac_reader.specs.code.Views.{GoesAsFar, fault_list, line_forms, merged, others_of, prefix_of, verdict, slots_view, starts_label, token_view, tokens_view};
 
 use crate::fault::Fault;
 use crate::form::{END, PROC, Slot, Walk, fits_at, follow, form_of, slots_of};

@@ -19,7 +19,7 @@ pub struct NameTable {
 
 impl Model for NameTable {
     ghost use Rattle.std.specs.Prelude.{List, ℕ, map, length, ◌<◌, ◌^◌};
-    ghost use Rattle.tac_reader.specs.Names.{texts};
+    ghost use Rattle.tac_reader.specs.code.Names.{texts};
 
     ghost Value = { List (List ℕ) };
 

@@ -4,7 +4,7 @@ ghost use Rattle.std.specs.Prelude.{◌≡◌, ℕ, ◌+◌, ◌<◌, ◌≤◌,
 ghost use Rattle.std.specs.List.{prefix_len};
 ghost use Rattle.tac_reader.specs.Text.{no_line_end};
 ghost use Rattle.tac_reader.specs.Tokens.{longest, is_letter, is_digit, is_name_byte, is_one_of, signs, is_blank, picked, name_or_keyword, number_piece, value_of, word, gap};
-ghost use Rattle.tac_reader.specs.Views.{piece_at, front_view, word_at};
+ghost use Rattle.tac_reader.specs.code.Views.{piece_at, front_view, word_at};
 
 use crate::program::Op;
 use crate::token::{Keyword, TokenKind};

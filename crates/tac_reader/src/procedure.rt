@@ -1,13 +1,13 @@
 // Procedures out of sections: their statements and labels by number, and the program.
 
 ghost use Rattle.std.specs.Prelude.{◌≡◌, ◌+◌, ◌*◌, ◌<◌, ◌≤◌, ◌^◌, ◌++◌, ℕ, List, length, map, fold, flat_map, IfOk, OnOk};
-ghost use Rattle.tac_reader.specs.Built.{names_view, call_numbers};
-ghost use Rattle.tac_reader.specs.Procedures.{labels_at};
+ghost use Rattle.tac_reader.specs.code.Built.{names_view, call_numbers};
+ghost use Rattle.tac_reader.specs.code.Procedures.{labels_at};
 ghost use Rattle.tac_reader.specs.Programs.{label_places, labels_from, names_in, noted, procedure_of, procedures_from, start_of as start_in, statement_of, variables_in};
-ghost use Rattle.tac_reader.specs.SectionViews.{section_view, sections_view};
+ghost use Rattle.tac_reader.specs.code.SectionViews.{section_view, sections_view};
 ghost use Rattle.tac_reader.specs.Sections.{labels_in, only_name, statements_of};
 ghost use Rattle.tac_reader.specs.Sound.{IsSound};
-ghost use Rattle.tac_reader.specs.Views.{tokens_view};
+ghost use Rattle.tac_reader.specs.code.Views.{tokens_view};
 
 use crate::build::{Names, kind};
 use crate::cursor::LineCursor;

@@ -2,7 +2,7 @@
 
 ghost use Rattle.std.specs.Prelude.{◌≡◌, ◌-◌, ◌^◌, ◌<◌, ◌≤◌, length, slice_range, IfOk, OnOk, vec_len};
 ghost use Rattle.tac_reader.specs.Tokens.{row_from};
-ghost use Rattle.tac_reader.specs.Views.{tokens_view};
+ghost use Rattle.tac_reader.specs.code.Views.{tokens_view};
 
 use crate::piece::front;
 use crate::token::Token;

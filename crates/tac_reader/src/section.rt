@@ -2,11 +2,11 @@
 
 ghost use Rattle.std.specs.Prelude.{◌≡◌, ◌++◌, ℕ, List, map, flat_map, take_while, slice_range, take, vec_len, IfOk, OnOk};
 ghost use Rattle.tac_reader.specs.Forms.{cells_of, in_slot, labels_of};
-ghost use Rattle.tac_reader.specs.Lexed.{lexed_view};
-ghost use Rattle.tac_reader.specs.Roles.{role_test};
-ghost use Rattle.tac_reader.specs.SectionViews.{sections_view};
+ghost use Rattle.tac_reader.specs.code.Lexed.{lexed_view};
+ghost use Rattle.tac_reader.specs.code.Roles.{role_test};
+ghost use Rattle.tac_reader.specs.code.SectionViews.{sections_view};
 ghost use Rattle.tac_reader.specs.Sections.{is_inner as is_inner_line, sections_in, statements_of};
-ghost use Rattle.tac_reader.specs.Views.{tokens_view};
+ghost use Rattle.tac_reader.specs.code.Views.{tokens_view};
 
 use crate::formed::Line;
 use crate::lex::{is_end, is_proc};

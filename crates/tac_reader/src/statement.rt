@@ -1,10 +1,10 @@
 // Statements: their forms, and the names in them.
 
 ghost use Rattle.std.specs.Prelude.{◌≡◌, ◌++◌, ℕ, List, option_map, length, take, vec_len, OnOk};
-ghost use Rattle.tac_reader.specs.Formed.{has_role as has_role_in};
+ghost use Rattle.tac_reader.specs.code.Formed.{has_role as has_role_in};
 ghost use Rattle.tac_reader.specs.Forms.{cells_of, in_slot, paired, statement_row};
-ghost use Rattle.tac_reader.specs.Roles.{role_test};
-ghost use Rattle.tac_reader.specs.Views.{form_slots, slot_view, slots_view, tokens_view};
+ghost use Rattle.tac_reader.specs.code.Roles.{role_test};
+ghost use Rattle.tac_reader.specs.code.Views.{form_slots, slot_view, slots_view, tokens_view};
 
 use crate::form::{Form, Slot, Walk, follow, form_of, slots_of};
 use crate::formed::Statement;

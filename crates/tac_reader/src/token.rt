@@ -2,7 +2,7 @@
 
 ghost use Rattle.std.specs.Prelude.{◌≡◌, slice_range};
 ghost use Rattle.tac_reader.specs.Sections.{spelling_of};
-ghost use Rattle.tac_reader.specs.Views.{keyword_text, token_view};
+ghost use Rattle.tac_reader.specs.code.Views.{keyword_text, token_view};
 
 use crate::program::Op;
 

@@ -1,10 +1,10 @@
 use Rattle.std.proofs.Common.{◌∙◌, sym, ap, length, map}
-use Rattle.tac_reader.specs.Built.{names_view}
+use Rattle.tac_reader.specs.code.Built.{names_view}
 use Rattle.tac_reader.specs.Programs.{kind_of}
-use Rattle.tac_reader.specs.Views.{tokens_view}
+use Rattle.tac_reader.specs.code.Views.{tokens_view}
 use Rattle.tac_reader.specs.declared.form.Form.TheVariants as form
 use Rattle.tac_reader.specs.declared.program.StmtKind.TheVariants as stmt
-use Rattle.tac_reader.proofs.StatementWords.{row_of, row_length, row_form, unary_words, binary_words, comparison_words, copy_words, jump_words, test_words, negated_words, read_words, print_words}
+use Rattle.tac_reader.proofs.programs.StatementWords.{row_of, row_length, row_form, unary_words, binary_words, comparison_words, copy_words, jump_words, test_words, negated_words, read_words, print_words}
 use Rattle.tac_reader.proofs.build.kind.Goals as goal
 
 pub returns-in-Some-Unary : goal.returns-in-Some-Unary

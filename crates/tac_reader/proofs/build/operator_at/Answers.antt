@@ -1,6 +1,6 @@
 use Rattle.std.proofs.Common.{◌≡◌, ◌∙◌, ap, Some, None, slice_get, slice_range}
 use Rattle.tac_reader.specs.Programs.{operator_of}
-use Rattle.tac_reader.proofs.BuiltWords.{word-some, word-none, get_some, get_none, no_operator}
+use Rattle.tac_reader.proofs.programs.BuiltWords.{word-some, word-none, get_some, get_none, no_operator}
 use Rattle.tac_reader.proofs.build.operator_at.Goals as goal
 
 pub returns-in-None : goal.returns-in-None

@@ -1,7 +1,7 @@
 use Rattle.std.proofs.Common.{refl, arith, ◌<◌, length}
 use Rattle.std.proofs.lemmas.Option.{slice_get_past, slice_get_read}
 use Rattle.tac_reader.specs.declared.refusal.RefusalKind.TheVariants.{TooManyProcedures}
-use Rattle.tac_reader.proofs.FirstFaults.{none_past, one_past}
+use Rattle.tac_reader.proofs.lines.FirstFaults.{none_past, one_past}
 use Rattle.tac_reader.proofs.checks.check_count.Goals as goal
 
 pub returns-then-sections-le-MOST_PROCEDURES : goal.returns-then-sections-le-MOST_PROCEDURES

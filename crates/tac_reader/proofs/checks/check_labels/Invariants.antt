@@ -2,7 +2,7 @@ use Rattle.std.proofs.Common.{◌≡◌, ◌++◌, [], drop, map, flat_map}
 use Rattle.tac_reader.specs.Faults.{repeated}
 use Rattle.tac_reader.specs.Programs.{names_in}
 use Rattle.tac_reader.specs.Sections.{labels_in}
-use Rattle.tac_reader.specs.SectionViews.{sections_view}
+use Rattle.tac_reader.specs.code.SectionViews.{sections_view}
 use Rattle.tac_reader.specs.declared.refusal.RefusalKind.TheVariants.{DuplicateLabel}
 use Rattle.tac_reader.proofs.checks.check_labels.Given as goal
 

@@ -1,7 +1,7 @@
 use Rattle.std.proofs.Common.{◌∙◌, ap, [], is_some, codes, if◌then◌else◌}
 use Rattle.tac_reader.specs.Faults.{at, head_of}
 use Rattle.tac_reader.specs.declared.refusal.RefusalKind.TheVariants.{NoMain}
-use Rattle.tac_reader.proofs.NameTexts.{numbered}
+use Rattle.tac_reader.proofs.known_names.NameTexts.{numbered}
 use Rattle.tac_reader.proofs.checks.check_main.Goals as goal
 
 pub returns-in-Some : goal.returns-in-Some

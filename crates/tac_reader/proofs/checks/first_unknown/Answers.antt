@@ -1,5 +1,5 @@
 use Rattle.std.proofs.Common.{◌∙◌, ap, not, sym}
-use Rattle.tac_reader.proofs.FirstFaults.{unknown_past, unknown_here}
+use Rattle.tac_reader.proofs.lines.FirstFaults.{unknown_past, unknown_here}
 use Rattle.tac_reader.proofs.checks.first_unknown.Goals as goal
 
 pub returns-then-is_none : goal.returns-then-is_none

@@ -3,11 +3,11 @@ use Rattle.tac_reader.specs.Tokens.{Token}
 use Rattle.tac_reader.specs.Faults.{head_of, repeated}
 use Rattle.tac_reader.specs.Forms.{behind_labels}
 use Rattle.tac_reader.specs.Sections.{callees_of}
-use Rattle.tac_reader.specs.Views.{tokens_view}
+use Rattle.tac_reader.specs.code.Views.{tokens_view}
 use Rattle.tac_reader.specs.declared.fault.Fault.{Fault}
 use Rattle.tac_reader.specs.declared.refusal.RefusalKind.TheVariants.{DuplicateCallee}
-use Rattle.tac_reader.proofs.FirstFaults.{by_lines, callees_found, fault_past, fault_here}
-use Rattle.tac_reader.proofs.SectionSteps.{line_view}
+use Rattle.tac_reader.proofs.lines.FirstFaults.{by_lines, callees_found, fault_past, fault_here}
+use Rattle.tac_reader.proofs.sections.SectionSteps.{line_view}
 use Rattle.tac_reader.proofs.checks.repeated_callee.Goals as goal
 
 abbrev faults : List Token → List Fault

@@ -1,7 +1,7 @@
 use Rattle.std.proofs.Common.{◌≡◌, [], drop, map, flat_map}
 use Rattle.tac_reader.specs.Faults.{repeated}
 use Rattle.tac_reader.specs.Sections.{callees_of, statements_of}
-use Rattle.tac_reader.specs.Views.{tokens_view}
+use Rattle.tac_reader.specs.code.Views.{tokens_view}
 use Rattle.tac_reader.specs.declared.refusal.RefusalKind.TheVariants.{DuplicateCallee}
 use Rattle.tac_reader.proofs.checks.repeated_callee.Given as goal
 

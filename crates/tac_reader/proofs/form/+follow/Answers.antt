@@ -1,6 +1,6 @@
 use Rattle.std.proofs.Common.{◌∙◌, ap, option_map, slice_range}
-use Rattle.tac_reader.specs.Views.{slot_view, slots_view, token_view, tokens_view}
-use Rattle.tac_reader.proofs.Table.{row_on}
+use Rattle.tac_reader.specs.code.Views.{slot_view, slots_view, token_view, tokens_view}
+use Rattle.tac_reader.proofs.forms.Table.{row_on}
 use Rattle.tac_reader.proofs.form.+follow.Goals as goal
 
 pub returns-then-fits-clause-wrong : goal.returns-then-fits-clause-wrong

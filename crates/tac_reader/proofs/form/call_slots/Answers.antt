@@ -1,8 +1,8 @@
 use Rattle.std.proofs.Common.{◌≡◌, ◌∙◌, ap, sym, ℕ, zero, suc, ◌+◌, ◌-◌, ◌*◌, ◌%◌, min, arith, List, [], ◌∷◌, take, refl, codes}
 use Rattle.tac_reader.specs.Forms.{key, callee}
-use Rattle.tac_reader.specs.Views.{slots_view, slot_view}
+use Rattle.tac_reader.specs.code.Views.{slots_view, slot_view}
 use Rattle.tac_reader.specs.declared.form.Slot.{Slot as Wanted}
-use Rattle.tac_reader.proofs.Calls.{bars, further_front}
+use Rattle.tac_reader.proofs.forms.Calls.{bars, further_front}
 use Rattle.tac_reader.proofs.form.call_slots.Goals as goal
 
 map-take : (n : ℕ) (xs : List Wanted) → slots_view (take n xs) ≡ take n (slots_view xs)

@@ -1,7 +1,7 @@
 use Rattle.std.proofs.Common.{sym, ◌∙◌, ap, subst, arith, length, [], ◌∷◌}
 use Rattle.tac_reader.specs.Forms.{statement_forms, unary}
-use Rattle.tac_reader.specs.Views.{GoesAsFar, tokens_view, form_slots, fills_at}
-use Rattle.tac_reader.proofs.Shapes.{key_far, if_far, no_more, name_far, unary_far, binary_far, copy_far, call_far, copied, of_unary, of_binary}
+use Rattle.tac_reader.specs.code.Views.{GoesAsFar, tokens_view, form_slots, fills_at}
+use Rattle.tac_reader.proofs.forms.Shapes.{key_far, if_far, no_more, name_far, unary_far, binary_far, copy_far, call_far, copied, of_unary, of_binary}
 use Rattle.tac_reader.specs.declared.token.TokenKind.TheVariants as kind
 use Rattle.tac_reader.proofs.form.form_of.Goals as goal
 

@@ -1,4 +1,4 @@
-use Rattle.tac_reader.proofs.Lines.{lines_join}
+use Rattle.tac_reader.proofs.lines.Lines.{lines_join}
 use Rattle.tac_reader.proofs.laws.lines_join.Goals as goal
 
 pub returns : goal.returns

@@ -1,4 +1,4 @@
-use Rattle.tac_reader.proofs.SoundPrograms.{programs_are_sound}
+use Rattle.tac_reader.proofs.programs.SoundPrograms.{programs_are_sound}
 use Rattle.tac_reader.proofs.laws.programs_are_sound.Goals as goal
 
 pub returns : goal.returns

@@ -1,4 +1,4 @@
-use Rattle.tac_reader.proofs.SpelledStatements.{statements_are_spelled}
+use Rattle.tac_reader.proofs.programs.SpelledStatements.{statements_are_spelled}
 use Rattle.tac_reader.proofs.laws.statements_are_spelled.Goals as goal
 
 pub returns : goal.returns

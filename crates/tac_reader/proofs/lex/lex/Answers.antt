@@ -1,14 +1,14 @@
 use Rattle.std.proofs.Common.{◌∙◌, sym, ap, length, drop, ◌++◌, List}
 use Rattle.tac_reader.specs.declared.token.Token.{Token}
 use Rattle.tac_reader.specs.Faults.{row_faults, line_faults, inside_after}
-use Rattle.tac_reader.specs.Lexed.{lexed_view, some_of}
+use Rattle.tac_reader.specs.code.Lexed.{lexed_view, some_of}
 use Rattle.tac_reader.specs.Text.{lines}
 use Rattle.tac_reader.specs.Text.{lines}
 use Rattle.tac_reader.specs.Tokens.{Row, rows_from}
-use Rattle.tac_reader.specs.Views.{tokens_view}
-use Rattle.tac_reader.proofs.FirstFault.{none_first}
-use Rattle.tac_reader.proofs.FaultPlaces.{first_of_text, rows_step, no_fault_step}
-use Rattle.tac_reader.proofs.LexSteps.{lines_step, not_some, row_is}
+use Rattle.tac_reader.specs.code.Views.{tokens_view}
+use Rattle.tac_reader.proofs.lines.FirstFault.{none_first}
+use Rattle.tac_reader.proofs.lines.FaultPlaces.{first_of_text, rows_step, no_fault_step}
+use Rattle.tac_reader.proofs.lines.LexSteps.{lines_step, not_some, row_is}
 use Rattle.tac_reader.proofs.lex.lex.Goals as goal
 
 pub returns-in-Some-clause-fault : goal.returns-in-Some-clause-fault

@@ -1,6 +1,6 @@
 use Rattle.std.proofs.Common.{◌≡◌, ◌-◌, ◌≤◌, ◌++◌, false, length, drop}
 use Rattle.tac_reader.specs.Faults.{line_faults}
-use Rattle.tac_reader.specs.Lexed.{text_lines}
+use Rattle.tac_reader.specs.code.Lexed.{text_lines}
 use Rattle.tac_reader.specs.Sections.{token_lines}
 use Rattle.tac_reader.specs.Text.{lines}
 use Rattle.tac_reader.specs.Tokens.{rows, rows_from}

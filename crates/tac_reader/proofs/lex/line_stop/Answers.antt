@@ -1,4 +1,4 @@
-use Rattle.tac_reader.proofs.LineSteps.{line_ended, line_last}
+use Rattle.tac_reader.proofs.lines.LineSteps.{line_ended, line_last}
 use Rattle.tac_reader.proofs.lex.line_stop.Goals as goal
 
 pub returns-then-stop-text-clause-line : goal.returns-then-stop-text-clause-line

@@ -1,6 +1,6 @@
 use Rattle.std.proofs.Common.{◌≡◌, ◌∙◌, sym, length, rules}
-use Rattle.tac_reader.specs.Ranges.{EndsWithin}
-use Rattle.tac_reader.proofs.RangeLemmas.{views_push, not_empty}
+use Rattle.tac_reader.specs.code.Ranges.{EndsWithin}
+use Rattle.tac_reader.proofs.lines.RangeLemmas.{views_push, not_empty}
 use Rattle.tac_reader.proofs.lex.push_line.Goals as goal
 
 pub returns-in_ok-push : goal.returns-in_ok-push

@@ -1,6 +1,6 @@
 use Rattle.std.proofs.Common.{◌≡◌, ℕ, ◌+◌, ◌-◌, ◌*◌, ◌<◌, ◌≤◌, List, drop, length, true}
 use Rattle.tac_reader.specs.Forms.{behind_labels, forms_for, labels_of}
-use Rattle.tac_reader.specs.Views.{tokens_view, line_forms}
+use Rattle.tac_reader.specs.code.Views.{tokens_view, line_forms}
 use Rattle.tac_reader.proofs.line.behind_labels.Given as goal
 
 -- Behind the labels so far stands what stands behind all of them.

@@ -1,7 +1,7 @@
 use Rattle.std.proofs.Common.{◌∙◌, is_some, nat_lt, length}
 use Rattle.tac_reader.specs.Programs.{stop_of}
-use Rattle.tac_reader.specs.Views.{tokens_view, slots_view, line_forms}
-use Rattle.tac_reader.proofs.LineForms.{judged, form_fault_is}
+use Rattle.tac_reader.specs.code.Views.{tokens_view, slots_view, line_forms}
+use Rattle.tac_reader.proofs.forms.LineForms.{judged, form_fault_is}
 use Rattle.tac_reader.proofs.line.judged.Goals as goal
 
 pub returns-else-is_empty : goal.returns-else-is_empty

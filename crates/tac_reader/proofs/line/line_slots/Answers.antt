@@ -2,8 +2,8 @@ use Rattle.std.proofs.Common.{◌∙◌, sym, subst, ℕ, ◌<◌, length, List,
 use Rattle.std.proofs.lemmas.List.{length-map}
 use Rattle.tac_reader.specs.declared.token.Token.{Token as Lexed}
 use Rattle.tac_reader.specs.Forms.{statement_forms}
-use Rattle.tac_reader.specs.Views.{GoesAsFar, token_view, tokens_view}
-use Rattle.tac_reader.proofs.LineForms.{outside_far, end_far, statement_far, labelled_far}
+use Rattle.tac_reader.specs.code.Views.{GoesAsFar, token_view, tokens_view}
+use Rattle.tac_reader.proofs.forms.LineForms.{outside_far, end_far, statement_far, labelled_far}
 use Rattle.tac_reader.proofs.line.line_slots.Goals as goal
 use Rattle.tac_reader.proofs.line.line_slots.Goals.{else-not-labelled-via-then-not-labelled+else-fits_at, else-not-labelled-via-else-not-labelled}
 

@@ -1,4 +1,4 @@
-use Rattle.tac_reader.proofs.LineForms.{row_none, row_some}
+use Rattle.tac_reader.proofs.forms.LineForms.{row_none, row_some}
 use Rattle.tac_reader.proofs.line.row_fault.Goals as goal
 
 pub returns-in-None : goal.returns-in-None

@@ -1,4 +1,4 @@
-use Rattle.tac_reader.proofs.LineForms.{last_stop}
+use Rattle.tac_reader.proofs.forms.LineForms.{last_stop}
 use Rattle.tac_reader.proofs.line.stop_of.Goals as goal
 
 pub returns-in-Some : goal.returns-in-Some

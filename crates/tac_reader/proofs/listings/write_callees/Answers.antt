@@ -1,5 +1,5 @@
 use Rattle.std.proofs.Common.{◌++◌, ap, append_assoc}
-use Rattle.tac_reader.proofs.ListingTexts.{callees_text-parts}
+use Rattle.tac_reader.proofs.layouts.ListingTexts.{callees_text-parts}
 use Rattle.tac_reader.proofs.listings.write_callees.Goals as goal
 
 pub returns-after-loop-callee : goal.returns-after-loop-callee

@@ -1,7 +1,7 @@
 use Rattle.std.proofs.Common.{◌-◌, ◌≤◌, length, drop, sym, ◌∙◌, append-nil, length-drop, arith}
 use Rattle.std.proofs.lemmas.List.{take_all}
-use Rattle.tac_reader.proofs.LabelPlaces.{StandBehind-drop, behind-all}
-use Rattle.tac_reader.proofs.ListingTexts.{labels_text-behind}
+use Rattle.tac_reader.proofs.programs.LabelPlaces.{StandBehind-drop, behind-all}
+use Rattle.tac_reader.proofs.layouts.ListingTexts.{labels_text-behind}
 use Rattle.tac_reader.proofs.listings.write_labels.Goals as goal
 
 pub returns-then-label-place-clause-written : goal.returns-then-label-place-clause-written

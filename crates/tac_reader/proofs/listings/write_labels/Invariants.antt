@@ -1,6 +1,6 @@
 use Rattle.std.proofs.Common.{◌≡◌, ◌++◌, drop}
 use Rattle.tac_reader.specs.Listings.{labels_text}
-use Rattle.tac_reader.proofs.LabelPlaces.{behind}
+use Rattle.tac_reader.proofs.programs.LabelPlaces.{behind}
 use Rattle.tac_reader.proofs.listings.write_labels.Given as goal
 
 -- what is written and what the labels ahead still give make up the whole

@@ -1,6 +1,6 @@
 use Rattle.std.proofs.Common.{◌≡◌, length, refl, sym, ap, ◌∙◌, append_assoc, arith}
-use Rattle.tac_reader.proofs.LabelPlaces.{behind, from-start, behind-from, LabelsRise-from, All-from}
-use Rattle.tac_reader.proofs.ListingTexts.{labels_text-from, places_text-more, places_text-end}
+use Rattle.tac_reader.proofs.programs.LabelPlaces.{behind, from-start, behind-from, LabelsRise-from, All-from}
+use Rattle.tac_reader.proofs.layouts.ListingTexts.{labels_text-from, places_text-more, places_text-end}
 use Rattle.tac_reader.proofs.listings.write_places.Goals as goal
 
 pub loop-place-init : goal.loop-place-init

@@ -1,6 +1,6 @@
 use Rattle.std.proofs.Common.{◌≡◌, ◌++◌, drop}
 use Rattle.tac_reader.specs.Listings.{places_text}
-use Rattle.tac_reader.proofs.LabelPlaces.{from}
+use Rattle.tac_reader.proofs.programs.LabelPlaces.{from}
 use Rattle.tac_reader.proofs.listings.write_places.Given as goal
 
 -- what is written and what the places ahead still give make up the whole

@@ -1,4 +1,4 @@
-use Rattle.tac_reader.proofs.Pieces.{comment_front}
+use Rattle.tac_reader.proofs.tokens.Pieces.{comment_front}
 use Rattle.tac_reader.proofs.piece.comment_len.Goals as goal
 
 pub returns-clause-longest : goal.returns-clause-longest

@@ -1,5 +1,5 @@
 use Rattle.std.proofs.Common.{sym, ◌∙◌}
-use Rattle.tac_reader.proofs.Fronts.{two_at, one_at, none_at, no_pair, too_few, BeginsNoRun}
+use Rattle.tac_reader.proofs.tokens.Fronts.{two_at, one_at, none_at, no_pair, too_few, BeginsNoRun}
 use Rattle.tac_reader.proofs.piece.front.Goals as goal
 use Rattle.tac_reader.proofs.piece.front.Goals.{then-rest-gt1+in_default, else-rest-gt1}
 

@@ -1,4 +1,4 @@
-use Rattle.tac_reader.proofs.Longest.{name_front}
+use Rattle.tac_reader.proofs.tokens.Longest.{name_front}
 use Rattle.tac_reader.proofs.piece.name_len.Goals as goal
 
 pub returns-clause-longest : goal.returns-clause-longest

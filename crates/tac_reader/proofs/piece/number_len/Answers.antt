@@ -1,4 +1,4 @@
-use Rattle.tac_reader.proofs.Pieces.{number_front}
+use Rattle.tac_reader.proofs.tokens.Pieces.{number_front}
 use Rattle.tac_reader.proofs.piece.number_len.Goals as goal
 
 pub returns-clause-longest : goal.returns-clause-longest

@@ -1,5 +1,5 @@
 use Rattle.std.proofs.Common.{◌∙◌, arith}
-use Rattle.tac_reader.proofs.Values.{digit_step}
+use Rattle.tac_reader.proofs.tokens.Values.{digit_step}
 use Rattle.tac_reader.proofs.piece.number_value.Goals as goal
 
 pub loop-digit-preserved : goal.loop-digit-preserved

@@ -2,8 +2,8 @@ use Rattle.std.proofs.Common.{◌≡◌, ◌≤◌, ◌∙◌, ◌++◌, length,
 use Rattle.std.proofs.lemmas.List.{length-map}
 use Rattle.tac_reader.specs.Programs.{number_of}
 use Rattle.tac_reader.specs.Sections.{callees_of, spelling_of}
-use Rattle.tac_reader.specs.Views.{token_view, tokens_view}
-use Rattle.tac_reader.proofs.CalleeCounts.{most_callees}
+use Rattle.tac_reader.specs.code.Views.{token_view, tokens_view}
+use Rattle.tac_reader.proofs.forms.CalleeCounts.{most_callees}
 use Rattle.tac_reader.proofs.procedure.callees.Goals as goal
 
 pub loop-token-init : goal.loop-token-init

@@ -1,8 +1,8 @@
 use Rattle.std.proofs.Common.{◌≡◌, ◌≤◌, ◌++◌, map, drop, length}
-use Rattle.tac_reader.specs.Built.{call_numbers}
+use Rattle.tac_reader.specs.code.Built.{call_numbers}
 use Rattle.tac_reader.specs.Programs.{number_of}
 use Rattle.tac_reader.specs.Sections.{spelling_of}
-use Rattle.tac_reader.specs.Views.{tokens_view}
+use Rattle.tac_reader.specs.code.Views.{tokens_view}
 use Rattle.tac_reader.proofs.procedure.callees.Given as goal
 
 -- The numbers so far and those of the other callees are all; there are at most eight.

@@ -1,7 +1,7 @@
 use Rattle.std.proofs.Common.{◌≡◌, drop, fold, flat_map}
 use Rattle.tac_reader.specs.Programs.{names_in, noted}
 use Rattle.tac_reader.specs.Sections.{only_name}
-use Rattle.tac_reader.specs.Views.{tokens_view}
+use Rattle.tac_reader.specs.code.Views.{tokens_view}
 use Rattle.tac_reader.proofs.procedure.note_names.Given as goal
 
 -- The names of the other tokens are still to be noted.

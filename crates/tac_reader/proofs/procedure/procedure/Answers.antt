@@ -1,6 +1,6 @@
 use Rattle.std.proofs.Common.{map}
-use Rattle.tac_reader.specs.Views.{tokens_view}
-use Rattle.tac_reader.proofs.LabelRuns.{labels_rise}
+use Rattle.tac_reader.specs.code.Views.{tokens_view}
+use Rattle.tac_reader.proofs.programs.LabelRuns.{labels_rise}
 use Rattle.tac_reader.proofs.procedure.procedure.Goals as goal
 
 pub new-requires : goal.new-requires

@@ -1,8 +1,8 @@
 use Rattle.tac_reader.specs.Programs.{procedure_of}
-use Rattle.tac_reader.specs.SectionViews.{section_view}
+use Rattle.tac_reader.specs.code.SectionViews.{section_view}
 use Rattle.std.proofs.Common.{◌∙◌, ap, arith}
 use Rattle.std.specs.Vec.Iter.{into_iter_items}
-use Rattle.tac_reader.proofs.ProcedureRuns.{built_on, labels_left}
+use Rattle.tac_reader.proofs.programs.ProcedureRuns.{built_on, labels_left}
 use Rattle.tac_reader.proofs.procedure.procedures.Goals as goal
 
 pub loop-section-preserved : goal.loop-section-preserved

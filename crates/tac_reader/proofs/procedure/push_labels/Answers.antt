@@ -1,5 +1,5 @@
 use Rattle.std.proofs.Common.{◌+◌, ◌-◌, arith}
-use Rattle.tac_reader.proofs.LabelRuns.{push_one}
+use Rattle.tac_reader.proofs.programs.LabelRuns.{push_one}
 use Rattle.tac_reader.proofs.procedure.push_labels.Goals as goal
 
 pub loop-preserved : goal.loop-preserved

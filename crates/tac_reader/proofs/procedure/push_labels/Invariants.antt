@@ -1,5 +1,5 @@
 use Rattle.std.proofs.Common.{◌≡◌, ◌-◌, ◌++◌, length}
-use Rattle.tac_reader.specs.Procedures.{labels_at}
+use Rattle.tac_reader.specs.code.Procedures.{labels_at}
 use Rattle.tac_reader.proofs.procedure.push_labels.Given as goal
 
 -- The labels so far and those that are still to come are all.

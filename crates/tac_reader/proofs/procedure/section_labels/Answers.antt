@@ -1,9 +1,9 @@
 use Rattle.tac_reader.specs.Forms.{behind_labels, labels_of}
 use Rattle.std.proofs.Common.{◌≡◌, ◌+◌, ◌∙◌, ℕ, List, length, ap, sym, arith}
 use Rattle.tac_reader.specs.Sections.{unless_empty}
-use Rattle.tac_reader.specs.Views.{tokens_view}
-use Rattle.tac_reader.proofs.LabelRuns.{lines_on}
-use Rattle.tac_reader.proofs.StatementRuns.{unless_some, unless_none}
+use Rattle.tac_reader.specs.code.Views.{tokens_view}
+use Rattle.tac_reader.proofs.programs.LabelRuns.{lines_on}
+use Rattle.tac_reader.proofs.programs.StatementRuns.{unless_some, unless_none}
 use Rattle.tac_reader.proofs.procedure.section_labels.Goals as goal
 use Rattle.tac_reader.proofs.procedure.section_labels.Goals.{then-not-is_empty, else-not-is_empty}
 

@@ -1,6 +1,6 @@
 use Rattle.std.proofs.Common.{◌≡◌, ◌≤◌, ◌++◌, ℕ, List, map, drop, length}
 use Rattle.tac_reader.specs.Programs.{label_places, labels_from}
-use Rattle.tac_reader.specs.Views.{tokens_view}
+use Rattle.tac_reader.specs.code.Views.{tokens_view}
 use Rattle.tac_reader.proofs.procedure.section_labels.Given as goal
 
 -- The labels so far and those of the other lines are all.

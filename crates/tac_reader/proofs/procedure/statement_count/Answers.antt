@@ -1,7 +1,7 @@
-use Rattle.tac_reader.specs.Views.{tokens_view}
+use Rattle.tac_reader.specs.code.Views.{tokens_view}
 use Rattle.tac_reader.specs.Forms.{behind_labels}
 use Rattle.std.proofs.Common.{◌∙◌, ap, sym, arith}
-use Rattle.tac_reader.proofs.StatementRuns.{count_one, count_none}
+use Rattle.tac_reader.proofs.programs.StatementRuns.{count_one, count_none}
 use Rattle.tac_reader.proofs.procedure.statement_count.Goals as goal
 use Rattle.tac_reader.proofs.procedure.statement_count.Goals.{then-not-is_empty, else-not-is_empty}
 

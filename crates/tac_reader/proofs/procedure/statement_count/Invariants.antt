@@ -1,6 +1,6 @@
 use Rattle.std.proofs.Common.{◌≡◌, ◌≤◌, ◌+◌, ℕ, List, map, drop, length}
 use Rattle.tac_reader.specs.Sections.{statements_of}
-use Rattle.tac_reader.specs.Views.{tokens_view}
+use Rattle.tac_reader.specs.code.Views.{tokens_view}
 use Rattle.tac_reader.proofs.procedure.statement_count.Given as goal
 
 -- The statements so far and those of the other lines are all.

@@ -1,8 +1,8 @@
 use Rattle.std.proofs.Common.{◌≡◌, ◌++◌, map, drop}
-use Rattle.tac_reader.specs.Built.{names_view}
+use Rattle.tac_reader.specs.code.Built.{names_view}
 use Rattle.tac_reader.specs.Programs.{statement_of}
 use Rattle.tac_reader.specs.Sections.{statements_of}
-use Rattle.tac_reader.specs.Views.{tokens_view}
+use Rattle.tac_reader.specs.code.Views.{tokens_view}
 use Rattle.tac_reader.proofs.procedure.statements.Given as goal
 
 -- The statements so far and those of the other lines are all.

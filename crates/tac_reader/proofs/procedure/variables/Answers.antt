@@ -1,9 +1,9 @@
 use Rattle.std.proofs.Common.{◌∙◌, ◌++◌, ap, flat_map}
 use Rattle.tac_reader.specs.Forms.{cells_of, in_slot}
 use Rattle.tac_reader.specs.Sections.{is_variable, statements_of}
-use Rattle.tac_reader.specs.SectionViews.{section_view}
-use Rattle.tac_reader.specs.Views.{tokens_view}
-use Rattle.tac_reader.proofs.VariableRuns.{noted_on}
+use Rattle.tac_reader.specs.code.SectionViews.{section_view}
+use Rattle.tac_reader.specs.code.Views.{tokens_view}
+use Rattle.tac_reader.proofs.programs.VariableRuns.{noted_on}
 use Rattle.tac_reader.proofs.procedure.variables.Goals as goal
 
 pub loop-section-preserved : goal.loop-section-preserved

@@ -1,6 +1,6 @@
 use Rattle.std.proofs.Common.{◌≡◌, drop, fold, flat_map}
 use Rattle.tac_reader.specs.Programs.{names_in, noted, variables_in}
-use Rattle.tac_reader.specs.SectionViews.{sections_view}
+use Rattle.tac_reader.specs.code.SectionViews.{sections_view}
 use Rattle.tac_reader.specs.Sections.{statements_of, variables_of}
 use Rattle.tac_reader.proofs.procedure.variables.Given as goal
 

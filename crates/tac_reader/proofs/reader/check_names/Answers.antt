@@ -1,6 +1,6 @@
 use Rattle.std.proofs.lemmas.Result.{err_from_is_err_and}
-use Rattle.tac_reader.specs.SectionViews.{sections_view}
-use Rattle.tac_reader.proofs.ReadSteps.{procedure_fault}
+use Rattle.tac_reader.specs.code.SectionViews.{sections_view}
+use Rattle.tac_reader.proofs.programs.ReadSteps.{procedure_fault}
 use Rattle.tac_reader.proofs.reader.check_names.Goals as goal
 
 pub returns-in_err-procedures-clause-fault : goal.returns-in_err-procedures-clause-fault

@@ -1,6 +1,6 @@
 use Rattle.std.proofs.Common.{ap, ◌∙◌, arith, length, ◌<◌}
-use Rattle.tac_reader.specs.Views.{tokens_view}
-use Rattle.tac_reader.proofs.RowSteps.{row_step, step_some, step_gap, row_stops, length-push}
+use Rattle.tac_reader.specs.code.Views.{tokens_view}
+use Rattle.tac_reader.proofs.tokens.RowSteps.{row_step, step_some, step_gap, row_stops, length-push}
 use Rattle.tac_reader.proofs.row.read_row.Goals as goal
 use Rattle.tac_reader.proofs.row.read_row.Goals.{in-Some-kind+in_ok-push-in-Some, in_default}
 

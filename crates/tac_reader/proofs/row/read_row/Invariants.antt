@@ -1,7 +1,7 @@
 use Rattle.std.proofs.Common.{length, ◌-◌, ◌+◌, ◌≡◌, ◌≤◌, zero, slice_range}
 use Rattle.tac_reader.specs.Tokens.{row_from}
-use Rattle.tac_reader.specs.Views.{tokens_view}
-use Rattle.tac_reader.proofs.RowSteps.{joined}
+use Rattle.tac_reader.specs.code.Views.{tokens_view}
+use Rattle.tac_reader.proofs.tokens.RowSteps.{joined}
 use Rattle.tac_reader.proofs.row.read_row.Given as goal
 
 -- The tokens so far and those of the rest are the line's.

@@ -1,7 +1,7 @@
 use Rattle.std.proofs.Common.{◌∙◌, arith, map, ap}
 use Rattle.std.specs.List.{prefix_len}
 use Rattle.tac_reader.specs.Sections.{is_inner}
-use Rattle.tac_reader.proofs.SectionSteps.{line_view, rest_none, run_on, run_stops, run_is}
+use Rattle.tac_reader.proofs.sections.SectionSteps.{line_view, rest_none, run_on, run_stops, run_is}
 use Rattle.tac_reader.proofs.section.inner_lines.Goals as goal
 use Rattle.tac_reader.proofs.section.inner_lines.Goals.{then-loop-at-test+else-is_inner, else-loop-at-test}
 

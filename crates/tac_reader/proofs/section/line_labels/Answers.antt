@@ -1,8 +1,8 @@
 use Rattle.std.proofs.Common.{◌≡◌, ◌∙◌, ◌-◌, ap, sym, arith, [], ◌++◌, drop, length, length-drop, append-nil}
 use Rattle.std.proofs.lemmas.Grind.{common_steps}
-use Rattle.tac_reader.specs.Views.{tokens_view}
-use Rattle.tac_reader.proofs.LineForms.{label_step, label_stop}
-use Rattle.tac_reader.proofs.SectionSteps.{labels_on}
+use Rattle.tac_reader.specs.code.Views.{tokens_view}
+use Rattle.tac_reader.proofs.forms.LineForms.{label_step, label_stop}
+use Rattle.tac_reader.proofs.sections.SectionSteps.{labels_on}
 use Rattle.tac_reader.proofs.section.line_labels.Goals as goal
 
 pub bounds-line-at : goal.bounds-line-at

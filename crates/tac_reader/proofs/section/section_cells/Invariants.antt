@@ -1,8 +1,8 @@
 use Rattle.std.proofs.Common.{◌≡◌, ◌++◌, ℕ, List, drop, map, flat_map, take, vec_len}
 use Rattle.tac_reader.specs.Forms.{cells_of, in_slot}
-use Rattle.tac_reader.specs.Roles.{role_test}
+use Rattle.tac_reader.specs.code.Roles.{role_test}
 use Rattle.tac_reader.specs.Sections.{statements_of}
-use Rattle.tac_reader.specs.Views.{tokens_view}
+use Rattle.tac_reader.specs.code.Views.{tokens_view}
 use Rattle.tac_reader.proofs.section.section_cells.Given as goal
 
 -- The tokens so far and those of the other lines are all.

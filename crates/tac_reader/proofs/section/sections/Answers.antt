@@ -1,6 +1,6 @@
 use Rattle.std.proofs.Common.{◌∙◌, arith, []}
-use Rattle.tac_reader.proofs.SectionSteps.{proc_two, sections_past}
-use Rattle.tac_reader.specs.SectionViews.{sections_view}
+use Rattle.tac_reader.proofs.sections.SectionSteps.{proc_two, sections_past}
+use Rattle.tac_reader.specs.code.SectionViews.{sections_view}
 use Rattle.tac_reader.proofs.section.sections.Goals as goal
 
 pub bounds-line-1 : goal.bounds-line-1

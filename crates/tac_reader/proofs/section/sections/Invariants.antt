@@ -1,7 +1,7 @@
 use Rattle.std.proofs.Common.{◌≡◌, ◌≤◌, ◌++◌, ◌-◌, ℕ, List, drop, length, map}
 use Rattle.tac_reader.specs.Sections.{sections_in}
-use Rattle.tac_reader.specs.SectionViews.{sections_view}
-use Rattle.tac_reader.specs.Views.{tokens_view}
+use Rattle.tac_reader.specs.code.SectionViews.{sections_view}
+use Rattle.tac_reader.specs.code.Views.{tokens_view}
 use Rattle.tac_reader.proofs.section.sections.Given as goal
 
 -- The sections so far and those of the rest are all.

@@ -1,5 +1,5 @@
 use Rattle.std.proofs.Common.{◌≡◌, ◌++◌, drop, map, slice_range}
-use Rattle.tac_reader.specs.Lexed.{lexed_view}
+use Rattle.tac_reader.specs.code.Lexed.{lexed_view}
 use Rattle.tac_reader.proofs.section.token_lines.Given as goal
 
 -- The lines so far and the rest are all.

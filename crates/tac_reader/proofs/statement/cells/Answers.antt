@@ -1,7 +1,7 @@
 use Rattle.std.proofs.Common.{◌∙◌, sym, ap, length, option_map}
-use Rattle.tac_reader.specs.Views.{form_slots, tokens_view}
+use Rattle.tac_reader.specs.code.Views.{form_slots, tokens_view}
 use Rattle.tac_reader.specs.declared.form.Form.{Form}
-use Rattle.tac_reader.proofs.FormedLines.{cells_without}
+use Rattle.tac_reader.proofs.forms.FormedLines.{cells_without}
 use Rattle.tac_reader.proofs.statement.cells.Goals as goal
 
 pub returns-else-has_role-clause-appended : goal.returns-else-has_role-clause-appended

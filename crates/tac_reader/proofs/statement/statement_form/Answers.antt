@@ -1,6 +1,6 @@
 use Rattle.std.proofs.Common.{◌∙◌, length}
-use Rattle.tac_reader.specs.Views.{slots_view, tokens_view}
-use Rattle.tac_reader.proofs.Rows.{row_some, row_none, not_whole}
+use Rattle.tac_reader.specs.code.Views.{slots_view, tokens_view}
+use Rattle.tac_reader.proofs.forms.Rows.{row_some, row_none, not_whole}
 use Rattle.tac_reader.proofs.statement.statement_form.Goals as goal
 
 pub returns-in-Whole : goal.returns-in-Whole

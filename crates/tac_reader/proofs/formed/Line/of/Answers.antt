@@ -1,7 +1,7 @@
 use Rattle.std.proofs.Common.{◌≡◌, ◌-◌, ◌*◌, ◌∙◌, sym, arith, length, []}
-use Rattle.tac_reader.specs.Formed.{is_formed}
-use Rattle.tac_reader.specs.Views.{tokens_view}
-use Rattle.tac_reader.proofs.FormedLines.{form_of_row}
+use Rattle.tac_reader.specs.code.Formed.{is_formed}
+use Rattle.tac_reader.specs.code.Views.{tokens_view}
+use Rattle.tac_reader.proofs.forms.FormedLines.{form_of_row}
 use Rattle.tac_reader.proofs.formed.Line.of.Goals as goal
 
 pub overflow_sub-tokens : goal.overflow_sub-tokens

@@ -1,5 +1,5 @@
 use Rattle.std.proofs.Common.{◌≤◌, ◌*◌, [], length, rules}
-use Rattle.tac_reader.proofs.FormedLines.{twice_within, left_is, left_formed}
+use Rattle.tac_reader.proofs.forms.FormedLines.{twice_within, left_is, left_formed}
 use Rattle.tac_reader.proofs.formed.Line.statement.Goals as goal
 
 pub slice_bounds-result-start : goal.slice_bounds-result-start

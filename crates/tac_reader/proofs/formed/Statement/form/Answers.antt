@@ -1,6 +1,6 @@
 use Rattle.std.proofs.Common.{length}
-use Rattle.tac_reader.specs.Views.{tokens_view}
-use Rattle.tac_reader.proofs.FormedLines.{row_of_form}
+use Rattle.tac_reader.specs.code.Views.{tokens_view}
+use Rattle.tac_reader.proofs.forms.FormedLines.{row_of_form}
 use Rattle.tac_reader.proofs.formed.Statement.form.Goals as goal
 
 pub returns : goal.returns

@@ -1,5 +1,5 @@
 use Rattle.std.proofs.Common.{◌∙◌, ap, position, bytes_eq}
-use Rattle.tac_reader.proofs.NameTexts.{position-texts}
+use Rattle.tac_reader.proofs.known_names.NameTexts.{position-texts}
 use Rattle.tac_reader.proofs.names.NameTable.find.Goals as goal
 
 pub returns-in-None-clause-number : goal.returns-in-None-clause-number

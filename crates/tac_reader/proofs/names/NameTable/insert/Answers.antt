@@ -1,8 +1,8 @@
 use Rattle.std.proofs.Common.{◌≡◌, ◌∙◌, sym, ap, true, false, not, Bool, List, ℕ, Option, position, bytes_eq, is_some, ◌++◌, ◌∷◌, [], if◌then◌else◌}
-use Rattle.tac_reader.proofs.NameTexts.{texts-insert, numbered}
+use Rattle.tac_reader.proofs.known_names.NameTexts.{texts-insert, numbered}
 use Rattle.tac_reader.specs.Tokens.{is_one_of}
 use Rattle.tac_reader.specs.Programs.{noted}
-use Rattle.tac_reader.specs.Names.{texts}
+use Rattle.tac_reader.specs.code.Names.{texts}
 use Rattle.tac_reader.proofs.names.NameTable.insert.Goals as goal
 
 -- what the look-up answered tells whether the name is there

@@ -1,5 +1,5 @@
 use Rattle.std.proofs.Common.{codes}
-use Rattle.tac_reader.proofs.FoundNames.{contained_found, found_named}
+use Rattle.tac_reader.proofs.known_names.FoundNames.{contained_found, found_named}
 use Rattle.tac_reader.proofs.program.Program.main.Goals as goal
 
 pub unwrap-requires : goal.unwrap-requires

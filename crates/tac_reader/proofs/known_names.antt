@@ -1,0 +1,4 @@
+pub mod FoundNames
+pub mod KnownNames
+pub mod NameFaults
+pub mod NameTexts

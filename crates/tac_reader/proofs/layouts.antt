@@ -1,0 +1,6 @@
+pub mod Layouts
+pub mod ListingLines
+pub mod ListingSections
+pub mod ListingTexts
+pub mod RoundTrip
+pub mod StatementTexts

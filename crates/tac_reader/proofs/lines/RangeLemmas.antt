@@ -1,0 +1,52 @@
+-- Lines by the places of their tokens, as tokens and lines are put last.
+use Rattle.std.proofs.Common.{◌≡◌, ℕ, zero, suc, ◌-◌, ◌<◌, ◌≤◌, List, [], ◌∷◌, ◌++◌, length, take, drop, map, refl, sym, ap, ◌∙◌, arith, slice_range, ◌==◌, false, true≢false}
+use Rattle.std.proofs.lemmas.List.{take-append-le}
+use Rattle.tac_reader.specs.code.Ranges.{EndsWithin, range_views}
+use Rattle.tac_reader.specs.code.Lexed.{some_of}
+use Rattle.tac_reader.specs.declared.lexed.LineRange.{LineRange}
+use Rattle.tac_reader.specs.declared.token.Token.{Token}
+
+range_stays : (a b : ℕ) (ts row : List Token) → b ≤ length ts → slice_range (ts ++ row) a b ≡ slice_range ts a b
+range_stays zero b ts row h = let l : b - 0 ≤ length ts = omega (arith, h) in take-append-le (b - 0) ts row l
+range_stays (suc a) b [] row h = (λ i. take (none i) (drop (suc a) row)) ∙ sym (λ i. take (none i) (let r : List Token = [] in r)) where
+  none : b - suc a ≡ 0
+  none = omega (arith, h)
+range_stays (suc a) zero (t ∷ ts) row h = (λ i. take (none i) (drop a (ts ++ row))) ∙ sym (λ i. take (none i) (drop a ts)) where
+  none : 0 - suc a ≡ 0
+  none = omega arith
+range_stays (suc a) (suc b) (t ∷ ts) row h = (λ i. take (less i) (drop a (ts ++ row))) ∙ range_stays a b ts row (omega (arith, h)) ∙ sym (λ i. take (less i) (drop a ts)) where
+  less : suc b - suc a ≡ b - a
+  less = omega arith
+
+views_stay : (ts row : List Token) (lines : List LineRange) → EndsWithin (length ts) lines → range_views (ts ++ row) lines ≡ range_views ts lines
+views_stay ts row [] h = refl
+views_stay ts row (l ∷ ls) h =
+    (λ i. range_stays l.first l.end ts row (h 0 l (omega arith)) i ∷ views_stay ts row ls (λ k d below. h (suc k) d (omega (arith, below))) i)
+
+last_views : (ts row : List Token) → slice_range (ts ++ row) (length ts) (length (ts ++ row)) ≡ row
+last_views [] row = take_whole row where
+  take_whole : (xs : List Token) → take (length xs - 0) xs ≡ xs
+  take_whole xs = ap (λ n. take n xs) (let e : length xs - 0 ≡ length xs = omega arith in e) ∙ whole xs where
+    whole : (ys : List Token) → take (length ys) ys ≡ ys
+    whole [] = refl
+    whole (y ∷ ys) = ap (λ r. y ∷ r) (whole ys)
+last_views (t ∷ ts) row = ap (λ n. take n (drop (length ts) (ts ++ row))) (let e : suc (length (ts ++ row)) - suc (length ts) ≡ length (ts ++ row) - length ts = omega arith in e) ∙ last_views ts row
+
+map-push : (f : LineRange → List Token) (xs : List LineRange) (x : LineRange) → map f (xs ++ x ∷ []) ≡ map f xs ++ f x ∷ []
+map-push f [] x = refl
+map-push f (y ∷ ys) x = ap (λ r. f y ∷ r) (map-push f ys x)
+
+pub views_push : (ts row all : List Token) (lines more : List LineRange) (first end : ℕ) → EndsWithin (length ts) lines → all ≡ ts ++ row → more ≡ lines ++ record { first = first; end = end } ∷ [] → first ≡ length ts → end ≡ length all → 0 < length row → range_views all more ≡ range_views ts lines ++ some_of row
+views_push ts row all lines more first end h e f a b some =
+    (λ i. range_views (e i) (f i))
+    ∙ map-push (λ line. slice_range (ts ++ row) line.first line.end) lines (record { first = first; end = end })
+    ∙ (λ i. views_stay ts row lines h i ++ ((λ j. slice_range (ts ++ row) (a j) ((b ∙ ap length e) j)) ∙ last_views ts row) i ∷ [])
+    ∙ ap (λ r. range_views ts lines ++ r) (line_of row some)
+  where
+    line_of : (xs : List Token) → 0 < length xs → xs ∷ [] ≡ some_of xs
+    line_of [] l = absurd (let never : ⊥ = omega (arith, l) in never)
+    line_of (x ∷ xs) l = refl
+
+pub not_empty : (xs : List Token) → (length xs == 0) ≡ false → 0 < length xs
+not_empty [] h = absurd (true≢false h)
+not_empty (x ∷ xs) h = omega arith

@@ -1,0 +1,14 @@
+pub mod BuiltWords
+pub mod FaultlessStatements
+pub mod LabelPlaces
+pub mod LabelRuns
+pub mod ProcedureRuns
+pub mod ProgramSizes
+pub mod ReadSteps
+pub mod ResolvedWords
+pub mod SoundPrograms
+pub mod SoundStatements
+pub mod SpelledStatements
+pub mod StatementRuns
+pub mod StatementWords
+pub mod VariableRuns

@@ -1,0 +1,39 @@
+-- From the steps of reading to the text's program.
+use Rattle.std.proofs.Common.{◌≡◌, ℕ, List, [], ◌∷◌, map, refl, sym, ap, ◌∙◌, Some, None, false, length, ◌≤◌}
+use Rattle.tac_reader.specs.Tokens.{rows}
+use Rattle.tac_reader.specs.Sections.{Section, sections, sections_in, token_lines, titles}
+use Rattle.tac_reader.specs.Programs.{Program, program_of, procedures_from, names_in, variables_in}
+use Rattle.tac_reader.specs.code.Lexed.{lexed_view, text_lines, IfFault}
+use Rattle.tac_reader.specs.code.Views.{tokens_view}
+use Rattle.tac_reader.specs.Faults.{head_of, fault_of, repeated, name_faults, first_by_place, line_faults, longest_text}
+use Rattle.tac_reader.specs.declared.refusal.RefusalKind.TheVariants as kind
+use Rattle.tac_reader.proofs.known_names.NameFaults.{first_1, name_fault}
+use Rattle.tac_reader.specs.declared.fault.Stop.{Stop}
+use Rattle.tac_reader.specs.declared.fault.Stop.TheVariants as stop
+use Rattle.tac_reader.specs.declared.lexed.Lexed.{Lexed}
+use Rattle.tac_reader.specs.declared.formed.Line.{Line}
+
+views : (text : List ℕ) (lines : List Line) → map (λ line. tokens_view text line.tokens.now) lines ≡ map (tokens_view text) (map (λ line. line.tokens.now) lines)
+views text [] = refl
+views text (l ∷ ls) = ap (λ r. tokens_view text l.tokens.now ∷ r) (views text ls)
+
+pub sections_are : (text : List ℕ) (lexed : Lexed) (lines now : List Line) (found : List Section) → found ≡ sections_in (map (λ line. tokens_view text line.tokens.now) now) → now ≡ lines → map (λ line. line.tokens.now) lines ≡ lexed_view lexed → text_lines text lexed ≡ token_lines (rows text) → found ≡ sections text
+sections_are text lexed lines now found e f g h = e ∙ ap (λ ls. sections_in (map (λ line. tokens_view text line.tokens.now) ls)) f ∙ ap sections_in (views text lines ∙ ap (map (tokens_view text)) g ∙ h)
+
+pub program_is : (text : List ℕ) (ss : List Section) (procedures variables : List (List ℕ)) → ss ≡ sections text → procedures ≡ names_in (titles ss) → variables ≡ variables_in ss → (let p : Program = record { procedures = procedures_from text procedures variables 0 ss; procedure_names = procedures; variable_names = variables } in p) ≡ program_of text
+program_is text ss procedures variables e f g = λ i.
+    let all : List Section = e i in
+    let names : List (List ℕ) = (f ∙ ap (λ s. names_in (titles s)) e) i in
+    let vars : List (List ℕ) = (g ∙ ap variables_in e) i in
+    record { procedures = procedures_from text names vars 0 all; procedure_names = names; variable_names = vars }
+
+pub procedure_fault : (ss : List Section) (s : Stop) → IfFault (λ f. head_of (repeated kind.DuplicateProcedure [] (titles ss)) ≡ Some f) s → IfFault (λ f. head_of (name_faults ss) ≡ Some f) s
+procedure_fault ss (stop.Fault f) h = first_1 (repeated kind.DuplicateProcedure [] (titles ss)) _ _ _ _ _ _ f h
+procedure_fault ss stop.OutOfMemory h = tt
+
+pub text_fault : (text : List ℕ) (ss : List Section) (s : Stop) → length text ≤ longest_text → first_by_place (line_faults false (length text) (rows text)) ≡ None → ss ≡ sections text → IfFault (λ f. head_of (name_faults ss) ≡ Some f) s → IfFault (λ f. fault_of text ≡ Some f) s
+text_fault text ss (stop.Fault f) small none e h = name_fault text small none ∙ ap (λ x. head_of (name_faults x)) (sym e) ∙ h
+text_fault text ss stop.OutOfMemory small none e h = tt
+
+pub no_fault : (text : List ℕ) (ss : List Section) → length text ≤ longest_text → first_by_place (line_faults false (length text) (rows text)) ≡ None → ss ≡ sections text → head_of (name_faults ss) ≡ None → fault_of text ≡ None
+no_fault text ss small none e h = name_fault text small none ∙ ap (λ x. head_of (name_faults x)) (sym e) ∙ h

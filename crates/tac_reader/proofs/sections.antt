@@ -1,0 +1,4 @@
+pub mod CoreFaults
+pub mod Cores
+pub mod GoodSections
+pub mod SectionSteps

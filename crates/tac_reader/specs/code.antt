@@ -1,0 +1,10 @@
+pub mod Built
+pub mod Formed
+pub mod Lexed
+pub mod Names
+pub mod Procedures
+pub mod Ranges
+pub mod ReadFaults
+pub mod Roles
+pub mod SectionViews
+pub mod Views
