@@ -1,11 +1,4 @@
-pub mod Buffers
-pub mod Doubts
+pub mod Deliveries
 pub mod Entries
 pub mod Held
-pub mod ListTexts
 pub mod Numbers
-pub mod RangeLines
-pub mod RemarkLines
-pub mod Rising
-pub mod SafeReports
-pub mod Writing

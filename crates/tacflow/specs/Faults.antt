@@ -1,7 +1,9 @@
 -- What each fault of a run tells.
-use Rattle.std.specs.Prelude.{ℕ, Result, Err}
+use Rattle.std.specs.Prelude.{ℕ, List, Option, Result, Ok, Err}
+use Rattle.std.specs.Io.KnownBytes.{Appends, Keeps}
 use Rattle.flow_graph.specs.declared.fault.GraphFault.{GraphFault}
 use Rattle.tac_reader.specs.declared.refusal.Refusal.{Refusal}
+use Rattle.flow_texts.specs.Devices.{AppendsBeginning}
 use Rattle.tacflow.specs.declared.fault.Fault.{Fault}
 use Rattle.tacflow.specs.declared.fault.Fault.TheVariants as fault
 
@@ -34,8 +36,17 @@ abbrev pub write_faults_in : {T : Type 0} → Result T Fault → ℕ
 write_faults_in (Err fault.Write) = 1
 write_faults_in _ = 0
 
--- The fault tells of no text and no device: memory was refused, or a fact of the cause holds for which there is no graph.
-abbrev pub OfGraph : (GraphFault → Type 0) → Fault → Type 0
-OfGraph P (fault.Graph f) = P f
-OfGraph P fault.OutOfMemory = Unit {0}
-OfGraph P _ = ⊥
+-- The fault tells of no text and no source: memory was refused, a fact of the cause holds for which there is no graph, or the sink
+-- had a fault.
+abbrev pub OfProgram : (GraphFault → Type 0) → Fault → Type 0
+OfProgram P (fault.Graph f) = P f
+OfProgram P fault.OutOfMemory = Unit {0}
+OfProgram P fault.Write = Unit {0}
+OfProgram P _ = ⊥
+
+-- Of an answer to the wish to write a text of a kind: at Ok such a text was written, at a fault of the sink a beginning of one, and
+-- at every other fault nothing.
+abbrev pub Delivers : {T : Type 0} → (List ℕ → Type 0) → Option (List ℕ) → Option (List ℕ) → Result T Fault → Type 0
+Delivers IsText held holds (Ok x) = (out : List ℕ) × IsText out × Appends held holds out
+Delivers IsText held holds (Err fault.Write) = (out : List ℕ) × IsText out × AppendsBeginning held holds out
+Delivers IsText held holds (Err _) = Keeps held holds

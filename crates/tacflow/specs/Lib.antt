@@ -1,14 +1,6 @@
-pub mod Devices
 pub mod Faults
 pub mod FaultLines
-pub mod Ranges
 pub mod Runs
 pub mod Shows
-pub mod Lists
-pub mod Tables
-pub mod Reports
-pub mod Operands
-pub mod Findings
-pub mod WorkedTexts
 pub mod Commands
 pub mod Matches

@@ -1,6 +1,6 @@
 -- What a run makes of the text that it pulled.
-use Rattle.std.specs.Prelude.{◌≡◌, ℕ, List, Bool, true, false, ◌⊎◌, ◌≤◌, length, Option, None, Some}
-use Rattle.std.specs.Io.KnownBytes.{Appends, Consumes, IsAtEnd}
+use Rattle.std.specs.Prelude.{◌≡◌, ℕ, List, Bool, true, false, Option, None, Some}
+use Rattle.std.specs.Io.KnownBytes.{Appends}
 use Rattle.flow_graph.specs.Limits.{HasFewBits, HasFewPoints, HasManyBits, HasManyPoints}
 use Rattle.flow_graph.specs.declared.analysis.Analysis.TheVariants.{Reach, Live, Avail, Busy}
 use Rattle.flow_graph.specs.declared.fault.GraphFault.{GraphFault}
@@ -9,17 +9,12 @@ use Rattle.tac_reader.specs.Faults.{refusal_of}
 use Rattle.tac_reader.specs.Listings.{listing_of}
 use Rattle.tac_reader.specs.Programs.{Program, program_of}
 use Rattle.tac_reader.specs.declared.refusal.Refusal.{Refusal}
-use Rattle.tacflow.specs.Devices.{AppendsBeginning}
-use Rattle.tacflow.specs.Reports.{IsReport, ListsSafely}
-use Rattle.tacflow.specs.Tables.{IsTableText}
+use Rattle.flow_texts.specs.Devices.{AppendsBeginning}
+use Rattle.flow_texts.specs.Pulls.{PullsUpTo}
+use Rattle.flow_texts.specs.Reports.{IsReport, ListsSafely}
+use Rattle.flow_texts.specs.Tables.{IsTableText}
 use Rattle.tacflow.specs.declared.options.Show.{Show}
 use Rattle.tacflow.specs.declared.options.Show.TheVariants as show
-
--- This text was pulled, and it is all there was, or as much as is pulled at most.
-pub record PullsUpTo (most : ℕ) (before after : Option (List ℕ)) (ended : Bool) (text : List ℕ) : Type 0 where
-  pub pulled : Consumes before after text
-  pub all : ((ended ≡ true) × IsAtEnd after) ⊎ (length text ≡ most)
-  pub within : length text ≤ most
 
 -- At most one byte more than the longest text has is pulled.
 abbrev pub PullsAll : Option (List ℕ) → Option (List ℕ) → Bool → List ℕ → Type 0

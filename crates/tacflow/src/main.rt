@@ -2,40 +2,27 @@
 #![tactic(auto)]
 
 mod answer;
-mod bit_texts;
 #[cfg(test)]
 mod case_tests;
-mod device;
-mod doubt;
 #[cfg(test)]
 mod example_tests;
 mod fault;
-mod findings;
-mod from_read;
-mod operands;
 mod options;
-mod remarks;
-mod report;
 mod run;
-mod table_text;
-mod tables;
 #[cfg(test)]
 mod tests;
-mod text_examples;
-mod to_write;
 mod words;
 
 use clap::Error;
 use clap::error::ErrorKind;
 use fault::{Fault, fault_line};
-use from_read::FromRead;
+use flow_texts::{FromRead, ToWrite};
 use options::Options;
 use run::run;
 use std::io::Write;
 use std::process::ExitCode;
 use std::thread::Threads;
 use std::{env, io};
-use to_write::ToWrite;
 
 // Tells a fault by its line; where no memory is left to make it, by fixed bytes.
 fn tell_fault(rt: &HostRuntime, fault: &Fault) -> ExitCode {

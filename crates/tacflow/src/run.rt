@@ -1,77 +1,39 @@
 // From the bytes of a source to the bytes of a sink.
 
-ghost use Rattle.std.specs.Prelude.{◌≡◌, ◌≤◌, ◌<◌, ◌+◌, ◌-◌, ◌^◌, ◌⊎◌, ℕ, List, Some, None, true, false, length, take, IfOk, IfErr, OnOk, OnErr};
-ghost use Rattle.std.specs.Io.KnownBytes.{Appends, Consumes, IsAtEnd, Keeps};
-ghost use Rattle.tacflow.specs.Devices.{AppendsBeginning, faults_in};
+ghost use Rattle.std.specs.Prelude.{◌≡◌, ◌<◌, ◌+◌, ◌-◌, ◌^◌, ◌⊎◌, true, false, IfOk, IfErr, OnOk};
+ghost use Rattle.std.specs.Io.KnownBytes.{Keeps};
+ghost use Rattle.flow_texts.specs.Pulls.{PullsUpTo};
 ghost use Rattle.tacflow.specs.Faults.{UnlessWrite, WhereNoGraph, WhereRefused, WhereWrite, read_faults_in, write_faults_in};
-ghost use Rattle.tacflow.specs.Runs.{PullsOverLimit, PullsRefused, PullsUpTo, WritesAnswer, WritesBeginning};
+ghost use Rattle.tacflow.specs.Runs.{PullsOverLimit, PullsRefused, WritesAnswer, WritesBeginning};
 
 use crate::answer::answer;
-use crate::device::{DeviceFault, Sink, Source};
 use crate::fault::Fault;
 use crate::options::Options;
+use flow_texts::{Sink, Source, TransferFault, pull_all};
 use std::alloc::Global;
 use std::thread::Threads;
 
 /// How many bytes are pulled at most: one more than the longest text has.
 const MOST_PULLED: usize = 1_048_577;
 
-// Fills a beginning of the buffer: up to the source's end, or all of it.
-fn fill<S: Source>(source: &mut S, buf: &mut [u8]) -> Result<usize, DeviceFault>
-    requires below { S.faults source.old < 2 ^ 32 - 1 }
-    requires running { S.ended source.old ≡ false }
-    ensures within { IfOk result (λ n. n ≤ length buf.new) }
-    ensures bytes { IfOk result (λ n. Consumes (S.remaining source.old) (S.remaining source.new) (take n buf.new)) }
-    ensures all { IfOk result (λ n. ((S.ended source.new ≡ true) × IsAtEnd (S.remaining source.new)) ⊎ (n ≡ length buf.new)) }
-    ensures faults { S.faults source.new ≡ S.faults source.old + faults_in result }
-{
-    let mut filled = 0;
-    while filled < buf.len() {
-        let count = source.pull(&mut buf[filled..])?;
-        if count == 0 {
-            return Ok(filled);
-        }
-        filled += count;
-    }
-    Ok(filled)
-}
-
 // Pulls up to the source's end, or this many bytes.
-fn pull_all<S: Source>(alloc: Global, source: &mut S, most: usize) -> Result<Vec<u8>, Fault>
+fn pull_text<S: Source>(alloc: Global, source: &mut S, most: usize) -> Result<Vec<u8>, Fault>
     requires below { S.faults source.old < 2 ^ 32 - 1 }
     requires running { S.ended source.old ≡ false }
     ensures pulled { IfOk result (λ text. PullsUpTo most (S.remaining source.old) (S.remaining source.new) (S.ended source.new) text.items) }
     ensures kinds { IfErr result (λ e. (e ≡ Fault.OutOfMemory) ⊎ (e ≡ Fault.Read)) }
     ensures faults { S.faults source.new ≡ S.faults source.old + read_faults_in result }
 {
-    let Ok(mut text) = vec![in alloc; 0u8; most] else {
-        return Err(Fault::OutOfMemory);
-    };
-    let Ok(filled) = fill(source, &mut text) else {
-        return Err(Fault::Read);
-    };
-    text.truncate(filled);
-    Ok(text)
-}
-
-// Pushes the whole text, and flushes it.
-fn push_all<K: Sink>(sink: &mut K, text: &[u8]) -> Result<(), DeviceFault>
-    requires below { K.faults sink.old < 2 ^ 32 - 1 }
-    ensures written { OnOk result (Appends (K.contents sink.old) (K.contents sink.new) text.now) }
-    ensures flushed { OnOk result (K.flushed sink.new ≡ true) }
-    ensures beginning { OnErr result (AppendsBeginning (K.contents sink.old) (K.contents sink.new) text.now) }
-    ensures faults { K.faults sink.new ≡ K.faults sink.old + faults_in result }
-{
-    let mut pushed = 0;
-    while pushed < text.len() {
-        pushed += sink.push(&text[pushed..])?;
+    match pull_all(alloc, source, most) {
+        Ok(text) => Ok(text),
+        Err(TransferFault::OutOfMemory) => Err(Fault::OutOfMemory),
+        Err(TransferFault::Device) => Err(Fault::Read),
     }
-    sink.flush()
 }
 
-/// Pulls the text until the source has ended or 1,048,577 bytes are in hand, makes all of what is to
-/// be shown of it, pushes that and nothing else, and flushes. Tables are found by the options' workers, in slices of their
-/// width; what is written is the same for all of these.
+/// Pulls the text until the source has ended or 1,048,577 bytes are in hand, finds what is to be shown of it, pushes that and
+/// nothing else, in pieces of 65,536 bytes, and flushes. All that it needs memory for it has before the first push. Tables are
+/// found by the options' workers, in slices of their width; what is written is the same for all of these.
 ///
 /// The condition: the source has not ended, and both counts of faults are below `u32::MAX`.
 ///
@@ -100,10 +62,6 @@ pub fn run<R: Threads + Sync, S: Source, K: Sink>(
     ensures source_faults { S.faults source.new ≡ S.faults source.old + read_faults_in result }
     ensures sink_faults { K.faults sink.new ≡ K.faults sink.old + write_faults_in result }
 {
-    let text = pull_all(alloc, source, MOST_PULLED)?;
-    let out = answer(rt, alloc, &text, options)?;
-    match push_all(sink, &out) {
-        Ok(()) => Ok(()),
-        Err(DeviceFault) => Err(Fault::Write),
-    }
+    let text = pull_text(alloc, source, MOST_PULLED)?;
+    answer(rt, alloc, &text, options, sink)
 }

@@ -1,11 +1,10 @@
 // Values by hand: what small texts are told, what words name, and what faults of devices leave.
 
 use crate::fault::{Fault, fault_line};
-use crate::from_read::FromRead;
 use crate::options::{Options, Show};
 use crate::run::run;
-use crate::to_write::ToWrite;
 use flow_graph::GraphFault;
+use flow_texts::{FromRead, ToWrite};
 use std::alloc::Global;
 use std::io;
 use std::io::{ErrorKind, Read, Write};
@@ -438,19 +437,20 @@ fn faults_of_readers(rt: HostRuntime) -> Result<(), Fail> {
     Ok(())
 }
 
-// The writer takes so many bytes and then fails, or takes none.
+// The writer takes so many bytes of the answer to a text, and then fails or takes none.
 fn check_writer<R: Threads + Sync + Abort + AllocGlobal>(
     rt: &R,
-    show: Show,
     text: &[u8],
+    show: Show,
+    answer: &[u8],
     left: usize,
     fault: Option<ErrorKind>,
 ) -> Result<(), Fail> {
     let mut page = blank_page(rt.alloc());
     page.left = left;
     page.fault = fault;
-    let got = told(rt, SMALL, &mut page, show)?;
-    let beginning = text.get(..left).ok_or("a beginning")?;
+    let got = told(rt, text, &mut page, show)?;
+    let beginning = answer.get(..left).ok_or("a beginning")?;
     assert_eq!(rt; page.taken.as_slice(), beginning);
     assert!(rt; got.as_slice().starts_with(b"tacflow: write fault\n"));
     Ok(())
@@ -460,11 +460,11 @@ fn check_writer<R: Threads + Sync + Abort + AllocGlobal>(
 fn faults_of_writers(rt: HostRuntime) -> Result<(), Fail> {
     for (show, text) in SHOWN {
         for left in 0..text.len() {
-            check_writer(&rt, show, text, left, Some(ErrorKind::Other))?;
+            check_writer(&rt, SMALL, show, text, left, Some(ErrorKind::Other))?;
         }
         for left in [0, 5] {
-            check_writer(&rt, show, text, left, Some(ErrorKind::Interrupted))?;
-            check_writer(&rt, show, text, left, None)?;
+            check_writer(&rt, SMALL, show, text, left, Some(ErrorKind::Interrupted))?;
+            check_writer(&rt, SMALL, show, text, left, None)?;
         }
         let mut page = blank_page(rt.alloc());
         page.flushes = false;
@@ -472,6 +472,88 @@ fn faults_of_writers(rt: HostRuntime) -> Result<(), Fail> {
         assert_eq!(rt; page.taken.as_slice(), text);
         assert!(rt; got.as_slice().starts_with(b"tacflow: write fault\n"));
     }
+    Ok(())
+}
+
+// How many statements the program of the next tests has: enough that each answer has more than two pieces.
+const PRINTS: u32 = 12_000;
+
+// That program, as a listing has it.
+fn prints(alloc: Global) -> Result<Vec<u8>, Fail> {
+    let mut text = b"proc main\n".to_vec(alloc)?;
+    for _ in 0..PRINTS {
+        text.extend_from_slice(b"  print a\n")?;
+    }
+    text.extend_from_slice(b"end\n")?;
+    Ok(text)
+}
+
+// Its table of live variables: the only one is live before each statement.
+fn live_of_prints(alloc: Global) -> Result<Vec<u8>, Fail> {
+    let mut text = Vec::new(alloc);
+    for place in 0..PRINTS {
+        text.extend_from_slice(format!(in alloc; "main {place}: a\n")?.as_bytes())?;
+    }
+    text.extend_from_slice(format!(in alloc; "main {PRINTS}: -\n")?.as_bytes())?;
+    Ok(text)
+}
+
+// Its report: no statement sets the variable.
+fn report_of_prints(alloc: Global) -> Result<Vec<u8>, Fail> {
+    let mut text = b"points 12001, variables 1, definitions 1, expressions 0\n".to_vec(alloc)?;
+    for line in 2..PRINTS + 2 {
+        text.extend_from_slice(format!(in alloc;
+            "{line}: a may be used before it is set\n"
+        )?.as_bytes())?;
+    }
+    Ok(text)
+}
+
+// The whole answer to that program, and its beginnings where the writer fails around the ends of pieces.
+fn check_pieces<R: Threads + Sync + Abort + AllocGlobal>(
+    rt: &R,
+    show: Show,
+    answer: &[u8],
+) -> Result<(), Fail> {
+    let text = prints(rt.alloc())?;
+    let got = told(rt, text.as_slice(), &mut blank_page(rt.alloc()), show)?;
+    assert_eq!(rt; got.as_slice(), answer);
+    assert!(rt; answer.len() > 2 * 65_536);
+    for left in [
+        0,
+        1,
+        65_535,
+        65_536,
+        65_537,
+        131_071,
+        131_072,
+        answer.len() - 1,
+    ] {
+        check_writer(rt, &text, show, answer, left, Some(ErrorKind::Other))?;
+    }
+    Ok(())
+}
+
+#[test]
+fn faults_of_writers_around_pieces(rt: HostRuntime) -> Result<(), Fail> {
+    check_pieces(&rt, Show::Live, &live_of_prints(rt.alloc())?)?;
+    check_pieces(&rt, Show::Report, &report_of_prints(rt.alloc())?)
+}
+
+// A listing of 120,014 bytes, which is the text itself.
+#[test]
+fn listing_of_two_pieces(rt: HostRuntime) -> Result<(), Fail> {
+    let text = prints(rt.alloc())?;
+    for left in [65_535, 65_536, 65_537, 120_013] {
+        check_writer(&rt, &text, Show::List, &text, left, None)?;
+    }
+    let got = told(
+        &rt,
+        text.as_slice(),
+        &mut blank_page(rt.alloc()),
+        Show::List,
+    )?;
+    assert_eq!(rt; got.as_slice(), text.as_slice());
     Ok(())
 }
 

@@ -1,0 +1,9 @@
+pub mod Blocks
+pub mod Buffers
+pub mod Doubts
+pub mod ListTexts
+pub mod RangeLines
+pub mod RemarkLines
+pub mod Rising
+pub mod SafeReports
+pub mod Taking

@@ -1,0 +1,12 @@
+pub mod Devices
+pub mod Transfers
+pub mod Pieces
+pub mod Pulls
+pub mod Ranges
+pub mod Lists
+pub mod Tables
+pub mod Blocks
+pub mod Reports
+pub mod Operands
+pub mod Findings
+pub mod WorkedTexts

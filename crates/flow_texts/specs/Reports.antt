@@ -1,0 +1,128 @@
+-- The report on a program: what the four analyses say of each statement.
+use Rattle.std.specs.Prelude.{◌≡◌, ◌↔◌, ℕ, suc, ◌<◌, Bool, true, false, not, ◌&&◌, List, [], ◌∷◌, ◌++◌, map, flat_map, filter, length, Option, Some, None, option_and_then, option_map, unwrap_or, if◌then◌else◌, codes, decimal}
+use Rattle.std.specs.List.{range_with_len}
+use Rattle.flow_graph.specs.Analyses.{shape_of, accesses_of}
+use Rattle.flow_graph.specs.Points.{points, point_count, kind_at}
+use Rattle.flow_graph.specs.Runs.{IsDoubtful, ReadsBeforeWriting}
+use Rattle.flow_graph.specs.Transfers.{reads}
+use Rattle.flow_graph.specs.Universes.{definitions, expressions, evaluated_at}
+use Rattle.flow_graph.specs.declared.analysis.Analysis.TheVariants.{Reach, Live, Avail, Busy}
+use Rattle.tac_reader.specs.Programs.{Program}
+use Rattle.tac_reader.specs.declared.program.StmtKind.{StmtKind}
+use Rattle.tac_reader.specs.declared.program.StmtKind.TheVariants as kind
+use Rattle.flow_team.specs.Tables.{Facts, AreFacts, IsTableOf}
+use Rattle.flow_texts.specs.Tables.{bit_text, bits_at, line_at, variable_text}
+use Rattle.flow_texts.specs.declared.tables.Tables.{Tables}
+
+-- each is this program's table of its analysis
+pub record AreTablesOf (program : Program) (tables : Tables) : Type 0 where
+  pub reach : (tables.reach.analysis ≡ Reach) × IsTableOf program tables.reach
+  pub live : (tables.live.analysis ≡ Live) × IsTableOf program tables.live
+  pub avail : (tables.avail.analysis ≡ Avail) × IsTableOf program tables.avail
+  pub busy : (tables.busy.analysis ≡ Busy) × IsTableOf program tables.busy
+
+-- what is known of a program: the facts of the four analyses, and which points are doubtful
+pub record Knowledge : Type 0 where
+  pub reach : Facts
+  pub live : Facts
+  pub avail : Facts
+  pub busy : Facts
+  pub doubtful : ℕ → Bool
+
+pub record IsKnowledge (program : Program) (known : Knowledge) : Type 0 where
+  pub reach : AreFacts program Reach known.reach
+  pub live : AreFacts program Live known.live
+  pub avail : AreFacts program Avail known.avail
+  pub busy : AreFacts program Busy known.busy
+  pub doubtful : (point : ℕ) → point < point_count program → (known.doubtful point ≡ true) ↔ IsDoubtful (shape_of program) point
+
+-- `points P, variables V, definitions D, expressions E`
+abbrev pub count_line : Program → List ℕ
+count_line program =
+    codes "points " ++ decimal (point_count program) ++ codes ", variables " ++ decimal (length program.variable_names)
+    ++ codes ", definitions " ++ decimal (length (definitions program))
+    ++ codes ", expressions " ++ decimal (length (expressions program)) ++ codes "\n"
+
+-- `LINE: REMARK`, the line being that of the statement at a point
+abbrev pub remark : Program → ℕ → List ℕ → List ℕ
+remark program point text = decimal (line_at program point) ++ codes ": " ++ text ++ codes "\n"
+
+-- The variables that the statement at a point reads and that may not be set there: the dummy definition of a variable, which
+-- has the variable's number, reaches the point.
+abbrev pub unset_at : Program → Knowledge → ℕ → List ℕ
+unset_at program known point =
+    filter (λ variable. reads program point variable && known.reach.contains point variable) (range_with_len 0 (length program.variable_names))
+
+-- the expression that the statement evaluates, where it is available
+abbrev pub computed_at : Program → Knowledge → ℕ → List ℕ
+computed_at program known point =
+    elim (evaluated_at program point) [ Some bit ↦ if known.avail.contains point bit then bit ∷ [] else [] | None ↦ [] ]
+
+-- whether the statement is a test, a negated test or a comparison
+abbrev pub is_test : StmtKind → Bool
+is_test (kind.If y label) = true
+is_test (kind.IfFalse y label) = true
+is_test (kind.IfCompare y op z label) = true
+is_test _ = false
+
+-- the expressions that are very busy at a test that is not doubtful
+abbrev pub busy_at : Program → Knowledge → ℕ → List ℕ
+busy_at program known point =
+    if unwrap_or (option_map is_test (kind_at program point)) false && not (known.doubtful point)
+    then bits_at program Busy known.busy point else []
+
+-- the variable that an assignment sets; one that is read from outside is none
+abbrev pub assigned : StmtKind → Option ℕ
+assigned (kind.Copy x y) = Some x
+assigned (kind.Unary x op y) = Some x
+assigned (kind.Binary x y op z) = Some x
+assigned _ = None
+
+abbrev pub assigned_at : Program → ℕ → Option ℕ
+assigned_at program point = option_and_then assigned (kind_at program point)
+
+-- the assigned variable, where the point after the assignment is not doubtful and the variable is not live there
+abbrev pub dead_at : Program → Knowledge → ℕ → List ℕ
+dead_at program known point =
+    elim (assigned_at program point) [
+      | Some variable ↦ if not (known.doubtful (suc point)) && not (known.live.contains (suc point) variable) then variable ∷ [] else []
+      | None ↦ []
+    ]
+
+-- all that is said of the statement at a point that is reached
+abbrev pub remarks_at : Program → Knowledge → ℕ → List (List ℕ)
+remarks_at program known point =
+    map (λ variable. variable_text program variable ++ codes " may be used before it is set") (unset_at program known point)
+    ++ map (λ bit. bit_text program Avail bit ++ codes " is already computed") (computed_at program known point)
+    ++ map (λ bit. bit_text program Busy bit ++ codes " is very busy") (busy_at program known point)
+    ++ map (λ variable. codes "assignment to " ++ variable_text program variable ++ codes " is dead") (dead_at program known point)
+
+-- the lines of a point: none at a procedure's end, and of a statement that is never reached that alone
+abbrev pub lines_at : Program → Knowledge → ℕ → List ℕ
+lines_at program known point =
+    elim (kind_at program point) [
+      | Some statement ↦ flat_map (remark program point) (if known.reach.has_path point then remarks_at program known point else codes "never reached" ∷ [])
+      | None ↦ []
+    ]
+
+abbrev pub report_of : Program → Knowledge → List ℕ
+report_of program known = count_line program ++ flat_map (lines_at program known) (points program)
+
+-- The text is the report over the meets over all valid paths.
+pub record IsReport (program : Program) (text : List ℕ) : Type 0 where
+  pub known : Knowledge
+  pub is_known : IsKnowledge program known
+  pub is_text : text ≡ report_of program known
+
+-- the assignment at a point is listed as dead
+abbrev pub IsListedDead : Program → Knowledge → ℕ → ℕ → Type 0
+IsListedDead program known point variable =
+    (point < point_count program) × (known.reach.has_path point ≡ true) × (dead_at program known point ≡ variable ∷ [])
+
+-- What the text lists as dead is safe to delete: no run from the point after it, finished or not, reads the variable before
+-- writing it.
+pub record ListsSafely (program : Program) (text : List ℕ) : Type 0 where
+  pub known : Knowledge
+  pub is_text : text ≡ report_of program known
+  pub safe : (point variable : ℕ) → IsListedDead program known point variable
+      → ¬ (ReadsBeforeWriting (shape_of program) (accesses_of program variable) (suc point))

@@ -1,0 +1,96 @@
+// What the bits of an analysis are called, and numbers.
+
+ghost use Rattle.std.specs.Prelude.{◌≡◌, ◌++◌, ◌<◌, OnOk, decimal};
+ghost use Rattle.flow_graph.specs.Points.{point_count};
+ghost use Rattle.flow_graph.specs.Universes.{IsDefinitionIn, bits as bits_of};
+ghost use Rattle.flow_texts.specs.Pieces.{IsOpen, Takes, outlet};
+ghost use Rattle.flow_texts.specs.Tables.{bit_text, definition_text, expression_text, line_at};
+
+use crate::device::Sink;
+use crate::pieces::Pieces;
+use flow_graph::{Analysis, Expr, Graph, OutOfMemory};
+use itoa::Buffer;
+use std::alloc::Global;
+use tac_reader::{write_binary_expression, write_unary_expression};
+
+/// Writes a number in decimal.
+pub(crate) fn write_number<K: Sink>(out: &mut Pieces<'_, K>, number: u32)
+    requires { IsOpen (outlet K.contents K.faults out.old) }
+    ensures same_reference { out.new.sink.ghost_name ≡ out.old.sink.ghost_name }
+    ensures takes { Takes (outlet K.contents K.faults out.old) (outlet K.contents K.faults out.new) (decimal number) }
+{
+    out.write(Buffer::new().format(number).as_bytes());
+}
+
+/// The line of the statement at a point; 0 at a procedure's end.
+pub(crate) fn line(graph: &Graph<'_>, point: u32) -> u32
+    requires { point < point_count graph.now }
+    ensures { result ≡ line_at graph.now point }
+{
+    match graph.stmt(point) {
+        Some(stmt) => stmt.span.line,
+        None => 0,
+    }
+}
+
+fn push_number(text: &mut Vec<u8>, number: u32) -> Result<(), OutOfMemory>
+    ensures { OnOk result (text.new.items ≡ text.old.items ++ decimal number) }
+{
+    text.extend_from_slice(Buffer::new().format(number).as_bytes())
+}
+
+fn push_definition(
+    text: &mut Vec<u8>,
+    graph: &Graph<'_>,
+    variable: u32,
+    point: Option<u32>,
+) -> Result<(), OutOfMemory>
+    requires { IsDefinitionIn graph.now (variable, point) }
+    ensures { OnOk result (text.new.items ≡ text.old.items ++ definition_text graph.now (variable, point)) }
+{
+    text.extend_from_slice(graph.program().variable(variable))?;
+    match point {
+        None => text.extend_from_slice(b"@entry"),
+        Some(point) => {
+            text.extend_from_slice(b"@")?;
+            push_number(text, line(graph, point))
+        }
+    }
+}
+
+fn push_expression(text: &mut Vec<u8>, graph: &Graph<'_>, expr: Expr) -> Result<(), OutOfMemory>
+    ensures { OnOk result (text.new.items ≡ text.old.items ++ expression_text graph.now expr) }
+{
+    match expr {
+        Expr::Unary(op, operand) => write_unary_expression(text, graph.program(), op, operand),
+        Expr::Binary(left, op, right) => write_binary_expression(
+            text,
+            graph.program(),
+            left,
+            op,
+            right,
+        ),
+    }
+}
+
+/// Puts what a bit of an analysis is called behind a text: a definition as `NAME@LINE` or `NAME@entry`, a variable by its name, an
+/// expression as a listing has it.
+pub(crate) fn push_bit(
+    text: &mut Vec<u8>,
+    graph: &Graph<'_>,
+    analysis: Analysis,
+    bit: u32,
+) -> Result<(), OutOfMemory>
+    requires { bit < bits_of graph.now analysis }
+    ensures { OnOk result (text.new.items ≡ text.old.items ++ bit_text graph.now analysis bit) }
+{
+    match analysis {
+        Analysis::Reach => {
+            let (variable, point) = graph.definition(bit);
+            push_definition(text, graph, variable, point)
+        }
+        Analysis::Live => text.extend_from_slice(graph.program().variable(bit)),
+        Analysis::Avail => push_expression(text, graph, graph.expression(bit)),
+        Analysis::Busy => push_expression(text, graph, graph.expression(bit)),
+    }
+}

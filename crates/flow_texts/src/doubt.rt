@@ -1,0 +1,44 @@
+// Which points are doubtful.
+
+ghost use Rattle.std.specs.Prelude.{◌≡◌, IfOk, length, map, not};
+ghost use Rattle.flow_graph.specs.Limits.{HasFewPoints};
+ghost use Rattle.flow_graph.specs.Points.{points, point_count};
+ghost use Rattle.flow_graph.specs.declared.analysis.Analysis.TheVariants.{Live};
+ghost use Rattle.tac_reader.specs.Sound.{IsSound};
+ghost use Rattle.flow_texts.specs.Findings.{TellDoubtful};
+ghost use Rattle.flow_team.specs.Tables.{IsTableOf, facts_of};
+
+use flow_graph::{Graph, OutOfMemory};
+use flow_team::Table;
+use std::alloc::Global;
+
+/// For each point whether it has no valid path to the end of `main`.
+fn endless_points(alloc: Global, graph: &Graph<'_>, live: &Table) -> Result<Vec<bool>, OutOfMemory>
+    requires { length live.now.rows.flags ≡ point_count graph.now }
+    ensures points { IfOk result (λ endless. endless.items ≡ map (λ point. not ((facts_of live.now).has_path point)) (points graph.now)) }
+    ensures few { HasFewPoints graph.now }
+    ensures sound { IsSound graph.now }
+{
+    let mut endless = Vec::new(alloc);
+    for point in 0..graph.points() {
+        endless.push(!live.has_path(point))?;
+    }
+    Ok(endless)
+}
+
+/// For each point whether it is doubtful: whether some path leads from it to a point that has no valid path to the end of
+/// `main`, as where a loop or a recursion may never end. It takes the table of live variables.
+pub(crate) fn doubtful_points(
+    alloc: Global,
+    graph: &Graph<'_>,
+    live: &Table,
+) -> Result<Vec<bool>, OutOfMemory>
+    requires analysis { live.now.analysis ≡ Live }
+    requires table { IsTableOf graph.now live.now }
+    ensures points { IfOk result (λ doubtful. TellDoubtful graph.now doubtful.items) }
+    ensures few { HasFewPoints graph.now }
+    ensures sound { IsSound graph.now }
+{
+    let endless = endless_points(alloc, graph, live)?;
+    graph.leads_to(alloc, &endless)
+}

@@ -1,0 +1,37 @@
+//! The texts of tables and reports, written in pieces to any sink, and what a program takes its text from.
+#![tactic(auto)]
+
+mod bit_texts;
+mod block;
+mod delivery;
+mod device;
+mod doubt;
+mod findings;
+mod from_read;
+mod operands;
+mod pieces;
+mod pulls;
+mod remarks;
+mod reports;
+mod table_texts;
+mod tables;
+#[cfg(test)]
+mod tests;
+mod text;
+pub mod text_examples;
+mod to_write;
+mod transfer;
+mod whole;
+
+pub use delivery::deliver;
+pub use device::{DeviceFault, Sink, Source};
+pub use from_read::FromRead;
+pub use pieces::Pieces;
+pub use pulls::pull_all;
+pub use reports::{ReportText, report};
+pub use std::alloc::AllocError as OutOfMemory;
+pub use table_texts::{TableText, table_text};
+pub use tables::{Tables, table_of};
+pub use text::{Bytes, Text};
+pub use to_write::ToWrite;
+pub use transfer::TransferFault;

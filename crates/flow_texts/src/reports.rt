@@ -1,0 +1,131 @@
+// The report on a program.
+
+ghost use Rattle.std.specs.Prelude.{◌≡◌, ◌++◌, IfOk, decimal};
+ghost use Rattle.flow_texts.specs.Findings.{AreFindings, knowledge_of};
+ghost use Rattle.flow_texts.specs.Pieces.{IsOpen, Takes, outlet};
+ghost use Rattle.flow_texts.specs.Reports.{AreTablesOf, IsReport, ListsSafely, count_line, report_of};
+
+use crate::bit_texts::write_number;
+use crate::block::BitTexts;
+use crate::device::Sink;
+use crate::doubt::doubtful_points;
+use crate::findings::Findings;
+use crate::pieces::Pieces;
+use crate::tables::Tables;
+use crate::text::Text;
+use crate::whole::whole_text;
+use flow_graph::{Analysis, Graph, OutOfMemory};
+use std::alloc::Global;
+use std::marker::Model;
+
+// Writes a count behind what is counted.
+fn write_count<K: Sink>(out: &mut Pieces<'_, K>, counted: &[u8], count: u32)
+    requires { IsOpen (outlet K.contents K.faults out.old) }
+    ensures same_reference { out.new.sink.ghost_name ≡ out.old.sink.ghost_name }
+    ensures takes { Takes (outlet K.contents K.faults out.old) (outlet K.contents K.faults out.new) (counted.now ++ decimal count) }
+{
+    out.write(counted);
+    write_number(out, count);
+}
+
+// Writes how many points there are, and how many bits of each kind.
+fn write_counts<K: Sink>(out: &mut Pieces<'_, K>, graph: &Graph<'_>)
+    requires { IsOpen (outlet K.contents K.faults out.old) }
+    ensures same_reference { out.new.sink.ghost_name ≡ out.old.sink.ghost_name }
+    ensures takes { Takes (outlet K.contents K.faults out.old) (outlet K.contents K.faults out.new) (count_line graph.now) }
+{
+    write_count(out, b"points ", graph.points());
+    write_count(out, b", variables ", graph.bits(Analysis::Live));
+    write_count(out, b", definitions ", graph.bits(Analysis::Reach));
+    write_count(out, b", expressions ", graph.bits(Analysis::Avail));
+    out.write(b"\n");
+}
+
+impl Findings<'_> {
+    // Writes the report.
+    fn write<K: Sink>(&self, out: &mut Pieces<'_, K>)
+        requires ready { IsOpen (outlet K.contents K.faults out.old) }
+        requires found { AreFindings self.now }
+        ensures same_reference { out.new.sink.ghost_name ≡ out.old.sink.ghost_name }
+        ensures takes { Takes (outlet K.contents K.faults out.old) (outlet K.contents K.faults out.new) (report_of self.now.graph.now (knowledge_of self.now)) }
+    {
+        write_counts(out, self.graph);
+        for point in 0..self.graph.points() {
+            self.write_point(out, point);
+        }
+    }
+}
+
+/// The report on a program: a line of counts, and behind it line by line what the four analyses say of each statement, in the
+/// order of points. Each remark is a line `LINE: REMARK`:
+///
+/// - `never reached`, and then nothing else;
+/// - `VARIABLE may be used before it is set`, for each variable that the statement reads, in the order of their numbers;
+/// - `EXPRESSION is already computed`, of the expression that the statement evaluates;
+/// - `EXPRESSION is very busy`, for each such expression at a test that is not doubtful;
+/// - `assignment to VARIABLE is dead`, where the point after it is not doubtful: it can be deleted.
+///
+/// The analyses are those of Aho, Lam, Sethi, Ullman, 2nd edition, 9.2 and 9.5, over valid paths as in Reps, Horwitz, Sagiv
+/// 1995. The work is linear in the program, its edges and the report, and in the words of the tests' sets of very busy
+/// expressions.
+#[derive(Drop)]
+pub struct ReportText<'a> {
+    found: Findings<'a>,
+}
+
+impl<'a> Model for ReportText<'a> {
+    ghost use Rattle.std.specs.Prelude.{List, ℕ};
+    ghost use Rattle.flow_texts.specs.Findings.{AreFindings, knowledge_of};
+    ghost use Rattle.flow_texts.specs.Reports.{report_of};
+
+    ghost Value = { List ℕ };
+
+    ghost view = { λ text. report_of text.found.graph.now (knowledge_of text.found) };
+
+    ghost invariant = { λ text. AreFindings text.found };
+}
+
+impl<'a> ReportText<'a> {
+    /// The report, ready to be written.
+    ///
+    /// The condition: the tables are of this graph. Fails only where memory runs out.
+    pub fn of(
+        alloc: Global,
+        graph: &'a Graph<'a>,
+        tables: &'a Tables,
+    ) -> Result<ReportText<'a>, OutOfMemory>
+        requires { AreTablesOf graph.now tables.now }
+        ensures report { IfOk result (IsReport graph.now) }
+        ensures safe { IfOk result (ListsSafely graph.now) }
+    {
+        let doubtful = doubtful_points(alloc, graph, &tables.live)?;
+        let expressions = BitTexts::of(alloc, graph, Analysis::Avail)?;
+        let found = Findings {
+            graph,
+            tables,
+            doubtful,
+            expressions,
+        };
+        Ok(ReportText { found })
+    }
+}
+
+impl<'a> Text for ReportText<'a> {
+    ghost bytes = { λ text. text };
+
+    fn write<K: Sink>(&self, out: &mut Pieces<'_, K>) {
+        self.found.write(out);
+    }
+}
+
+/// The report on a program, made whole: that of `ReportText`.
+///
+/// The condition: the tables are of this graph. Its room grows by doubling; fails only where memory runs out.
+pub fn report(alloc: Global, graph: &Graph<'_>, tables: &Tables) -> Result<Vec<u8>, OutOfMemory>
+    requires { AreTablesOf graph.now tables.now }
+    ensures report { IfOk result (λ text. IsReport graph.now text.items) }
+    ensures safe { IfOk result (λ text. ListsSafely graph.now text.items) }
+{
+    let text = ReportText::of(alloc, graph, tables)?;
+    whole_text(alloc, &text)
+}

@@ -1,0 +1,211 @@
+// The text of a table.
+
+ghost use Rattle.std.specs.Prelude.{◌≡◌, ◌∷◌, [], ◌+◌, ◌^◌, ◌<◌, ℕ, Bool, true, length, map, filter, IfOk, codes, if◌then◌else◌};
+ghost use Rattle.std.specs.List.{range_with_len};
+ghost use Rattle.bit_rows.specs.RowSet.{HasRange, contains as is_in};
+ghost use Rattle.bit_rows.specs.Words.{has_bit};
+ghost use Rattle.flow_graph.specs.Points.{point_count};
+ghost use Rattle.flow_graph.specs.Universes.{bits as bits_of};
+ghost use Rattle.flow_team.specs.Tables.{IsTableOf, facts_of};
+ghost use Rattle.flow_texts.specs.Lists.{AreTexts, Named, Wrote, after, text_at};
+ghost use Rattle.flow_texts.specs.Pieces.{IsOpen, Takes, outlet};
+ghost use Rattle.flow_texts.specs.Tables.{IsTableText, bit_text, listed, place_text, point_line};
+
+use crate::bit_texts::write_number;
+use crate::block::BitTexts;
+use crate::device::Sink;
+use crate::pieces::Pieces;
+use crate::text::Text;
+use crate::whole::whole_text;
+use bit_rows::Row;
+use flow_graph::{Graph, OutOfMemory};
+use flow_team::Table;
+use std::alloc::Global;
+use std::marker::Model;
+
+/// Writes one text, behind a comma where others stand already.
+#[inline]
+fn write_next<K: Sink>(out: &mut Pieces<'_, K>, texts: &BitTexts, bit: usize, others: bool)
+    requires ready { IsOpen (outlet K.contents K.faults out.old) }
+    requires bit { bit < length texts.now }
+    ensures same_reference { out.new.sink.ghost_name ≡ out.old.sink.ghost_name }
+    ensures takes { Takes (outlet K.contents K.faults out.old) (outlet K.contents K.faults out.new) (after others (text_at texts.now bit ∷ [])) }
+{
+    if others {
+        out.write(texts.behind_comma(bit));
+    } else {
+        out.write(texts.text(bit));
+    }
+}
+
+/// Whether a place of a word is 1.
+fn is_one(word: u64, place: u32) -> bool
+    requires { place < 64 }
+    ensures { result ≡ has_bit word place }
+{
+    (word >> place) & 1 == 1
+}
+
+/// Writes the texts of the bits of one word, and answers whether any text stands now.
+fn write_word<K: Sink>(
+    out: &mut Pieces<'_, K>,
+    texts: &BitTexts,
+    first: usize,
+    word: u64,
+    others: bool,
+) -> bool
+    ghost set: { Named }
+    requires ready { IsOpen (outlet K.contents K.faults out.old) }
+    requires texts { AreTexts set.named (length texts.now) texts.now }
+    requires word { (k : ℕ) → k < 64 → has_bit word k ≡ set.member (first + k) }
+    requires within { (bit : ℕ) → set.member bit ≡ true → bit < length texts.now }
+    requires first { first < 2 ^ 38 }
+    ensures same_reference { out.new.sink.ghost_name ≡ out.old.sink.ghost_name }
+    ensures wrote { Wrote set others first 64 (outlet K.contents K.faults out.old) (outlet K.contents K.faults out.new) result }
+{
+    let mut any = others;
+    for k in 0..64 {
+        if is_one(word, k) {
+            write_next(out, texts, first + k as usize, any);
+            any = true;
+        }
+    }
+    any
+}
+
+/// Writes the texts of a set's bits, or that there are none.
+fn write_set<K: Sink>(out: &mut Pieces<'_, K>, texts: &BitTexts, row: &Row)
+    ghost member: { ℕ → Bool }
+    requires ready { IsOpen (outlet K.contents K.faults out.old) }
+    requires range { HasRange row.now 0 (length texts.now) }
+    requires member { (bit : ℕ) → is_in row.now bit ≡ member bit }
+    ensures same_reference { out.new.sink.ghost_name ≡ out.old.sink.ghost_name }
+    ensures takes { Takes (outlet K.contents K.faults out.old) (outlet K.contents K.faults out.new)
+        (listed (map (text_at texts.now) (filter member (range_with_len 0 (length texts.now))))) }
+{
+    let mut any = false;
+    for word in 0..row.hi().div_ceil(64) {
+        let bits = row.word(word);
+        if bits != 0 {
+            any = write_word(out, texts, 64 * word as usize, bits, any);
+        }
+    }
+    if any {
+        return;
+    }
+    out.write(b"-");
+}
+
+/// Writes the procedure of a point and its place there.
+fn write_place<K: Sink>(out: &mut Pieces<'_, K>, graph: &Graph<'_>, point: u32)
+    requires ready { IsOpen (outlet K.contents K.faults out.old) }
+    requires point { point < point_count graph.now }
+    ensures same_reference { out.new.sink.ghost_name ≡ out.old.sink.ghost_name }
+    ensures takes { Takes (outlet K.contents K.faults out.old) (outlet K.contents K.faults out.new) (place_text graph.now point) }
+{
+    let place = graph.place(point);
+    let program = graph.program();
+    // Its contract tells that each procedure has a name.
+    let _ = program.procs();
+    out.write(program.procedure(place.procedure));
+    out.write(b" ");
+    write_number(out, place.place);
+}
+
+/// What stands between a place and its set.
+fn path_mark(has_path: bool) -> &'static [u8]
+    ensures { result.now ≡ (if has_path then codes ": " else codes " (no path): ") }
+{
+    if has_path { b": " } else { b" (no path): " }
+}
+
+/// Writes the line of a point.
+fn write_point<K: Sink>(
+    out: &mut Pieces<'_, K>,
+    graph: &Graph<'_>,
+    table: &Table,
+    texts: &BitTexts,
+    point: u32,
+)
+    requires ready { IsOpen (outlet K.contents K.faults out.old) }
+    requires point { point < point_count graph.now }
+    requires table { IsTableOf graph.now table.now }
+    requires texts { AreTexts (bit_text graph.now table.now.analysis) (bits_of graph.now table.now.analysis) texts.now }
+    ensures same_reference { out.new.sink.ghost_name ≡ out.old.sink.ghost_name }
+    ensures takes { Takes (outlet K.contents K.faults out.old) (outlet K.contents K.faults out.new) (point_line graph.now table.now.analysis (facts_of table.now) point) }
+{
+    if out.has_failed() {
+        return;
+    }
+    write_place(out, graph, point);
+    out.write(path_mark(table.has_path(point)));
+    write_set(out, texts, table.row(point));
+    out.write(b"\n");
+}
+
+/// The text of a table: for each point in order the line `NAME PLACE: SET`, NAME being its procedure and PLACE its number
+/// there; `NAME PLACE (no path): SET` where no valid path is. SET is what the bits are called, in the order of their numbers,
+/// with `, ` between them, or `-` where there are none.
+#[derive(Drop)]
+pub struct TableText<'a> {
+    graph: &'a Graph<'a>,
+    table: &'a Table,
+    texts: BitTexts,
+}
+
+impl<'a> Model for TableText<'a> {
+    ghost use Rattle.std.specs.Prelude.{List, ℕ};
+    ghost use Rattle.flow_graph.specs.Universes.{bits as bits_of};
+    ghost use Rattle.flow_team.specs.Tables.{IsTableOf, facts_of};
+    ghost use Rattle.flow_texts.specs.Lists.{AreTexts};
+    ghost use Rattle.flow_texts.specs.Tables.{bit_text, table_text_of};
+
+    ghost Value = { List ℕ };
+
+    ghost view = { λ text. table_text_of text.graph.now text.table.now.analysis (facts_of text.table.now) };
+
+    ghost invariant = { λ text. IsTableOf text.graph.now text.table.now
+        × AreTexts (bit_text text.graph.now text.table.now.analysis) (bits_of text.graph.now text.table.now.analysis) text.texts };
+}
+
+impl<'a> TableText<'a> {
+    /// The text of this table, ready to be written.
+    ///
+    /// The condition: the table is of this graph. Fails only where memory runs out.
+    pub fn of(
+        alloc: Global,
+        graph: &'a Graph<'a>,
+        table: &'a Table,
+    ) -> Result<TableText<'a>, OutOfMemory>
+        requires { IsTableOf graph.now table.now }
+        ensures { IfOk result (IsTableText graph.now table.now.analysis) }
+    {
+        let texts = BitTexts::of(alloc, graph, table.analysis())?;
+        Ok(TableText {
+            graph,
+            table,
+            texts,
+        })
+    }
+}
+
+impl<'a> Text for TableText<'a> {
+    ghost bytes = { λ text. text };
+
+    fn write<K: Sink>(&self, out: &mut Pieces<'_, K>) {
+        for point in 0..self.graph.points() {
+            write_point(out, self.graph, self.table, &self.texts, point);
+        }
+    }
+}
+
+/// The text of a table, made whole: that of `TableText`.
+///
+/// The condition: the table is of this graph. Its room grows by doubling; fails only where memory runs out.
+pub fn table_text(alloc: Global, graph: &Graph<'_>, table: &Table) -> Result<Vec<u8>, OutOfMemory>
+    requires { IsTableOf graph.now table.now }
+    ensures { IfOk result (λ text. IsTableText graph.now table.now.analysis text.items) }
+{
+    let text = TableText::of(alloc, graph, table)?;
+    whole_text(alloc, &text)
+}

@@ -1,0 +1,124 @@
+ghost use Rattle.std.specs.Prelude.{◌≡◌, IfOk};
+ghost use Rattle.flow_graph.specs.Analyses.{is_backward};
+ghost use Rattle.flow_team.specs.Tables.{IsTableOf};
+ghost use Rattle.flow_texts.specs.Ranges.{AreInRange};
+ghost use Rattle.flow_texts.specs.Reports.{AreTablesOf};
+
+use bit_rows::Cut;
+use flow_graph::{Analysis, Graph, OutOfMemory};
+use flow_team::{OpenGate, Table, analyse, analyse_both};
+use std::alloc::{AllocError, Global};
+use std::thread::Threads;
+
+/// The table of an analysis, by so many workers, in slices of so many bits.
+///
+/// The condition: 1 to 64 workers, and 1 to 4,096 bits. Fails only where memory runs out.
+pub fn table_of<R: Threads + Sync>(
+    rt: &R,
+    alloc: Global,
+    graph: &Graph<'_>,
+    analysis: Analysis,
+    workers: u32,
+    cut: u32,
+) -> Result<Table, OutOfMemory>
+    requires { AreInRange workers cut }
+    ensures analysis { IfOk result (λ table. table.analysis ≡ analysis) }
+    ensures table { IfOk result (IsTableOf graph.now) }
+{
+    let Ok(slices) = Cut::even(alloc, graph.bits(analysis), cut) else {
+        return Err(AllocError);
+    };
+    match analyse(rt, alloc, graph, analysis, slices, workers, &OpenGate) {
+        Ok(table) => Ok(table),
+        Err(_) => Err(AllocError),
+    }
+}
+
+// The tables of two analyses of one direction, which share its edges and path flags.
+fn both_tables_of<R: Threads + Sync>(
+    rt: &R,
+    alloc: Global,
+    graph: &Graph<'_>,
+    first: Analysis,
+    second: Analysis,
+    workers: u32,
+    cut: u32,
+) -> Result<(Table, Table), OutOfMemory>
+    requires { is_backward first ≡ is_backward second }
+    ensures first { IfOk result (λ tables. (tables.0.analysis ≡ first) × IsTableOf graph.now tables.0) }
+    ensures second { IfOk result (λ tables. (tables.1.analysis ≡ second) × IsTableOf graph.now tables.1) }
+{
+    let Ok(first_cut) = Cut::even(alloc, graph.bits(first), cut) else {
+        return Err(AllocError);
+    };
+    let Ok(second_cut) = Cut::even(alloc, graph.bits(second), cut) else {
+        return Err(AllocError);
+    };
+    let found = analyse_both(
+        rt,
+        alloc,
+        graph,
+        (first, first_cut),
+        (second, second_cut),
+        workers,
+        &OpenGate,
+    );
+    match found {
+        Ok(tables) => Ok(tables),
+        Err(_) => Err(AllocError),
+    }
+}
+
+/// The tables of the four analyses of one program.
+#[derive(Drop)]
+pub struct Tables {
+    /// Reaching definitions.
+    pub reach: Table,
+    /// Live variables.
+    pub live: Table,
+    /// Available expressions.
+    pub avail: Table,
+    /// Very busy expressions.
+    pub busy: Table,
+}
+
+impl Tables {
+    /// The four tables of a graph's program, by so many workers, in slices of so many bits.
+    ///
+    /// The condition: 1 to 64 workers, and 1 to 4,096 bits. Fails only where memory runs out.
+    pub fn of<R: Threads + Sync>(
+        rt: &R,
+        alloc: Global,
+        graph: &Graph<'_>,
+        workers: u32,
+        cut: u32,
+    ) -> Result<Tables, OutOfMemory>
+        requires { AreInRange workers cut }
+        ensures { IfOk result (λ tables. AreTablesOf graph.now tables) }
+    {
+        let (reach, avail) = both_tables_of(
+            rt,
+            alloc,
+            graph,
+            Analysis::Reach,
+            Analysis::Avail,
+            workers,
+            cut,
+        )?;
+        let (live, busy) = both_tables_of(
+            rt,
+            alloc,
+            graph,
+            Analysis::Live,
+            Analysis::Busy,
+            workers,
+            cut,
+        )?;
+        Ok(Tables {
+            reach,
+            live,
+            avail,
+            busy,
+        })
+    }
+}

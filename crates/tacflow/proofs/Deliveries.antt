@@ -1,0 +1,25 @@
+-- What an answer tells of a text that was to be written
+use Rattle.std.proofs.Common.{List, ℕ, Option, Result, Ok, Err, IfErr}
+use Rattle.flow_graph.specs.declared.fault.GraphFault.{GraphFault}
+use Rattle.tacflow.specs.Faults.{Delivers, OfProgram}
+use Rattle.tacflow.specs.declared.fault.Fault.{Fault}
+use Rattle.tacflow.specs.declared.fault.Fault.TheVariants as fault
+
+-- a text of one kind is one of another
+pub delivers_as : {T : Type 0} (IsText IsOther : List ℕ → Type 0) (held holds : Option (List ℕ)) (r : Result T Fault) → ((out : List ℕ) → IsText out → IsOther out)
+    → Delivers IsText held holds r → Delivers IsOther held holds r
+delivers_as IsText IsOther held holds (Ok x) is told = (told.0, is told.0 told.1, told.2)
+delivers_as IsText IsOther held holds (Err fault.Write) is told = (told.0, is told.0 told.1, told.2)
+delivers_as IsText IsOther held holds (Err (fault.Refused f)) is told = told
+delivers_as IsText IsOther held holds (Err (fault.Graph f)) is told = told
+delivers_as IsText IsOther held holds (Err fault.OutOfMemory) is told = told
+delivers_as IsText IsOther held holds (Err fault.Read) is told = told
+
+-- a fault that is none of the graph is one of any program
+pub no_graph_fault : {T : Type 0} (P : GraphFault → Type 0) (r : Result T Fault) → IfErr r (OfProgram (λ _. ⊥)) → IfErr r (OfProgram P)
+no_graph_fault P (Ok x) told = tt
+no_graph_fault P (Err fault.Write) told = told
+no_graph_fault P (Err (fault.Refused f)) told = told
+no_graph_fault P (Err (fault.Graph f)) told = absurd told
+no_graph_fault P (Err fault.OutOfMemory) told = told
+no_graph_fault P (Err fault.Read) told = told
