@@ -31,8 +31,7 @@ impl<'g, 'p> Job<GraphSets<'g, 'p>> {
         ensures pass { IfOk result (λ r. r.1 ≡ fresh_pass r.0) }
     {
         let sets = GraphSets::of(alloc, graph, analysis)?;
-        let flags = sets.flags(alloc)?;
-        Job::on_board(alloc, sets, flags, cut)
+        Job::of_sets(alloc, sets, cut)
     }
 
     /// The job of an analysis of a graph, over edges and path flags that were found for another of the same direction.
@@ -49,8 +48,22 @@ impl<'g, 'p> Job<GraphSets<'g, 'p>> {
         ensures pass { IfOk result (λ r. r.1 ≡ fresh_pass r.0) }
     {
         let sets = GraphSets::over(alloc, graph, analysis, routes)?;
-        let paths = sets.flags(alloc)?;
-        Job::on_board(alloc, sets, paths, cut)
+        Job::of_sets(alloc, sets, cut)
+    }
+
+    // The job of these sets.
+    fn of_sets(
+        alloc: Global,
+        sets: GraphSets<'g, 'p>,
+        cut: Cut,
+    ) -> Result<(Self, Pass<GraphSets<'g, 'p>>), OutOfMemory>
+        requires { cut.bits ≡ bits_of sets.program sets.analysis }
+        ensures wanted { IfOk result (λ r. r.0.wanted ≡ sets.entry) }
+        ensures cut { IfOk result (λ r. r.0.cut ≡ cut) }
+        ensures pass { IfOk result (λ r. r.1 ≡ fresh_pass r.0) }
+    {
+        let flags = sets.flags(alloc)?;
+        Job::on_board(alloc, sets, flags, cut)
     }
 
     // The table, and what another analysis of the same direction can use, where every slice is finished.

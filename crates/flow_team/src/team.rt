@@ -1,5 +1,5 @@
 // An analysis by a team of workers.
-ghost use Rattle.std.specs.Prelude.{◌≡◌, ◌↔◌, ◌⊎◌, ◌<◌, ◌≤◌, IfOk, Err};
+ghost use Rattle.std.specs.Prelude.{◌≡◌, ◌↔◌, ◌⊎◌, ◌<◌, ◌≤◌, true, false, IfOk, IfSome, Err};
 ghost use Rattle.flow_graph.specs.Analyses.{is_backward};
 ghost use Rattle.flow_graph.specs.Universes.{bits as bits_of};
 ghost use Rattle.gk_solve.specs.Solved.{direction_of};
@@ -19,6 +19,26 @@ use gk_solve::Routes;
 use slice_board::Pass;
 use std::alloc::Global;
 use std::thread::Threads;
+
+// What a job was closed with. Where a worker's slice was lost with its pass, all is solved here.
+fn closed_or_solved<'g, 'p>(
+    alloc: Global,
+    graph: &'g Graph<'p>,
+    analysis: Analysis,
+    closed: Option<(Table, Routes<'g, 'p>)>,
+) -> Result<(Table, Routes<'g, 'p>), OutOfMemory>
+    requires analysis { IfSome closed (λ r. r.0.analysis ≡ analysis) }
+    requires table { IfSome closed (λ r. IsTableOf graph.now r.0) }
+    requires routes { IfSome closed (λ r. r.1 ≡ direction_of (record { program = graph.now; analysis = analysis })) }
+    ensures analysis { IfOk result (λ r. r.0.analysis ≡ analysis) }
+    ensures table { IfOk result (λ r. IsTableOf graph.now r.0) }
+    ensures routes { IfOk result (λ r. r.1 ≡ direction_of (record { program = graph.now; analysis = analysis })) }
+{
+    match closed {
+        Some(closed) => Ok(closed),
+        None => GraphSets::solved(alloc, graph, analysis),
+    }
+}
 
 // Has the workers work until no slice is left, and closes the job. Tells what another analysis of the same direction can use.
 fn worked<'g, 'p, R: Threads + Sync, G: Gate>(
@@ -40,11 +60,7 @@ fn worked<'g, 'p, R: Threads + Sync, G: Gate>(
     ensures routes { IfOk result (λ r. r.1 ≡ direction_of (record { program = graph.now; analysis = analysis })) }
 {
     let pass = run_workers(rt, alloc, &job, gate, 0, workers, pass)?;
-    match job.close_with_routes(pass) {
-        Some(closed) => Ok(closed),
-        // A worker's slice was lost with its pass: all is solved here.
-        None => GraphSets::solved(alloc, graph, analysis),
-    }
+    closed_or_solved(alloc, graph, analysis, job.close_with_routes(pass))
 }
 
 // The table of an analysis, and what another of the same direction can use.
@@ -91,6 +107,82 @@ fn second_table<'g, 'p, R: Threads + Sync, G: Gate>(
     worked(rt, alloc, graph, analysis, job, pass, workers, gate)
 }
 
+// The table of an analysis alone.
+fn one_table<R: Threads + Sync, G: Gate>(
+    rt: &R,
+    alloc: Global,
+    graph: &Graph<'_>,
+    analysis: Analysis,
+    cut: Cut,
+    workers: u32,
+    gate: &G,
+) -> Result<Table, TeamFault>
+    requires some { 0 < workers }
+    requires few { workers ≤ 64 }
+    requires cut { cut.bits ≡ bits_of graph.now analysis }
+    ensures analysis { IfOk result (λ table. table.analysis ≡ analysis) }
+    ensures table { IfOk result (IsTableOf graph.now) }
+    ensures fault { result ≡ Err TeamFault.BadWorkers → ⊥ }
+{
+    let (table, _) = first_table(rt, alloc, graph, analysis, cut, workers, gate)?;
+    Ok(table)
+}
+
+// The first table, and the one of another analysis of its direction.
+fn with_second<'g, 'p, R: Threads + Sync, G: Gate>(
+    rt: &R,
+    alloc: Global,
+    graph: &'g Graph<'p>,
+    first: (Table, Routes<'g, 'p>),
+    second: (Analysis, Cut),
+    workers: u32,
+    gate: &G,
+) -> Result<(Table, Table), OutOfMemory>
+    requires some { 0 < workers }
+    requires few { workers ≤ 64 }
+    requires cut { second.1.bits ≡ bits_of graph.now second.0 }
+    requires routes { first.1 ≡ direction_of (record { program = graph.now; analysis = second.0 }) }
+    ensures first { IfOk result (λ r. r.0 ≡ first.entry.0) }
+    ensures second { IfOk result (λ r. (r.1.analysis ≡ second.0) × IsTableOf graph.now r.1) }
+{
+    let (table, routes) = first;
+    let (analysis, cut) = second;
+    let (other, _) = second_table(rt, alloc, graph, analysis, cut, routes, workers, gate)?;
+    Ok((table, other))
+}
+
+// The tables of two analyses of one direction.
+fn two_tables<R: Threads + Sync, G: Gate>(
+    rt: &R,
+    alloc: Global,
+    graph: &Graph<'_>,
+    first: (Analysis, Cut),
+    second: (Analysis, Cut),
+    workers: u32,
+    gate: &G,
+) -> Result<(Table, Table), TeamFault>
+    requires some { 0 < workers }
+    requires few { workers ≤ 64 }
+    requires first_cut { first.1.bits ≡ bits_of graph.now first.0 }
+    requires second_cut { second.1.bits ≡ bits_of graph.now second.0 }
+    requires direction { is_backward first.0 ≡ is_backward second.0 }
+    ensures first { IfOk result (λ r. (r.0.analysis ≡ first.0) × IsTableOf graph.now r.0) }
+    ensures second { IfOk result (λ r. (r.1.analysis ≡ second.0) × IsTableOf graph.now r.1) }
+    ensures fault { result ≡ Err TeamFault.BadWorkers → ⊥ }
+{
+    let (analysis, cut) = first;
+    let first = first_table(rt, alloc, graph, analysis, cut, workers, gate)?;
+    Ok(with_second(rt, alloc, graph, first, second, workers, gate)?)
+}
+
+// Whether a team cannot be of so many workers.
+fn is_bad_number(workers: u32) -> bool
+    ensures bad { result ≡ true → (workers ≡ 0) ⊎ (64 < workers) }
+    ensures good { result ≡ false → (0 < workers) × (workers ≤ 64) }
+{
+    workers == 0 || workers > 64
+}
+
 /// The table of an analysis of a graph, by so many workers, in slices of its bits: at each point exactly the union (may) or
 /// intersection (must) over all interprocedurally valid paths, whatever the workers, the cut, and the order of their steps.
 ///
@@ -114,11 +206,10 @@ pub fn analyse<R: Threads + Sync, G: Gate>(
     ensures table { IfOk result (IsTableOf graph.now) }
     ensures bad_workers { (result ≡ Err TeamFault.BadWorkers) ↔ ((workers ≡ 0) ⊎ (64 < workers)) }
 {
-    if workers == 0 || workers > 64 {
+    if is_bad_number(workers) {
         return Err(TeamFault::BadWorkers);
     }
-    let (table, _) = first_table(rt, alloc, graph, analysis, cut, workers, gate)?;
-    Ok(table)
+    one_table(rt, alloc, graph, analysis, cut, workers, gate)
 }
 
 /// The tables of two analyses of one direction, each as [`analyse`] has it: the edges, their order and the path flags are found
@@ -142,12 +233,8 @@ pub fn analyse_both<R: Threads + Sync, G: Gate>(
     ensures second { IfOk result (λ r. (r.1.analysis ≡ second.0) × IsTableOf graph.now r.1) }
     ensures bad_workers { (result ≡ Err TeamFault.BadWorkers) ↔ ((workers ≡ 0) ⊎ (64 < workers)) }
 {
-    if workers == 0 || 64 < workers {
+    if is_bad_number(workers) {
         return Err(TeamFault::BadWorkers);
     }
-    let (analysis, cut) = first;
-    let (table, routes) = first_table(rt, alloc, graph, analysis, cut, workers, gate)?;
-    let (analysis, cut) = second;
-    let (other, _) = second_table(rt, alloc, graph, analysis, cut, routes, workers, gate)?;
-    Ok((table, other))
+    two_tables(rt, alloc, graph, first, second, workers, gate)
 }

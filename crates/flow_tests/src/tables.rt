@@ -110,21 +110,43 @@ fn solved_slices(
     Ok((slices, agree))
 }
 
+/// An analysis of a graph, ready to be solved.
+fn solver_of<'g, 'p>(
+    alloc: Global,
+    graph: &'g Graph<'p>,
+    analysis: Analysis,
+) -> Result<Solver<'g, 'p>, OutOfMemory> {
+    Solver::of(alloc, Problem::of(alloc, graph, analysis)?)
+}
+
+/// What is known of it, with what its bits are called.
+fn solved_with(
+    alloc: Global,
+    names: Vec<String>,
+    solver: &Solver<'_, '_>,
+    width: u32,
+) -> Result<Table, OutOfMemory> {
+    let (slices, agree) = solved_slices(alloc, solver, width)?;
+    let flags = solve(alloc, solver.problem(), 0, 0)?;
+    let complements = solver.problem().complements();
+    Ok(Table {
+        names,
+        flags,
+        slices,
+        agree,
+        complements,
+    })
+}
+
 fn solved(
     alloc: Global,
     graph: &Graph<'_>,
     analysis: Analysis,
     width: u32,
 ) -> Result<Table, OutOfMemory> {
-    let solver = Solver::of(alloc, Problem::of(alloc, graph, analysis)?)?;
-    let (slices, agree) = solved_slices(alloc, &solver, width)?;
-    Ok(Table {
-        names: bit_names(alloc, graph, analysis)?,
-        flags: solve(alloc, solver.problem(), 0, 0)?,
-        slices,
-        agree,
-        complements: solver.problem().complements(),
-    })
+    let names = bit_names(alloc, graph, analysis)?;
+    let solver = solver_of(alloc, graph, analysis)?;
+    solved_with(alloc, names, &solver, width)
 }
 
 /// Writes what the table has of a slice's bits at a point, behind a comma where something is there.

@@ -1,11 +1,13 @@
 // Jobs, step by step.
 
 ghost use Rattle.std.specs.Prelude.{◌≡◌, IfOk};
+ghost use Rattle.flow_graph.specs.Points.{point_count as points_of};
+ghost use Rattle.flow_graph.specs.Universes.{bits as bits_of};
 ghost use Rattle.flow_team.specs.Tables.{IsTableOf};
 ghost use Rattle.slice_board.specs.Boards.{IsOf, point_count};
 
 use crate::gates::Recorder;
-use crate::texts::{RECURSIVE, RECURSIVE_REACH, graph, lines, printed, prints, program, slices};
+use crate::texts::{Ask, RECURSIVE, RECURSIVE_REACH, asked, lines, printed, prints, slices};
 use flow_graph::{Analysis, Graph};
 use flow_team::{Gate, GraphSets, Job, OpenGate, OutOfMemory, Solve, Table};
 use slice_board::Pass;
@@ -34,6 +36,23 @@ fn check_two_slices<S: Solve, R: Abort>(
     assert_eq!(rt; job.work(alloc, pass, 0, gate)?, Some(1));
     assert_eq!(rt; job.look(pass, 1, 0), 2);
     Ok(())
+}
+
+// The job, on which two slices are worked.
+fn with_two_slices<S: Solve, R: Abort>(
+    rt: &R,
+    alloc: Global,
+    job: Job<S>,
+    mut pass: Pass<S>,
+    gate: &Recorder,
+) -> Result<(Job<S>, Pass<S>), Fail>
+    requires of { IsOf job pass }
+    requires points { point_count job ≡ 8 }
+    requires bits { job.cut.bits ≡ 3 }
+    ensures { IfOk result (λ again. (again.0 ≡ job) × IsOf again.0 again.1) }
+{
+    check_two_slices(rt, alloc, &job, &mut pass, gate)?;
+    Ok((job, pass))
 }
 
 // The job does not close yet: so many of its slices are finished.
@@ -86,6 +105,21 @@ pub fn closed<'g, 'p>(
     }
 }
 
+// The job, on which the third slice is worked.
+fn with_last_slice<S: Solve, R: Abort>(
+    rt: &R,
+    alloc: Global,
+    job: Job<S>,
+    mut pass: Pass<S>,
+    gate: &Recorder,
+) -> Result<(Job<S>, Pass<S>), Fail>
+    requires { IsOf job pass }
+    ensures { IfOk result (λ again. (again.0 ≡ job) × IsOf again.0 again.1) }
+{
+    check_last_slice(rt, alloc, &job, &mut pass, gate)?;
+    Ok((job, pass))
+}
+
 // The job closes only once the third slice is finished.
 fn closed_in_the_end<'g, 'p, R: Abort>(
     rt: &R,
@@ -97,35 +131,67 @@ fn closed_in_the_end<'g, 'p, R: Abort>(
     requires { IsOf job pass }
     ensures { IfOk result (IsTableOf job.entry.wanted.program) }
 {
-    let (job, mut pass) = still_open(rt, job, pass, (2, 3))?;
-    check_last_slice(rt, alloc, &job, &mut pass, gate)?;
+    let (job, pass) = still_open(rt, job, pass, (2, 3))?;
+    let (job, pass) = with_last_slice(rt, alloc, job, pass, gate)?;
     closed(job, pass)
 }
 
-// The table of the recursive program's reaching definitions, slice by slice.
-fn table_by_slices<R: Abort>(rt: &R, alloc: Global, graph: &Graph<'_>) -> Result<Table, Fail>
-    ensures { IfOk result (IsTableOf graph.now) }
+// The recursive program's graph has 8 points, and 3 definitions.
+fn check_sizes<R: Abort>(rt: &R, graph: &Graph<'_>)
+    ensures points { points_of graph.now ≡ 8 }
+    ensures bits { bits_of graph.now Analysis.Reach ≡ 3 }
 {
-    assert_eq!(rt; (graph.points(), graph.bits(Analysis::Reach)), (8, 3));
-    let cut = slices(alloc, graph, Analysis::Reach, 1)?;
-    let (job, mut pass) = Job::open(alloc, graph, Analysis::Reach, cut)?;
-    let gate = Recorder::new();
-    check_two_slices(rt, alloc, &job, &mut pass, &gate)?;
-    closed_in_the_end(rt, alloc, job, pass, &gate)
+    assert_eq!(rt; graph.points(), 8);
+    assert_eq!(rt; graph.bits(Analysis::Reach), 3);
 }
 
-// Its lines.
-fn lines_by_slices<R: Abort>(rt: &R, alloc: Global, graph: &Graph<'_>) -> Result<String, Fail> {
-    let table = table_by_slices(rt, alloc, graph)?;
-    Ok(lines(alloc, graph, &table)?)
+/// A job of an analysis of a graph, a slice for each bit.
+pub fn opened<'g, 'p>(
+    alloc: Global,
+    graph: &'g Graph<'p>,
+    analysis: Analysis,
+) -> Result<(Job<GraphSets<'g, 'p>>, Pass<GraphSets<'g, 'p>>), Fail>
+    ensures wanted { IfOk result (λ r. r.0.wanted ≡ record { program = graph.now; analysis = analysis }) }
+    ensures bits { IfOk result (λ r. r.0.cut.bits ≡ bits_of graph.now analysis) }
+    ensures pass { IfOk result (λ r. IsOf r.0 r.1) }
+{
+    let cut = slices(alloc, graph, analysis, 1)?;
+    Ok(Job::open(alloc, graph, analysis, cut)?)
+}
+
+// The table of the recursive program's reaching definitions, slice by slice.
+fn table_by_slices<R: Abort>(
+    rt: &R,
+    alloc: Global,
+    graph: &Graph<'_>,
+    gate: &Recorder,
+) -> Result<Table, Fail>
+    ensures { IfOk result (IsTableOf graph.now) }
+{
+    check_sizes(rt, graph);
+    let (job, pass) = opened(alloc, graph, Analysis::Reach)?;
+    let (job, pass) = with_two_slices(rt, alloc, job, pass, gate)?;
+    closed_in_the_end(rt, alloc, job, pass, gate)
+}
+
+// Slice by slice.
+struct BySlices;
+
+impl Ask for BySlices {
+    fn answer<R: Threads + Sync + Abort>(
+        &self,
+        rt: &R,
+        alloc: Global,
+        graph: &Graph<'_>,
+    ) -> Result<String, Fail> {
+        let table = table_by_slices(rt, alloc, graph, &Recorder::new())?;
+        Ok(lines(alloc, graph, &table)?)
+    }
 }
 
 #[test]
 fn slices_one_after_the_other(rt: HostRuntime) -> Result<(), Fail> {
-    let alloc = rt.alloc();
-    let program = program(alloc, RECURSIVE)?;
-    let graph = graph(alloc, &program)?;
-    let told = lines_by_slices(&rt, alloc, &graph)?;
+    let told = asked(&rt, rt.alloc(), RECURSIVE, &BySlices)?;
     assert_eq!(rt; told.as_str(), RECURSIVE_REACH);
     Ok(())
 }
@@ -177,29 +243,49 @@ fn drained_by_two<S: Solve, R: Threads>(
     }
 }
 
+// The job, drained by two activities.
+fn with_two_activities<S: Solve, R: Threads>(
+    rt: &R,
+    alloc: Global,
+    job: Job<S>,
+    pass: Pass<S>,
+) -> Result<(Job<S>, Pass<S>), Fail>
+    requires { IsOf job pass }
+    ensures { IfOk result (λ again. (again.0 ≡ job) × IsOf again.0 again.1) }
+{
+    let pass = drained_by_two(rt, alloc, &job, pass)?;
+    Ok((job, pass))
+}
+
 // The table of the variables that are live, by two activities.
 fn table_by_two<R: Threads>(rt: &R, alloc: Global, graph: &Graph<'_>) -> Result<Table, Fail>
     ensures { IfOk result (IsTableOf graph.now) }
 {
-    let cut = slices(alloc, graph, Analysis::Live, 1)?;
-    let (job, pass) = Job::open(alloc, graph, Analysis::Live, cut)?;
-    let pass = drained_by_two(rt, alloc, &job, pass)?;
+    let (job, pass) = opened(alloc, graph, Analysis::Live)?;
+    let (job, pass) = with_two_activities(rt, alloc, job, pass)?;
     closed(job, pass)
 }
 
-// Its lines.
-fn lines_by_two<R: Threads>(rt: &R, alloc: Global, text: &str) -> Result<String, Fail> {
-    let program = program(alloc, text)?;
-    let graph = graph(alloc, &program)?;
-    let table = table_by_two(rt, alloc, &graph)?;
-    Ok(lines(alloc, &graph, &table)?)
+// By two activities.
+struct ByTwo;
+
+impl Ask for ByTwo {
+    fn answer<R: Threads + Sync + Abort>(
+        &self,
+        rt: &R,
+        alloc: Global,
+        graph: &Graph<'_>,
+    ) -> Result<String, Fail> {
+        let table = table_by_two(rt, alloc, graph)?;
+        Ok(lines(alloc, graph, &table)?)
+    }
 }
 
 #[test]
 fn two_activities_over_one_job(rt: HostRuntime) -> Result<(), Fail> {
     let alloc = rt.alloc();
     let text = prints(alloc, 70)?;
-    let told = lines_by_two(&rt, alloc, text.as_str())?;
+    let told = asked(&rt, alloc, text.as_str(), &ByTwo)?;
     let want = printed(alloc, 70)?;
     assert_eq!(rt; told.as_str(), want.as_str());
     Ok(())

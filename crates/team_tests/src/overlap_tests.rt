@@ -1,29 +1,40 @@
 // That workers run at the same time, and that the standard helpers which may start them do.
 
 use crate::gates::Meeting;
-use crate::texts::{RECURSIVE, RECURSIVE_REACH, graph, lines, program, slices_at};
-use flow_graph::Analysis;
+use crate::texts::{Ask, RECURSIVE, RECURSIVE_REACH, asked, lines, slices_at};
+use flow_graph::{Analysis, Graph};
 use flow_team::analyse;
 use std::alloc::Global;
+use std::process::Abort;
 use std::sync::atomic::Ordering;
 use std::test::Fail;
 use std::thread::Threads;
 
-// The lines of the recursive program's reaching definitions, in two slices by two workers.
-fn lines_by_two<R: Threads + Sync>(rt: &R, alloc: Global, gate: &Meeting) -> Result<String, Fail> {
-    let program = program(alloc, RECURSIVE)?;
-    let graph = graph(alloc, &program)?;
-    let cut = slices_at(alloc, &graph, Analysis::Reach, &[1])?;
-    match analyse(rt, alloc, &graph, Analysis::Reach, cut, 2, gate) {
-        Ok(table) => Ok(lines(alloc, &graph, &table)?),
-        Err(_) => Err(Fail::new("refused")),
+// The lines of reaching definitions, in two slices by two workers.
+#[derive(Clone, Copy)]
+struct Overlapping<'a> {
+    gate: &'a Meeting,
+}
+
+impl<'a> Ask for Overlapping<'a> {
+    fn answer<R: Threads + Sync + Abort>(
+        &self,
+        rt: &R,
+        alloc: Global,
+        graph: &Graph<'_>,
+    ) -> Result<String, Fail> {
+        let cut = slices_at(alloc, graph, Analysis::Reach, &[1])?;
+        match analyse(rt, alloc, graph, Analysis::Reach, cut, 2, self.gate) {
+            Ok(table) => Ok(lines(alloc, graph, &table)?),
+            Err(_) => Err(Fail::new("refused")),
+        }
     }
 }
 
 #[test]
 fn two_workers_overlap(rt: HostRuntime) -> Result<(), Fail> {
     let gate = Meeting::new();
-    let told = lines_by_two(&rt, rt.alloc(), &gate)?;
+    let told = asked(&rt, rt.alloc(), RECURSIVE, &Overlapping { gate: &gate })?;
     assert_eq!(rt; told.as_str(), RECURSIVE_REACH);
     assert!(rt; gate.met(), "no other slice was claimed meanwhile");
     let (claimed_by, finished_by) = gate.workers();

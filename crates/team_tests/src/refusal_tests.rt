@@ -6,8 +6,8 @@ ghost use Rattle.flow_team.specs.Tables.{IsTableOf};
 ghost use Rattle.slice_board.specs.Boards.{IsOf};
 
 use crate::gates::Recorder;
-use crate::job_tests::closed;
-use crate::texts::{RECURSIVE, RECURSIVE_REACH, graph, lines, program, slices};
+use crate::job_tests::{closed, opened};
+use crate::texts::{Ask, RECURSIVE, RECURSIVE_REACH, asked, lines, slices};
 use flow_graph::{Analysis, Graph};
 use flow_team::{Job, Solve, Table, analyse};
 use slice_board::Pass;
@@ -28,37 +28,60 @@ fn lost_slice(gate: &Recorder) -> &'static str {
     }
 }
 
-// The lines of the recursive program's reaching definitions, in three slices by so many workers.
-fn lines_or_loss<R: Threads + Sync>(
+// The lines of reaching definitions, in three slices by so many workers.
+#[derive(Clone, Copy)]
+struct ByWorkers<'a> {
+    workers: u32,
+    gate: &'a Recorder,
+}
+
+impl<'a> Ask for ByWorkers<'a> {
+    fn answer<R: Threads + Sync + Abort>(
+        &self,
+        rt: &R,
+        alloc: Global,
+        graph: &Graph<'_>,
+    ) -> Result<String, Fail> {
+        let cut = slices(alloc, graph, Analysis::Reach, 1)?;
+        match analyse(
+            rt,
+            alloc,
+            graph,
+            Analysis::Reach,
+            cut,
+            self.workers,
+            self.gate,
+        ) {
+            Ok(table) => Ok(lines(alloc, graph, &table)?),
+            Err(_) => Err(Fail::new(lost_slice(self.gate))),
+        }
+    }
+}
+
+// The lines of the recursive program, or which slice was lost.
+fn lines_or_loss<R: Threads + Sync + Abort>(
     rt: &R,
     alloc: Global,
-    graph: &Graph<'_>,
     workers: u32,
-    gate: &Recorder,
 ) -> Result<String, Fail> {
-    let cut = slices(alloc, graph, Analysis::Reach, 1)?;
-    match analyse(rt, alloc, graph, Analysis::Reach, cut, workers, gate) {
-        Ok(table) => Ok(lines(alloc, graph, &table)?),
-        Err(_) => Err(Fail::new(lost_slice(gate))),
-    }
+    let gate = Recorder::new();
+    let how = ByWorkers {
+        workers,
+        gate: &gate,
+    };
+    asked(rt, alloc, RECURSIVE, &how)
 }
 
 #[test]
 fn one_worker_is_refused(rt: HostRuntime) -> Result<(), Fail> {
-    let program = program(rt.alloc(), RECURSIVE)?;
-    let graph = graph(rt.alloc(), &program)?;
-    let gate = Recorder::new();
-    let told = lines_or_loss(&rt, rt.alloc(), &graph, 1, &gate)?;
+    let told = lines_or_loss(&rt, rt.alloc(), 1)?;
     assert_eq!(rt; told.as_str(), RECURSIVE_REACH);
     Ok(())
 }
 
 #[test]
 fn two_workers_are_refused(rt: HostRuntime) -> Result<(), Fail> {
-    let program = program(rt.alloc(), RECURSIVE)?;
-    let graph = graph(rt.alloc(), &program)?;
-    let gate = Recorder::new();
-    let told = lines_or_loss(&rt, rt.alloc(), &graph, 2, &gate)?;
+    let told = lines_or_loss(&rt, rt.alloc(), 2)?;
     assert_eq!(rt; told.as_str(), RECURSIVE_REACH);
     Ok(())
 }
@@ -82,23 +105,53 @@ fn work_on<S: Solve, R: Abort>(
     Ok(())
 }
 
+// The job, on which that was tried.
+fn with_refusals<S: Solve, R: Abort>(
+    rt: &R,
+    alloc: Global,
+    job: Job<S>,
+    mut pass: Pass<S>,
+    gate: &Recorder,
+) -> Result<(Job<S>, Pass<S>), Fail>
+    requires { IsOf job pass }
+    ensures { IfOk result (λ again. (again.0 ≡ job) × IsOf again.0 again.1) }
+{
+    work_on(rt, alloc, &job, &mut pass, gate)?;
+    Ok((job, pass))
+}
+
 // The table of three slices, with calls that are refused or not.
-fn table_after_refusals<R: Abort>(rt: &R, alloc: Global, graph: &Graph<'_>) -> Result<Table, Fail>
+fn table_after_refusals<R: Abort>(
+    rt: &R,
+    alloc: Global,
+    graph: &Graph<'_>,
+    gate: &Recorder,
+) -> Result<Table, Fail>
     ensures { IfOk result (IsTableOf graph.now) }
 {
-    let cut = slices(alloc, graph, Analysis::Reach, 1)?;
-    let (job, mut pass) = Job::open(alloc, graph, Analysis::Reach, cut)?;
-    let gate = Recorder::new();
-    work_on(rt, alloc, &job, &mut pass, &gate)?;
+    let (job, pass) = opened(alloc, graph, Analysis::Reach)?;
+    let (job, pass) = with_refusals(rt, alloc, job, pass, gate)?;
     closed(job, pass)
+}
+
+// With refused calls.
+struct WithRefusals;
+
+impl Ask for WithRefusals {
+    fn answer<R: Threads + Sync + Abort>(
+        &self,
+        rt: &R,
+        alloc: Global,
+        graph: &Graph<'_>,
+    ) -> Result<String, Fail> {
+        let table = table_after_refusals(rt, alloc, graph, &Recorder::new())?;
+        Ok(lines(alloc, graph, &table)?)
+    }
 }
 
 #[test]
 fn a_refused_call_goes_on(rt: HostRuntime) -> Result<(), Fail> {
-    let program = program(rt.alloc(), RECURSIVE)?;
-    let graph = graph(rt.alloc(), &program)?;
-    let table = table_after_refusals(&rt, rt.alloc(), &graph)?;
-    let told = lines(rt.alloc(), &graph, &table)?;
+    let told = asked(&rt, rt.alloc(), RECURSIVE, &WithRefusals)?;
     assert_eq!(rt; told.as_str(), RECURSIVE_REACH);
     Ok(())
 }

@@ -6,7 +6,7 @@ ghost use Rattle.flow_team.specs.Tables.{IsTableOf};
 
 use crate::gates::Recorder;
 use crate::texts::{
-    RECURSIVE, RECURSIVE_REACH, graph, lines, printed, prints, program, slices, slices_at,
+    Ask, RECURSIVE, RECURSIVE_REACH, asked, lines, printed, prints, slices, slices_at,
 };
 use bit_rows::Cut;
 use flow_graph::{Analysis, Graph};
@@ -85,28 +85,31 @@ fn table_by<R: Threads + Sync, G: Gate>(
 }
 
 // Its lines.
-fn graph_lines<R: Threads + Sync, G: Gate>(
-    rt: &R,
-    alloc: Global,
-    graph: &Graph<'_>,
+#[derive(Clone, Copy)]
+struct Lines {
     how: (Analysis, Cutting, u32),
-    gate: &G,
-) -> Result<String, Fail> {
-    let table = table_by(rt, alloc, graph, how, gate)?;
-    Ok(lines(alloc, graph, &table)?)
+}
+
+impl Ask for Lines {
+    fn answer<R: Threads + Sync + Abort>(
+        &self,
+        rt: &R,
+        alloc: Global,
+        graph: &Graph<'_>,
+    ) -> Result<String, Fail> {
+        let table = table_by(rt, alloc, graph, self.how, &OpenGate)?;
+        Ok(lines(alloc, graph, &table)?)
+    }
 }
 
 // The lines of a text's table.
-fn text_lines<R: Threads + Sync, G: Gate>(
+fn text_lines<R: Threads + Sync + Abort>(
     rt: &R,
     alloc: Global,
     text: &str,
     how: (Analysis, Cutting, u32),
-    gate: &G,
 ) -> Result<String, Fail> {
-    let program = program(alloc, text)?;
-    let graph = graph(alloc, &program)?;
-    graph_lines(rt, alloc, &graph, how, gate)
+    asked(rt, alloc, text, &Lines { how })
 }
 
 #[test]
@@ -115,7 +118,7 @@ fn tables(rt: HostRuntime) -> Result<(), Fail> {
         for width in [1, 2, 64] {
             for workers in WORKERS {
                 let how = (analysis, Cutting::Even(width), workers);
-                let told = text_lines(&rt, rt.alloc(), text, how, &OpenGate)?;
+                let told = text_lines(&rt, rt.alloc(), text, how)?;
                 assert_eq!(rt; told.as_str(), want, "slices of {width}, {workers} workers");
             }
         }
@@ -139,7 +142,7 @@ fn more_bits_than_a_word(rt: HostRuntime) -> Result<(), Fail> {
     for cutting in cuttings {
         for workers in WORKERS {
             let how = (Analysis::Live, cutting, workers);
-            let told = text_lines(&rt, rt.alloc(), text.as_str(), how, &OpenGate)?;
+            let told = text_lines(&rt, rt.alloc(), text.as_str(), how)?;
             assert_eq!(rt;
                 told.as_str(),
                 want.as_str(),
@@ -150,29 +153,40 @@ fn more_bits_than_a_word(rt: HostRuntime) -> Result<(), Fail> {
     Ok(())
 }
 
-// A graph's lines by 64 workers, 200 times over.
-fn check_again_and_again<R: Threads + Sync + Abort>(
-    rt: &R,
-    alloc: Global,
-    graph: &Graph<'_>,
+// The lines by 64 workers, 200 times over.
+#[derive(Clone, Copy)]
+struct AgainAndAgain<'a> {
     width: u32,
-    want: &str,
-) -> Result<(), Fail> {
-    for turn in 0..200 {
-        let how = (Analysis::Live, Cutting::Even(width), 64);
-        let told = graph_lines(rt, alloc, graph, how, &OpenGate)?;
-        assert_eq!(rt; told.as_str(), want, "turn {turn}");
+    want: &'a str,
+}
+
+impl<'a> Ask for AgainAndAgain<'a> {
+    fn answer<R: Threads + Sync + Abort>(
+        &self,
+        rt: &R,
+        alloc: Global,
+        graph: &Graph<'_>,
+    ) -> Result<String, Fail> {
+        let how = (Analysis::Live, Cutting::Even(self.width), 64);
+        let lines = Lines { how };
+        for turn in 0..200 {
+            let told = lines.answer(rt, alloc, graph)?;
+            assert_eq!(rt; told.as_str(), self.want, "turn {turn}");
+        }
+        Ok(String::new(alloc))
     }
-    Ok(())
 }
 
 // The same of the text that prints 70 variables.
 fn check_prints<R: Threads + Sync + Abort>(rt: &R, alloc: Global, width: u32) -> Result<(), Fail> {
     let text = prints(alloc, 70)?;
-    let program = program(alloc, text.as_str())?;
-    let graph = graph(alloc, &program)?;
     let want = printed(alloc, 70)?;
-    check_again_and_again(rt, alloc, &graph, width, want.as_str())
+    let again = AgainAndAgain {
+        width,
+        want: want.as_str(),
+    };
+    asked(rt, alloc, text.as_str(), &again)?;
+    Ok(())
 }
 
 #[test]
@@ -202,46 +216,74 @@ fn both_tables<R: Threads + Sync>(
     }
 }
 
-// Their lines.
-fn both_lines<R: Threads + Sync>(
-    rt: &R,
-    alloc: Global,
-    graph: &Graph<'_>,
+// Their lines, the one table's behind the other's.
+#[derive(Clone, Copy)]
+struct Both {
     workers: u32,
-) -> Result<(String, String), Fail> {
-    let (reach, avail) = both_tables(rt, alloc, graph, workers)?;
-    let reach = lines(alloc, graph, &reach)?;
-    Ok((reach, lines(alloc, graph, &avail)?))
+}
+
+impl Ask for Both {
+    fn answer<R: Threads + Sync + Abort>(
+        &self,
+        rt: &R,
+        alloc: Global,
+        graph: &Graph<'_>,
+    ) -> Result<String, Fail> {
+        let (reach, avail) = both_tables(rt, alloc, graph, self.workers)?;
+        let mut text = lines(alloc, graph, &reach)?;
+        text.push_str(lines(alloc, graph, &avail)?.as_str())?;
+        Ok(text)
+    }
 }
 
 #[test]
 fn two_tables_of_one_direction(rt: HostRuntime) -> Result<(), Fail> {
-    let program = program(rt.alloc(), CALLEE_LOOPS)?;
-    let graph = graph(rt.alloc(), &program)?;
+    let want = format!(in rt.alloc(); "{CALLEE_LOOPS_REACH}{CALLEE_LOOPS_AVAIL}")?;
     for workers in WORKERS {
-        let (reach, avail) = both_lines(&rt, rt.alloc(), &graph, workers)?;
-        assert_eq!(rt; reach.as_str(), CALLEE_LOOPS_REACH, "{workers} workers");
-        assert_eq!(rt; avail.as_str(), CALLEE_LOOPS_AVAIL, "{workers} workers");
+        let told = asked(&rt, rt.alloc(), CALLEE_LOOPS, &Both { workers })?;
+        assert_eq!(rt; told.as_str(), want.as_str(), "{workers} workers");
     }
     Ok(())
 }
 
-// Whether so many workers are refused as a bad number.
-fn is_refused<R: Threads + Sync>(rt: &R, alloc: Global, workers: u32) -> Result<bool, Fail> {
-    let program = program(alloc, RECURSIVE)?;
-    let graph = graph(alloc, &program)?;
-    let cut = slices(alloc, &graph, Analysis::Reach, 1)?;
-    match analyse(rt, alloc, &graph, Analysis::Reach, cut, workers, &OpenGate) {
-        Err(TeamFault::BadWorkers) => Ok(true),
-        _ => Ok(false),
+// The fault that tells that so many workers are refused.
+#[derive(Clone, Copy)]
+struct Refused {
+    workers: u32,
+}
+
+impl Ask for Refused {
+    fn answer<R: Threads + Sync + Abort>(
+        &self,
+        rt: &R,
+        alloc: Global,
+        graph: &Graph<'_>,
+    ) -> Result<String, Fail> {
+        let cut = slices(alloc, graph, Analysis::Reach, 1)?;
+        match analyse(
+            rt,
+            alloc,
+            graph,
+            Analysis::Reach,
+            cut,
+            self.workers,
+            &OpenGate,
+        ) {
+            Ok(_) => Err(Fail::new("taken")),
+            Err(fault) => Ok(fault.to_string(alloc)?),
+        }
     }
 }
 
 #[test]
 fn numbers_of_workers(rt: HostRuntime) -> Result<(), Fail> {
     for workers in [0, 65, u32::MAX] {
-        let refused = is_refused(&rt, rt.alloc(), workers)?;
-        assert!(rt; refused, "{workers} workers");
+        let told = asked(&rt, rt.alloc(), RECURSIVE, &Refused { workers })?;
+        assert_eq!(rt;
+            told.as_str(),
+            "33: the number of workers is not one of 1 to 64",
+            "{workers} workers"
+        );
     }
     let shown = format!(in rt.alloc(); "{}; {}", TeamFault::BadWorkers, TeamFault::OutOfMemory)?;
     assert_eq!(rt;
@@ -251,12 +293,35 @@ fn numbers_of_workers(rt: HostRuntime) -> Result<(), Fail> {
     Ok(())
 }
 
+// The lines of reaching definitions, in slices of one bit.
+#[derive(Clone, Copy)]
+struct Told<'a> {
+    workers: u32,
+    gate: &'a Recorder,
+}
+
+impl<'a> Ask for Told<'a> {
+    fn answer<R: Threads + Sync + Abort>(
+        &self,
+        rt: &R,
+        alloc: Global,
+        graph: &Graph<'_>,
+    ) -> Result<String, Fail> {
+        let how = (Analysis::Reach, Cutting::Even(1), self.workers);
+        let table = table_by(rt, alloc, graph, how, self.gate)?;
+        Ok(lines(alloc, graph, &table)?)
+    }
+}
+
 #[test]
 fn each_slice_is_told_once(rt: HostRuntime) -> Result<(), Fail> {
     for workers in WORKERS {
         let gate = Recorder::new();
-        let how = (Analysis::Reach, Cutting::Even(1), workers);
-        let told = text_lines(&rt, rt.alloc(), RECURSIVE, how, &gate)?;
+        let how = Told {
+            workers,
+            gate: &gate,
+        };
+        let told = asked(&rt, rt.alloc(), RECURSIVE, &how)?;
         assert_eq!(rt; told.as_str(), RECURSIVE_REACH);
         assert_eq!(rt; gate.told(), (7, 7, 3, 3), "{workers} workers");
     }

@@ -1,6 +1,7 @@
 // Programs, and tables as text: a line for each point with the numbers of its bits.
 
 ghost use Rattle.std.specs.Prelude.{◌≡◌, IfOk};
+ghost use Rattle.std.specs.Thread.{IsSync};
 ghost use Rattle.flow_graph.specs.Universes.{bits as bits_of};
 ghost use Rattle.flow_team.specs.Tables.{IsTableOf};
 
@@ -8,7 +9,9 @@ use bit_rows::Cut;
 use flow_graph::{Analysis, Graph, OutOfMemory};
 use flow_team::Table;
 use std::alloc::Global;
+use std::process::Abort;
 use std::test::Fail;
+use std::thread::Threads;
 use tac_reader::{Program, read};
 
 /// What a procedure that calls itself sets, reaches what stands behind its call. The definitions: x at the entry, x at line 2,
@@ -43,22 +46,55 @@ pub fn printed(alloc: Global, count: u32) -> Result<String, OutOfMemory> {
     Ok(text)
 }
 
-/// The program of a text that is one.
-pub fn program(alloc: Global, text: &str) -> Result<Program, Fail> {
+// The program of a text that is one.
+fn program(alloc: Global, text: &str) -> Result<Program, Fail> {
     match read(alloc, text.as_bytes()) {
         Ok(program) => Ok(program),
         Err(_) => Err(Fail::new("the text is no program")),
     }
 }
 
-/// Its graph.
-pub fn graph(alloc: Global, program: &Program) -> Result<Graph<'_>, Fail>
+// Its graph.
+fn graph(alloc: Global, program: &Program) -> Result<Graph<'_>, Fail>
     ensures { IfOk result (λ graph. graph ≡ program.now) }
 {
     match Graph::build(alloc, program) {
         Ok(graph) => Ok(graph),
         Err(_) => Err(Fail::new("no graph")),
     }
+}
+
+/// What is made of a graph.
+pub trait Ask {
+    fn answer<R: Threads + Sync + Abort>(
+        &self,
+        rt: &R,
+        alloc: Global,
+        graph: &Graph<'_>,
+    ) -> Result<String, Fail>
+        requires { IsSync R.row };
+}
+
+// What is made of a program's graph.
+fn asked_of_program<R: Threads + Sync + Abort, A: Ask>(
+    rt: &R,
+    alloc: Global,
+    program: &Program,
+    ask: &A,
+) -> Result<String, Fail> {
+    let graph = graph(alloc, program)?;
+    ask.answer(rt, alloc, &graph)
+}
+
+/// What is made of the graph of a text's program.
+pub fn asked<R: Threads + Sync + Abort, A: Ask>(
+    rt: &R,
+    alloc: Global,
+    text: &str,
+    ask: &A,
+) -> Result<String, Fail> {
+    let program = program(alloc, text)?;
+    asked_of_program(rt, alloc, &program, ask)
 }
 
 /// The lines of all points, `(no path)` behind the number of one without a path.

@@ -1,8 +1,8 @@
 use Rattle.flow_team.proofs.Sent.{solver_crosses}
 use Rattle.team_tests.proofs.job_tests.table_by_slices.Goals as goal
 
-pub check_two_slices-requires-send-S : goal.check_two_slices-requires-send-S
-check_two_slices-requires-send-S g c = λ κs lives. search solver_crosses depth 60
+pub with_two_slices-requires-send-S : goal.with_two_slices-requires-send-S
+with_two_slices-requires-send-S g c = λ κs lives. search solver_crosses depth 60
 
-pub check_two_slices-requires-sync-S : goal.check_two_slices-requires-sync-S
-check_two_slices-requires-sync-S g c = λ κs lives. search solver_crosses depth 60
+pub with_two_slices-requires-sync-S : goal.with_two_slices-requires-sync-S
+with_two_slices-requires-sync-S g c = λ κs lives. search solver_crosses depth 60

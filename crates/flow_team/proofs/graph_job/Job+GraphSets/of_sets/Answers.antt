@@ -1,5 +1,5 @@
 use Rattle.flow_team.proofs.Sent.{solver_crosses}
-use Rattle.flow_team.proofs.graph_job.Job+GraphSets.open.Goals as goal
+use Rattle.flow_team.proofs.graph_job.Job+GraphSets.of_sets.Goals as goal
 
 pub on_board-requires-send-S : goal.on_board-requires-send-S
 on_board-requires-send-S c = λ κs lives. search solver_crosses depth 60
