@@ -82,6 +82,7 @@ pub lists_safely : (found : Findings) (text : List ℕ) → AreFindings found �
     → ListsSafely found.graph.now text
 lists_safely found text are told is = record {
   known = knowledge_of found;
+  is_known = is_knowledge found are told;
   is_text = is;
   safe = λ point variable listed. listed_dead_is_safe found.graph.now (knowledge_of found) point variable are.sound (is_knowledge found are told) listed;
 }

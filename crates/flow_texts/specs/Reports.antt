@@ -119,10 +119,11 @@ abbrev pub IsListedDead : Program → Knowledge → ℕ → ℕ → Type 0
 IsListedDead program known point variable =
     (point < point_count program) × (known.reach.has_path point ≡ true) × (dead_at program known point ≡ variable ∷ [])
 
--- What the text lists as dead is safe to delete: no run from the point after it, finished or not, reads the variable before
--- writing it.
+-- The text is the report over the meets over all valid paths, and what it lists as dead is safe to delete: no run from the point
+-- after it, finished or not, reads the variable before writing it.
 pub record ListsSafely (program : Program) (text : List ℕ) : Type 0 where
   pub known : Knowledge
+  pub is_known : IsKnowledge program known
   pub is_text : text ≡ report_of program known
   pub safe : (point variable : ℕ) → IsListedDead program known point variable
       → ¬ (ReadsBeforeWriting (shape_of program) (accesses_of program variable) (suc point))

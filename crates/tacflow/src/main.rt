@@ -41,6 +41,11 @@ fn tell_words(rt: &HostRuntime, error: &Error) -> ExitCode {
     }
     let told = error.print(rt);
     if error.exit_code() != 0 {
+        if error.kind() == ErrorKind::UnknownArgument {
+            let _ = rt.stderr().write_all(
+                b"\nThe program is read from standard input: tacflow < FILE\n",
+            );
+        }
         return ExitCode::from(2);
     }
     match told {
