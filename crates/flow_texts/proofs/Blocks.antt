@@ -6,8 +6,8 @@ use Rattle.std.proofs.lemmas.Bool.{cases_lt}
 use Rattle.std.proofs.lemmas.List.FromFn.{length-map-range_with_len, get_or-map-range_with_len}
 use Rattle.std.proofs.lemmas.List.{drop-append-le, take-append-le}
 use Rattle.std.proofs.Math.Seq.{drop-append_seam, get_or-append_seam, take-length}
-use Rattle.flow_texts.specs.Blocks.{IsBlock, IsPart, part_of, texts_of}
-use Rattle.flow_texts.specs.Lists.{AreTexts, text_at}
+use Rattle.flow_texts.specs.code.Blocks.{IsBlock, IsPart, part_of, texts_of}
+use Rattle.flow_texts.specs.code.Lists.{AreTexts, text_at}
 
 -- more behind the block changes no part
 pub part_kept : (bytes more marks : List ℕ) (mark n : ℕ) (text : List ℕ) → n + 1 < length marks → IsPart bytes marks n text → IsPart (bytes ++ more) (marks ++ mark ∷ []) n text

@@ -13,7 +13,7 @@ use Rattle.flow_graph.specs.declared.analysis.Analysis.{Analysis}
 use Rattle.flow_graph.specs.declared.analysis.Analysis.TheVariants.{Live}
 use Rattle.flow_graph.specs.declared.edge.Edge.{Edge}
 use Rattle.flow_graph.proofs.graphs.GraphLaws.{edges_join_points}
-use Rattle.flow_texts.specs.Findings.{TellDoubtful}
+use Rattle.flow_texts.specs.code.Findings.{TellDoubtful}
 use Rattle.flow_team.specs.Tables.{AreFacts, IsTableOf, TableRows, facts_of}
 
 -- a path from a point ends at a point

@@ -8,7 +8,7 @@ use Rattle.std.proofs.lemmas.List.Elements.{filter-append}
 use Rattle.flow_texts.proofs.RangeLines.{range_split}
 use Rattle.flow_texts.specs.Pieces.{Outlet, Takes}
 use Rattle.flow_texts.proofs.Taking.{takes_nothing, takes_then}
-use Rattle.flow_texts.specs.Lists.{Named, Wrote, after, members, some_stand}
+use Rattle.flow_texts.specs.code.Lists.{Named, Wrote, after, members, some_stand}
 use Rattle.flow_texts.specs.Tables.{listed}
 
 pub after-append : (others : Bool) (xs ys : List (List ℕ)) → after others (xs ++ ys) ≡ after others xs ++ after (others || some_stand xs) ys

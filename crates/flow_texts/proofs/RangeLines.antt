@@ -6,7 +6,7 @@ use Rattle.tac_reader.specs.Programs.{Program}
 use Rattle.bit_rows.specs.RowSet.{RowSet, IsWordOf, contains}
 use Rattle.bit_rows.specs.Words.{has_bit}
 use Rattle.bit_rows.proofs.WordBits.{has_bit-zero}
-use Rattle.flow_texts.specs.Findings.{remark_lines}
+use Rattle.flow_texts.specs.code.Findings.{remark_lines}
 use Rattle.flow_texts.specs.Pieces.{Outlet, Takes}
 use Rattle.flow_texts.proofs.Taking.{takes_as, takes_then}
 use Rattle.flow_texts.proofs.RemarkLines.{more_lines}

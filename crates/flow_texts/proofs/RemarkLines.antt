@@ -21,7 +21,7 @@ use Rattle.flow_graph.specs.declared.analysis.Analysis.TheVariants.{Busy, Reach}
 use Rattle.flow_graph.proofs.edges.EdgeLemmas.{next_in}
 use Rattle.flow_graph.proofs.bits.SetWords.{nat_eq-same}
 use Rattle.flow_graph.proofs.places.Standing.{Stands, stands}
-use Rattle.flow_texts.specs.Findings.{remark_lines, unset_lines, computed_lines, computed_text, busy_lines, busy_text, dead_lines, dead_text}
+use Rattle.flow_texts.specs.code.Findings.{remark_lines, unset_lines, computed_lines, computed_text, busy_lines, busy_text, dead_lines, dead_text}
 use Rattle.flow_texts.specs.Reports.{Knowledge, assigned, is_test, lines_at, remark, remarks_at, unset_at}
 use Rattle.flow_team.specs.Tables.{TableRows, IsTableOf}
 use Rattle.flow_texts.specs.Tables.{bits_at, variable_text}

@@ -9,7 +9,7 @@ use Rattle.flow_graph.specs.Runs.{ReadsBeforeWriting}
 use Rattle.flow_graph.specs.declared.analysis.Analysis.TheVariants.{Reach, Live, Avail, Busy}
 use Rattle.flow_graph.proofs.graphs.GraphLaws.{dead_variables_are_safe}
 use Rattle.flow_graph.proofs.places.Standing.{Stands, stands}
-use Rattle.flow_texts.specs.Findings.{AreFindings, TellDoubtful, knowledge_of}
+use Rattle.flow_texts.specs.code.Findings.{AreFindings, TellDoubtful, knowledge_of}
 use Rattle.flow_texts.specs.Reports.{IsKnowledge, IsListedDead, IsReport, Knowledge, ListsSafely, assigned, dead_at, report_of}
 use Rattle.flow_texts.specs.declared.findings.Findings.{Findings}
 use Rattle.flow_texts.proofs.Doubts.{facts_are}

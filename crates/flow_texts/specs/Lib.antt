@@ -3,10 +3,7 @@ pub mod Transfers
 pub mod Pieces
 pub mod Pulls
 pub mod Ranges
-pub mod Lists
 pub mod Tables
-pub mod Blocks
 pub mod Reports
-pub mod Operands
-pub mod Findings
 pub mod WorkedTexts
+pub mod code

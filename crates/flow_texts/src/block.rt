@@ -2,7 +2,7 @@
 
 ghost use Rattle.std.specs.Prelude.{◌≡◌, ◌++◌, ◌<◌, length, codes, IfOk};
 ghost use Rattle.flow_graph.specs.Universes.{bits as bits_of};
-ghost use Rattle.flow_texts.specs.Lists.{AreTexts, text_at};
+ghost use Rattle.flow_texts.specs.code.Lists.{AreTexts, text_at};
 ghost use Rattle.flow_texts.specs.Tables.{bit_text};
 
 use crate::bit_texts::push_bit;
@@ -19,7 +19,7 @@ pub(crate) struct BitTexts {
 
 impl Model for BitTexts {
     ghost use Rattle.std.specs.Prelude.{List, ℕ};
-    ghost use Rattle.flow_texts.specs.Blocks.{IsBlock, texts_of};
+    ghost use Rattle.flow_texts.specs.code.Blocks.{IsBlock, texts_of};
 
     ghost Value = { List (List ℕ) };
 

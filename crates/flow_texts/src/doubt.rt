@@ -5,7 +5,7 @@ ghost use Rattle.flow_graph.specs.Limits.{HasFewPoints};
 ghost use Rattle.flow_graph.specs.Points.{points, point_count};
 ghost use Rattle.flow_graph.specs.declared.analysis.Analysis.TheVariants.{Live};
 ghost use Rattle.tac_reader.specs.Sound.{IsSound};
-ghost use Rattle.flow_texts.specs.Findings.{TellDoubtful};
+ghost use Rattle.flow_texts.specs.code.Findings.{TellDoubtful};
 ghost use Rattle.flow_team.specs.Tables.{IsTableOf, facts_of};
 
 use flow_graph::{Graph, OutOfMemory};

@@ -4,7 +4,7 @@ ghost use Rattle.std.specs.Prelude.{◌≡◌, ℕ, [], ◌∷◌, nat_eq};
 ghost use Rattle.std.specs.List.{list_any};
 ghost use Rattle.std.specs.List.Sorted.{IsStrictlyIncreasing};
 ghost use Rattle.flow_graph.specs.Transfers.{names_variable, operands_of};
-ghost use Rattle.flow_texts.specs.Operands.{numbers_of};
+ghost use Rattle.flow_texts.specs.code.Operands.{numbers_of};
 ghost use Rattle.flow_texts.specs.Reports.{assigned as assigned_by, is_test as is_test_of};
 
 use tac_reader::{Operand, StmtKind};

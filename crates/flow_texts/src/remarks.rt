@@ -5,7 +5,7 @@ ghost use Rattle.std.specs.List.{filter, range_with_len};
 ghost use Rattle.flow_graph.specs.Points.{kind_at, point_count};
 ghost use Rattle.flow_graph.specs.Universes.{bits as bits_of};
 ghost use Rattle.flow_graph.specs.declared.analysis.Analysis.TheVariants.{Busy};
-ghost use Rattle.flow_texts.specs.Findings.{AreFindings, busy_lines, busy_text, computed_lines, dead_lines, knowledge_of, remark_lines, unset_lines, unset_text};
+ghost use Rattle.flow_texts.specs.code.Findings.{AreFindings, busy_lines, busy_text, computed_lines, dead_lines, knowledge_of, remark_lines, unset_lines, unset_text};
 ghost use Rattle.flow_texts.specs.Pieces.{IsOpen, Takes, outlet};
 ghost use Rattle.flow_texts.specs.Reports.{is_test as is_test_of, lines_at};
 ghost use Rattle.flow_texts.specs.Tables.{line_at};

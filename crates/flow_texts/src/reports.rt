@@ -1,7 +1,7 @@
 // The report on a program.
 
 ghost use Rattle.std.specs.Prelude.{◌≡◌, ◌++◌, IfOk, decimal};
-ghost use Rattle.flow_texts.specs.Findings.{AreFindings, knowledge_of};
+ghost use Rattle.flow_texts.specs.code.Findings.{AreFindings, knowledge_of};
 ghost use Rattle.flow_texts.specs.Pieces.{IsOpen, Takes, outlet};
 ghost use Rattle.flow_texts.specs.Reports.{AreTablesOf, IsReport, ListsSafely, count_line, report_of};
 
@@ -75,7 +75,7 @@ pub struct ReportText<'a> {
 
 impl<'a> Model for ReportText<'a> {
     ghost use Rattle.std.specs.Prelude.{List, ℕ};
-    ghost use Rattle.flow_texts.specs.Findings.{AreFindings, knowledge_of};
+    ghost use Rattle.flow_texts.specs.code.Findings.{AreFindings, knowledge_of};
     ghost use Rattle.flow_texts.specs.Reports.{report_of};
 
     ghost Value = { List ℕ };

@@ -7,7 +7,7 @@ ghost use Rattle.bit_rows.specs.Words.{has_bit};
 ghost use Rattle.flow_graph.specs.Points.{point_count};
 ghost use Rattle.flow_graph.specs.Universes.{bits as bits_of};
 ghost use Rattle.flow_team.specs.Tables.{IsTableOf, facts_of};
-ghost use Rattle.flow_texts.specs.Lists.{AreTexts, Named, Wrote, after, text_at};
+ghost use Rattle.flow_texts.specs.code.Lists.{AreTexts, Named, Wrote, after, text_at};
 ghost use Rattle.flow_texts.specs.Pieces.{IsOpen, Takes, outlet};
 ghost use Rattle.flow_texts.specs.Tables.{IsTableText, bit_text, listed, place_text, point_line};
 
@@ -157,7 +157,7 @@ impl<'a> Model for TableText<'a> {
     ghost use Rattle.std.specs.Prelude.{List, ℕ};
     ghost use Rattle.flow_graph.specs.Universes.{bits as bits_of};
     ghost use Rattle.flow_team.specs.Tables.{IsTableOf, facts_of};
-    ghost use Rattle.flow_texts.specs.Lists.{AreTexts};
+    ghost use Rattle.flow_texts.specs.code.Lists.{AreTexts};
     ghost use Rattle.flow_texts.specs.Tables.{bit_text, table_text_of};
 
     ghost Value = { List ℕ };

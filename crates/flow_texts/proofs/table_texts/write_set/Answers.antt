@@ -5,7 +5,7 @@ use Rattle.bit_rows.specs.Words.{has_bit}
 use Rattle.bit_rows.specs.RowSet.{RowSet, HasRange, contains}
 use Rattle.bit_rows.proofs.RowSets.{contains-above}
 use Rattle.bit_rows.proofs.WordBits.{has_bit-zero}
-use Rattle.flow_texts.specs.Lists.{Named, Wrote, text_at}
+use Rattle.flow_texts.specs.code.Lists.{Named, Wrote, text_at}
 use Rattle.flow_texts.specs.Pieces.{Outlet, outlet}
 use Rattle.flow_texts.specs.declared.pieces.Pieces.{Pieces}
 use Rattle.flow_texts.proofs.ListTexts.{wrote-more, wrote-no_members, row_written, row_empty}

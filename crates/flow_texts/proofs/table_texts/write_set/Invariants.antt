@@ -1,5 +1,5 @@
 use Rattle.std.proofs.Common.{◌≡◌, ◌*◌, false}
-use Rattle.flow_texts.specs.Lists.{Wrote, text_at}
+use Rattle.flow_texts.specs.code.Lists.{Wrote, text_at}
 use Rattle.flow_texts.specs.Pieces.{outlet}
 use Rattle.flow_texts.proofs.table_texts.write_set.Given as goal
 

@@ -1,6 +1,6 @@
 use Rattle.std.proofs.Common.{rules, ◌≡◌, ℕ, ◌+◌, ◌^◌, ◌<◌, true, false, length, refl, sym, ap, subst, ◌∙◌, arith}
 use Rattle.bit_rows.specs.Words.{has_bit}
-use Rattle.flow_texts.specs.Lists.{Wrote, text_at}
+use Rattle.flow_texts.specs.code.Lists.{Wrote, text_at}
 use Rattle.flow_texts.specs.Pieces.{Outlet, outlet}
 use Rattle.flow_texts.specs.declared.pieces.Pieces.{Pieces}
 use Rattle.flow_texts.proofs.ListTexts.{wrote-none, wrote-more, wrote-member, wrote-no_member}

@@ -1,5 +1,5 @@
 use Rattle.std.proofs.Common.{◌≡◌}
-use Rattle.flow_texts.specs.Lists.{Wrote}
+use Rattle.flow_texts.specs.code.Lists.{Wrote}
 use Rattle.flow_texts.specs.Pieces.{outlet}
 use Rattle.flow_texts.proofs.table_texts.write_word.Given as goal
 

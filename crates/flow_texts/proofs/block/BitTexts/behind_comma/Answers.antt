@@ -1,6 +1,6 @@
 -- The part of a bit lies between its marks.
 use Rattle.std.proofs.Common.{rules, ◌<◌, ◌+◌, ◌-◌, length, take, drop, ap, ◌∙◌, arith}
-use Rattle.flow_texts.specs.Lists.{text_at}
+use Rattle.flow_texts.specs.code.Lists.{text_at}
 use Rattle.flow_texts.proofs.Blocks.{block_part, part_read}
 use Rattle.flow_texts.proofs.block.BitTexts.behind_comma.Goals as goal
 

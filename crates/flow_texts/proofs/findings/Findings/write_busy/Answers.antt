@@ -1,6 +1,6 @@
 use Rattle.std.proofs.Common.{true, false, sym, ◌∙◌}
 use Rattle.tac_reader.specs.Programs.{Program}
-use Rattle.flow_texts.specs.Findings.{knowledge_of}
+use Rattle.flow_texts.specs.code.Findings.{knowledge_of}
 use Rattle.flow_texts.proofs.RemarkLines.{busy_is}
 use Rattle.flow_texts.proofs.Taking.{takes_as, takes_nothing}
 use Rattle.flow_texts.proofs.findings.Findings.write_busy.Goals as goal

@@ -1,6 +1,6 @@
 use Rattle.std.proofs.Common.{◌∙◌}
 use Rattle.tac_reader.specs.Programs.{Program}
-use Rattle.flow_texts.specs.Findings.{busy_text, knowledge_of}
+use Rattle.flow_texts.specs.code.Findings.{busy_text, knowledge_of}
 use Rattle.flow_texts.proofs.RangeLines.{next_line}
 use Rattle.flow_texts.proofs.findings.Findings.write_busy_between.Goals as goal
 

@@ -1,7 +1,7 @@
 use Rattle.std.proofs.Common.{List, ℕ, ◌++◌, codes, decimal, ap, ◌∙◌, sym}
 use Rattle.flow_graph.specs.declared.analysis.Analysis.TheVariants.{Busy}
 use Rattle.tac_reader.specs.Programs.{Program}
-use Rattle.flow_texts.specs.Findings.{busy_text, knowledge_of}
+use Rattle.flow_texts.specs.code.Findings.{busy_text, knowledge_of}
 use Rattle.flow_texts.specs.Tables.{bit_text, line_at}
 use Rattle.flow_texts.proofs.RemarkLines.{one_line, remark_pieces}
 use Rattle.flow_texts.proofs.Taking.{takes_as, takes_then}

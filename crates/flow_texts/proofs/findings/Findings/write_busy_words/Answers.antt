@@ -4,7 +4,7 @@ use Rattle.tac_reader.specs.Programs.{Program}
 use Rattle.bit_rows.specs.RowSet.{RowSet, IsWordOf}
 use Rattle.bit_rows.specs.RowTable.{set_at}
 use Rattle.flow_graph.specs.Universes.{expressions}
-use Rattle.flow_texts.specs.Findings.{busy_text, knowledge_of}
+use Rattle.flow_texts.specs.code.Findings.{busy_text, knowledge_of}
 use Rattle.flow_texts.specs.Pieces.{Outlet, Takes, outlet}
 use Rattle.flow_texts.specs.declared.pieces.Pieces.{Pieces}
 use Rattle.flow_texts.proofs.RangeLines.{lines_between, next_word, no_lines}

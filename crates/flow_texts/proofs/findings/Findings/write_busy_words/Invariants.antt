@@ -2,7 +2,7 @@ use Rattle.std.proofs.Common.{◌≡◌, ◌*◌, min, map}
 use Rattle.std.specs.List.{filter, range_with_len}
 use Rattle.flow_graph.specs.Universes.{bits}
 use Rattle.flow_graph.specs.declared.analysis.Analysis.TheVariants.{Busy}
-use Rattle.flow_texts.specs.Findings.{busy_text, knowledge_of, remark_lines}
+use Rattle.flow_texts.specs.code.Findings.{busy_text, knowledge_of, remark_lines}
 use Rattle.flow_texts.specs.Pieces.{Takes, outlet}
 use Rattle.flow_texts.proofs.findings.Findings.write_busy_words.Given as goal
 

@@ -2,7 +2,7 @@ use Rattle.std.proofs.Common.{rules, List, ℕ, ◌<◌, length, ◌++◌, codes
 use Rattle.flow_graph.specs.declared.analysis.Analysis.TheVariants.{Avail}
 use Rattle.flow_graph.specs.Universes.{expressions}
 use Rattle.tac_reader.specs.Programs.{Program}
-use Rattle.flow_texts.specs.Findings.{knowledge_of}
+use Rattle.flow_texts.specs.code.Findings.{knowledge_of}
 use Rattle.flow_texts.specs.Tables.{bit_text, line_at}
 use Rattle.flow_texts.proofs.RemarkLines.{computed_is, remark_pieces}
 use Rattle.flow_texts.proofs.Taking.{takes_as, takes_then}

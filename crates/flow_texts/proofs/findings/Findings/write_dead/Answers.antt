@@ -2,7 +2,7 @@
 use Rattle.std.proofs.Common.{◌≡◌, ◌<◌, true, List, ℕ, ◌++◌, length, codes, decimal, ap, ◌∙◌, sym, subst, append-nil, append_assoc}
 use Rattle.flow_graph.proofs.places.Standing.{stands}
 use Rattle.tac_reader.specs.Programs.{Program}
-use Rattle.flow_texts.specs.Findings.{dead_text, knowledge_of}
+use Rattle.flow_texts.specs.code.Findings.{dead_text, knowledge_of}
 use Rattle.flow_texts.specs.Reports.{remark}
 use Rattle.flow_texts.specs.Tables.{line_at, variable_text}
 use Rattle.flow_texts.proofs.RemarkLines.{assigned_there, dead_is, name_is, next_below, remark_pieces}

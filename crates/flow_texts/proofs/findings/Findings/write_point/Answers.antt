@@ -1,6 +1,6 @@
 use Rattle.std.proofs.Common.{codes, decimal, ◌∙◌, sym}
 use Rattle.tac_reader.specs.Programs.{Program}
-use Rattle.flow_texts.specs.Findings.{knowledge_of}
+use Rattle.flow_texts.specs.code.Findings.{knowledge_of}
 use Rattle.flow_texts.specs.Tables.{line_at}
 use Rattle.flow_texts.proofs.RemarkLines.{line_pieces, unreached_is}
 use Rattle.flow_texts.proofs.Taking.{takes_as, takes_then}

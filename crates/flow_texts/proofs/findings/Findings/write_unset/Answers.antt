@@ -1,6 +1,6 @@
 use Rattle.std.proofs.Common.{ℕ, [], ◌∷◌, map, ap, ◌∙◌, sym}
 use Rattle.tac_reader.specs.Programs.{Program}
-use Rattle.flow_texts.specs.Findings.{knowledge_of, remark_lines, unset_text}
+use Rattle.flow_texts.specs.code.Findings.{knowledge_of, remark_lines, unset_text}
 use Rattle.flow_texts.specs.Reports.{Knowledge}
 use Rattle.flow_texts.proofs.Taking.{takes_as, takes_nothing, takes_then}
 use Rattle.flow_texts.proofs.RemarkLines.{AreRead, variables_are_there, unset_are, first_of, second_of, two_lines}

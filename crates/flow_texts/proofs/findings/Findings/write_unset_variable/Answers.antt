@@ -1,7 +1,7 @@
 use Rattle.std.proofs.Common.{List, ℕ, ◌++◌, codes, decimal, ap, ◌∙◌, sym, arith}
 use Rattle.flow_graph.specs.declared.analysis.Analysis.TheVariants.{Reach}
 use Rattle.tac_reader.specs.Programs.{Program}
-use Rattle.flow_texts.specs.Findings.{knowledge_of, unset_text}
+use Rattle.flow_texts.specs.code.Findings.{knowledge_of, unset_text}
 use Rattle.flow_texts.specs.Tables.{line_at, variable_text}
 use Rattle.flow_texts.proofs.RemarkLines.{high_is, variables_have_dummies, one_line, remark_pieces, name_is}
 use Rattle.flow_texts.proofs.Taking.{takes_as, takes_then}

@@ -1,6 +1,6 @@
 -- Both clauses are about one knowledge, that of the tables and of the doubtful points found.
 use Rattle.std.proofs.Common.{refl}
-use Rattle.flow_texts.specs.Findings.{AreFindings, knowledge_of}
+use Rattle.flow_texts.specs.code.Findings.{AreFindings, knowledge_of}
 use Rattle.flow_texts.specs.Reports.{report_of}
 use Rattle.flow_texts.specs.declared.findings.Findings.{Findings}
 use Rattle.flow_texts.proofs.SafeReports.{is_report, lists_safely}

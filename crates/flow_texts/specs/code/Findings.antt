@@ -8,7 +8,7 @@ use Rattle.flow_graph.specs.Universes.{bits}
 use Rattle.flow_graph.specs.declared.analysis.Analysis.TheVariants.{Avail, Busy}
 use Rattle.tac_reader.specs.Programs.{Program}
 use Rattle.tac_reader.specs.Sound.{IsSound}
-use Rattle.flow_texts.specs.Lists.{AreTexts}
+use Rattle.flow_texts.specs.code.Lists.{AreTexts}
 use Rattle.flow_texts.specs.Reports.{AreTablesOf, Knowledge, unset_at, computed_at, busy_at, dead_at, remark}
 use Rattle.flow_team.specs.Tables.{facts_of}
 use Rattle.flow_texts.specs.Tables.{bit_text, variable_text}

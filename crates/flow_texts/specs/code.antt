@@ -1,0 +1,4 @@
+pub mod Blocks
+pub mod Findings
+pub mod Lists
+pub mod Operands
