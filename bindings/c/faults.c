@@ -74,5 +74,20 @@ int main(void) {
         wrong = puts("facts: others than by hand") || 1;
     expect("one bit", TACFLOW_OK, tacflow_facts(text, length, TACFLOW_LIVE, 1, 2, flags, 3, words, 3, &place));
     if (words[0] != 2 || words[1] != 0) wrong = puts("one bit: others than by hand") || 1;
+
+    char shown[128];
+    size_t size = 7;
+    static const char report[] = "points 3, variables 2, definitions 3, expressions 1\n2: y may be used before it is set\n";
+    memset(shown, '.', sizeof shown);
+    expect("a listing without room", TACFLOW_BAD_ROOM, tacflow_listing(text, length, NULL, 0, &size, &place));
+    if (size != length) wrong = puts("a listing without room: another size than by hand") || 1;
+    expect("a listing", TACFLOW_OK, tacflow_listing(text, length, shown, size, &size, &place));
+    if (size != length || memcmp(shown, text, length) || shown[length] != '.') wrong = puts("a listing: other than by hand") || 1;
+    expect("a report in little room", TACFLOW_BAD_ROOM, tacflow_report(text, length, shown, 5, &size, &place));
+    if (size != sizeof report - 1 || memcmp(shown, text, length)) wrong = puts("a report in little room: another size than by hand, or something was written") || 1;
+    expect("a report", TACFLOW_OK, tacflow_report(text, length, shown, sizeof shown, &size, &place));
+    if (size != sizeof report - 1 || memcmp(shown, report, size) || shown[size] != '.') wrong = puts("a report: other than by hand") || 1;
+    expect("a report of no program", TACFLOW_REFUSED, tacflow_report(no_program, sizeof no_program - 1, shown, sizeof shown, &size, &place));
+    expect("no size", TACFLOW_BAD_POINTER, tacflow_report(text, length, shown, sizeof shown, NULL, &place));
     return wrong;
 }

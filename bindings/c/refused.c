@@ -31,6 +31,8 @@ static size_t ends[2];
 static char names[16];
 static uint8_t flags[8];
 static uint64_t words[8];
+static char shown[512];
+static size_t size;
 
 static int call_sizes(void) { return tacflow_sizes(text, length, &sizes, &place); }
 static int call_points(void) { return tacflow_points(text, length, points, 8, &place); }
@@ -39,6 +41,9 @@ static int call_expressions(void) { return tacflow_expressions(text, length, exp
 static int call_procedures(void) { return tacflow_procedures(text, length, ends, 2, names, sizeof names, &place); }
 static int call_variables(void) { return tacflow_variables(text, length, ends, 2, names, sizeof names, &place); }
 static int call_facts(void) { return tacflow_facts(text, length, TACFLOW_BUSY, 0, 2, flags, 8, words, 8, &place); }
+
+static int call_listing(void) { return tacflow_listing(text, length, shown, sizeof shown, &size, &place); }
+static int call_report(void) { return tacflow_report(text, length, shown, sizeof shown, &size, &place); }
 
 static int is_clear(const void *memory, size_t size) {
     for (size_t i = 0; i < size; i++)
@@ -68,6 +73,7 @@ int main(void) {
         && keeps("definitions", call_definitions, definitions, sizeof definitions)
         && keeps("expressions", call_expressions, expressions, sizeof expressions)
         && keeps("procedures", call_procedures, names, sizeof names) && keeps("variables", call_variables, names, sizeof names)
-        && keeps("facts", call_facts, words, sizeof words);
+        && keeps("facts", call_facts, words, sizeof words)
+        && keeps("listing", call_listing, shown, sizeof shown) && keeps("report", call_report, shown, sizeof shown);
     return !kept;
 }

@@ -7,8 +7,8 @@
  *
  * All memory is the caller's. Texts, names and spans are counted in bytes; lines and columns from 1; all other numbers from 0.
  * A call that takes room takes a pointer and how many elements it points to, and wants exactly as many as there are, but for bytes
- * of names, where there may be more. tacflow_sizes tells how many. After a status other than TACFLOW_OK nothing was written, but
- * the place of a refusal.
+ * of names and of texts, where there may be more. tacflow_sizes tells how many. After a status other than TACFLOW_OK nothing was
+ * written, but the place of a refusal, and the size of a text for which there was too little room.
  *
  * Calls may be made by several threads at once, each with room of its own. The program's malloc, realloc and free are called.
  * Link with libtacflow_c.a and the kit's heap.c (bindings/check shows how). */
@@ -106,6 +106,8 @@ uint32_t tacflow_c_definitions(const uint8_t *text, size_t length, tacflow_defin
 uint32_t tacflow_c_expressions(const uint8_t *text, size_t length, tacflow_expression *expressions, size_t count, tacflow_place *place);
 uint32_t tacflow_c_procedures(const uint8_t *text, size_t length, size_t *ends, size_t count, uint8_t *bytes, size_t room, tacflow_place *place);
 uint32_t tacflow_c_variables(const uint8_t *text, size_t length, size_t *ends, size_t count, uint8_t *bytes, size_t room, tacflow_place *place);
+uint32_t tacflow_c_listing(const uint8_t *text, size_t length, uint8_t *bytes, size_t room, size_t *size, tacflow_place *place);
+uint32_t tacflow_c_report(const uint8_t *text, size_t length, uint8_t *bytes, size_t room, size_t *size, tacflow_place *place);
 uint32_t tacflow_c_facts(const uint8_t *text, size_t length, uint32_t analysis, uint32_t lo, uint32_t hi, uint8_t *flags, size_t flag_count,
                          uint64_t *words, size_t word_count, tacflow_place *place);
 
@@ -187,6 +189,25 @@ static inline int tacflow_facts(const char *text, size_t length, int analysis, u
     words = (uint64_t *)tacflow_some(words, word_count, &nothing);
     if (!bytes || !flags || !words || !place) return TACFLOW_BAD_POINTER;
     return (int)tacflow_c_facts(bytes, length, (uint32_t)analysis, lo, hi, flags, flag_count, words, word_count, place);
+}
+
+/* The program in one layout, as `tacflow --show list` writes it, and how many bytes that has. Where there is room for fewer, the status is
+ * TACFLOW_BAD_ROOM and size alone is written; so a call with no room tells how much is needed. What is left of the room stays as it is. */
+static inline int tacflow_listing(const char *text, size_t length, char *bytes, size_t room, size_t *size, tacflow_place *place) {
+    uint64_t nothing = 0;
+    const uint8_t *from = (const uint8_t *)tacflow_some(text, length, &nothing);
+    bytes = (char *)tacflow_some(bytes, room, &nothing);
+    if (!from || !bytes || !size || !place) return TACFLOW_BAD_POINTER;
+    return (int)tacflow_c_listing(from, length, (uint8_t *)bytes, room, size, place);
+}
+
+/* The report, as `tacflow` writes it, in the same way. It is made on the calling thread. */
+static inline int tacflow_report(const char *text, size_t length, char *bytes, size_t room, size_t *size, tacflow_place *place) {
+    uint64_t nothing = 0;
+    const uint8_t *from = (const uint8_t *)tacflow_some(text, length, &nothing);
+    bytes = (char *)tacflow_some(bytes, room, &nothing);
+    if (!from || !bytes || !size || !place) return TACFLOW_BAD_POINTER;
+    return (int)tacflow_c_report(from, length, (uint8_t *)bytes, room, size, place);
 }
 
 #ifdef __cplusplus

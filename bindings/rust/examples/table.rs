@@ -1,5 +1,5 @@
-//! Prints the table of an analysis as `tacflow --show` does: `table KIND FILE [THREADS]`. With threads each of them asks for some
-//! of the bits.
+//! Prints the table of an analysis, the report or the listing as `tacflow --show` does: `table KIND FILE [THREADS]`. With threads each
+//! of them asks for some of the bits of a table.
 
 use std::error::Error;
 use std::io::Write;
@@ -50,14 +50,16 @@ fn tables(program: &Program, analysis: Analysis, threads: u32) -> Result<Vec<Tab
 
 fn main() -> Result<(), Box<dyn Error>> {
     let words: Vec<String> = env::args().collect();
+    let program = Program::read(fs::read(words.get(2).ok_or("the second word is a file")?)?)?;
     let analysis = match words.get(1).map(String::as_str) {
+        Some("report") => return Ok(io::stdout().write_all(&program.report()?)?),
+        Some("list") => return Ok(io::stdout().write_all(&program.listing()?)?),
         Some("reach") => Analysis::Reach,
         Some("live") => Analysis::Live,
         Some("avail") => Analysis::Avail,
         Some("busy") => Analysis::Busy,
-        _ => return Err("the first word is reach, live, avail or busy".into()),
+        _ => return Err("the first word is report, list, reach, live, avail or busy".into()),
     };
-    let program = Program::read(fs::read(words.get(2).ok_or("the second word is a file")?)?)?;
     let threads = words.get(3).map_or(Ok(1), |word| word.parse::<u32>())?.max(1);
     let tables = tables(&program, analysis, threads)?;
 

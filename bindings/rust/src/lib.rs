@@ -221,6 +221,24 @@ impl Program {
         }
     }
 
+    /// The program in one layout, as `tacflow --show list` writes it.
+    ///
+    /// # Errors
+    ///
+    /// `OutOfMemory` where memory was refused.
+    pub fn listing(&self) -> Result<Vec<u8>, Error> {
+        raw::listing(&self.text)
+    }
+
+    /// The report, as `tacflow` writes it.
+    ///
+    /// # Errors
+    ///
+    /// `OutOfMemory` where memory was refused.
+    pub fn report(&self) -> Result<Vec<u8>, Error> {
+        raw::report(&self.text)
+    }
+
     /// The facts of an analysis.
     ///
     /// # Errors

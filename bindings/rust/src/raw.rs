@@ -51,6 +51,7 @@ pub(crate) struct RawExpression {
 }
 
 type NamesCall = unsafe extern "C" fn(*const u8, usize, *mut usize, usize, *mut u8, usize, *mut Place) -> u32;
+type TextCall = unsafe extern "C" fn(*const u8, usize, *mut u8, usize, *mut usize, *mut Place) -> u32;
 type RowsCall = unsafe extern "C" fn(*const u8, usize, *mut c_void, usize, *mut Place) -> u32;
 
 extern "C" {
@@ -60,6 +61,8 @@ extern "C" {
     fn tacflow_c_expressions(text: *const u8, length: usize, expressions: *mut c_void, count: usize, place: *mut Place) -> u32;
     fn tacflow_c_procedures(text: *const u8, length: usize, ends: *mut usize, count: usize, bytes: *mut u8, room: usize, place: *mut Place) -> u32;
     fn tacflow_c_variables(text: *const u8, length: usize, ends: *mut usize, count: usize, bytes: *mut u8, room: usize, place: *mut Place) -> u32;
+    fn tacflow_c_listing(text: *const u8, length: usize, bytes: *mut u8, room: usize, size: *mut usize, place: *mut Place) -> u32;
+    fn tacflow_c_report(text: *const u8, length: usize, bytes: *mut u8, room: usize, size: *mut usize, place: *mut Place) -> u32;
     fn tacflow_c_facts(
         text: *const u8,
         length: usize,
@@ -150,4 +153,30 @@ pub(crate) fn facts(text: &[u8], analysis: Analysis, lo: u32, hi: u32, flags: &m
         )
     };
     answered(status, place)
+}
+
+/// The status that tells how much room a text needs.
+const BAD_ROOM: u32 = 5;
+
+// A text that is made whole: the first call tells how long it is.
+fn made(call: TextCall, text: &[u8]) -> Result<Vec<u8>, Error> {
+    let (mut bytes, mut size) = (Vec::new(), 0);
+    loop {
+        let mut place = Place::default();
+        // SAFETY: the pointers and lengths are of slices and values that outlive the call.
+        let status =
+            unsafe { call(text.as_ptr(), text.len(), bytes.as_mut_ptr(), bytes.len(), &mut size, &mut place) };
+        if status != BAD_ROOM {
+            return answered(status, place).map(|()| bytes);
+        }
+        bytes = vec![0; size];
+    }
+}
+
+pub(crate) fn listing(text: &[u8]) -> Result<Vec<u8>, Error> {
+    made(tacflow_c_listing, text)
+}
+
+pub(crate) fn report(text: &[u8]) -> Result<Vec<u8>, Error> {
+    made(tacflow_c_report, text)
 }

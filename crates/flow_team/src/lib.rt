@@ -20,4 +20,4 @@ pub use sets::GraphSets;
 pub use solve::Solve;
 pub use std::alloc::AllocError as OutOfMemory;
 pub use table::Table;
-pub use team::{analyse, analyse_both};
+pub use team::{analyse, analyse_alone, analyse_both};

@@ -212,6 +212,20 @@ pub fn analyse<R: Threads + Sync, G: Gate>(
     one_table(rt, alloc, graph, analysis, cut, workers, gate)
 }
 
+/// The table of an analysis of a graph, found on the calling thread: what [`analyse`] answers, for a caller that may start no thread.
+/// Fails only where memory runs out.
+pub fn analyse_alone(
+    alloc: Global,
+    graph: &Graph<'_>,
+    analysis: Analysis,
+) -> Result<Table, OutOfMemory>
+    ensures analysis { IfOk result (λ table. table.analysis ≡ analysis) }
+    ensures table { IfOk result (IsTableOf graph.now) }
+{
+    let (table, _) = GraphSets::solved(alloc, graph, analysis)?;
+    Ok(table)
+}
+
 /// The tables of two analyses of one direction, each as [`analyse`] has it: the edges, their order and the path flags are found
 /// once. The conditions: each cut is of as many bits as its analysis has, and both analyses are forward, or both backward.
 ///

@@ -6,7 +6,7 @@ ghost use Rattle.flow_texts.specs.Reports.{AreTablesOf};
 
 use bit_rows::Cut;
 use flow_graph::{Analysis, Graph, OutOfMemory};
-use flow_team::{OpenGate, Table, analyse, analyse_both};
+use flow_team::{OpenGate, Table, analyse, analyse_alone, analyse_both};
 use std::alloc::{AllocError, Global};
 use std::thread::Threads;
 
@@ -83,6 +83,18 @@ pub struct Tables {
 }
 
 impl Tables {
+    /// The four tables of a graph's program, found on the calling thread. Fails only where memory runs out.
+    pub fn alone(alloc: Global, graph: &Graph<'_>) -> Result<Tables, OutOfMemory>
+        ensures { IfOk result (λ tables. AreTablesOf graph.now tables) }
+    {
+        Ok(Tables {
+            reach: analyse_alone(alloc, graph, Analysis::Reach)?,
+            live: analyse_alone(alloc, graph, Analysis::Live)?,
+            avail: analyse_alone(alloc, graph, Analysis::Avail)?,
+            busy: analyse_alone(alloc, graph, Analysis::Busy)?,
+        })
+    }
+
     /// The four tables of a graph's program, by so many workers, in slices of so many bits.
     ///
     /// The condition: 1 to 64 workers, and 1 to 4,096 bits. Fails only where memory runs out.

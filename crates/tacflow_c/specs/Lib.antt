@@ -2,4 +2,5 @@ pub mod Facts
 pub mod Names
 pub mod Parts
 pub mod Statuses
+pub mod Texts
 pub mod code

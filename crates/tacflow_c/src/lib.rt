@@ -11,6 +11,7 @@ mod names;
 mod parts;
 mod table;
 mod text;
+mod texts;
 
 ghost use Rattle.std.specs.Prelude.{◌≡◌, None, length};
 ghost use Rattle.flow_graph.specs.Points.{point_count};
@@ -21,6 +22,7 @@ ghost use Rattle.tac_reader.specs.Faults.{refusal_of};
 ghost use Rattle.tacflow_c.specs.Names.{AreNames, IsNamesFault};
 ghost use Rattle.tacflow_c.specs.declared.names.Named.TheVariants.{Procedures, Variables};
 ghost use Rattle.tacflow_c.specs.Parts.{AreParts, ArePartsOf, definition_part, expression_part, point_part, sizes_of};
+ghost use Rattle.tacflow_c.specs.Texts.{HoldsText, IsListingFault, IsListingOf, IsReportFault, IsReportOf};
 ghost use Rattle.tacflow_c.specs.Statuses.{HasGraph, IsAnswered, IsFaultOf, IsRoomFault};
 
 use calls::{
@@ -32,6 +34,7 @@ use fault::told_status;
 use names::Named;
 pub use parts::{Definition, Expression, Part, Point, Sizes};
 use std::alloc::Global;
+use texts::{listing_of_text, report_of_text};
 
 /// How large a text's program is.
 #[unsafe(no_mangle)]
@@ -150,4 +153,34 @@ pub extern "C" fn tacflow_c_facts(
         facts_of_text(alloc, text, analysis, (lo, hi), flags, words),
         place,
     )
+}
+
+/// The listing of a text's program, and how long it is. Where there is too little room its length alone is told.
+#[unsafe(no_mangle)]
+pub extern "C" fn tacflow_c_listing(
+    alloc: Global,
+    text: &[u8],
+    bytes: &mut [u8],
+    size: &mut usize,
+    place: &mut Place,
+) -> u32
+    ensures { IsAnswered result place.old place.new (HoldsText (IsListingOf text.now) bytes.old bytes.new size.new) (bytes.new ≡ bytes.old)
+        (IsListingFault text.now (length bytes.old) size.old size.new) }
+{
+    told_status(listing_of_text(alloc, text, bytes, size), place)
+}
+
+/// The report on a text's program, and how long it is. Where there is too little room its length alone is told.
+#[unsafe(no_mangle)]
+pub extern "C" fn tacflow_c_report(
+    alloc: Global,
+    text: &[u8],
+    bytes: &mut [u8],
+    size: &mut usize,
+    place: &mut Place,
+) -> u32
+    ensures { IsAnswered result place.old place.new (HoldsText (IsReportOf text.now) bytes.old bytes.new size.new) (bytes.new ≡ bytes.old)
+        (IsReportFault text.now (length bytes.old) size.old size.new) }
+{
+    told_status(report_of_text(alloc, text, bytes, size), place)
 }

@@ -1,0 +1,72 @@
+// Listings and reports in room of a caller's.
+
+ghost use Rattle.std.specs.Prelude.{◌≡◌, ◌<◌, ◌≤◌, ◌++◌, drop, length, IfErr, OnOk, OnErr, MatchBool};
+ghost use Rattle.tacflow_c.specs.Texts.{HoldsText, IsListingFault, IsListingOf, IsReportFault, IsReportOf};
+
+use crate::fault::Fault;
+use crate::text::{graph_of, program_of};
+use flow_texts::{Tables, report};
+use std::alloc::Global;
+use tac_reader::listing;
+
+// Puts a text where there is room for it, and tells how long it is.
+fn put_text(text: &[u8], bytes: &mut [u8], size: &mut usize) -> bool
+    ensures size { size.new ≡ length text.now }
+    ensures bytes { MatchBool result (bytes.new ≡ text.now ++ drop (length text.now) bytes.old) (bytes.new ≡ bytes.old) }
+    ensures room { MatchBool result (length text.now ≤ length bytes.old) (length bytes.old < length text.now) }
+{
+    *size = text.len();
+    if bytes.len() < text.len() {
+        return false;
+    }
+    bytes[..text.len()].copy_from_slice(text);
+    true
+}
+
+/// The listing of a text's program.
+pub(crate) fn listing_of_text(
+    alloc: Global,
+    text: &[u8],
+    bytes: &mut [u8],
+    size: &mut usize,
+) -> Result<(), Fault>
+    ensures held { OnOk result (HoldsText (IsListingOf text.now) bytes.old bytes.new size.new) }
+    ensures kept { OnErr result (bytes.new ≡ bytes.old) }
+    ensures fault { IfErr result (IsListingFault text.now (length bytes.old) size.old size.new) }
+{
+    let program = program_of(alloc, text)?;
+    let Ok(out) = listing(alloc, &program) else {
+        return Err(Fault::OutOfMemory);
+    };
+    if put_text(&out, bytes, size) {
+        Ok(())
+    } else {
+        Err(Fault::BadRoom)
+    }
+}
+
+/// The report on a text's program.
+pub(crate) fn report_of_text(
+    alloc: Global,
+    text: &[u8],
+    bytes: &mut [u8],
+    size: &mut usize,
+) -> Result<(), Fault>
+    ensures held { OnOk result (HoldsText (IsReportOf text.now) bytes.old bytes.new size.new) }
+    ensures kept { OnErr result (bytes.new ≡ bytes.old) }
+    ensures fault { IfErr result (IsReportFault text.now (length bytes.old) size.old size.new) }
+{
+    let program = program_of(alloc, text)?;
+    let graph = graph_of(alloc, &program)?;
+    let Ok(tables) = Tables::alone(alloc, &graph) else {
+        return Err(Fault::OutOfMemory);
+    };
+    let Ok(out) = report(alloc, &graph, &tables) else {
+        return Err(Fault::OutOfMemory);
+    };
+    if put_text(&out, bytes, size) {
+        Ok(())
+    } else {
+        Err(Fault::BadRoom)
+    }
+}
