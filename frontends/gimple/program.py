@@ -10,11 +10,15 @@ from .world import statements_in
 
 @dataclass(eq=False)
 class Services:
-    """The procedures for memory, for unknown code and for calls through pointers, and a variable that nobody reads."""
+    """The procedures for memory, for unknown code and for calls through pointers, and a variable that nobody reads.
+
+    keeps_temporaries: whether gcc's temporaries are variables of the program.
+    """
     reading: Procedure
     writing: Procedure
     unknown: Procedure
     scratch: Variable
+    keeps_temporaries: bool
     pointed: dict = field(default_factory=dict)
 
     def all(self):
@@ -34,11 +38,11 @@ class Services:
         return self.pointed[count]
 
 
-def build(world):
-    """All procedures of the program, `main` first."""
+def build(world, keeps_temporaries=False):
+    """All procedures of the program, `main` first; with variables for gcc's temporaries where they are kept."""
     world.take_addresses()
     prepare_functions(world)
-    services = make_services(world.reached_by_pointers())
+    services = make_services(world.reached_by_pointers(), keeps_temporaries)
     constants = Constants()
     for file in world.files:
         for function in file.functions:
@@ -81,7 +85,7 @@ def returned_words(body):
             if statement.kind == "return" and statement.words[0] != "NULL"]
 
 
-def make_services(reached):
+def make_services(reached, keeps_temporaries):
     """The procedures for memory, where there is any, and an empty one for unknown code."""
     reading = writing = None
     if reached:
@@ -90,7 +94,7 @@ def make_services(reached):
         build_writing = Builder(writing)
         for variable in reached:
             build_writing.set(variable, weak=True)
-    return Services(reading, writing, Procedure("unknown"), Variable("t"))
+    return Services(reading, writing, Procedure("unknown"), Variable("t"), keeps_temporaries)
 
 
 def called_back(world):

@@ -14,6 +14,7 @@ BINARY = {
     "rdiv_expr": "/", "trunc_mod_expr": "%", "bit_and_expr": "&", "bit_ior_expr": "|", "bit_xor_expr": "^", "lshift_expr": "<<",
     "rshift_expr": ">>", "lt_expr": "<", "le_expr": "<=", "gt_expr": ">", "ge_expr": ">=", "eq_expr": "==", "ne_expr": "!=",
 }
+ADDRESSES = {"pointer_plus_expr": "+"}
 UNARY = {"negate_expr": "-", "bit_not_expr": "~", "truth_not_expr": "!"}
 COPIES = {"var_decl", "parm_decl", "result_decl", "ssa_name", "integer_cst", "real_cst", "string_cst", "addr_expr", "mem_ref",
           "component_ref", "array_ref", "bit_field_ref", "realpart_expr", "imagpart_expr", "view_convert_expr", "constructor",
@@ -82,7 +83,10 @@ class Pending:
 
 
 class Translator:
-    """Turns one function. `services` has the procedures that stand for memory and for unknown code."""
+    """Turns one function. `services` has the procedures that stand for memory and for unknown code.
+
+    Where the services keep temporaries, each of gcc's is a variable of its own, and address arithmetic an expression.
+    """
 
     def __init__(self, world, file, procedure, services, constants):
         self.world = world
@@ -92,6 +96,7 @@ class Translator:
         self.constants = constants
         self.build = Builder(procedure)
         self.pending = Pending()
+        self.kept = {}
         self.labels = Labels()
         self.statement = None
 
@@ -172,6 +177,8 @@ class Translator:
 
     def name_value(self, name):
         """The value of a temporary, a variable, or a function's name."""
+        if name in self.kept:
+            return Value((self.kept[name],), self.kept[name])
         if not operands.is_declared(name) and name != "<retval>":
             return self.pending.take(name)
         if name != "<retval>" and not self.world.is_local(self.procedure, name) and self.world.is_function(self.file, name):
@@ -256,14 +263,14 @@ class Translator:
         for step in self.procedure.steps[start:]:
             step.is_element = bool(element)
 
-    @staticmethod
-    def expression(operation, values):
+    def expression(self, operation, values):
         """An operation's operator, '' for none, its operands, and what else it reads."""
         exact = [value.exact for value in values]
         has_variable = any(isinstance(part, Variable) for part in exact)
+        binary = BINARY | ADDRESSES if self.services.keeps_temporaries else BINARY
         if None not in exact and has_variable:
-            if operation in BINARY and len(exact) == 2:
-                return BINARY[operation], tuple(exact), ()
+            if operation in binary and len(exact) == 2:
+                return binary[operation], tuple(exact), ()
             if operation in UNARY and len(exact) == 1:
                 return UNARY[operation], tuple(exact), ()
         reads = tuple(dict.fromkeys(variable for value in values for variable in value.reads))
@@ -297,7 +304,9 @@ class Translator:
 
     def hold(self, temporary, operator, parts, reads):
         """A temporary's value: an expression is evaluated at once, into a variable that nobody reads; all else is held."""
-        if operator:
+        if self.services.keeps_temporaries:
+            self.keep(temporary, operator, parts, reads)
+        elif operator:
             self.build.set(self.services.scratch, parts, operator)
             self.pending.put(temporary, Value())
         elif parts:
@@ -305,6 +314,14 @@ class Translator:
             self.pending.put(temporary, Value((exact,) if isinstance(exact, Variable) else (), exact), self.statement)
         else:
             self.pending.put(temporary, Value(reads), self.statement)
+
+    def keep(self, temporary, operator, parts, reads):
+        """A temporary's value, in a variable of its own."""
+        variable = self.kept.setdefault(temporary, Variable(f"{self.procedure.wish}_{temporary}", owner=self.procedure))
+        if not parts:
+            parts, reads = reads[:1], reads[1:]
+        self.build.use(reads)
+        self.build.set(variable, parts, operator)
 
     def write_memory(self):
         """Writes to what pointers may lead to."""

@@ -1,7 +1,10 @@
--- Small programs, each by its text, and the sets of their bits as lists.
-use Rattle.std.specs.Prelude.{ℕ, Bool, List, filter, codes}
+-- Small programs, each by its text, the sets of their bits as lists, and what makes them the shapes that are written by hand.
+use Rattle.std.specs.Prelude.{◌≡◌, ℕ, Bool, List, filter, map, codes}
 use Rattle.std.specs.List.{range_with_len}
 use Rattle.tac_reader.specs.Programs.{Program, program_of}
+use Rattle.flow_graph.specs.Analyses.{shape_of, transfer_of}
+use Rattle.flow_graph.specs.Paths.{Shape, Transfer}
+use Rattle.flow_graph.specs.Points.{point_count}
 use Rattle.flow_graph.specs.Universes.{Analysis, bits}
 use Rattle.flow_graph.specs.Transfers.{gens, kills, is_in_boundary}
 
@@ -40,6 +43,9 @@ calls_either = program_of (codes "proc main\nx = 1\ncall p | q\nprint x\nend\npr
 abbrev pub calls_several : Program
 calls_several = program_of (codes "proc main\ncall p | q | r\ncall q | p\nend\nproc p\nend\nproc q\nend\nproc r\nend\n")
 
+abbrev pub calls_once : Program
+calls_once = program_of (codes "proc main\nx = 1\ncall p\nend\nproc p\nskip\nend\n")
+
 abbrev pub uncalled_procedure_calls : Program
 uncalled_procedure_calls = program_of (codes "proc main\nx = 1\ncall p\nend\nproc p\nskip\nend\nproc q\ncall p\nend\n")
 
@@ -66,3 +72,24 @@ kill_at program analysis point = bits_with program analysis (kills program analy
 
 abbrev pub boundary_of : Program → Analysis → List ℕ
 boundary_of program analysis = bits_with program analysis (is_in_boundary program analysis)
+
+-- Two shapes are the same, field by field, on so many points.
+pub record IsSameShape (points : ℕ) (first second : Shape) : Type 0 where
+  pub root_procedure : first.root_procedure ≡ second.root_procedure
+  pub procedures : first.procedures ≡ second.procedures
+  pub entries : map first.entry (range_with_len 0 first.procedures) ≡ map second.entry (range_with_len 0 first.procedures)
+  pub exits : map first.exit (range_with_len 0 first.procedures) ≡ map second.exit (range_with_len 0 first.procedures)
+  pub procedure_of_each : map first.procedure_of (range_with_len 0 points) ≡ map second.procedure_of (range_with_len 0 points)
+  pub edges : first.edges ≡ second.edges
+
+abbrev pub IsShapeOf : Shape → Program → Type 0
+IsShapeOf shape program = IsSameShape (point_count program) shape (shape_of program)
+
+-- Two transfers are the same, for the statements of so many points.
+pub record IsSameTransfer (points : ℕ) (first second : Transfer) : Type 0 where
+  pub gen : map (λ x. first.gen x 0) (range_with_len 0 points) ≡ map (λ x. second.gen x 0) (range_with_len 0 points)
+  pub kill : map (λ x. first.kill x 0) (range_with_len 0 points) ≡ map (λ x. second.kill x 0) (range_with_len 0 points)
+  pub boundary : first.boundary ≡ second.boundary
+
+abbrev pub IsTransferOf : Transfer → Program → Analysis → ℕ → Type 0
+IsTransferOf transfer program analysis bit = IsSameTransfer (point_count program) transfer (transfer_of program analysis bit)

@@ -44,7 +44,7 @@ pub use problem::Problem;
 pub use program_examples::{
     avail_examples, busy_examples, live_examples, may_form_examples, number_examples,
     point_examples, reach_examples, recursive_edges, several_callees_edges, shape_examples,
-    step_examples,
+    step_examples, transfer_examples,
 };
 pub use program_laws::{
     dead_variables_are_safe, dummies_come_first, edges_join_points, graphs_are_well_formed,

@@ -2,11 +2,11 @@
 
 ghost use Rattle.std.specs.Prelude.{◌≡◌, true, false, Some, None, [], ◌∷◌, length, map};
 ghost use Rattle.flow_graph.specs.Analyses.{main_procedure, shape_of, may_shape, may_transfer};
-ghost use Rattle.flow_graph.specs.Edges.{edges_from, edges};
-ghost use Rattle.flow_graph.specs.Examples.{two_calls, recursive_procedure, recursive_main, endless_callee, two_prints, endless_loop, several_callees, uncalled_caller};
+ghost use Rattle.flow_graph.specs.Edges.{edges_from};
+ghost use Rattle.flow_graph.specs.Examples.{two_calls, earlier_definition, later_definition, recursive_procedure, inner_definition, recursive_main, only_definition, value_at_entry, endless_callee, sum_expression, two_prints, live_first, endless_loop, live_in_loop, several_callees, outer_definition, inner_of_first, one_call, uncalled_caller};
 ghost use Rattle.flow_graph.specs.Paths.{root, final};
 ghost use Rattle.flow_graph.specs.Points.{points, point_count, place_of, point_of, entry_point, end_point, kind_at};
-ghost use Rattle.flow_graph.specs.ProgramExamples.{calls_twice, calls_itself, adds_to_itself, calls_endless, may_loop, calls_main, computes_twice, prints_between_calls, calls_either, calls_several, uncalled_procedure_calls, main_comes_last, each_kind, repeats_expressions, gen_at, kill_at, boundary_of};
+ghost use Rattle.flow_graph.specs.ProgramExamples.{calls_twice, calls_itself, adds_to_itself, calls_endless, may_loop, calls_main, computes_twice, prints_between_calls, calls_either, calls_several, calls_once, uncalled_procedure_calls, main_comes_last, each_kind, repeats_expressions, gen_at, kill_at, boundary_of, IsShapeOf, IsTransferOf};
 ghost use Rattle.flow_graph.specs.Universes.{definitions, expressions, evaluated_at, bits, Unary, Binary};
 ghost use Rattle.flow_graph.specs.declared.analysis.Analysis.TheVariants.{Reach, Live, Avail, Busy};
 ghost use Rattle.flow_graph.specs.declared.edge.Edge.TheVariants.{Step, Call, Ret};
@@ -52,16 +52,31 @@ pub fn step_examples()
     ensures jump { edges_from may_loop 4 ≡ Step 4 3 ∷ [] }
 {}
 
-/// The shapes on which paths are worked are those of programs.
+/// The shapes on which paths are worked are those of programs, in all their fields.
 pub fn shape_examples()
-    ensures two_calls { edges calls_twice ≡ two_calls.edges }
-    ensures recursive_procedure { edges calls_itself ≡ recursive_procedure.edges }
-    ensures recursive_main { edges calls_main ≡ recursive_main.edges }
-    ensures endless_callee { edges calls_endless ≡ endless_callee.edges }
-    ensures two_prints { edges prints_between_calls ≡ two_prints.edges }
-    ensures endless_loop { edges may_loop ≡ endless_loop.edges }
-    ensures several_callees { edges calls_either ≡ several_callees.edges }
-    ensures uncalled_caller { edges uncalled_procedure_calls ≡ uncalled_caller.edges }
+    ensures two_calls { IsShapeOf two_calls calls_twice }
+    ensures recursive_procedure { IsShapeOf recursive_procedure calls_itself }
+    ensures recursive_main { IsShapeOf recursive_main calls_main }
+    ensures endless_callee { IsShapeOf endless_callee calls_endless }
+    ensures two_prints { IsShapeOf two_prints prints_between_calls }
+    ensures endless_loop { IsShapeOf endless_loop may_loop }
+    ensures several_callees { IsShapeOf several_callees calls_either }
+    ensures one_call { IsShapeOf one_call calls_once }
+    ensures uncalled_caller { IsShapeOf uncalled_caller uncalled_procedure_calls }
+{}
+
+/// The transfers on which paths are worked are those of bits of these programs.
+pub fn transfer_examples()
+    ensures earlier_definition { IsTransferOf earlier_definition calls_twice Reach 1 }
+    ensures later_definition { IsTransferOf later_definition calls_twice Reach 2 }
+    ensures inner_definition { IsTransferOf inner_definition calls_itself Reach 2 }
+    ensures only_definition { IsTransferOf only_definition calls_main Reach 1 }
+    ensures value_at_entry { IsTransferOf value_at_entry calls_main Reach 0 }
+    ensures sum_expression { IsTransferOf sum_expression calls_endless Busy 0 }
+    ensures live_first { IsTransferOf live_first prints_between_calls Live 0 }
+    ensures live_in_loop { IsTransferOf live_in_loop may_loop Live 0 }
+    ensures outer_definition { IsTransferOf outer_definition calls_either Reach 1 }
+    ensures inner_of_first { IsTransferOf inner_of_first calls_either Reach 2 }
 {}
 
 /// Variables, definitions and expressions by number.

@@ -9,6 +9,11 @@ use slice_board::Pass;
 ///
 /// It may hold the worker up, for instance until another one is there. The analysis answers where its gate returns.
 pub trait Gate: Sync {
+    /// Whether it wants to be told. Where it does not, a single worker draws no slices and solves all bits at once.
+    fn listens(&self) -> bool {
+        true
+    }
+
     /// A worker drew the slice, and has not yet begun to solve it.
     fn claimed(&self, worker: u32, slice: u32);
 
@@ -17,11 +22,15 @@ pub trait Gate: Sync {
         requires { 0 < times slice pass.now.finished };
 }
 
-/// The gate that holds nobody.
+/// The gate that holds nobody, and wants to be told of nothing.
 #[derive(Clone, Copy, Debug, Default, Drop)]
 pub struct OpenGate;
 
 impl Gate for OpenGate {
+    fn listens(&self) -> bool {
+        false
+    }
+
     fn claimed(&self, _worker: u32, _slice: u32) {}
 
     fn finished<S: Solve>(&self, _worker: u32, _slice: u32, _pass: &Pass<S>) {}

@@ -98,6 +98,16 @@ impl<'g, 'p> GraphSets<'g, 'p> {
         Ok(self.table(rows))
     }
 
+    // The analysis's table, solved at once, and what another of the same direction can use.
+    fn solved_with_routes(self, alloc: Global) -> Result<(Table, Routes<'g, 'p>), OutOfMemory>
+        ensures analysis { IfOk result (λ r. r.0.analysis ≡ self.entry.analysis) }
+        ensures table { IfOk result (λ r. IsTableOf self.entry.program r.0) }
+        ensures routes { IfOk result (λ r. r.1 ≡ direction_of self.entry) }
+    {
+        let table = self.solve_all(alloc)?;
+        Ok((table, self.into_routes()))
+    }
+
     /// The table of an analysis of a graph, solved at once, and what another of the same direction can use.
     pub(crate) fn solved(
         alloc: Global,
@@ -109,8 +119,23 @@ impl<'g, 'p> GraphSets<'g, 'p> {
         ensures routes { IfOk result (λ r. r.1 ≡ direction_of (record { program = graph.now; analysis = analysis })) }
     {
         let sets = GraphSets::of(alloc, graph, analysis)?;
-        let table = sets.solve_all(alloc)?;
-        Ok((table, sets.into_routes()))
+        sets.solved_with_routes(alloc)
+    }
+
+    /// The same, over edges and path flags that were found for another analysis of the same direction.
+    pub(crate) fn solved_over(
+        alloc: Global,
+        graph: &'g Graph<'p>,
+        analysis: Analysis,
+        routes: Routes<'g, 'p>,
+    ) -> Result<(Table, Routes<'g, 'p>), OutOfMemory>
+        requires { routes ≡ direction_of (record { program = graph.now; analysis = analysis }) }
+        ensures analysis { IfOk result (λ r. r.0.analysis ≡ analysis) }
+        ensures table { IfOk result (λ r. IsTableOf graph.now r.0) }
+        ensures routes { IfOk result (λ r. r.1 ≡ direction_of (record { program = graph.now; analysis = analysis })) }
+    {
+        let sets = GraphSets::over(alloc, graph, analysis, routes)?;
+        sets.solved_with_routes(alloc)
     }
 }
 

@@ -63,6 +63,11 @@ fn worked<'g, 'p, R: Threads + Sync, G: Gate>(
     closed_or_solved(alloc, graph, analysis, job.close_with_routes(pass))
 }
 
+// Whether there is nobody to share slices with, and nobody to tell of them: then they are all solved at once, with no board.
+fn is_alone<G: Gate>(workers: u32, gate: &G) -> bool {
+    workers == 1 && !gate.listens()
+}
+
 // The table of an analysis, and what another of the same direction can use.
 fn first_table<'g, 'p, R: Threads + Sync, G: Gate>(
     rt: &R,
@@ -80,6 +85,9 @@ fn first_table<'g, 'p, R: Threads + Sync, G: Gate>(
     ensures table { IfOk result (λ r. IsTableOf graph.now r.0) }
     ensures routes { IfOk result (λ r. r.1 ≡ direction_of (record { program = graph.now; analysis = analysis })) }
 {
+    if is_alone(workers, gate) {
+        return GraphSets::solved(alloc, graph, analysis);
+    }
     let (job, pass) = Job::open(alloc, graph, analysis, cut)?;
     worked(rt, alloc, graph, analysis, job, pass, workers, gate)
 }
@@ -103,6 +111,9 @@ fn second_table<'g, 'p, R: Threads + Sync, G: Gate>(
     ensures table { IfOk result (λ r. IsTableOf graph.now r.0) }
     ensures routes { IfOk result (λ r. r.1 ≡ direction_of (record { program = graph.now; analysis = analysis })) }
 {
+    if is_alone(workers, gate) {
+        return GraphSets::solved_over(alloc, graph, analysis, routes);
+    }
     let (job, pass) = Job::open_over(alloc, graph, analysis, cut, routes)?;
     worked(rt, alloc, graph, analysis, job, pass, workers, gate)
 }
@@ -186,9 +197,9 @@ fn is_bad_number(workers: u32) -> bool
 /// The table of an analysis of a graph, by so many workers, in slices of its bits: at each point exactly the union (may) or
 /// intersection (must) over all interprocedurally valid paths, whatever the workers, the cut, and the order of their steps.
 ///
-/// The workers are threads, numbered from 0, each with a pass of its own; a single worker starts no thread. Each draws slices,
-/// solves them and publishes them until none is left, and tells the gate of it. The condition: the cut is of as many bits as the
-/// analysis has.
+/// The workers are threads, numbered from 0, each with a pass of its own. Each draws slices, solves them and publishes them until none
+/// is left, and tells the gate of it. A single worker starts no thread; where its gate does not listen, it draws no slices and solves all
+/// bits at once. The condition: the cut is of as many bits as the analysis has.
 ///
 /// - `BadWorkers`: the number of workers is not one of 1 to 64. This is checked first.
 /// - `OutOfMemory`: memory was refused, here or to a worker; all workers have ended.

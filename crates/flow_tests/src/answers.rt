@@ -44,7 +44,12 @@ pub fn answer(alloc: Global, text: &[u8], question: Question) -> Result<String, 
     }
 }
 
-fn answer_of(alloc: Global, graph: &Graph<'_>, question: Question) -> Result<String, OutOfMemory> {
+/// The answer to a question about a graph.
+pub fn answer_of(
+    alloc: Global,
+    graph: &Graph<'_>,
+    question: Question,
+) -> Result<String, OutOfMemory> {
     match question {
         Question::Edges => edges(alloc, graph),
         Question::Points => points(alloc, graph),
@@ -64,7 +69,8 @@ fn answer_of(alloc: Global, graph: &Graph<'_>, question: Question) -> Result<Str
     }
 }
 
-fn write_edge(text: &mut String, edge: Edge) -> Result<(), OutOfMemory> {
+/// Writes an edge behind a blank.
+pub fn write_edge(text: &mut String, edge: Edge) -> Result<(), OutOfMemory> {
     match edge {
         Edge::Step { from, to } => write!(text, " {from}-{to}"),
         Edge::Call { site, from, to } => write!(text, " call {from}-{to} at {site}"),
@@ -121,7 +127,7 @@ fn numbers(alloc: Global, graph: &Graph<'_>) -> Result<String, OutOfMemory> {
 }
 
 /// For each point whether it is listed.
-fn marks(alloc: Global, graph: &Graph<'_>, listed: &[u32]) -> Result<Vec<bool>, OutOfMemory>
+pub fn marks(alloc: Global, graph: &Graph<'_>, listed: &[u32]) -> Result<Vec<bool>, OutOfMemory>
     ensures { IfOk result (λ marks. length marks.items ≡ point_count graph.now) }
 {
     let mut marks = Vec::new(alloc);
@@ -142,7 +148,8 @@ fn leading(alloc: Global, graph: &Graph<'_>, marked: &[u32]) -> Result<String, O
     Ok(text)
 }
 
-fn frame(alloc: Global, problem: &Problem<'_, '_>) -> Result<String, OutOfMemory> {
+/// How the edges of a problem go, and where it begins and ends.
+pub fn frame(alloc: Global, problem: &Problem<'_, '_>) -> Result<String, OutOfMemory> {
     let mut text = String::new(alloc);
     write!(
         text,

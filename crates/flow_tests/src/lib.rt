@@ -13,6 +13,10 @@ mod limit_tests;
 #[cfg(test)]
 mod problem_tests;
 #[cfg(test)]
+mod refusal_tests;
+#[cfg(test)]
+mod row_refusal_tests;
+#[cfg(test)]
 mod solver_tests;
 #[cfg(test)]
 mod table_tests;

@@ -11,10 +11,12 @@ use Rattle.flow_texts.proofs.Taking.{takes_nothing, takes_then}
 use Rattle.flow_texts.specs.code.Lists.{Named, Wrote, after, members, some_stand}
 use Rattle.flow_texts.specs.Tables.{listed}
 
-pub after-append : (others : Bool) (xs ys : List (List ℕ)) → after others (xs ++ ys) ≡ after others xs ++ after (others || some_stand xs) ys
-after-append true xs ys = flat_map-append (λ text. codes ", " ++ text) xs ys
-after-append false [] ys = refl
-after-append false (x ∷ xs) ys = ap (λ t. x ++ t) (flat_map-append (λ text. codes ", " ++ text) xs ys) ∙ sym (append_assoc x (after true xs) (after true ys))
+pub after-append : (between : List ℕ) (others : Bool) (xs ys : List (List ℕ))
+    → after between others (xs ++ ys) ≡ after between others xs ++ after between (others || some_stand xs) ys
+after-append between true xs ys = flat_map-append (λ text. between ++ text) xs ys
+after-append between false [] ys = refl
+after-append between false (x ∷ xs) ys =
+    ap (λ t. x ++ t) (flat_map-append (λ text. between ++ text) xs ys) ∙ sym (append_assoc x (after between true xs) (after between true ys))
 
 pub some_stand-append : {A : Type 0} (xs ys : List A) → some_stand (xs ++ ys) ≡ (some_stand xs || some_stand ys)
 some_stand-append [] ys = refl
@@ -28,9 +30,9 @@ or-assoc : (a b c : Bool) → ((a || b) || c) ≡ (a || (b || c))
 or-assoc true b c = refl
 or-assoc false b c = refl
 
-pub wrote-none : (set : Named) (others : Bool) (first : ℕ) (at : Outlet) → Wrote set others first 0 at at others
-wrote-none set others first at = record { written = by_others others; known = or_false others } where
-  by_others : (b : Bool) → Takes at at (after b [])
+pub wrote-none : (between : List ℕ) (set : Named) (others : Bool) (first : ℕ) (at : Outlet) → Wrote between set others first 0 at at others
+wrote-none between set others first at = record { written = by_others others; known = or_false others } where
+  by_others : (b : Bool) → Takes at at (after between b [])
   by_others true = takes_nothing at
   by_others false = takes_nothing at
 
@@ -39,32 +41,32 @@ wrote-none set others first at = record { written = by_others others; known = or
   or_false false = refl
 
 -- more of the members are written
-pub wrote-more : (set : Named) (others : Bool) (first m n : ℕ) (old mid new : Outlet) (any now : Bool)
-    → Wrote set others first m old mid any → Wrote set any (first + m) n mid new now → Wrote set others first (m + n) old new now
-wrote-more set others first m n old mid new any now before step =
+pub wrote-more : (between : List ℕ) (set : Named) (others : Bool) (first m n : ℕ) (old mid new : Outlet) (any now : Bool)
+    → Wrote between set others first m old mid any → Wrote between set any (first + m) n mid new now → Wrote between set others first (m + n) old new now
+wrote-more between set others first m n old mid new any now before step =
     let split : members set first (m + n) ≡ members set first m ++ members set (first + m) n =
     ap (filter set.member) (range_split first m n) ∙ filter-append set.member (range_with_len first m) (range_with_len (first + m) n) in
     let xs = map set.named (members set first m) in
     let ys = map set.named (members set (first + m) n) in
     let some : any ≡ (others || some_stand xs) = before.known ∙ ap (λ b. others || b) (sym (some_stand-map set.named (members set first m))) in
-    let texts : after others xs ++ after any ys ≡ after others (map set.named (members set first (m + n))) =
-    ap (λ b. after others xs ++ after b ys) some
-    ∙ sym (after-append others xs ys)
-    ∙ ap (after others) (sym (ap (map set.named) split ∙ map-append set.named (members set first m) (members set (first + m) n))) in
+    let texts : after between others xs ++ after between any ys ≡ after between others (map set.named (members set first (m + n))) =
+    ap (λ b. after between others xs ++ after between b ys) some
+    ∙ sym (after-append between others xs ys)
+    ∙ ap (after between others) (sym (ap (map set.named) split ∙ map-append set.named (members set first m) (members set (first + m) n))) in
     record {
-      written = subst (Takes old new) texts (takes_then old mid new (after others xs) (after any ys) before.written step.written);
+      written = subst (Takes old new) texts (takes_then old mid new (after between others xs) (after between any ys) before.written step.written);
       known =
           step.known ∙ ap (λ b. b || some_stand (members set (first + m) n)) before.known ∙ or-assoc others _ _
           ∙ ap (λ b. others || b) (sym (ap some_stand split ∙ some_stand-append (members set first m) (members set (first + m) n)));
     }
 
 -- one number, which is a member
-pub wrote-member : (set : Named) (any : Bool) (n : ℕ) (old new : Outlet) (text : List ℕ) → set.member n ≡ true → text ≡ set.named n
-    → Takes old new (after any (text ∷ [])) → Wrote set any n 1 old new true
-wrote-member set any n old new text is named added =
+pub wrote-member : (between : List ℕ) (set : Named) (any : Bool) (n : ℕ) (old new : Outlet) (text : List ℕ) → set.member n ≡ true → text ≡ set.named n
+    → Takes old new (after between any (text ∷ [])) → Wrote between set any n 1 old new true
+wrote-member between set any n old new text is named added =
     let one : members set n 1 ≡ n ∷ [] = ap (λ b. if b then n ∷ [] else []) is in
     record {
-      written = subst (Takes old new) (ap (λ x. after any (x ∷ [])) named ∙ ap (λ xs. after any (map set.named xs)) (sym one)) added;
+      written = subst (Takes old new) (ap (λ x. after between any (x ∷ [])) named ∙ ap (λ xs. after between any (map set.named xs)) (sym one)) added;
       known = or_true any ∙ ap (λ xs. any || some_stand xs) (sym one);
     } where
       or_true : (b : Bool) → true ≡ (b || true)
@@ -72,25 +74,25 @@ wrote-member set any n old new text is named added =
       or_true false = refl
 
 -- and one that is none
-pub wrote-no_member : (set : Named) (any : Bool) (n : ℕ) (at : Outlet) → set.member n ≡ false → Wrote set any n 1 at at any
-wrote-no_member set any n at is =
+pub wrote-no_member : (between : List ℕ) (set : Named) (any : Bool) (n : ℕ) (at : Outlet) → set.member n ≡ false → Wrote between set any n 1 at at any
+wrote-no_member between set any n at is =
     let none : members set n 1 ≡ [] = ap (λ b. if b then n ∷ [] else []) is in
-    let start = wrote-none set any n at in
+    let start = wrote-none between set any n at in
     record {
-      written = subst (Takes at at) (ap (λ xs. after any (map set.named xs)) (sym none)) start.written;
+      written = subst (Takes at at) (ap (λ xs. after between any (map set.named xs)) (sym none)) start.written;
       known = start.known ∙ ap (λ xs. any || some_stand xs) (sym none);
     }
 
 -- numbers none of which is a member
-pub wrote-no_members : (set : Named) (any : Bool) (first count : ℕ) (at : Outlet) → ((k : ℕ) → k < count → set.member (first + k) ≡ false) → Wrote set any first count at at any
-wrote-no_members set any first zero at none = wrote-none set any first at
-wrote-no_members set any first (suc count) at none =
+pub wrote-no_members : (between : List ℕ) (set : Named) (any : Bool) (first count : ℕ) (at : Outlet) → ((k : ℕ) → k < count → set.member (first + k) ≡ false) → Wrote between set any first count at at any
+wrote-no_members between set any first zero at none = wrote-none between set any first at
+wrote-no_members between set any first (suc count) at none =
     let next : 1 + count ≡ suc count = omega arith in
-    subst (λ many. Wrote set any first many at at any) next (wrote-more set any first 1 count at at at any any
-    (wrote-no_member set any first at (subst (λ n. set.member n ≡ false) (omega arith) (none 0 (omega arith))))
-    (wrote-no_members set any (first + 1) count at (λ k below. subst (λ n. set.member n ≡ false) (omega arith) (none (suc k) (omega arith)))))
+    subst (λ many. Wrote between set any first many at at any) next (wrote-more between set any first 1 count at at at any any
+    (wrote-no_member between set any first at (subst (λ n. set.member n ≡ false) (omega arith) (none 0 (omega arith))))
+    (wrote-no_members between set any (first + 1) count at (λ k below. subst (λ n. set.member n ≡ false) (omega arith) (none (suc k) (omega arith)))))
 
-pub listed-some : (texts : List (List ℕ)) → some_stand texts ≡ true → listed texts ≡ after false texts
+pub listed-some : (texts : List (List ℕ)) → some_stand texts ≡ true → listed texts ≡ after (codes ", ") false texts
 listed-some [] some = absurd (cc some)
 listed-some (x ∷ xs) some = refl
 
@@ -125,23 +127,23 @@ members-within set count (suc more) none =
 
 -- all words of a row are gone over: the text of its set was taken, or nothing where the set is empty
 pub row_written : (set : Named) (count limit : ℕ) (old new : Outlet) (any : Bool) → count ≤ limit → ((n : ℕ) → count ≤ n → set.member n ≡ false)
-    → Wrote set false 0 limit old new any → any ≡ true → Takes old new (listed (map set.named (members set 0 count)))
+    → Wrote (codes ", ") set false 0 limit old new any → any ≡ true → Takes old new (listed (map set.named (members set 0 count)))
 row_written set count limit old new any within none wrote is =
     let limit_is : count + (limit - count) ≡ limit = omega (arith, within) in
     let same : members set 0 limit ≡ members set 0 count = ap (members set 0) (sym limit_is) ∙ members-within set count (limit - count) none in
     let some : some_stand (map set.named (members set 0 count)) ≡ true = some_stand-map set.named (members set 0 count) ∙ ap some_stand (sym same) ∙ sym wrote.known ∙ is in
-    subst (Takes old new) (ap (λ xs. after false (map set.named xs)) same ∙ sym (listed-some (map set.named (members set 0 count)) some)) wrote.written
+    subst (Takes old new) (ap (λ xs. after (codes ", ") false (map set.named xs)) same ∙ sym (listed-some (map set.named (members set 0 count)) some)) wrote.written
 
 pub row_empty : (set : Named) (count limit : ℕ) (old new : Outlet) (any : Bool) → count ≤ limit → ((n : ℕ) → count ≤ n → set.member n ≡ false)
-    → Wrote set false 0 limit old new any → any ≡ false → (Takes old new []) × (listed (map set.named (members set 0 count)) ≡ codes "-")
+    → Wrote (codes ", ") set false 0 limit old new any → any ≡ false → (Takes old new []) × (listed (map set.named (members set 0 count)) ≡ codes "-")
 row_empty set count limit old new any within none wrote is =
     let limit_is : count + (limit - count) ≡ limit = omega (arith, within) in
     let same : members set 0 limit ≡ members set 0 count = ap (members set 0) (sym limit_is) ∙ members-within set count (limit - count) none in
     let no : some_stand (map set.named (members set 0 limit)) ≡ false = some_stand-map set.named (members set 0 limit) ∙ sym wrote.known ∙ is in
     let empty = listed-none (map set.named (members set 0 limit)) no in
-    (subst (Takes old new) (ap (after false) empty.1) wrote.written, ap (λ xs. listed (map set.named xs)) (sym same) ∙ empty.0)
+    (subst (Takes old new) (ap (after (codes ", ") false) empty.1) wrote.written, ap (λ xs. listed (map set.named xs)) (sym same) ∙ empty.0)
 
--- one text, behind a comma or not
-pub after-one : (others : Bool) (text : List ℕ) → after others (text ∷ []) ≡ (if others then codes ", " ++ text else text)
-after-one true text = append-nil (codes ", " ++ text)
-after-one false text = append-nil text
+-- one text, behind what stands between or not
+pub after-one : (between : List ℕ) (others : Bool) (text : List ℕ) → after between others (text ∷ []) ≡ (if others then between ++ text else text)
+after-one between true text = append-nil (between ++ text)
+after-one between false text = append-nil text

@@ -1,15 +1,14 @@
--- Lines of the numbers of a range that pass a test, piece by piece
-use Rattle.std.proofs.Common.{◌≡◌, ℕ, zero, suc, ◌+◌, ◌-◌, ◌*◌, ◌<◌, ◌≤◌, Bool, false, List, [], ◌∷◌, ◌++◌, min, cond, map, refl, sym, ap, ◌∙◌, arith}
+-- Texts of the numbers of a range that pass a test, piece by piece
+use Rattle.std.proofs.Common.{◌≡◌, ℕ, zero, suc, ◌+◌, ◌-◌, ◌*◌, ◌<◌, ◌≤◌, Bool, false, List, [], ◌∷◌, ◌++◌, min, cond, flat_map, refl, sym, ap, ◌∙◌, arith}
 use Rattle.std.specs.List.{filter, range_with_len}
+use Rattle.std.proofs.lemmas.Grind.{flat_map-append}
 use Rattle.std.proofs.lemmas.List.Elements.{filter-append}
-use Rattle.tac_reader.specs.Programs.{Program}
 use Rattle.bit_rows.specs.RowSet.{RowSet, IsWordOf, contains}
 use Rattle.bit_rows.specs.Words.{has_bit}
 use Rattle.bit_rows.proofs.WordBits.{has_bit-zero}
-use Rattle.flow_texts.specs.code.Findings.{remark_lines}
+use Rattle.flow_texts.specs.code.Findings.{texts_where}
 use Rattle.flow_texts.specs.Pieces.{Outlet, Takes}
 use Rattle.flow_texts.proofs.Taking.{takes_as, takes_then}
-use Rattle.flow_texts.proofs.RemarkLines.{more_lines}
 
 -- a range in two
 pub range_split : (a m k : ℕ) → range_with_len a (m + k) ≡ range_with_len a m ++ range_with_len (a + m) k
@@ -22,44 +21,44 @@ range_split a (suc m) k =
     let f : a + 1 + m ≡ a + suc m = omega arith in
     ap (range_with_len a) e ∙ ap (λ ns. a ∷ ns) (range_split (a + 1) m k ∙ ap (λ b. range_with_len (a + 1) m ++ range_with_len b k) f)
 
--- the lines of the numbers of a range that pass
-abbrev pub lines_between : Program → ℕ → (ℕ → List ℕ) → (ℕ → Bool) → ℕ → ℕ → List ℕ
-lines_between program point text_of test a n = remark_lines program point (map text_of (filter test (range_with_len a n)))
+-- the texts of the numbers of a range that pass
+abbrev pub texts_between : (ℕ → List ℕ) → (ℕ → Bool) → ℕ → ℕ → List ℕ
+texts_between text_of test a n = texts_where text_of test (range_with_len a n)
 
-pub lines_split : (program : Program) (point : ℕ) (text_of : ℕ → List ℕ) (test : ℕ → Bool) (a m k : ℕ)
-    → lines_between program point text_of test a (m + k) ≡ lines_between program point text_of test a m ++ lines_between program point text_of test (a + m) k
-lines_split program point text_of test a m k =
-    ap (λ ns. remark_lines program point (map text_of ns)) (ap (filter test) (range_split a m k) ∙ filter-append test (range_with_len a m) (range_with_len (a + m) k))
-    ∙ more_lines program point text_of (filter test (range_with_len a m)) (filter test (range_with_len (a + m) k))
+pub texts_split : (text_of : ℕ → List ℕ) (test : ℕ → Bool) (a m k : ℕ)
+    → texts_between text_of test a (m + k) ≡ texts_between text_of test a m ++ texts_between text_of test (a + m) k
+texts_split text_of test a m k =
+    ap (flat_map text_of) (ap (filter test) (range_split a m k) ∙ filter-append test (range_with_len a m) (range_with_len (a + m) k))
+    ∙ flat_map-append text_of (filter test (range_with_len a m)) (filter test (range_with_len (a + m) k))
 
 -- a number more
-pub next_line : (program : Program) (point : ℕ) (text_of : ℕ → List ℕ) (test : ℕ → Bool) (a n : ℕ) (old one two : Outlet) → a ≤ n
-    → Takes old one (lines_between program point text_of test a (n - a))
-    → Takes one two (remark_lines program point (map text_of (filter test (n ∷ []))))
-    → Takes old two (lines_between program point text_of test a (n + 1 - a))
-next_line program point text_of test a n old one two above before done =
+pub next_text : (text_of : ℕ → List ℕ) (test : ℕ → Bool) (a n : ℕ) (old one two : Outlet) → a ≤ n
+    → Takes old one (texts_between text_of test a (n - a))
+    → Takes one two (texts_where text_of test (n ∷ []))
+    → Takes old two (texts_between text_of test a (n + 1 - a))
+next_text text_of test a n old one two above before done =
     let here : a + (n - a) ≡ n = omega arith in
     let longer : n - a + 1 ≡ n + 1 - a = omega arith in
     takes_as old two _ _ (takes_then old one two _ _ before done)
-    (ap (λ b. lines_between program point text_of test a (n - a) ++ remark_lines program point (map text_of (filter test (b ∷ [])))) (sym here)
-    ∙ sym (lines_split program point text_of test a (n - a) 1)
-    ∙ ap (λ k. lines_between program point text_of test a k) longer)
+    (ap (λ b. texts_between text_of test a (n - a) ++ texts_where text_of test (b ∷ [])) (sym here)
+    ∙ sym (texts_split text_of test a (n - a) 1)
+    ∙ ap (λ k. texts_between text_of test a k) longer)
 
 -- a word more
-pub next_word : (program : Program) (point : ℕ) (text_of : ℕ → List ℕ) (test : ℕ → Bool) (n w : ℕ) (old one two : Outlet) → 64 * w < n
-    → Takes old one (lines_between program point text_of test 0 (min n (64 * w)))
-    → Takes one two (lines_between program point text_of test (64 * w) (min n (64 * w + 64) - 64 * w))
-    → Takes old two (lines_between program point text_of test 0 (min n (64 * (w + 1))))
-next_word program point text_of test n w old one two below before done =
+pub next_word : (text_of : ℕ → List ℕ) (test : ℕ → Bool) (n w : ℕ) (old one two : Outlet) → 64 * w < n
+    → Takes old one (texts_between text_of test 0 (min n (64 * w)))
+    → Takes one two (texts_between text_of test (64 * w) (min n (64 * w + 64) - 64 * w))
+    → Takes old two (texts_between text_of test 0 (min n (64 * (w + 1))))
+next_word text_of test n w old one two below before done =
     let all : min n (64 * w) ≡ 64 * w = omega arith in
     let from : 64 * w ≡ 0 + 64 * w = omega arith in
     let more : 64 * w + (min n (64 * w + 64) - 64 * w) ≡ min n (64 * (w + 1)) = omega arith in
     let k : ℕ = min n (64 * w + 64) - 64 * w in
     takes_as old two _ _ (takes_then old one two _ _ before done)
-    (ap (λ m. lines_between program point text_of test 0 m ++ lines_between program point text_of test (64 * w) k) all
-    ∙ ap (λ b. lines_between program point text_of test 0 (64 * w) ++ lines_between program point text_of test b k) from
-    ∙ sym (lines_split program point text_of test 0 (64 * w) k)
-    ∙ ap (λ m. lines_between program point text_of test 0 m) more)
+    (ap (λ m. texts_between text_of test 0 m ++ texts_between text_of test (64 * w) k) all
+    ∙ ap (λ b. texts_between text_of test 0 (64 * w) ++ texts_between text_of test b k) from
+    ∙ sym (texts_split text_of test 0 (64 * w) k)
+    ∙ ap (λ m. texts_between text_of test 0 m) more)
 
 -- none passes
 none_pass : (test : ℕ → Bool) (a k : ℕ) → ((i : ℕ) → i < k → test (a + i) ≡ false) → filter test (range_with_len a k) ≡ []
@@ -69,10 +68,10 @@ none_pass test a (suc k) fails =
     ap (λ t. cond t (a ∷ filter test (range_with_len (a + 1) k)) (filter test (range_with_len (a + 1) k))) (ap test (sym first) ∙ fails 0 (omega arith))
     ∙ none_pass test (a + 1) k (λ i below. let e : a + 1 + i ≡ a + suc i = omega arith in ap test e ∙ fails (suc i) (omega arith))
 
--- a word that is 0 gives no lines
-pub no_lines : (program : Program) (point : ℕ) (text_of : ℕ → List ℕ) (row : RowSet) (n w value : ℕ) → IsWordOf row w value → value ≡ 0
-    → lines_between program point text_of (contains row) (64 * w) (min n (64 * w + 64) - 64 * w) ≡ []
-no_lines program point text_of row n w value is_word zero_ =
-    ap (λ ns. remark_lines program point (map text_of ns))
+-- a word that is 0 gives no texts
+pub no_texts : (text_of : ℕ → List ℕ) (row : RowSet) (n w value : ℕ) → IsWordOf row w value → value ≡ 0
+    → texts_between text_of (contains row) (64 * w) (min n (64 * w + 64) - 64 * w) ≡ []
+no_texts text_of row n w value is_word zero_ =
+    ap (flat_map text_of)
     (none_pass (contains row) (64 * w) (min n (64 * w + 64) - 64 * w)
     (λ i below. sym (is_word i (omega (arith, below))) ∙ ap (λ v. has_bit v i) zero_ ∙ has_bit-zero i))

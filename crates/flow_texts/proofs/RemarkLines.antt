@@ -1,10 +1,10 @@
--- Lines of remarks, and of which bits and variables they are
-use Rattle.std.proofs.Common.{◌≡◌, ℕ, suc, ◌+◌, ◌<◌, ◌≤◌, Bool, true, false, not, ◌&&◌, ◌||◌, List, [], ◌∷◌, ◌++◌, length, map, flat_map, cond, Option, Some, None, option_and_then, option_map, unwrap_or, slice_get, nat_eq, codes, if◌then◌else◌, refl, sym, ap, ◌∙◌, arith, append-nil, append_assoc, length-append}
+-- Which remarks there are, and of which bits and variables they are
+use Rattle.std.proofs.Common.{◌≡◌, ℕ, suc, ◌+◌, ◌<◌, ◌≤◌, Bool, true, false, not, ◌&&◌, ◌||◌, List, [], ◌∷◌, ◌++◌, length, map, flat_map, cond, Option, Some, None, option_and_then, option_map, unwrap_or, slice_get, nat_eq, if◌then◌else◌, refl, sym, ap, ◌∙◌, arith, append-nil, length-append}
 use Rattle.std.specs.List.{filter, list_any, range_with_len}
 use Rattle.std.specs.List.Sorted.{IsStrictlyIncreasing}
 use Rattle.std.proofs.lemmas.Grind.{flat_map-append}
 use Rattle.std.proofs.lemmas.List.Elements.{filter-append}
-use Rattle.std.proofs.lemmas.List.{map-append}
+use Rattle.std.proofs.lemmas.List.Folds.{flat_map-map}
 use Rattle.std.proofs.lemmas.List.FromFn.{length-map-range_with_len}
 use Rattle.tac_reader.specs.Programs.{Program}
 use Rattle.tac_reader.specs.Sound.{IsSound, IsSoundOperand}
@@ -21,43 +21,47 @@ use Rattle.flow_graph.specs.declared.analysis.Analysis.TheVariants.{Busy, Reach}
 use Rattle.flow_graph.proofs.edges.EdgeLemmas.{next_in}
 use Rattle.flow_graph.proofs.bits.SetWords.{nat_eq-same}
 use Rattle.flow_graph.proofs.places.Standing.{Stands, stands}
-use Rattle.flow_texts.specs.code.Findings.{remark_lines, unset_lines, computed_lines, computed_text, busy_lines, busy_text, dead_lines, dead_text}
-use Rattle.flow_texts.specs.Reports.{Knowledge, assigned, is_test, lines_at, remark, remarks_at, unset_at}
+use Rattle.flow_texts.specs.code.Findings.{remark_name, texts_where, words_before, words_behind}
+use Rattle.flow_texts.specs.code.Lists.{some_stand}
+use Rattle.flow_texts.specs.Reports.{Knowledge, assigned, busy_at, computed_at, dead_at, is_test, remark_text, remarks_at, remarks_when_reached, unset_at}
+use Rattle.flow_texts.specs.declared.remark.Remark.{Remark}
+use Rattle.flow_texts.specs.declared.remark.Remark.TheVariants.{NeverReached, Unset, Computed, VeryBusy, Dead}
 use Rattle.flow_team.specs.Tables.{TableRows, IsTableOf}
 use Rattle.flow_texts.specs.Tables.{bits_at, variable_text}
 use Rattle.flow_texts.proofs.Rising.{or_true, rises, filter_rising, filter_both}
 
--- the lines of what passes a test, one that does and one that does not
-pub one_line : (program : Program) (point : ℕ) (text_of : ℕ → List ℕ) (test : ℕ → Bool) (n : ℕ) → test n ≡ true
-    → remark_lines program point (map text_of (filter test (n ∷ []))) ≡ remark program point (text_of n)
-one_line program point text_of test n passes =
-    ap (λ b. remark_lines program point (map text_of (cond b (n ∷ []) []))) passes ∙ append-nil (remark program point (text_of n))
+-- the text of one number that passes
+pub one_text : (text_of : ℕ → List ℕ) (test : ℕ → Bool) (n : ℕ) → test n ≡ true → texts_where text_of test (n ∷ []) ≡ text_of n
+one_text text_of test n passes = ap (λ b. flat_map text_of (cond b (n ∷ []) [])) passes ∙ append-nil (text_of n)
 
--- the lines of some, and of others behind them
-pub more_lines : (program : Program) (point : ℕ) (text_of : ℕ → List ℕ) (first second : List ℕ)
-    → remark_lines program point (map text_of (first ++ second)) ≡ remark_lines program point (map text_of first) ++ remark_lines program point (map text_of second)
-more_lines program point text_of first second =
-    ap (flat_map (remark program point)) (map-append text_of first second) ∙ flat_map-append (remark program point) (map text_of first) (map text_of second)
+-- those of two numbers
+pub two_texts : (text_of : ℕ → List ℕ) (test : ℕ → Bool) (m n : ℕ)
+    → texts_where text_of test (m ∷ n ∷ []) ≡ texts_where text_of test (m ∷ []) ++ texts_where text_of test (n ∷ [])
+two_texts text_of test m n =
+    ap (flat_map text_of) (filter-append test (m ∷ []) (n ∷ [])) ∙ flat_map-append text_of (filter test (m ∷ [])) (filter test (n ∷ []))
 
-pub two_lines : (program : Program) (point : ℕ) (text_of : ℕ → List ℕ) (test : ℕ → Bool) (m n : ℕ)
-    → remark_lines program point (map text_of (filter test (m ∷ n ∷ [])))
-    ≡ remark_lines program point (map text_of (filter test (m ∷ []))) ++ remark_lines program point (map text_of (filter test (n ∷ [])))
-two_lines program point text_of test m n =
-    ap (λ ns. remark_lines program point (map text_of ns)) (filter-append test (m ∷ []) (n ∷ [])) ∙ more_lines program point text_of (filter test (m ∷ [])) (filter test (n ∷ []))
-
--- a remark of two pieces
-pub remark_pieces : (line first last : List ℕ) → line ++ codes ": " ++ first ++ (last ++ codes "\n") ≡ line ++ codes ": " ++ (first ++ last) ++ codes "\n"
-remark_pieces line first last = regroup line (codes ": ") first last (codes "\n")
+-- whether one of two passes
+pub one_passes : (test : ℕ → Bool) (n : ℕ) → some_stand (filter test (n ∷ [])) ≡ test n
+one_passes test n = by_test (test n)
   where
-    regroup : (l s f t e : List ℕ) → l ++ s ++ f ++ (t ++ e) ≡ l ++ s ++ (f ++ t) ++ e
-    regroup l s f t e = simp append_assoc
+    by_test : (b : Bool) → some_stand (cond b (n ∷ []) []) ≡ b
+    by_test true = refl
+    by_test false = refl
 
--- one that stands alone
-pub line_pieces : (line text : List ℕ) → line ++ codes ": " ++ (text ++ codes "\n") ≡ line ++ codes ": " ++ text ++ codes "\n"
-line_pieces line text = regroup line (codes ": ") text (codes "\n")
+pub two_pass : (test : ℕ → Bool) (m n : ℕ) → some_stand (filter test (m ∷ n ∷ [])) ≡ (test m || test n)
+two_pass test m n = by_test (test m)
   where
-    regroup : (l s t e : List ℕ) → l ++ s ++ (t ++ e) ≡ l ++ s ++ t ++ e
-    regroup l s t e = simp append_assoc
+    by_test : (b : Bool) → some_stand (cond b (m ∷ filter test (n ∷ [])) (filter test (n ∷ []))) ≡ (b || test n)
+    by_test true = refl
+    by_test false = one_passes test n
+
+-- what a remark says is what it says before the name, the name, and what it says behind
+pub text_is : (program : Program) (remark : Remark) → words_before remark ++ remark_name program remark ++ words_behind remark ≡ remark_text program remark
+text_is program NeverReached = refl
+text_is program (Unset variable) = refl
+text_is program (Computed bit) = refl
+text_is program (VeryBusy bit) = refl
+text_is program (Dead variable) = refl
 
 -- the name of a variable, read of the same program
 pub name_is : (program other : Program) (variable : ℕ) (name : List ℕ) → other ≡ program → slice_get other.variable_names variable ≡ Some name → name ≡ variable_text program variable
@@ -139,41 +143,52 @@ unset_are program known point k variables sound below at are =
 
 -- the expression that the statement evaluates, where it is available
 pub computed_is : (program : Program) (known : Knowledge) (point bit : ℕ) → evaluated_at program point ≡ Some bit → known.avail.contains point bit ≡ true
-    → computed_lines program known point ≡ remark program point (computed_text program bit)
+    → computed_at program known point ≡ bit ∷ []
 computed_is program known point bit evaluated available =
-    ap
-    (λ o. remark_lines program point (map (computed_text program) (elim o [ Some b ↦ if known.avail.contains point b then b ∷ [] else [] | None ↦ [] ])))
-    evaluated
-    ∙ ap (λ t. remark_lines program point (map (computed_text program) (if t then bit ∷ [] else []))) available
-    ∙ append-nil (remark program point (computed_text program bit))
+    ap (λ o. elim o [ Some b ↦ if known.avail.contains point b then b ∷ [] else [] | None ↦ [] ]) evaluated
+    ∙ ap (λ t. if t then bit ∷ [] else []) available
 
 -- an assignment, as it is dead or not
 pub dead_is : (program : Program) (known : Knowledge) (point variable : ℕ) (k : StmtKind) (dead : Bool) → kind_at program point ≡ Some k → assigned k ≡ Some variable
     → (not (known.doubtful (point + 1)) && not (known.live.contains (point + 1) variable)) ≡ dead
-    → dead_lines program known point ≡ remark_lines program point (map (dead_text program) (if dead then variable ∷ [] else []))
+    → dead_at program known point ≡ (if dead then variable ∷ [] else [])
 dead_is program known point variable k dead at sets is =
     let next : suc point ≡ point + 1 = omega arith in
-    ap (λ o. lines (option_and_then assigned o)) at
-    ∙ ap lines sets
+    ap (λ o. variables (option_and_then assigned o)) at
+    ∙ ap variables sets
     ∙ ap (λ p. listed (not (known.doubtful p) && not (known.live.contains p variable))) next
     ∙ ap listed is
   where
-    lines : Option ℕ → List ℕ
-    lines = λ o. remark_lines program point (map (dead_text program) (elim o [
+    variables : Option ℕ → List ℕ
+    variables = λ o. elim o [
       | Some v ↦ if not (known.doubtful (suc point)) && not (known.live.contains (suc point) v) then v ∷ [] else []
       | None ↦ []
-    ]))
+    ]
 
     listed : Bool → List ℕ
-    listed = λ t. remark_lines program point (map (dead_text program) (if t then variable ∷ [] else []))
+    listed = λ t. if t then variable ∷ [] else []
+
+-- a statement that assigns nothing
+pub none_dead : (program : Program) (known : Knowledge) (point : ℕ) (k : StmtKind) → kind_at program point ≡ Some k → assigned k ≡ None → dead_at program known point ≡ []
+none_dead program known point k at sets = ap (λ o. variables (option_and_then assigned o)) at ∙ ap variables sets
+  where
+    variables : Option ℕ → List ℕ
+    variables = λ o. elim o [
+      | Some v ↦ if not (known.doubtful (suc point)) && not (known.live.contains (suc point) v) then v ∷ [] else []
+      | None ↦ []
+    ]
+
+pub some_if : (b : Bool) (n : ℕ) → some_stand (if b then n ∷ [] else []) ≡ b
+some_if true n = refl
+some_if false n = refl
 
 -- the very busy expressions of a test, as they are told or not
 pub busy_is : (program : Program) (known : Knowledge) (point : ℕ) (k : StmtKind) (told : Bool) → kind_at program point ≡ Some k → (is_test k && not (known.doubtful point)) ≡ told
-    → busy_lines program known point ≡ remark_lines program point (map (busy_text program) (if told then bits_at program Busy known.busy point else []))
-busy_is program known point k told at is = ap (λ o. lines (unwrap_or (option_map is_test o) false && not (known.doubtful point))) at ∙ ap lines is
+    → busy_at program known point ≡ (if told then bits_at program Busy known.busy point else [])
+busy_is program known point k told at is = ap (λ o. expressions_if (unwrap_or (option_map is_test o) false && not (known.doubtful point))) at ∙ ap expressions_if is
   where
-    lines : Bool → List ℕ
-    lines = λ t. remark_lines program point (map (busy_text program) (if t then bits_at program Busy known.busy point else []))
+    expressions_if : Bool → List ℕ
+    expressions_if = λ t. if t then bits_at program Busy known.busy point else []
 
 -- what an assignment sets is there
 pub assigned_there : (program : Program) (point x : ℕ) (k : StmtKind) → Stands program point k → assigned k ≡ Some x → x < length program.variable_names
@@ -194,26 +209,49 @@ assigned_there program point x kind.Skip stand sets = absurd (cc sets)
 pub next_below : (program : Program) (point : ℕ) (k : StmtKind) → Stands program point k → point + 1 < point_count program
 next_below program point k stand = omega (arith, (next_in program point k stand).below)
 
--- the lines of all remarks are those of each kind
-pub remarks_are : (program : Program) (known : Knowledge) (point : ℕ)
-    → remark_lines program point (remarks_at program known point)
-    ≡ unset_lines program known point ++ computed_lines program known point ++ busy_lines program known point ++ dead_lines program known point
-remarks_are program known point = pieces (remark program point) _ _ _ _
+-- the texts of all remarks are those of each kind
+pub remarks_are : (program : Program) (known : Knowledge) (point : ℕ) (text_of : Remark → List ℕ)
+    → flat_map (λ v. text_of (Unset v)) (unset_at program known point)
+    ++ flat_map (λ e. text_of (Computed e)) (computed_at program known point)
+    ++ flat_map (λ e. text_of (VeryBusy e)) (busy_at program known point)
+    ++ flat_map (λ v. text_of (Dead v)) (dead_at program known point)
+    ≡ flat_map text_of (remarks_when_reached program known point)
+remarks_are program known point text_of =
+    sym
+    (pieces (map (λ v. Unset v) us) (map (λ e. Computed e) cs) (map (λ e. VeryBusy e) bs) (map (λ v. Dead v) ds)
+    ∙ ap (λ t. t ++ texts (map (λ e. Computed e) cs) ++ texts (map (λ e. VeryBusy e) bs) ++ texts (map (λ v. Dead v) ds)) (flat_map-map text_of (λ v. Unset v) us)
+    ∙ ap (λ t. flat_map (λ v. text_of (Unset v)) us ++ t ++ texts (map (λ e. VeryBusy e) bs) ++ texts (map (λ v. Dead v) ds)) (flat_map-map text_of (λ e. Computed e) cs)
+    ∙ ap (λ t. flat_map (λ v. text_of (Unset v)) us ++ flat_map (λ e. text_of (Computed e)) cs ++ t ++ texts (map (λ v. Dead v) ds)) (flat_map-map text_of (λ e. VeryBusy e) bs)
+    ∙ ap (λ t. flat_map (λ v. text_of (Unset v)) us ++ flat_map (λ e. text_of (Computed e)) cs ++ flat_map (λ e. text_of (VeryBusy e)) bs ++ t) (flat_map-map text_of (λ v. Dead v) ds))
   where
-    pieces : (f : List ℕ → List ℕ) (a b c d : List (List ℕ)) → flat_map f (a ++ b ++ c ++ d) ≡ flat_map f a ++ flat_map f b ++ flat_map f c ++ flat_map f d
-    pieces f a b c d =
-        flat_map-append f (a ++ b ++ c) d
-        ∙ ap (λ t. t ++ flat_map f d) (flat_map-append f (a ++ b) c ∙ ap (λ t. t ++ flat_map f c) (flat_map-append f a b))
+    us : List ℕ
+    us = unset_at program known point
 
--- a statement that is never reached
-pub unreached_is : (program : Program) (known : Knowledge) (point : ℕ) (s : Stmt) → statement_at program point ≡ Some s → known.reach.has_path point ≡ false
-    → lines_at program known point ≡ remark program point (codes "never reached")
-unreached_is program known point s at unreached =
+    cs : List ℕ
+    cs = computed_at program known point
+
+    bs : List ℕ
+    bs = busy_at program known point
+
+    ds : List ℕ
+    ds = dead_at program known point
+
+    texts : List Remark → List ℕ
+    texts = flat_map text_of
+
+    pieces : (a b c d : List Remark) → flat_map text_of (a ++ b ++ c ++ d) ≡ flat_map text_of a ++ flat_map text_of b ++ flat_map text_of c ++ flat_map text_of d
+    pieces a b c d =
+        flat_map-append text_of (a ++ b ++ c) d
+        ∙ ap (λ t. t ++ flat_map text_of d) (flat_map-append text_of (a ++ b) c ∙ ap (λ t. t ++ flat_map text_of c) (flat_map-append text_of a b))
+
+-- a statement that is reached, and one that is not
+pub remarks_if : (program : Program) (known : Knowledge) (point : ℕ) (s : Stmt) (reached : Bool) → statement_at program point ≡ Some s → known.reach.has_path point ≡ reached
+    → remarks_at program known point ≡ (if reached then remarks_when_reached program known point else NeverReached ∷ [])
+remarks_if program known point s reached at is =
     ap
     (λ o. elim (option_map (λ (t : Stmt). t.kind) o) [
-      | Some k ↦ flat_map (remark program point) (if known.reach.has_path point then remarks_at program known point else codes "never reached" ∷ [])
+      | Some k ↦ if known.reach.has_path point then remarks_when_reached program known point else NeverReached ∷ []
       | None ↦ []
     ])
     at
-    ∙ ap (λ b. flat_map (remark program point) (if b then remarks_at program known point else codes "never reached" ∷ [])) unreached
-    ∙ append-nil (remark program point (codes "never reached"))
+    ∙ ap (λ b. if b then remarks_when_reached program known point else NeverReached ∷ []) is

@@ -15,7 +15,7 @@ use Rattle.flow_texts.specs.declared.findings.Findings.{Findings}
 use Rattle.flow_texts.proofs.Doubts.{facts_are}
 use Rattle.flow_texts.proofs.RemarkLines.{assigned_there, next_below}
 
-is_knowledge : (found : Findings) → AreFindings found → TellDoubtful found.graph.now found.doubtful.items → IsKnowledge found.graph.now (knowledge_of found)
+pub is_knowledge : (found : Findings) → AreFindings found → TellDoubtful found.graph.now found.doubtful.items → IsKnowledge found.graph.now (knowledge_of found)
 is_knowledge found are told = record {
   reach = facts_are found.graph.now found.tables.now.reach Reach are.tables.reach.0 are.tables.reach.1;
   live = facts_are found.graph.now found.tables.now.live Live are.tables.live.0 are.tables.live.1;
@@ -74,15 +74,15 @@ listed_dead_is_safe program known point variable sound is_known (below, reached,
     not_both true on off = absurd (cc off)
     not_both false on off = absurd (cc on)
 
-pub is_report : (found : Findings) (text : List ℕ) → AreFindings found → TellDoubtful found.graph.now found.doubtful.items → text ≡ report_of found.graph.now (knowledge_of found)
+pub is_report : (found : Findings) (text : List ℕ) → IsKnowledge found.graph.now (knowledge_of found) → text ≡ report_of found.graph.now (knowledge_of found)
     → IsReport found.graph.now text
-is_report found text are told is = record { known = knowledge_of found; is_known = is_knowledge found are told; is_text = is }
+is_report found text is_known is = record { known = knowledge_of found; is_known = is_known; is_text = is }
 
-pub lists_safely : (found : Findings) (text : List ℕ) → AreFindings found → TellDoubtful found.graph.now found.doubtful.items → text ≡ report_of found.graph.now (knowledge_of found)
+pub lists_safely : (found : Findings) (text : List ℕ) → AreFindings found → IsKnowledge found.graph.now (knowledge_of found) → text ≡ report_of found.graph.now (knowledge_of found)
     → ListsSafely found.graph.now text
-lists_safely found text are told is = record {
+lists_safely found text are is_known is = record {
   known = knowledge_of found;
-  is_known = is_knowledge found are told;
+  is_known = is_known;
   is_text = is;
-  safe = λ point variable listed. listed_dead_is_safe found.graph.now (knowledge_of found) point variable are.sound (is_knowledge found are told) listed;
+  safe = λ point variable listed. listed_dead_is_safe found.graph.now (knowledge_of found) point variable are.sound is_known listed;
 }

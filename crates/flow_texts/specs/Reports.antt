@@ -12,6 +12,8 @@ use Rattle.tac_reader.specs.declared.program.StmtKind.{StmtKind}
 use Rattle.tac_reader.specs.declared.program.StmtKind.TheVariants as kind
 use Rattle.flow_team.specs.Tables.{Facts, AreFacts, IsTableOf}
 use Rattle.flow_texts.specs.Tables.{bit_text, bits_at, line_at, variable_text}
+use Rattle.flow_texts.specs.declared.remark.Remark.{Remark}
+use Rattle.flow_texts.specs.declared.remark.Remark.TheVariants.{NeverReached, Unset, Computed, VeryBusy, Dead}
 use Rattle.flow_texts.specs.declared.tables.Tables.{Tables}
 
 -- each is this program's table of its analysis
@@ -42,10 +44,6 @@ count_line program =
     codes "points " ++ decimal (point_count program) ++ codes ", variables " ++ decimal (length program.variable_names)
     ++ codes ", definitions " ++ decimal (length (definitions program))
     ++ codes ", expressions " ++ decimal (length (expressions program)) ++ codes "\n"
-
--- `LINE: REMARK`, the line being that of the statement at a point
-abbrev pub remark : Program → ℕ → List ℕ → List ℕ
-remark program point text = decimal (line_at program point) ++ codes ": " ++ text ++ codes "\n"
 
 -- The variables that the statement at a point reads and that may not be set there: the dummy definition of a variable, which
 -- has the variable's number, reaches the point.
@@ -90,20 +88,35 @@ dead_at program known point =
     ]
 
 -- all that is said of the statement at a point that is reached
-abbrev pub remarks_at : Program → Knowledge → ℕ → List (List ℕ)
-remarks_at program known point =
-    map (λ variable. variable_text program variable ++ codes " may be used before it is set") (unset_at program known point)
-    ++ map (λ bit. bit_text program Avail bit ++ codes " is already computed") (computed_at program known point)
-    ++ map (λ bit. bit_text program Busy bit ++ codes " is very busy") (busy_at program known point)
-    ++ map (λ variable. codes "assignment to " ++ variable_text program variable ++ codes " is dead") (dead_at program known point)
+abbrev pub remarks_when_reached : Program → Knowledge → ℕ → List Remark
+remarks_when_reached program known point =
+    map (λ variable. Unset variable) (unset_at program known point)
+    ++ map (λ bit. Computed bit) (computed_at program known point)
+    ++ map (λ bit. VeryBusy bit) (busy_at program known point)
+    ++ map (λ variable. Dead variable) (dead_at program known point)
 
--- the lines of a point: none at a procedure's end, and of a statement that is never reached that alone
-abbrev pub lines_at : Program → Knowledge → ℕ → List ℕ
-lines_at program known point =
+-- the remarks of a point: none at a procedure's end, and of a statement that is never reached that alone
+abbrev pub remarks_at : Program → Knowledge → ℕ → List Remark
+remarks_at program known point =
     elim (kind_at program point) [
-      | Some statement ↦ flat_map (remark program point) (if known.reach.has_path point then remarks_at program known point else codes "never reached" ∷ [])
+      | Some statement ↦ if known.reach.has_path point then remarks_when_reached program known point else NeverReached ∷ []
       | None ↦ []
     ]
+
+-- what a remark says
+abbrev pub remark_text : Program → Remark → List ℕ
+remark_text program NeverReached = codes "never reached"
+remark_text program (Unset variable) = variable_text program variable ++ codes " may be used before it is set"
+remark_text program (Computed bit) = bit_text program Avail bit ++ codes " is already computed"
+remark_text program (VeryBusy bit) = bit_text program Busy bit ++ codes " is very busy"
+remark_text program (Dead variable) = codes "assignment to " ++ variable_text program variable ++ codes " is dead"
+
+-- `LINE: REMARK`, the line being that of the statement at a point
+abbrev pub remark_line : Program → ℕ → Remark → List ℕ
+remark_line program point remark = decimal (line_at program point) ++ codes ": " ++ remark_text program remark ++ codes "\n"
+
+abbrev pub lines_at : Program → Knowledge → ℕ → List ℕ
+lines_at program known point = flat_map (remark_line program point) (remarks_at program known point)
 
 abbrev pub report_of : Program → Knowledge → List ℕ
 report_of program known = count_line program ++ flat_map (lines_at program known) (points program)

@@ -14,7 +14,7 @@ use std::alloc::Global;
 use tac_reader::{write_binary_expression, write_unary_expression};
 
 /// Writes a number in decimal.
-pub(crate) fn write_number<K: Sink>(out: &mut Pieces<'_, K>, number: u32)
+pub fn write_number<K: Sink>(out: &mut Pieces<'_, K>, number: u32)
     requires { IsOpen (outlet K.contents K.faults out.old) }
     ensures same_reference { out.new.sink.ghost_name ≡ out.old.sink.ghost_name }
     ensures takes { Takes (outlet K.contents K.faults out.old) (outlet K.contents K.faults out.new) (decimal number) }
@@ -22,8 +22,10 @@ pub(crate) fn write_number<K: Sink>(out: &mut Pieces<'_, K>, number: u32)
     out.write(Buffer::new().format(number).as_bytes());
 }
 
-/// The line of the statement at a point; 0 at a procedure's end.
-pub(crate) fn line(graph: &Graph<'_>, point: u32) -> u32
+/// The line of the statement at a point, from 1; 0 at a procedure's end.
+///
+/// The condition: the program has the point.
+pub fn line(graph: &Graph<'_>, point: u32) -> u32
     requires { point < point_count graph.now }
     ensures { result ≡ line_at graph.now point }
 {

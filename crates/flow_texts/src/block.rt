@@ -12,7 +12,7 @@ use std::marker::Model;
 
 /// What each bit of an analysis is called, by number: all in one block, each behind `, `, and where each begins and ends.
 #[derive(Drop)]
-pub(crate) struct BitTexts {
+pub struct BitTexts {
     bytes: Vec<u8>,
     marks: Vec<usize>,
 }
@@ -30,11 +30,7 @@ impl Model for BitTexts {
 
 impl BitTexts {
     /// The texts of all bits. Fails only where memory runs out.
-    pub(crate) fn of(
-        alloc: Global,
-        graph: &Graph<'_>,
-        analysis: Analysis,
-    ) -> Result<BitTexts, OutOfMemory>
+    pub fn of(alloc: Global, graph: &Graph<'_>, analysis: Analysis) -> Result<BitTexts, OutOfMemory>
         ensures { IfOk result (AreTexts (bit_text graph.now analysis) (bits_of graph.now analysis)) }
     {
         let mut bytes = Vec::new(alloc);
@@ -59,7 +55,9 @@ impl BitTexts {
     }
 
     /// The text of a bit.
-    pub(crate) fn text(&self, bit: usize) -> &[u8]
+    ///
+    /// The condition: the bit is one of the analysis.
+    pub fn text(&self, bit: usize) -> &[u8]
         requires { bit < length self.now }
         ensures { result.now ≡ text_at self.now bit }
     {

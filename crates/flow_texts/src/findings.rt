@@ -1,16 +1,49 @@
+// What is found of a program before a text of it is written.
+
+ghost use Rattle.std.specs.Prelude.{◌≡◌, IfOk};
+ghost use Rattle.flow_texts.specs.code.Findings.{AreFindings, knowledge_of};
+ghost use Rattle.flow_texts.specs.Reports.{AreTablesOf, IsKnowledge};
+
 use crate::block::BitTexts;
+use crate::doubt::doubtful_points;
 use crate::tables::Tables;
-use flow_graph::Graph;
+use flow_graph::{Analysis, Graph, OutOfMemory};
+use std::alloc::Global;
 
 /// What was found of a program: its tables, for each point whether it is doubtful, and what its expressions are called.
 #[derive(Drop)]
-pub(crate) struct Findings<'a> {
+pub struct Findings<'a> {
     /// The program.
-    pub(crate) graph: &'a Graph<'a>,
+    pub graph: &'a Graph<'a>,
     /// Its tables.
-    pub(crate) tables: &'a Tables,
+    pub tables: &'a Tables,
     /// Whether each point is doubtful.
-    pub(crate) doubtful: Vec<bool>,
+    pub doubtful: Vec<bool>,
     /// The texts of its expressions.
-    pub(crate) expressions: BitTexts,
+    pub expressions: BitTexts,
+}
+
+impl<'a> Findings<'a> {
+    /// What these tables tell of their program.
+    ///
+    /// The condition: the tables are of this graph. Fails only where memory runs out.
+    pub fn of(
+        alloc: Global,
+        graph: &'a Graph<'a>,
+        tables: &'a Tables,
+    ) -> Result<Findings<'a>, OutOfMemory>
+        requires { AreTablesOf graph.now tables.now }
+        ensures program { IfOk result (λ found. found.graph.now ≡ graph.now) }
+        ensures found { IfOk result AreFindings }
+        ensures known { IfOk result (λ found. IsKnowledge found.graph.now (knowledge_of found)) }
+    {
+        let doubtful = doubtful_points(alloc, graph, &tables.live)?;
+        let expressions = BitTexts::of(alloc, graph, Analysis::Avail)?;
+        Ok(Findings {
+            graph,
+            tables,
+            doubtful,
+            expressions,
+        })
+    }
 }

@@ -11,6 +11,10 @@ mod from_read;
 mod operands;
 mod pieces;
 mod pulls;
+#[cfg(test)]
+mod refusal_tests;
+mod remark;
+mod remark_form;
 mod remarks;
 mod reports;
 mod table_texts;
@@ -23,11 +27,17 @@ mod to_write;
 mod transfer;
 mod whole;
 
+pub use bit_texts::{line, write_number};
+pub use block::BitTexts;
 pub use delivery::deliver;
 pub use device::{DeviceFault, Sink, Source};
+pub use findings::Findings;
 pub use from_read::FromRead;
 pub use pieces::Pieces;
 pub use pulls::pull_all;
+pub use remark::Remark;
+pub use remark_form::RemarkForm;
+pub use remarks::{words_before_name, words_behind_name};
 pub use reports::{ReportText, report};
 pub use std::alloc::AllocError as OutOfMemory;
 pub use table_texts::{TableText, table_text};

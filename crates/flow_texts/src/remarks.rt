@@ -1,78 +1,150 @@
 // What is said of the statement at a point.
 
-ghost use Rattle.std.specs.Prelude.{◌≡◌, ◌+◌, ◌-◌, ◌&&◌, ◌++◌, ◌<◌, ◌≤◌, ◌∷◌, [], Some, length, map, not, codes, decimal};
-ghost use Rattle.std.specs.List.{filter, range_with_len};
+ghost use Rattle.std.specs.Prelude.{◌≡◌, ◌+◌, ◌-◌, ◌&&◌, ◌<◌, ◌≤◌, ◌∷◌, [], Some, flat_map, length, not};
+ghost use Rattle.std.specs.List.{range_with_len};
 ghost use Rattle.flow_graph.specs.Points.{kind_at, point_count};
 ghost use Rattle.flow_graph.specs.Universes.{bits as bits_of};
 ghost use Rattle.flow_graph.specs.declared.analysis.Analysis.TheVariants.{Busy};
-ghost use Rattle.flow_texts.specs.code.Findings.{AreFindings, busy_lines, busy_text, computed_lines, dead_lines, knowledge_of, remark_lines, unset_lines, unset_text};
+ghost use Rattle.flow_texts.specs.code.Findings.{AreFindings, IsRemarkIn, knowledge_of, remark_name, texts_where, words_before, words_behind};
+ghost use Rattle.flow_texts.specs.code.Lists.{some_stand};
 ghost use Rattle.flow_texts.specs.Pieces.{IsOpen, Takes, outlet};
-ghost use Rattle.flow_texts.specs.Reports.{is_test as is_test_of, lines_at};
-ghost use Rattle.flow_texts.specs.Tables.{line_at};
+ghost use Rattle.flow_texts.specs.Reports.{busy_at, computed_at, dead_at, is_test as is_test_of, remarks_at, remarks_when_reached, unset_at};
+ghost use Rattle.flow_texts.specs.declared.remark.Remark.TheVariants.{Computed, Dead, Unset, VeryBusy};
 
-use crate::bit_texts::{line, write_number};
 use crate::device::Sink;
 use crate::findings::Findings;
 use crate::operands::{VariablesRead, assigned, is_test, variables_read};
 use crate::pieces::Pieces;
+use crate::remark::Remark;
+use crate::remark_form::RemarkForm;
 use flow_graph::Analysis;
 use tac_reader::StmtKind;
 
+/// What a remark says before what it names.
+pub fn words_before_name(remark: Remark) -> &'static [u8]
+    ensures { result.now ≡ words_before remark }
+{
+    match remark {
+        Remark::NeverReached => b"never reached",
+        Remark::Unset { .. } => b"",
+        Remark::Computed { .. } => b"",
+        Remark::VeryBusy { .. } => b"",
+        Remark::Dead { .. } => b"assignment to ",
+    }
+}
+
+/// What a remark says behind what it names.
+pub fn words_behind_name(remark: Remark) -> &'static [u8]
+    ensures { result.now ≡ words_behind remark }
+{
+    match remark {
+        Remark::NeverReached => b"",
+        Remark::Unset { .. } => b" may be used before it is set",
+        Remark::Computed { .. } => b" is already computed",
+        Remark::VeryBusy { .. } => b" is very busy",
+        Remark::Dead { .. } => b" is dead",
+    }
+}
+
 impl Findings<'_> {
-    // Writes how each remark on the statement at a point begins: with its line.
-    fn write_line<K: Sink>(&self, out: &mut Pieces<'_, K>, point: u32)
-        requires ready { IsOpen (outlet K.contents K.faults out.old) }
-        requires point { point < point_count self.now.graph.now }
-        ensures same_reference { out.new.sink.ghost_name ≡ out.old.sink.ghost_name }
-        ensures takes { Takes (outlet K.contents K.faults out.old) (outlet K.contents K.faults out.new) (decimal (line_at self.now.graph.now point) ++ codes ": ") }
+    /// What a remark names: a variable or an expression, or nothing where a statement is never reached.
+    ///
+    /// The conditions: what was found is of one program, which has what the remark names.
+    pub fn name(&self, remark: Remark) -> &[u8]
+        requires found { AreFindings self.now }
+        requires remark { IsRemarkIn self.now.graph.now remark }
+        ensures { result.now ≡ remark_name self.now.graph.now remark }
     {
-        write_number(out, line(self.graph, point));
-        out.write(b": ");
+        match remark {
+            Remark::NeverReached => b"",
+            Remark::Unset { variable } => self.graph.program().variable(variable),
+            Remark::Computed { expression } => self.expressions.text(expression as usize),
+            Remark::VeryBusy { expression } => self.expressions.text(expression as usize),
+            Remark::Dead { variable } => self.graph.program().variable(variable),
+        }
+    }
+
+    // Whether a variable may not be set at a point.
+    fn may_be_unset(&self, point: u32, variable: u32) -> bool
+        requires found { AreFindings self.now }
+        requires point { point < point_count self.now.graph.now }
+        requires variable { variable < length self.now.graph.now.variable_names }
+        ensures { result ≡ (knowledge_of self.now).reach.contains point variable }
+    {
+        self.tables.reach.contains(point, variable)
+    }
+
+    /// Whether the statement at a point reads a variable that may not be set there.
+    ///
+    /// The conditions: what was found is of one program, and the statement stands at that point.
+    pub fn reads_unset(&self, point: u32, kind: &StmtKind) -> bool
+        requires found { AreFindings self.now }
+        requires point { point < point_count self.now.graph.now }
+        requires kind { kind_at self.now.graph.now point ≡ Some kind.now }
+        ensures { result ≡ some_stand (unset_at self.now.graph.now (knowledge_of self.now) point) }
+    {
+        match variables_read(kind) {
+            VariablesRead::None => false,
+            VariablesRead::One(variable) => self.may_be_unset(point, variable),
+            VariablesRead::Two(first, second) => {
+                self.may_be_unset(point, first) || self.may_be_unset(point, second)
+            }
+        }
     }
 
     // Writes that a variable that the statement reads may not be set, where that is so.
-    fn write_unset_variable<K: Sink>(&self, out: &mut Pieces<'_, K>, point: u32, variable: u32)
+    fn write_unset_variable<F: RemarkForm, K: Sink>(
+        &self,
+        form: &F,
+        out: &mut Pieces<'_, K>,
+        point: u32,
+        variable: u32,
+    )
         requires ready { IsOpen (outlet K.contents K.faults out.old) }
         requires found { AreFindings self.now }
         requires point { point < point_count self.now.graph.now }
         requires variable { variable < length self.now.graph.now.variable_names }
         ensures same_reference { out.new.sink.ghost_name ≡ out.old.sink.ghost_name }
-        ensures takes { Takes (outlet K.contents K.faults out.old) (outlet K.contents K.faults out.new) (remark_lines self.now.graph.now point (map (unset_text self.now.graph.now) (filter ((knowledge_of self.now).reach.contains point) (variable ∷ [])))) }
+        ensures takes { Takes (outlet K.contents K.faults out.old) (outlet K.contents K.faults out.new) (texts_where (λ v. F.text form.now self.now.graph.now point (Unset v)) ((knowledge_of self.now).reach.contains point) (variable ∷ [])) }
     {
-        if !self.tables.reach.contains(point, variable) {
+        if !self.may_be_unset(point, variable) {
             return;
         }
-        self.write_line(out, point);
-        out.write(self.graph.program().variable(variable));
-        out.write(b" may be used before it is set\n");
+        form.write_remark(out, self, point, Remark::Unset { variable });
     }
 
     // Writes which variables that the statement reads may not be set.
-    fn write_unset<K: Sink>(&self, out: &mut Pieces<'_, K>, point: u32, kind: &StmtKind)
+    fn write_unset<F: RemarkForm, K: Sink>(
+        &self,
+        form: &F,
+        out: &mut Pieces<'_, K>,
+        point: u32,
+        kind: &StmtKind,
+    )
         requires ready { IsOpen (outlet K.contents K.faults out.old) }
         requires found { AreFindings self.now }
         requires point { point < point_count self.now.graph.now }
         requires kind { kind_at self.now.graph.now point ≡ Some kind.now }
         ensures same_reference { out.new.sink.ghost_name ≡ out.old.sink.ghost_name }
-        ensures takes { Takes (outlet K.contents K.faults out.old) (outlet K.contents K.faults out.new) (unset_lines self.now.graph.now (knowledge_of self.now) point) }
+        ensures takes { Takes (outlet K.contents K.faults out.old) (outlet K.contents K.faults out.new) (flat_map (λ v. F.text form.now self.now.graph.now point (Unset v)) (unset_at self.now.graph.now (knowledge_of self.now) point)) }
     {
         match variables_read(kind) {
             VariablesRead::None => {}
-            VariablesRead::One(variable) => self.write_unset_variable(out, point, variable),
+            VariablesRead::One(variable) => self.write_unset_variable(form, out, point, variable),
             VariablesRead::Two(first, second) => {
-                self.write_unset_variable(out, point, first);
-                self.write_unset_variable(out, point, second);
+                self.write_unset_variable(form, out, point, first);
+                self.write_unset_variable(form, out, point, second);
             }
         }
     }
 
     // Writes that the expression that the statement evaluates is computed already, where that is so.
-    fn write_computed<K: Sink>(&self, out: &mut Pieces<'_, K>, point: u32)
+    fn write_computed<F: RemarkForm, K: Sink>(&self, form: &F, out: &mut Pieces<'_, K>, point: u32)
         requires ready { IsOpen (outlet K.contents K.faults out.old) }
         requires found { AreFindings self.now }
         requires point { point < point_count self.now.graph.now }
         ensures same_reference { out.new.sink.ghost_name ≡ out.old.sink.ghost_name }
-        ensures takes { Takes (outlet K.contents K.faults out.old) (outlet K.contents K.faults out.new) (computed_lines self.now.graph.now (knowledge_of self.now) point) }
+        ensures takes { Takes (outlet K.contents K.faults out.old) (outlet K.contents K.faults out.new) (flat_map (λ e. F.text form.now self.now.graph.now point (Computed e)) (computed_at self.now.graph.now (knowledge_of self.now) point)) }
     {
         let Some(bit) = self.graph.evaluated(point) else {
             return;
@@ -80,56 +152,70 @@ impl Findings<'_> {
         if !self.tables.avail.contains(point, bit) {
             return;
         }
-        self.write_line(out, point);
-        out.write(self.expressions.text(bit as usize));
-        out.write(b" is already computed\n");
+        form.write_remark(out, self, point, Remark::Computed { expression: bit });
     }
 
     // Writes that an expression is very busy, where that is so.
-    fn write_busy_expression<K: Sink>(&self, out: &mut Pieces<'_, K>, point: u32, bit: u32)
+    fn write_busy_expression<F: RemarkForm, K: Sink>(
+        &self,
+        form: &F,
+        out: &mut Pieces<'_, K>,
+        point: u32,
+        bit: u32,
+    )
         requires ready { IsOpen (outlet K.contents K.faults out.old) }
         requires found { AreFindings self.now }
         requires point { point < point_count self.now.graph.now }
         requires bit { bit < bits_of self.now.graph.now Busy }
         ensures same_reference { out.new.sink.ghost_name ≡ out.old.sink.ghost_name }
-        ensures takes { Takes (outlet K.contents K.faults out.old) (outlet K.contents K.faults out.new) (remark_lines self.now.graph.now point (map (busy_text self.now.graph.now) (filter ((knowledge_of self.now).busy.contains point) (bit ∷ [])))) }
+        ensures takes { Takes (outlet K.contents K.faults out.old) (outlet K.contents K.faults out.new) (texts_where (λ e. F.text form.now self.now.graph.now point (VeryBusy e)) ((knowledge_of self.now).busy.contains point) (bit ∷ [])) }
     {
         if !self.tables.busy.contains(point, bit) {
             return;
         }
-        self.write_line(out, point);
-        out.write(self.expressions.text(bit as usize));
-        out.write(b" is very busy\n");
+        form.write_remark(out, self, point, Remark::VeryBusy { expression: bit });
     }
 
     // Writes which of some expressions are very busy: those from `from` on and before `end`.
-    fn write_busy_between<K: Sink>(&self, out: &mut Pieces<'_, K>, point: u32, from: u32, end: u32)
+    fn write_busy_between<F: RemarkForm, K: Sink>(
+        &self,
+        form: &F,
+        out: &mut Pieces<'_, K>,
+        point: u32,
+        from: u32,
+        end: u32,
+    )
         requires ready { IsOpen (outlet K.contents K.faults out.old) }
         requires found { AreFindings self.now }
         requires point { point < point_count self.now.graph.now }
         requires ordered { from ≤ end }
         requires end { end ≤ bits_of self.now.graph.now Busy }
         ensures same_reference { out.new.sink.ghost_name ≡ out.old.sink.ghost_name }
-        ensures takes { Takes (outlet K.contents K.faults out.old) (outlet K.contents K.faults out.new) (remark_lines self.now.graph.now point (map (busy_text self.now.graph.now) (filter ((knowledge_of self.now).busy.contains point) (range_with_len from (end - from))))) }
+        ensures takes { Takes (outlet K.contents K.faults out.old) (outlet K.contents K.faults out.new) (texts_where (λ e. F.text form.now self.now.graph.now point (VeryBusy e)) ((knowledge_of self.now).busy.contains point) (range_with_len from (end - from))) }
     {
         for bit in from..end {
-            self.write_busy_expression(out, point, bit);
+            self.write_busy_expression(form, out, point, bit);
         }
     }
 
     // Writes which expressions are very busy, word by word; most words have none.
-    fn write_busy_words<K: Sink>(&self, out: &mut Pieces<'_, K>, point: u32)
+    fn write_busy_words<F: RemarkForm, K: Sink>(
+        &self,
+        form: &F,
+        out: &mut Pieces<'_, K>,
+        point: u32,
+    )
         requires ready { IsOpen (outlet K.contents K.faults out.old) }
         requires found { AreFindings self.now }
         requires point { point < point_count self.now.graph.now }
         ensures same_reference { out.new.sink.ghost_name ≡ out.old.sink.ghost_name }
-        ensures takes { Takes (outlet K.contents K.faults out.old) (outlet K.contents K.faults out.new) (remark_lines self.now.graph.now point (map (busy_text self.now.graph.now) (filter ((knowledge_of self.now).busy.contains point) (range_with_len 0 (bits_of self.now.graph.now Busy))))) }
+        ensures takes { Takes (outlet K.contents K.faults out.old) (outlet K.contents K.faults out.new) (texts_where (λ e. F.text form.now self.now.graph.now point (VeryBusy e)) ((knowledge_of self.now).busy.contains point) (range_with_len 0 (bits_of self.now.graph.now Busy))) }
     {
         let bits = self.graph.bits(Analysis::Busy);
         let row = self.tables.busy.row(point);
         for word in 0..(bits + 63) / 64 {
             if row.word(word) != 0 {
-                self.write_busy_between(out, point, 64 * word, bits.min(64 * word + 64));
+                self.write_busy_between(form, out, point, 64 * word, bits.min(64 * word + 64));
             }
         }
     }
@@ -144,18 +230,24 @@ impl Findings<'_> {
     }
 
     // Writes which expressions are very busy at a test that is not doubtful.
-    fn write_busy<K: Sink>(&self, out: &mut Pieces<'_, K>, point: u32, kind: &StmtKind)
+    fn write_busy<F: RemarkForm, K: Sink>(
+        &self,
+        form: &F,
+        out: &mut Pieces<'_, K>,
+        point: u32,
+        kind: &StmtKind,
+    )
         requires ready { IsOpen (outlet K.contents K.faults out.old) }
         requires found { AreFindings self.now }
         requires point { point < point_count self.now.graph.now }
         requires kind { kind_at self.now.graph.now point ≡ Some kind.now }
         ensures same_reference { out.new.sink.ghost_name ≡ out.old.sink.ghost_name }
-        ensures takes { Takes (outlet K.contents K.faults out.old) (outlet K.contents K.faults out.new) (busy_lines self.now.graph.now (knowledge_of self.now) point) }
+        ensures takes { Takes (outlet K.contents K.faults out.old) (outlet K.contents K.faults out.new) (flat_map (λ e. F.text form.now self.now.graph.now point (VeryBusy e)) (busy_at self.now.graph.now (knowledge_of self.now) point)) }
     {
         if !self.tells_busy(point, kind) {
             return;
         }
-        self.write_busy_words(out, point);
+        self.write_busy_words(form, out, point);
     }
 
     // Whether a variable is dead behind a statement: the point after it is not doubtful, and the variable not live there.
@@ -169,14 +261,35 @@ impl Findings<'_> {
         !self.doubtful[next as usize] && !self.tables.live.contains(next, variable)
     }
 
+    /// Whether the statement at a point assigns a variable that is dead behind it.
+    ///
+    /// The conditions: what was found is of one program, and the statement stands at that point.
+    pub fn sets_dead(&self, point: u32, kind: &StmtKind) -> bool
+        requires found { AreFindings self.now }
+        requires point { point < point_count self.now.graph.now }
+        requires kind { kind_at self.now.graph.now point ≡ Some kind.now }
+        ensures { result ≡ some_stand (dead_at self.now.graph.now (knowledge_of self.now) point) }
+    {
+        match assigned(kind) {
+            Some(variable) => self.is_dead_after(point, variable),
+            None => false,
+        }
+    }
+
     // Writes that an assignment is dead, where that is so.
-    fn write_dead<K: Sink>(&self, out: &mut Pieces<'_, K>, point: u32, kind: &StmtKind)
+    fn write_dead<F: RemarkForm, K: Sink>(
+        &self,
+        form: &F,
+        out: &mut Pieces<'_, K>,
+        point: u32,
+        kind: &StmtKind,
+    )
         requires ready { IsOpen (outlet K.contents K.faults out.old) }
         requires found { AreFindings self.now }
         requires point { point < point_count self.now.graph.now }
         requires kind { kind_at self.now.graph.now point ≡ Some kind.now }
         ensures same_reference { out.new.sink.ghost_name ≡ out.old.sink.ghost_name }
-        ensures takes { Takes (outlet K.contents K.faults out.old) (outlet K.contents K.faults out.new) (dead_lines self.now.graph.now (knowledge_of self.now) point) }
+        ensures takes { Takes (outlet K.contents K.faults out.old) (outlet K.contents K.faults out.new) (flat_map (λ v. F.text form.now self.now.graph.now point (Dead v)) (dead_at self.now.graph.now (knowledge_of self.now) point)) }
     {
         let Some(variable) = assigned(kind) else {
             return;
@@ -184,37 +297,45 @@ impl Findings<'_> {
         if !self.is_dead_after(point, variable) {
             return;
         }
-        self.write_line(out, point);
-        out.write(b"assignment to ");
-        out.write(self.graph.program().variable(variable));
-        out.write(b" is dead\n");
+        form.write_remark(out, self, point, Remark::Dead { variable });
     }
 
     // Writes all remarks on a statement that is reached.
-    fn write_remarks<K: Sink>(&self, out: &mut Pieces<'_, K>, point: u32, kind: &StmtKind)
+    fn write_when_reached<F: RemarkForm, K: Sink>(
+        &self,
+        form: &F,
+        out: &mut Pieces<'_, K>,
+        point: u32,
+        kind: &StmtKind,
+    )
         requires ready { IsOpen (outlet K.contents K.faults out.old) }
         requires found { AreFindings self.now }
         requires point { point < point_count self.now.graph.now }
         requires kind { kind_at self.now.graph.now point ≡ Some kind.now }
         ensures same_reference { out.new.sink.ghost_name ≡ out.old.sink.ghost_name }
-        ensures takes { Takes (outlet K.contents K.faults out.old) (outlet K.contents K.faults out.new) (unset_lines self.now.graph.now (knowledge_of self.now) point
-            ++ computed_lines self.now.graph.now (knowledge_of self.now) point
-            ++ busy_lines self.now.graph.now (knowledge_of self.now) point
-            ++ dead_lines self.now.graph.now (knowledge_of self.now) point) }
+        ensures takes { Takes (outlet K.contents K.faults out.old) (outlet K.contents K.faults out.new) (flat_map (F.text form.now self.now.graph.now point) (remarks_when_reached self.now.graph.now (knowledge_of self.now) point)) }
     {
-        self.write_unset(out, point, kind);
-        self.write_computed(out, point);
-        self.write_busy(out, point, kind);
-        self.write_dead(out, point, kind);
+        self.write_unset(form, out, point, kind);
+        self.write_computed(form, out, point);
+        self.write_busy(form, out, point, kind);
+        self.write_dead(form, out, point, kind);
     }
 
-    /// Writes the lines of a point: none at a procedure's end, and of a statement that is never reached that alone.
-    pub(crate) fn write_point<K: Sink>(&self, out: &mut Pieces<'_, K>, point: u32)
+    /// Writes the remarks of a point, each in that form: none at a procedure's end, and of a statement that is never reached
+    /// that alone.
+    ///
+    /// The conditions: what was found is of one program, which has the point.
+    pub fn write_remarks<F: RemarkForm, K: Sink>(
+        &self,
+        form: &F,
+        out: &mut Pieces<'_, K>,
+        point: u32,
+    )
         requires ready { IsOpen (outlet K.contents K.faults out.old) }
         requires found { AreFindings self.now }
         requires point { point < point_count self.now.graph.now }
         ensures same_reference { out.new.sink.ghost_name ≡ out.old.sink.ghost_name }
-        ensures takes { Takes (outlet K.contents K.faults out.old) (outlet K.contents K.faults out.new) (lines_at self.now.graph.now (knowledge_of self.now) point) }
+        ensures takes { Takes (outlet K.contents K.faults out.old) (outlet K.contents K.faults out.new) (flat_map (F.text form.now self.now.graph.now point) (remarks_at self.now.graph.now (knowledge_of self.now) point)) }
     {
         if out.has_failed() {
             return;
@@ -223,10 +344,9 @@ impl Findings<'_> {
             return;
         };
         if self.tables.reach.has_path(point) {
-            self.write_remarks(out, point, &stmt.kind);
+            self.write_when_reached(form, out, point, &stmt.kind);
             return;
         }
-        self.write_line(out, point);
-        out.write(b"never reached\n");
+        form.write_remark(out, self, point, Remark::NeverReached);
     }
 }

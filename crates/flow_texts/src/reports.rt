@@ -3,14 +3,15 @@
 ghost use Rattle.std.specs.Prelude.{◌≡◌, ◌++◌, IfOk, decimal};
 ghost use Rattle.flow_texts.specs.code.Findings.{AreFindings, knowledge_of};
 ghost use Rattle.flow_texts.specs.Pieces.{IsOpen, Takes, outlet};
-ghost use Rattle.flow_texts.specs.Reports.{AreTablesOf, IsReport, ListsSafely, count_line, report_of};
+ghost use Rattle.flow_texts.specs.Reports.{AreTablesOf, IsReport, ListsSafely, count_line, remark_line, report_of};
 
-use crate::bit_texts::write_number;
-use crate::block::BitTexts;
+use crate::bit_texts::{line, write_number};
 use crate::device::Sink;
-use crate::doubt::doubtful_points;
 use crate::findings::Findings;
 use crate::pieces::Pieces;
+use crate::remark::Remark;
+use crate::remark_form::RemarkForm;
+use crate::remarks::{words_before_name, words_behind_name};
 use crate::tables::Tables;
 use crate::text::Text;
 use crate::whole::whole_text;
@@ -41,6 +42,29 @@ fn write_counts<K: Sink>(out: &mut Pieces<'_, K>, graph: &Graph<'_>)
     out.write(b"\n");
 }
 
+// A remark as a line of the report.
+#[derive(Clone, Copy)]
+struct ReportLine;
+
+impl RemarkForm for ReportLine {
+    ghost text = { λ _ program point remark. remark_line program point remark };
+
+    fn write_remark<K: Sink>(
+        &self,
+        out: &mut Pieces<'_, K>,
+        found: &Findings<'_>,
+        point: u32,
+        remark: Remark,
+    ) {
+        write_number(out, line(found.graph, point));
+        out.write(b": ");
+        out.write(words_before_name(remark));
+        out.write(found.name(remark));
+        out.write(words_behind_name(remark));
+        out.write(b"\n");
+    }
+}
+
 impl Findings<'_> {
     // Writes the report.
     fn write<K: Sink>(&self, out: &mut Pieces<'_, K>)
@@ -51,7 +75,7 @@ impl Findings<'_> {
     {
         write_counts(out, self.graph);
         for point in 0..self.graph.points() {
-            self.write_point(out, point);
+            self.write_remarks(&ReportLine, out, point);
         }
     }
 }
@@ -98,14 +122,7 @@ impl<'a> ReportText<'a> {
         ensures report { IfOk result (IsReport graph.now) }
         ensures safe { IfOk result (ListsSafely graph.now) }
     {
-        let doubtful = doubtful_points(alloc, graph, &tables.live)?;
-        let expressions = BitTexts::of(alloc, graph, Analysis::Avail)?;
-        let found = Findings {
-            graph,
-            tables,
-            doubtful,
-            expressions,
-        };
+        let found = Findings::of(alloc, graph, tables)?;
         Ok(ReportText { found })
     }
 }

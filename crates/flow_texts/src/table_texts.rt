@@ -29,7 +29,7 @@ fn write_next<K: Sink>(out: &mut Pieces<'_, K>, texts: &BitTexts, bit: usize, ot
     requires ready { IsOpen (outlet K.contents K.faults out.old) }
     requires bit { bit < length texts.now }
     ensures same_reference { out.new.sink.ghost_name ≡ out.old.sink.ghost_name }
-    ensures takes { Takes (outlet K.contents K.faults out.old) (outlet K.contents K.faults out.new) (after others (text_at texts.now bit ∷ [])) }
+    ensures takes { Takes (outlet K.contents K.faults out.old) (outlet K.contents K.faults out.new) (after (codes ", ") others (text_at texts.now bit ∷ [])) }
 {
     if others {
         out.write(texts.behind_comma(bit));
@@ -61,7 +61,7 @@ fn write_word<K: Sink>(
     requires within { (bit : ℕ) → set.member bit ≡ true → bit < length texts.now }
     requires first { first < 2 ^ 38 }
     ensures same_reference { out.new.sink.ghost_name ≡ out.old.sink.ghost_name }
-    ensures wrote { Wrote set others first 64 (outlet K.contents K.faults out.old) (outlet K.contents K.faults out.new) result }
+    ensures wrote { Wrote (codes ", ") set others first 64 (outlet K.contents K.faults out.old) (outlet K.contents K.faults out.new) result }
 {
     let mut any = others;
     for k in 0..64 {

@@ -1,3 +1,4 @@
+pub mod KeptWords
 pub mod Layouts
 pub mod ListingLines
 pub mod ListingSections

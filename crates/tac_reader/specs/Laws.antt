@@ -1,15 +1,16 @@
 -- What one wants to know of the definitions.
-use Rattle.std.specs.Prelude.{◌≡◌, ◌≢◌, ℕ, ◌<◌, ◌≤◌, true, List, flat_map, map, length, All, AllPairs, Some, None, slice_range}
+use Rattle.std.specs.Prelude.{◌≡◌, ◌≢◌, ℕ, ◌<◌, ◌≤◌, true, List, ◌++◌, flat_map, map, length, All, AllPairs, Some, None, slice_range, codes}
 use Rattle.tac_reader.specs.Text.{lines}
-use Rattle.tac_reader.specs.Tokens.{word, Token, piece_of, rows, row_from}
+use Rattle.tac_reader.specs.Tokens.{word, fixed, Token, Row, piece_of, rows, row_from}
 use Rattle.tac_reader.specs.Forms.{Slot, has_form, statements}
-use Rattle.tac_reader.specs.Sections.{sections, statements_of}
-use Rattle.tac_reader.specs.Programs.{Procedure, Program, program_of, start_of, stop_of}
+use Rattle.tac_reader.specs.Sections.{Section, sections, statements_of, titles}
+use Rattle.tac_reader.specs.Programs.{Names, Procedure, Program, names_for, names_in, operator_of, program_of, sign_of, start_of, statement_of, stop_of, variables_in}
 use Rattle.tac_reader.specs.Faults.{refusal_of, longest_text}
-use Rattle.tac_reader.specs.Listings.{listing_of}
+use Rattle.tac_reader.specs.Listings.{listing_of, statement_text}
 use Rattle.tac_reader.specs.Sound.{IsSound}
 use Rattle.tac_reader.specs.declared.form.Form.{Form}
 use Rattle.tac_reader.specs.declared.program.Label.{Label}
+use Rattle.tac_reader.specs.declared.program.Op.{Op}
 use Rattle.tac_reader.specs.declared.program.StmtKind.{StmtKind}
 
 -- The lines, one after another, are the text.
@@ -35,6 +36,30 @@ abbrev pub StatementsAreSpelled : Type 0
 StatementsAreSpelled =
     (text : List ℕ)
     → All (λ s. All (λ ts. row_from (start_of ts) 0 (slice_range text (start_of ts) (stop_of ts)) ≡ record { tokens = ts; bad = None }) (statements_of s.body)) (sections text)
+
+-- A sign tells its operator, for each of them; so no two have the same.
+abbrev pub SignsTellOperators : Type 0
+SignsTellOperators = (o : Op) → operator_of (fixed (sign_of o)) ≡ o
+
+abbrev pub SignsDiffer : Type 0
+SignsDiffer = (o p : Op) → sign_of o ≡ sign_of p → o ≡ p
+
+-- A line has the words of these tokens and nothing else.
+pub record HasWordsOf (ts : List Token) (line : Row) : Type 0 where
+  pub words : map (λ t. t.word) line.tokens ≡ map (λ t. t.word) ts
+  pub whole : line.bad ≡ None
+
+-- Each statement of the program of a text that is not refused, written out with the names of its numbers, has the words that stand
+-- in the text. So no number in it stands for a name that is not there, no operator for another sign, and no statement for another.
+abbrev pub KeepsItsWords : List ℕ → Names → List Token → Type 0
+KeepsItsWords text names ts = HasWordsOf ts (row_from 0 0 (statement_text names (statement_of text names ts).kind ++ codes "\n"))
+
+abbrev pub SectionKeepsItsWords : List ℕ → Section → Type 0
+SectionKeepsItsWords text s =
+    All (KeepsItsWords text (names_for (names_in (titles (sections text))) (variables_in (sections text)) s)) (statements_of s.body)
+
+abbrev pub StatementsKeepTheirWords : Type 0
+StatementsKeepTheirWords = (text : List ℕ) → refusal_of text ≡ None → All (SectionKeepsItsWords text) (sections text)
 
 -- The program of a text that is not refused is sound.
 abbrev pub ProgramsAreSound : Type 0

@@ -40,6 +40,8 @@ noted known x = if is_one_of x known then known else known ++ x ∷ []
 abbrev pub each_once : List (List ℕ) → List (List ℕ)
 each_once names = fold noted [] names
 
+-- The number of a name. One that is not there has 0, as words that make no statement are taken for `skip` and a sign that is no
+-- operator for `+` below: no text without faults comes to any of these (Laws.antt: StatementsKeepTheirWords, SignsTellOperators).
 abbrev pub number_of : List (List ℕ) → List ℕ → ℕ
 number_of names x = unwrap_or (position (bytes_eq x) names) 0
 
@@ -103,6 +105,7 @@ kind_of names callees form.Call _ = kind.Call callees
 kind_of names callees form.Return _ = kind.Return
 kind_of names callees form.Read (_ ∷ x ∷ _) = kind.Read (variable_of names x)
 kind_of names callees form.Print (_ ∷ y ∷ _) = kind.Print (operand_of names y)
+kind_of names callees form.Skip _ = kind.Skip
 kind_of names callees _ _ = kind.Skip
 
 abbrev pub start_of : List Token → ℕ
@@ -135,9 +138,13 @@ labels_from n (place ∷ places) = record { name = n; place = place } ∷ labels
 abbrev pub names_in : List Token → List (List ℕ)
 names_in ts = map spelling_of ts
 
+-- the names that a section's statements speak of: its labels are its own
+abbrev pub names_for : List (List ℕ) → List (List ℕ) → Section → Names
+names_for procedures variables s = record { procedures = procedures; variables = variables; labels = names_in (labels_in s) }
+
 abbrev pub procedure_of : List ℕ → List (List ℕ) → List (List ℕ) → ℕ → Section → Procedure
 procedure_of text procedures variables n s =
-    let names : Names = record { procedures = procedures; variables = variables; labels = names_in (labels_in s) } in
+    let names : Names = names_for procedures variables s in
     record { name = n; labels = labels_from 0 (label_places 0 s.body); label_names = names.labels; statements = map (statement_of text names) (statements_of s.body) }
 
 abbrev pub procedures_from : List ℕ → List (List ℕ) → List (List ℕ) → ℕ → List Section → List Procedure

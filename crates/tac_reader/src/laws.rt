@@ -1,6 +1,6 @@
 //! Laws of the definitions: each is the clause of a function without a body.
 
-ghost use Rattle.tac_reader.specs.Laws.{LinesJoin, ListingsReadBack, ProgramsAreSound, StatementsAreApart, StatementsAreSpelled, TokensAreSpelled};
+ghost use Rattle.tac_reader.specs.Laws.{LinesJoin, ListingsReadBack, ProgramsAreSound, SignsDiffer, SignsTellOperators, StatementsAreApart, StatementsAreSpelled, StatementsKeepTheirWords, TokensAreSpelled};
 
 /// The lines of a text, one after another, are the text.
 pub fn lines_join()
@@ -10,6 +10,18 @@ pub fn lines_join()
 /// No words have two rows of the table of statements.
 pub fn statements_are_apart()
     ensures { StatementsAreApart }
+{}
+
+/// Each of the operators is told by its sign, and no two have one sign.
+pub fn signs_tell_operators()
+    ensures operators { SignsTellOperators }
+    ensures differ { SignsDiffer }
+{}
+
+/// Each statement of the program of a text that is not refused has the words that stand in the text:
+/// nothing in it stands for what is not there.
+pub fn statements_keep_their_words()
+    ensures { StatementsKeepTheirWords }
 {}
 
 /// The program of a text that is not refused is sound: each number in it leads to what is there.

@@ -107,6 +107,41 @@ fn refuses_bytes(rt: HostRuntime) -> Result<(), Fail> {
     Ok(())
 }
 
+/// What stands before a byte and behind it, and the answer, which is the same for each of the bytes 0, 13 and 255: out of a comment
+/// they begin no token, and in one they are passed over.
+const AROUND_A_BYTE: [(&[u8], &[u8], &str); 8] = [
+    (b"", b"", "1:1: refusal 1: BadByte"),
+    (b"proc ma", b"in\nend\n", "1:8: refusal 1: BadByte"),
+    (b"proc main\nx = ", b" 1\nend\n", "2:5: refusal 1: BadByte"),
+    (
+        b"proc main\nx = 1 ",
+        b" # c\nend\n",
+        "2:7: refusal 1: BadByte",
+    ),
+    (b"proc main\nend", b" \n", "2:4: refusal 1: BadByte"),
+    (b"proc main #", b"\nend\n", "proc main\nend\n"),
+    (
+        b"proc main\nx = 1 # a ",
+        b" b\nend\n",
+        "proc main\n  x = 1\nend\n",
+    ),
+    (b"proc main\nend\n#", b"", "proc main\nend\n"),
+];
+
+#[test]
+fn bytes_in_and_out_of_comments(rt: HostRuntime) -> Result<(), Fail> {
+    let alloc = rt.alloc();
+    for byte in [0, 13, 255] {
+        for (before, after, want) in AROUND_A_BYTE {
+            let mut text = before.to_vec(alloc)?;
+            text.push(byte)?;
+            text.extend_from_slice(after)?;
+            assert_eq!(rt; answer(alloc, &text)?.as_str(), want, "byte {byte}");
+        }
+    }
+    Ok(())
+}
+
 #[test]
 fn refuses_every_beginning_of_the_smallest(rt: HostRuntime) -> Result<(), Fail> {
     let alloc = rt.alloc();

@@ -1,80 +1,33 @@
 -- The matches of the program's command hold each of its options.
-use Rattle.std.proofs.Common.{◌≡◌, ◌∙◌, Bool, true, false, refl, sym, subst, List, [], ◌∷◌, map, codes, true≢false, ◌⊎◌, inl, inr}
-use Rattle.std.specs.Prelude.{pos, find, option_map, is_some}
-use Rattle.std.specs.List.{list_any}
+use Rattle.std.proofs.Common.{◌≡◌, true, false, refl, sym, subst, List, codes, true≢false, ◌⊎◌, inl, inr}
 use Rattle.std.specs.Borrow.{Bor}
-use Rattle.std.specs.Str.{bytes_eq}
-use Rattle.clap.specs.Facts.{HasDefaults, ValuesPass, args_of}
+use Rattle.clap.specs.Facts.{HasDefaults, ValuesPass}
 use Rattle.clap.specs.Simple.{App, app_of, built}
-use Rattle.clap.specs.Values.{possible_matches, same_text}
-use Rattle.clap.specs.Words.{Text, rows_of, rule_of}
+use Rattle.clap.specs.Words.{rows_of}
 use Rattle.clap.specs.declared.builder.command.Command.{Command}
 use Rattle.clap.specs.declared.builder.possible_value.PossibleValue.{PossibleValue}
-use Rattle.clap.specs.declared.builder.value_parser.ValueParser.TheVariants as parser
 use Rattle.clap.specs.declared.parser.matches.Found.{Found}
-use Rattle.clap.proofs.SimpleLemmas.{plain_fields}
-use Rattle.clap.proofs.WalkLemmas.{first_value-rows, one_text-rows}
-use Rattle.tacflow.specs.Commands.{AreKinds, tacflow_command, words_of}
-use Rattle.tacflow.specs.Matches.{HoldsOptions}
+use Rattle.flow_runs.specs.Words.{AreKindsOf}
+use Rattle.flow_runs.proofs.HeldValues as options
+use Rattle.tacflow.specs.Commands.{tacflow_command}
 use Rattle.tacflow.specs.Shows.{kinds}
-use Rattle.tacflow.specs.declared.options.Show.{Show}
-use Rattle.tacflow.proofs.Entries.{OnlyOption, default_held, has_default, matched_in, option_held}
-
--- ---- a word that clap accepts names a kind
-
-abbrev none_named : Text → List (Bor Text) → Bool
-none_named t names = list_any (λ name. same_text false name.now t) names
-
-no_aliases : (names : List (Bor Text)) (t : Text) → map (λ name. name.now) names ≡ [] → none_named t names ≡ false
-no_aliases [] t e = refl
-no_aliases (x ∷ xs) t e = cc
-
-pub named_kind : (values : List PossibleValue) (known : List (Text × Show)) (t : Text) → map words_of values ≡ map (λ kind. kind.0 ∷ []) known
-    → list_any (possible_matches false t) values ≡ true → is_some (option_map (λ kind. kind.1) (find (λ kind. bytes_eq kind.0 t) known)) ≡ true
-named_kind [] known t same e = absurd (true≢false (sym e))
-named_kind (v ∷ vs) [] t same e = cc
-named_kind (v ∷ vs) (k ∷ ks) t same e = go (bytes_eq k.0 t) refl (named_kind vs ks t rest)
-  where
-    first : words_of v ≡ k.0 ∷ []
-    first = cc
-
-    rest : map words_of vs ≡ map (λ kind. kind.0 ∷ []) ks
-    rest = cc
-
-    go : (b : Bool) → bytes_eq k.0 t ≡ b
-        → (list_any (possible_matches false t) vs ≡ true → is_some (option_map (λ kind. kind.1) (find (λ kind. bytes_eq kind.0 t) ks)) ≡ true)
-        → is_some (option_map (λ kind. kind.1) (find (λ kind. bytes_eq kind.0 t) (k ∷ ks))) ≡ true
-    go true is further = rw is refl
-    go false is further =
-        let name : v.name.now ≡ k.0 = cc in
-        let aliases : map (λ name. name.now) v.aliases.now ≡ [] = cc in
-        let not_this : possible_matches false t v ≡ false = rw (name, is) (no_aliases v.aliases.now t aliases) in
-        rw is (further (rw not_this at e))
-
--- ---- the rules of the command, as it was made and as it is built
+use Rattle.tacflow.specs.code.Matches.{HoldsOptions}
 
 other : {P : Type 0} → false ≡ true → P
 other e = absurd (true≢false (sym e))
 
--- The rules of a command have the three options and nothing else of their names.
-pub record HasOptions (a : App) (values : Bor (List PossibleValue)) : Type 0 where
-  pub plain : a.top.is_plain ≡ true
-  pub workers : OnlyOption a.top.rules (codes "workers") (parser.Signed (pos 1) (pos 64))
-  pub cut : OnlyOption a.top.rules (codes "cut") (parser.Signed (pos 1) (pos 4096))
-  pub show : OnlyOption a.top.rules (codes "show") (parser.Values values)
-  pub workers_default : has_default a.top.rules (codes "workers") ≡ true
-  pub cut_default : has_default a.top.rules (codes "cut") ≡ true
-  pub show_default : has_default a.top.rules (codes "show") ≡ true
+abbrev pub HasOptions : App → Bor (List PossibleValue) → Type 0
+HasOptions a values = options.HasOptions a (codes "show") values
 
 as_made : (values : Bor (List PossibleValue)) → HasOptions (tacflow_command values) values
 as_made values = record {
   plain = refl;
   workers = (λ _. record { parser = refl; any_case = refl; least = refl; action = refl; simple = refl }, (other, (other, tt)));
   cut = (other, (λ _. record { parser = refl; any_case = refl; least = refl; action = refl; simple = refl }, (other, tt)));
-  show = (other, (other, (λ _. record { parser = refl; any_case = refl; least = refl; action = refl; simple = refl }, tt)));
+  of_kind = (other, (other, (λ _. record { parser = refl; any_case = refl; least = refl; action = refl; simple = refl }, tt)));
   workers_default = refl;
   cut_default = refl;
-  show_default = refl;
+  kind_default = refl;
 }
 
 as_built : (values : Bor (List PossibleValue)) → HasOptions (built (tacflow_command values)) values
@@ -82,10 +35,10 @@ as_built values = record {
   plain = refl;
   workers = (λ _. record { parser = refl; any_case = refl; least = refl; action = refl; simple = refl }, (other, (other, (other, tt))));
   cut = (other, (λ _. record { parser = refl; any_case = refl; least = refl; action = refl; simple = refl }, (other, (other, tt))));
-  show = (other, (other, (λ _. record { parser = refl; any_case = refl; least = refl; action = refl; simple = refl }, (other, tt))));
+  of_kind = (other, (other, (λ _. record { parser = refl; any_case = refl; least = refl; action = refl; simple = refl }, (other, tt))));
   workers_default = refl;
   cut_default = refl;
-  show_default = refl;
+  kind_default = refl;
 }
 
 pub has_options : (values : Bor (List PossibleValue)) (a : App) → (a ≡ tacflow_command values) ⊎ (a ≡ built (tacflow_command values)) → HasOptions a values
@@ -94,21 +47,8 @@ has_options values a is = elim is [
   | inr made ↦ subst (λ (b : App). HasOptions b values) (sym made) (as_built values)
 ]
 
--- ---- what a parse by these rules holds
-
-pub options_held : (c : Command) (f : Found) (values : Bor (List PossibleValue)) → HasOptions (app_of c) values → AreKinds values.now
+pub options_held : (c : Command) (f : Found) (values : Bor (List PossibleValue)) → HasOptions (app_of c) values → AreKindsOf kinds values.now
     → ValuesPass c f → HasDefaults c f → HoldsOptions (rows_of f)
 options_held c f values has are passes defaults =
-    let groups = (plain_fields c has.plain).groups in
-    let of = λ (name : Text) (default : has_default (map rule_of (args_of c)) name ≡ true). matched_in f name (default_held f name (args_of c) defaults default) in
-    let workers = of (codes "workers") has.workers_default in
-    let cut = of (codes "cut") has.cut_default in
-    let show = of (codes "show") has.show_default in
-    let workers_value = option_held c (codes "workers") _ has.workers groups (λ e. cc) f workers.0 passes workers.1 in
-    let cut_value = option_held c (codes "cut") _ has.cut groups (λ e. cc) f cut.0 passes cut.1 in
-    let show_value = option_held c (codes "show") _ has.show groups (λ e. cc) f show.0 passes show.1 in
-    record {
-      workers = (workers_value.0, sym (one_text-rows f (codes "workers")) ∙ workers_value.2, workers_value.3);
-      cut = (cut_value.0, sym (one_text-rows f (codes "cut")) ∙ cut_value.2, cut_value.3);
-      show = (show_value.0, sym (first_value-rows f (codes "show")) ∙ show_value.1, named_kind values.now kinds show_value.0 are show_value.3);
-    }
+    let held = options.options_held kinds c f (codes "show") values (λ e. cc) has are passes defaults in
+    record { workers = held.0; cut = held.1; show = held.2 }

@@ -1,6 +1,4 @@
-pub mod Faults
-pub mod FaultLines
 pub mod Runs
 pub mod Shows
 pub mod Commands
-pub mod Matches
+pub mod code

@@ -1,5 +1,6 @@
 -- The word of each kind of answer.
-use Rattle.std.specs.Prelude.{ℕ, List, [], ◌∷◌, Option, codes, find, option_map, bytes_eq}
+use Rattle.std.specs.Prelude.{ℕ, List, [], ◌∷◌, Option, codes}
+use Rattle.flow_runs.specs.Words.{kind_named}
 use Rattle.tacflow.specs.declared.options.Show.{Show}
 use Rattle.tacflow.specs.declared.options.Show.TheVariants as show
 
@@ -11,4 +12,4 @@ kinds =
 
 -- The kind that a word names.
 abbrev pub show_named : List ℕ → Option Show
-show_named word = option_map (λ kind. kind.1) (find (λ kind. bytes_eq kind.0 word) kinds)
+show_named = kind_named kinds

@@ -1,35 +1,16 @@
 // From the bytes of a source to the bytes of a sink.
 
-ghost use Rattle.std.specs.Prelude.{◌≡◌, ◌<◌, ◌+◌, ◌-◌, ◌^◌, ◌⊎◌, true, false, IfOk, IfErr, OnOk};
+ghost use Rattle.std.specs.Prelude.{◌≡◌, ◌<◌, ◌+◌, ◌-◌, ◌^◌, true, false, IfErr, OnOk};
 ghost use Rattle.std.specs.Io.KnownBytes.{Keeps};
-ghost use Rattle.flow_texts.specs.Pulls.{PullsUpTo};
-ghost use Rattle.tacflow.specs.Faults.{UnlessWrite, WhereNoGraph, WhereRefused, WhereWrite, read_faults_in, write_faults_in};
-ghost use Rattle.tacflow.specs.Runs.{PullsOverLimit, PullsRefused, WritesAnswer, WritesBeginning};
+ghost use Rattle.flow_runs.specs.Faults.{UnlessWrite, WhereNoGraph, WhereNoProcedure, WhereRefused, WhereWrite, read_faults_in, write_faults_in};
+ghost use Rattle.flow_runs.specs.Runs.{PullsOverLimit, PullsRefused, WritesAnswer, WritesBeginning};
+ghost use Rattle.tacflow.specs.Runs.{IsShown, needs_graph};
 
-use crate::answer::answer;
-use crate::fault::Fault;
 use crate::options::Options;
-use flow_texts::{Sink, Source, TransferFault, pull_all};
+use flow_runs::Fault;
+use flow_texts::{Sink, Source};
 use std::alloc::Global;
 use std::thread::Threads;
-
-/// How many bytes are pulled at most: one more than the longest text has.
-const MOST_PULLED: usize = 1_048_577;
-
-// Pulls up to the source's end, or this many bytes.
-fn pull_text<S: Source>(alloc: Global, source: &mut S, most: usize) -> Result<Vec<u8>, Fault>
-    requires below { S.faults source.old < 2 ^ 32 - 1 }
-    requires running { S.ended source.old ≡ false }
-    ensures pulled { IfOk result (λ text. PullsUpTo most (S.remaining source.old) (S.remaining source.new) (S.ended source.new) text.items) }
-    ensures kinds { IfErr result (λ e. (e ≡ Fault.OutOfMemory) ⊎ (e ≡ Fault.Read)) }
-    ensures faults { S.faults source.new ≡ S.faults source.old + read_faults_in result }
-{
-    match pull_all(alloc, source, most) {
-        Ok(text) => Ok(text),
-        Err(TransferFault::OutOfMemory) => Err(Fault::OutOfMemory),
-        Err(TransferFault::Device) => Err(Fault::Read),
-    }
-}
 
 /// Pulls the text until the source has ended or 1,048,577 bytes are in hand, finds what is to be shown of it, pushes that and
 /// nothing else, in pieces of 65,536 bytes, and flushes. All that it needs memory for it has before the first push. Tables are
@@ -51,17 +32,18 @@ pub fn run<R: Threads + Sync, S: Source, K: Sink>(
     requires running { S.ended source.old ≡ false }
     requires source_below { S.faults source.old < 2 ^ 32 - 1 }
     requires sink_below { K.faults sink.old < 2 ^ 32 - 1 }
-    ensures written { OnOk result (WritesAnswer (S.remaining source.old) (S.remaining source.new) (S.ended source.new)
-        (K.contents sink.old) (K.contents sink.new) options.show) }
+    ensures written { OnOk result (WritesAnswer (needs_graph options.show) (IsShown options.show)
+        (S.remaining source.old) (S.remaining source.new) (S.ended source.new) (K.contents sink.old) (K.contents sink.new)) }
     ensures flushed { OnOk result (K.flushed sink.new ≡ true) }
     ensures refused { IfErr result (WhereRefused (PullsRefused (S.remaining source.old) (S.remaining source.new) (S.ended source.new))) }
-    ensures no_graph { IfErr result (WhereNoGraph (PullsOverLimit (S.remaining source.old) (S.remaining source.new) (S.ended source.new) options.show)) }
-    ensures beginning { IfErr result (WhereWrite (WritesBeginning (S.remaining source.old) (S.remaining source.new) (S.ended source.new)
-        (K.contents sink.old) (K.contents sink.new) options.show)) }
+    ensures no_graph { IfErr result (WhereNoGraph (PullsOverLimit (needs_graph options.show)
+        (S.remaining source.old) (S.remaining source.new) (S.ended source.new))) }
+    ensures all_procedures { IfErr result (WhereNoProcedure ⊥) }
+    ensures beginning { IfErr result (WhereWrite (WritesBeginning (needs_graph options.show) (IsShown options.show)
+        (S.remaining source.old) (S.remaining source.new) (S.ended source.new) (K.contents sink.old) (K.contents sink.new))) }
     ensures unwritten { IfErr result (UnlessWrite (Keeps (K.contents sink.old) (K.contents sink.new))) }
     ensures source_faults { S.faults source.new ≡ S.faults source.old + read_faults_in result }
     ensures sink_faults { K.faults sink.new ≡ K.faults sink.old + write_faults_in result }
 {
-    let text = pull_text(alloc, source, MOST_PULLED)?;
-    answer(rt, alloc, &text, options, sink)
+    flow_runs::run(rt, alloc, source, sink, &options)
 }

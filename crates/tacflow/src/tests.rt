@@ -1,9 +1,10 @@
 // Values by hand: what small texts are told, what words name, and what faults of devices leave.
 
-use crate::fault::{Fault, fault_line};
+use crate::NAME;
 use crate::options::{Options, Show};
 use crate::run::run;
 use flow_graph::GraphFault;
+use flow_runs::{Fault, fault_line};
 use flow_texts::{FromRead, ToWrite};
 use std::alloc::Global;
 use std::io;
@@ -96,7 +97,7 @@ fn told_by<R: Threads + Sync + AllocGlobal, D: Read + Drop>(
     let mut sink = ToWrite::new(&mut *page);
     let mut line = match run(rt, alloc, &mut source, &mut sink, options) {
         Ok(()) => Vec::new(alloc),
-        Err(fault) => fault_line(alloc, &fault)?,
+        Err(fault) => fault_line(alloc, NAME, &fault)?,
     };
     line.extend_from_slice(&page.taken)?;
     Ok(line)
@@ -475,6 +476,33 @@ fn faults_of_writers(rt: HostRuntime) -> Result<(), Fail> {
     Ok(())
 }
 
+// The smallest program, and what is shown of it.
+const SMALLEST: &[u8] = b"proc main\nend\n";
+
+const SMALLEST_SHOWN: [(Show, &[u8]); 2] = [(Show::List, SMALLEST), (Show::Reach, b"main 0: -\n")];
+
+// A reader fails after each number of bytes, also in place of the end; a writer after each number below all, or takes none.
+#[test]
+fn faults_around_the_smallest(rt: HostRuntime) -> Result<(), Fail> {
+    for (show, text) in SMALLEST_SHOWN {
+        for left in 0..=SMALLEST.len() {
+            let reader = Pieces {
+                rest: SMALLEST,
+                piece: 1,
+                left,
+                fault: ErrorKind::Other,
+            };
+            let got = told(&rt, reader, &mut blank_page(rt.alloc()), show)?;
+            assert_eq!(rt; got.as_slice(), b"tacflow: read fault\n".as_slice());
+        }
+        for left in 0..text.len() {
+            check_writer(&rt, SMALLEST, show, text, left, Some(ErrorKind::Other))?;
+            check_writer(&rt, SMALLEST, show, text, left, None)?;
+        }
+    }
+    Ok(())
+}
+
 // How many statements the program of the next tests has: enough that each answer has more than two pieces.
 const PRINTS: u32 = 12_000;
 
@@ -558,7 +586,7 @@ fn listing_of_two_pieces(rt: HostRuntime) -> Result<(), Fail> {
 }
 
 // With ample memory this answer, and where a growth is refused want of memory and nothing written.
-fn check_growths<R: Threads + Sync + Abort + AllocGlobal>(
+pub(crate) fn check_growths<R: Threads + Sync + Abort + AllocGlobal>(
     rt: &R,
     text: &str,
     show: Show,
@@ -644,7 +672,7 @@ fn lines_of_faults(rt: HostRuntime) -> Result<(), Fail> {
             line: 10,
             column: 4294967295,
         });
-        let line = fault_line(rt.alloc(), &fault)?;
+        let line = fault_line(rt.alloc(), NAME, &fault)?;
         let wanted = format!(in rt.alloc(); "tacflow: 10:4294967295: refusal {name}\n")?;
         assert_eq!(rt; line.as_slice(), wanted.as_bytes());
         let shown = format!(in rt.alloc(); "tacflow: {fault}\n")?;
@@ -664,12 +692,13 @@ fn lines_of_other_faults(rt: HostRuntime) -> Result<(), Fail> {
             Fault::Graph(GraphFault::TooManyBits),
             "tacflow: refusal 22: TooManyBits\n",
         ),
+        (Fault::NoProcedure, "tacflow: no such procedure\n"),
         (Fault::OutOfMemory, "tacflow: out of memory\n"),
         (Fault::Read, "tacflow: read fault\n"),
         (Fault::Write, "tacflow: write fault\n"),
     ];
     for (fault, wanted) in others {
-        let line = fault_line(rt.alloc(), &fault)?;
+        let line = fault_line(rt.alloc(), NAME, &fault)?;
         assert_eq!(rt; line.as_slice(), wanted.as_bytes());
     }
     Ok(())

@@ -1,14 +1,17 @@
 // The program's words, read by `clap`.
 
-ghost use Rattle.std.specs.Prelude.{◌≡◌, ◌≤◌, ◌<◌, ◌^◌, ℕ, false, map, codes, IfOk, IfErr, IfSome, IsSome, option_and_then};
+ghost use Rattle.std.specs.Prelude.{◌≡◌, Some, false, map, codes, IfOk, option_and_then};
 ghost use Rattle.clap.specs.Words.{app_of, first_of, found_of, rows_of, rule_of};
-ghost use Rattle.tacflow.specs.Commands.{AnswersWords, AreKinds, NamesNumber, NamesOptions, number_rule, show_rule, tacflow_command};
-ghost use Rattle.tacflow.specs.Matches.{HoldsKind, HoldsNumber, HoldsOptions};
-ghost use Rattle.tacflow.specs.Shows.{show_named};
+ghost use Rattle.flow_runs.specs.Words.{AreKindsOf, kind_rule};
+ghost use Rattle.flow_runs.specs.code.Matches.{HoldsKind};
+ghost use Rattle.tacflow.specs.Commands.{AnswersWords, NamesOptions, tacflow_command};
+ghost use Rattle.tacflow.specs.Shows.{kinds as known_kinds, show_named};
+ghost use Rattle.tacflow.specs.code.Matches.{HoldsOptions};
 
 use crate::options::{Options, Show};
 use clap::builder::PossibleValue;
-use clap::{Arg, ArgAction, ArgMatches, Command, Error, value_parser};
+use clap::{Arg, ArgAction, ArgMatches, Command, Error};
+use flow_runs::{cut_option, kind_word, number_of, workers_option};
 use std::alloc::{AllocError, Global};
 
 const ABOUT: &str =
@@ -32,7 +35,7 @@ fn show_of(word: &str) -> Option<Show>
 }
 
 fn kinds<'a>() -> [PossibleValue<'a>; 6]
-    ensures { AreKinds result }
+    ensures { AreKindsOf known_kinds result }
 {
     [
         PossibleValue::new("report").help("Unset uses, dead and repeated work, line by line"),
@@ -44,36 +47,8 @@ fn kinds<'a>() -> [PossibleValue<'a>; 6]
     ]
 }
 
-fn workers_option<'a>(alloc: Global) -> Arg<'a>
-    ensures rule { rule_of result ≡ number_rule (codes "workers") (codes "1") 64 }
-    ensures own { result.global ≡ false }
-{
-    Arg::new(alloc, "workers")
-        .long("workers")
-        .value_name("N")
-        .action(ArgAction::Set)
-        .value_parser(value_parser!(u32).range(1..=64))
-        .default_value("1")
-        .help("How many threads work, 1 to 64; what is written is the same for each")
-}
-
-fn cut_option<'a>(alloc: Global) -> Arg<'a>
-    ensures rule { rule_of result ≡ number_rule (codes "cut") (codes "64") 4096 }
-    ensures own { result.global ≡ false }
-{
-    Arg::new(alloc, "cut")
-        .long("cut")
-        .value_name("N")
-        .action(ArgAction::Set)
-        .value_parser(value_parser!(u32).range(1..=4096))
-        .default_value("64")
-        .help(
-            "How many bits a worker solves at a time, 1 to 4096; what is written is the same for each",
-        )
-}
-
 fn show_option<'a>(alloc: Global, kinds: &'a [PossibleValue<'a>]) -> Arg<'a>
-    ensures rule { rule_of result ≡ show_rule kinds.entry }
+    ensures rule { rule_of result ≡ kind_rule (codes "show") (codes "report") kinds.entry }
     ensures own { result.global ≡ false }
 {
     Arg::new(alloc, "show")
@@ -96,20 +71,12 @@ fn command<'a>(alloc: Global, kinds: &'a [PossibleValue<'a>]) -> Result<Command<
         .arg(show_option(alloc, kinds))
 }
 
-// The number that was found for a name, which `clap` has checked.
-fn number_of(matches: &ArgMatches<'_>, name: &str) -> u32
-    requires { (most : ℕ) × (most < 2 ^ 32) × HoldsNumber (rows_of (found_of matches.now)) name.now most }
-    ensures { NamesNumber (rows_of (found_of matches.now)) name.now result }
-{
-    matches.get_one::<u32>(name).unwrap()
-}
-
 // The kind that was found.
 fn shown_by(matches: &ArgMatches<'_>) -> Show
-    requires { HoldsKind (rows_of (found_of matches.now)) }
+    requires { HoldsKind known_kinds (rows_of (found_of matches.now)) (codes "show") }
     ensures { option_and_then show_named (first_of (codes "show") (rows_of (found_of matches.now))) ≡ Some result }
 {
-    show_of(matches.get_str("show").unwrap()).unwrap()
+    show_of(kind_word(matches, "show")).unwrap()
 }
 
 // The options that the matches name.

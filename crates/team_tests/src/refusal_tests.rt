@@ -1,7 +1,7 @@
 // What is left where memory is refused on the way. With ample memory the tests end as all others; to refuse the Nth request is the
 // caller's part (`rt try --test --fail-alloc N`).
 
-ghost use Rattle.std.specs.Prelude.{◌≡◌, IfOk};
+ghost use Rattle.std.specs.Prelude.{◌≡◌, IfOk, IfSome};
 ghost use Rattle.flow_team.specs.Tables.{IsTableOf};
 ghost use Rattle.slice_board.specs.Boards.{IsOf};
 
@@ -9,7 +9,9 @@ use crate::gates::Recorder;
 use crate::job_tests::{closed, opened};
 use crate::texts::{Ask, RECURSIVE, RECURSIVE_REACH, asked, lines, slices};
 use flow_graph::{Analysis, Graph};
-use flow_team::{Job, Solve, Table, analyse};
+use flow_team::{
+    GraphSets, Job, OpenGate, OutOfMemory, Solve, Table, analyse, analyse_alone, analyse_both,
+};
 use slice_board::Pass;
 use std::alloc::Global;
 use std::process::Abort;
@@ -154,4 +156,219 @@ fn a_refused_call_goes_on(rt: HostRuntime) -> Result<(), Fail> {
     let told = asked(&rt, rt.alloc(), RECURSIVE, &WithRefusals)?;
     assert_eq!(rt; told.as_str(), RECURSIVE_REACH);
     Ok(())
+}
+
+// A call that gives a table.
+#[derive(Clone, Copy)]
+enum Whole {
+    Alone,
+    Team(u32),
+    Both(u32),
+}
+
+// By so many workers; none where the call was refused.
+fn table_of_team<R: Threads + Sync>(
+    rt: &R,
+    alloc: Global,
+    graph: &Graph<'_>,
+    workers: u32,
+) -> Result<Option<Table>, Fail>
+    ensures { IfOk result (λ table. IfSome table (IsTableOf graph.now)) }
+{
+    let cut = slices(alloc, graph, Analysis::Reach, 1)?;
+    match analyse(rt, alloc, graph, Analysis::Reach, cut, workers, &OpenGate) {
+        Ok(table) => Ok(Some(table)),
+        Err(_) => Ok(None),
+    }
+}
+
+// The first of two tables of one direction.
+fn first_of_both<R: Threads + Sync>(
+    rt: &R,
+    alloc: Global,
+    graph: &Graph<'_>,
+    workers: u32,
+) -> Result<Option<Table>, Fail>
+    ensures { IfOk result (λ table. IfSome table (IsTableOf graph.now)) }
+{
+    let reach = slices(alloc, graph, Analysis::Reach, 1)?;
+    let avail = slices(alloc, graph, Analysis::Avail, 1)?;
+    let first = (Analysis::Reach, reach);
+    let second = (Analysis::Avail, avail);
+    match analyse_both(rt, alloc, graph, first, second, workers, &OpenGate) {
+        Ok((table, _)) => Ok(Some(table)),
+        Err(_) => Ok(None),
+    }
+}
+
+// The table of an open job, where refused calls of `work` go on.
+fn table_of_job<'g, 'p, R: Abort>(
+    rt: &R,
+    alloc: Global,
+    job: Job<GraphSets<'g, 'p>>,
+    pass: Pass<GraphSets<'g, 'p>>,
+) -> Result<Table, Fail>
+    requires { IsOf job pass }
+    ensures { IfOk result (IsTableOf job.entry.wanted.program) }
+{
+    let (job, pass) = with_refusals(rt, alloc, job, pass, &Recorder::new())?;
+    closed(job, pass)
+}
+
+fn table_of_opened<R: Abort>(
+    rt: &R,
+    alloc: Global,
+    graph: &Graph<'_>,
+) -> Result<Option<Table>, Fail>
+    ensures { IfOk result (λ table. IfSome table (IsTableOf graph.now)) }
+{
+    let cut = slices(alloc, graph, Analysis::Reach, 1)?;
+    match Job::open(alloc, graph, Analysis::Reach, cut) {
+        Ok((job, pass)) => Ok(Some(table_of_job(rt, alloc, job, pass)?)),
+        Err(_) => Ok(None),
+    }
+}
+
+fn table_alone(alloc: Global, graph: &Graph<'_>) -> Option<Table>
+    ensures { IfSome result (IsTableOf graph.now) }
+{
+    match analyse_alone(alloc, graph, Analysis::Reach) {
+        Ok(table) => Some(table),
+        Err(_) => None,
+    }
+}
+
+// What a call gives, once the slices are cut that it takes; none where it was refused.
+fn table_of_call<R: Threads + Sync>(
+    rt: &R,
+    alloc: Global,
+    graph: &Graph<'_>,
+    call: Whole,
+) -> Result<Option<Table>, Fail>
+    ensures { IfOk result (λ table. IfSome table (IsTableOf graph.now)) }
+{
+    match call {
+        Whole::Alone => Ok(table_alone(alloc, graph)),
+        Whole::Team(workers) => table_of_team(rt, alloc, graph, workers),
+        Whole::Both(workers) => first_of_both(rt, alloc, graph, workers),
+    }
+}
+
+// The lines of a table, if there is one.
+fn lines_of(
+    alloc: Global,
+    graph: &Graph<'_>,
+    table: Option<Table>,
+) -> Result<Option<String>, OutOfMemory>
+    requires { IfSome table (IsTableOf graph.now) }
+{
+    match table {
+        Some(table) => Ok(Some(lines(alloc, graph, &table)?)),
+        None => Ok(None),
+    }
+}
+
+fn lines_of_call<R: Threads + Sync>(
+    rt: &R,
+    alloc: Global,
+    graph: &Graph<'_>,
+    call: Whole,
+) -> Result<Option<String>, Fail> {
+    let table = table_of_call(rt, alloc, graph, call)?;
+    Ok(lines_of(alloc, graph, table)?)
+}
+
+fn lines_of_opened<R: Abort>(
+    rt: &R,
+    alloc: Global,
+    graph: &Graph<'_>,
+) -> Result<Option<String>, Fail> {
+    let table = table_of_opened(rt, alloc, graph)?;
+    Ok(lines_of(alloc, graph, table)?)
+}
+
+// What a call that was refused tells the second time: the test then fails by the call's name.
+fn told_again(lines: Option<String>, call: &'static str) -> Result<String, Fail> {
+    let same = match lines {
+        Some(lines) => lines.as_str() == RECURSIVE_REACH,
+        None => false,
+    };
+    if same {
+        Err(Fail::new(call))
+    } else {
+        Err(Fail::new("another answer the second time"))
+    }
+}
+
+impl Ask for Whole {
+    fn answer<R: Threads + Sync + Abort>(
+        &self,
+        rt: &R,
+        alloc: Global,
+        graph: &Graph<'_>,
+    ) -> Result<String, Fail> {
+        match lines_of_call(rt, alloc, graph, *self)? {
+            Some(lines) => Ok(lines),
+            None => told_again(
+                lines_of_call(rt, alloc, graph, *self)?,
+                match self {
+                    Whole::Alone => "analyse_alone",
+                    Whole::Team(_) => "analyse",
+                    Whole::Both(_) => "analyse_both",
+                },
+            ),
+        }
+    }
+}
+
+// A job that is opened and worked.
+struct OpenedJob;
+
+impl Ask for OpenedJob {
+    fn answer<R: Threads + Sync + Abort>(
+        &self,
+        rt: &R,
+        alloc: Global,
+        graph: &Graph<'_>,
+    ) -> Result<String, Fail> {
+        match lines_of_opened(rt, alloc, graph)? {
+            Some(lines) => Ok(lines),
+            None => told_again(lines_of_opened(rt, alloc, graph)?, "Job::open"),
+        }
+    }
+}
+
+// What is told of the recursive program.
+fn check_told<R: Threads + Sync + Abort + AllocGlobal, A: Ask>(
+    rt: &R,
+    ask: &A,
+) -> Result<(), Fail> {
+    let told = asked(rt, rt.alloc(), RECURSIVE, ask)?;
+    assert_eq!(rt; told.as_str(), RECURSIVE_REACH);
+    Ok(())
+}
+
+#[test]
+fn a_table_alone_is_refused(rt: HostRuntime) -> Result<(), Fail> {
+    check_told(&rt, &Whole::Alone)
+}
+
+#[test]
+fn a_team_of_one_is_refused(rt: HostRuntime) -> Result<(), Fail> {
+    check_told(&rt, &Whole::Team(1))
+}
+
+#[test]
+fn a_team_of_two_is_refused(rt: HostRuntime) -> Result<(), Fail> {
+    check_told(&rt, &Whole::Team(2))
+}
+
+#[test]
+fn two_tables_are_refused(rt: HostRuntime) -> Result<(), Fail> {
+    check_told(&rt, &Whole::Both(1))
+}
+
+#[test]
+fn an_opened_job_is_refused(rt: HostRuntime) -> Result<(), Fail> {
+    check_told(&rt, &OpenedJob)
 }

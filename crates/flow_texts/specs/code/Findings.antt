@@ -1,5 +1,5 @@
--- What was found of a program, and the lines that are made of it.
-use Rattle.std.specs.Prelude.{◌≡◌, ◌↔◌, ℕ, ◌<◌, Bool, true, false, List, ◌++◌, map, flat_map, length, get_or, codes}
+-- What was found of a program, and the remarks that are made of it.
+use Rattle.std.specs.Prelude.{◌≡◌, ◌↔◌, ℕ, ◌<◌, Bool, true, false, List, [], filter, flat_map, length, get_or, codes}
 use Rattle.flow_graph.specs.Analyses.{shape_of}
 use Rattle.flow_graph.specs.Limits.{HasFewPoints}
 use Rattle.flow_graph.specs.Points.{point_count}
@@ -9,10 +9,12 @@ use Rattle.flow_graph.specs.declared.analysis.Analysis.TheVariants.{Avail, Busy}
 use Rattle.tac_reader.specs.Programs.{Program}
 use Rattle.tac_reader.specs.Sound.{IsSound}
 use Rattle.flow_texts.specs.code.Lists.{AreTexts}
-use Rattle.flow_texts.specs.Reports.{AreTablesOf, Knowledge, unset_at, computed_at, busy_at, dead_at, remark}
+use Rattle.flow_texts.specs.Reports.{AreTablesOf, Knowledge}
 use Rattle.flow_team.specs.Tables.{facts_of}
 use Rattle.flow_texts.specs.Tables.{bit_text, variable_text}
 use Rattle.flow_texts.specs.declared.findings.Findings.{Findings}
+use Rattle.flow_texts.specs.declared.remark.Remark.{Remark}
+use Rattle.flow_texts.specs.declared.remark.Remark.TheVariants.{NeverReached, Unset, Computed, VeryBusy, Dead}
 
 -- one truth value for each point: whether it is doubtful
 pub record TellDoubtful (program : Program) (doubtful : List Bool) : Type 0 where
@@ -38,31 +40,34 @@ knowledge_of found = record {
   doubtful = λ point. get_or found.doubtful.items point false;
 }
 
--- the lines of remarks on the statement at a point
-abbrev pub remark_lines : Program → ℕ → List (List ℕ) → List ℕ
-remark_lines program point remarks = flat_map (remark program point) remarks
+-- the variable or the expression that a remark names is there
+abbrev pub IsRemarkIn : Program → Remark → Type 0
+IsRemarkIn program NeverReached = Unit {0}
+IsRemarkIn program (Unset variable) = variable < length program.variable_names
+IsRemarkIn program (Computed bit) = bit < bits program Avail
+IsRemarkIn program (VeryBusy bit) = bit < bits program Busy
+IsRemarkIn program (Dead variable) = variable < length program.variable_names
 
--- the lines of each kind of remark
-abbrev pub unset_text : Program → ℕ → List ℕ
-unset_text program variable = variable_text program variable ++ codes " may be used before it is set"
+-- what a remark names, and what it says before and behind the name
+abbrev pub remark_name : Program → Remark → List ℕ
+remark_name program NeverReached = []
+remark_name program (Unset variable) = variable_text program variable
+remark_name program (Computed bit) = bit_text program Avail bit
+remark_name program (VeryBusy bit) = bit_text program Busy bit
+remark_name program (Dead variable) = variable_text program variable
 
-abbrev pub unset_lines : Program → Knowledge → ℕ → List ℕ
-unset_lines program known point = remark_lines program point (map (unset_text program) (unset_at program known point))
+abbrev pub words_before : Remark → List ℕ
+words_before NeverReached = codes "never reached"
+words_before (Dead variable) = codes "assignment to "
+words_before _ = []
 
-abbrev pub computed_text : Program → ℕ → List ℕ
-computed_text program bit = bit_text program Avail bit ++ codes " is already computed"
+abbrev pub words_behind : Remark → List ℕ
+words_behind NeverReached = []
+words_behind (Unset variable) = codes " may be used before it is set"
+words_behind (Computed bit) = codes " is already computed"
+words_behind (VeryBusy bit) = codes " is very busy"
+words_behind (Dead variable) = codes " is dead"
 
-abbrev pub computed_lines : Program → Knowledge → ℕ → List ℕ
-computed_lines program known point = remark_lines program point (map (computed_text program) (computed_at program known point))
-
-abbrev pub busy_text : Program → ℕ → List ℕ
-busy_text program bit = bit_text program Busy bit ++ codes " is very busy"
-
-abbrev pub busy_lines : Program → Knowledge → ℕ → List ℕ
-busy_lines program known point = remark_lines program point (map (busy_text program) (busy_at program known point))
-
-abbrev pub dead_text : Program → ℕ → List ℕ
-dead_text program variable = codes "assignment to " ++ variable_text program variable ++ codes " is dead"
-
-abbrev pub dead_lines : Program → Knowledge → ℕ → List ℕ
-dead_lines program known point = remark_lines program point (map (dead_text program) (dead_at program known point))
+-- the texts that the numbers have which pass a test
+abbrev pub texts_where : (ℕ → List ℕ) → (ℕ → Bool) → List ℕ → List ℕ
+texts_where text_of test numbers = flat_map text_of (filter test numbers)

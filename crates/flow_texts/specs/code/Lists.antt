@@ -1,13 +1,13 @@
 -- Texts in a row, some of which stand already.
-use Rattle.std.specs.Prelude.{◌≡◌, ℕ, ◌<◌, Bool, true, false, ◌||◌, List, [], ◌∷◌, ◌++◌, map, filter, flat_map, length, slice_index_or, codes}
+use Rattle.std.specs.Prelude.{◌≡◌, ℕ, ◌<◌, Bool, true, false, ◌||◌, List, [], ◌∷◌, ◌++◌, map, filter, flat_map, length, slice_index_or}
 use Rattle.std.specs.List.{range_with_len}
 use Rattle.flow_texts.specs.Pieces.{Outlet, Takes}
 
--- the texts with `, ` before each but the first, or before each where others stand already
-abbrev pub after : Bool → List (List ℕ) → List ℕ
-after true texts = flat_map (λ text. codes ", " ++ text) texts
-after false [] = []
-after false (first ∷ others) = first ++ after true others
+-- the texts with something between them, and before the first too where others stand already
+abbrev pub after : List ℕ → Bool → List (List ℕ) → List ℕ
+after between true texts = flat_map (λ text. between ++ text) texts
+after between false [] = []
+after between false (first ∷ others) = first ++ after between true others
 
 -- whether there are any
 abbrev pub some_stand : {A : Type 0} → List A → Bool
@@ -32,7 +32,7 @@ pub record Named : Type 0 where
 abbrev pub members : Named → ℕ → ℕ → List ℕ
 members set first count = filter set.member (range_with_len first count)
 
--- The texts of the members among some numbers were taken, and whether any text stands now.
-pub record Wrote (set : Named) (others : Bool) (first count : ℕ) (old new : Outlet) (any : Bool) : Type 0 where
-  pub written : Takes old new (after others (map set.named (members set first count)))
+-- The texts of the members among some numbers were taken, with something between them, and whether any text stands now.
+pub record Wrote (between : List ℕ) (set : Named) (others : Bool) (first count : ℕ) (old new : Outlet) (any : Bool) : Type 0 where
+  pub written : Takes old new (after between others (map set.named (members set first count)))
   pub known : any ≡ (others || some_stand (members set first count))

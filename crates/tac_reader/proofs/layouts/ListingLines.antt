@@ -7,7 +7,7 @@ use Rattle.tac_reader.specs.Text.{is_line_end, no_line_end, lines}
 use Rattle.tac_reader.specs.Tokens.{Word, name, number, fixed, Token, Row, rows_from}
 use Rattle.tac_reader.specs.Forms.{labels_of, behind_labels, is_name_word}
 use Rattle.tac_reader.specs.Sections.{Section, titles, bytes_of, spelling_of, unless_empty, statements_of}
-use Rattle.tac_reader.specs.Programs.{Names, names_in, statement_of, label_places, labels_from, procedures_from}
+use Rattle.tac_reader.specs.Programs.{Names, names_in, names_for, statement_of, label_places, labels_from, procedures_from}
 use Rattle.tac_reader.specs.Listings.{name_at, statement_text, labels_text, places_text, procedure_text}
 use Rattle.tac_reader.specs.declared.program.Label.{Label}
 use Rattle.tac_reader.specs.declared.program.Stmt.{Stmt}
@@ -18,7 +18,7 @@ use Rattle.tac_reader.proofs.tokens.ReadWords.{spelled, ReadsLine, line_word, li
 use Rattle.tac_reader.proofs.layouts.Layouts.{filled, layout_reads, laid, statements_laid}
 use Rattle.tac_reader.proofs.programs.ResolvedWords.{statement_written, row_has_form, row_passes}
 use Rattle.tac_reader.proofs.lines.FaultlessLines.{IsSoundWord, Sound}
-use Rattle.tac_reader.proofs.sections.GoodSections.{LabelGood, StatementGood, LineGood, SectionGood, names_for}
+use Rattle.tac_reader.proofs.sections.GoodSections.{LabelGood, StatementGood, LineGood, SectionGood}
 
 -- What the lines of a text are read as, wherever it stands.
 pub record ReadsLines (text : List ℕ) (wss : List (List Word)) : Type 0 where
@@ -136,7 +136,7 @@ module _ (text : List ℕ) (names : Names) (rest : List ℕ) where
       split : (x more : List ℕ) → (x ++ codes ":") ++ 10 ∷ (more ++ rest) ≡ ((x ++ codes ":\n") ++ more) ++ rest
       split x more = append_assoc x (codes ":") (10 ∷ (more ++ rest)) ∙ sym (append_assoc (x ++ codes ":\n") more rest ∙ append_assoc x (codes ":\n") (more ++ rest))
 
-  statement_reads : (ts : List Token) → StatementGood names ts → ReadsLine (statement_text names (kind_in names ts)) (words_of ts)
+  pub statement_reads : (ts : List Token) → StatementGood names ts → ReadsLine (statement_text names (kind_in names ts)) (words_of ts)
   statement_reads ts good =
       subst (λ l. ReadsLine l (words_of ts)) (sym (statement_written names ts good.row good.is_row good.resolved))
       (layout_reads good.row.1 (words_of ts) (filled good.row.1 ts (row_has_form ts good.row good.is_row)) (each_word ts good.words) (row_passes (λ row. laid row.1) ts good.row statements_laid good.is_row))

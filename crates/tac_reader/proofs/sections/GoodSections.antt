@@ -3,8 +3,8 @@ use Rattle.std.proofs.Common.{◌≡◌, ℕ, ◌⊎◌, inl, inr, Bool, true, f
 use Rattle.std.specs.List.{AllByRecursion as Each}
 use Rattle.tac_reader.specs.Tokens.{Token}
 use Rattle.tac_reader.specs.Forms.{Slot, fills, label, key, has_form, label_form, statements, statement_row, labels_of, behind_labels, in_slot, is_name_word}
-use Rattle.tac_reader.specs.Sections.{Section, sections, titles, unless_empty, labels_in, only_name, is_label, is_callee, is_variable}
-use Rattle.tac_reader.specs.Programs.{Names, names_in, variables_in}
+use Rattle.tac_reader.specs.Sections.{Section, sections, titles, unless_empty, only_name, is_label, is_callee, is_variable}
+use Rattle.tac_reader.specs.Programs.{Names, names_in, names_for, variables_in}
 use Rattle.tac_reader.specs.Faults.{refusal_of}
 use Rattle.tac_reader.specs.declared.form.Form.{Form}
 use Rattle.tac_reader.proofs.tokens.Longest.{and_parts}
@@ -31,9 +31,6 @@ pub record StatementGood (names : Names) (ts : List Token) : Type 0 where
 pub record LineGood (names : Names) (line : List Token) : Type 0 where
   pub labels : Each LabelGood (labels_of line)
   pub statement : (behind_labels line ≡ []) ⊎ StatementGood names (behind_labels line)
-
-abbrev pub names_for : List (List ℕ) → List (List ℕ) → Section → Names
-names_for procedures variables s = record { procedures = procedures; variables = variables; labels = names_in (labels_in s) }
 
 pub record SectionGood (procedures variables : List (List ℕ)) (s : Section) : Type 0 where
   pub title : LabelGood s.title

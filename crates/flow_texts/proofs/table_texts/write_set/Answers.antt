@@ -1,4 +1,4 @@
-use Rattle.std.proofs.Common.{◌≡◌, ℕ, Bool, ◌+◌, ◌*◌, ◌<◌, ◌≤◌, true, false, length, refl, sym, ap, subst, ◌∙◌, arith, inl, inr}
+use Rattle.std.proofs.Common.{codes, ◌≡◌, ℕ, Bool, ◌+◌, ◌*◌, ◌<◌, ◌≤◌, true, false, length, refl, sym, ap, subst, ◌∙◌, arith, inl, inr}
 use Rattle.std.proofs.lemmas.Bool.{cases_lt}
 use Rattle.std.proofs.lemmas.Grind.{div_ceil_times}
 use Rattle.bit_rows.specs.Words.{has_bit}
@@ -48,11 +48,11 @@ loop-word-preserved g c =
       | then-bits-ne0 x ↦ record {
         reference = ap (λ p. p.sink.ghost_name) x.out-is ∙ x.write_word-any.ensures.same_reference ∙ c.loop-word.invariant.reference;
         wrote =
-            subst (λ p. Wrote set false 0 (64 * (w + 1)) old (at p) c.if-bits-ne0.any) (sym x.out-is)
-            (subst (λ any. Wrote set false 0 (64 * (w + 1)) old (at x.write_word-any.new.out) any) (sym x.any-is)
-            (subst (λ n. Wrote set false 0 n old (at x.write_word-any.new.out) x.write_word-any.result) next
-            (wrote-more set false 0 (64 * w) 64 old (at c.loop-word.out) (at x.write_word-any.new.out) c.loop-word.any x.write_word-any.result c.loop-word.invariant.wrote
-            (subst (λ a. Wrote set c.loop-word.any a 64 (at c.loop-word.out) (at x.write_word-any.new.out) x.write_word-any.result) (sym first) x.write_word-any.ensures.wrote))));
+            subst (λ p. Wrote (codes ", ") set false 0 (64 * (w + 1)) old (at p) c.if-bits-ne0.any) (sym x.out-is)
+            (subst (λ any. Wrote (codes ", ") set false 0 (64 * (w + 1)) old (at x.write_word-any.new.out) any) (sym x.any-is)
+            (subst (λ n. Wrote (codes ", ") set false 0 n old (at x.write_word-any.new.out) x.write_word-any.result) next
+            (wrote-more (codes ", ") set false 0 (64 * w) 64 old (at c.loop-word.out) (at x.write_word-any.new.out) c.loop-word.any x.write_word-any.result c.loop-word.invariant.wrote
+            (subst (λ a. Wrote (codes ", ") set c.loop-word.any a 64 (at c.loop-word.out) (at x.write_word-any.new.out) x.write_word-any.result) (sym first) x.write_word-any.ensures.wrote))));
       }
       | else-bits-ne0 x ↦ (
           let none : (k : ℕ) → k < 64 → g.member (0 + 64 * w + k) ≡ false = λ k below.
@@ -60,11 +60,11 @@ loop-word-preserved g c =
           record {
             reference = ap (λ p. p.sink.ghost_name) x.out-is ∙ c.loop-word.invariant.reference;
             wrote =
-                subst (λ p. Wrote set false 0 (64 * (w + 1)) old (at p) c.if-bits-ne0.any) (sym x.out-is)
-                (subst (λ any. Wrote set false 0 (64 * (w + 1)) old (at c.loop-word.out) any) (sym x.any-is)
-                (subst (λ n. Wrote set false 0 n old (at c.loop-word.out) c.loop-word.any) next
-                (wrote-more set false 0 (64 * w) 64 old (at c.loop-word.out) (at c.loop-word.out) c.loop-word.any c.loop-word.any c.loop-word.invariant.wrote
-                (wrote-no_members set c.loop-word.any (0 + 64 * w) 64 (at c.loop-word.out) none))));
+                subst (λ p. Wrote (codes ", ") set false 0 (64 * (w + 1)) old (at p) c.if-bits-ne0.any) (sym x.out-is)
+                (subst (λ any. Wrote (codes ", ") set false 0 (64 * (w + 1)) old (at c.loop-word.out) any) (sym x.any-is)
+                (subst (λ n. Wrote (codes ", ") set false 0 n old (at c.loop-word.out) c.loop-word.any) next
+                (wrote-more (codes ", ") set false 0 (64 * w) 64 old (at c.loop-word.out) (at c.loop-word.out) c.loop-word.any c.loop-word.any c.loop-word.invariant.wrote
+                (wrote-no_members (codes ", ") set c.loop-word.any (0 + 64 * w) 64 (at c.loop-word.out) none))));
           })
     ]
 

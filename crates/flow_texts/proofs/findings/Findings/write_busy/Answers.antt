@@ -1,6 +1,7 @@
-use Rattle.std.proofs.Common.{true, false, sym, ◌∙◌}
+use Rattle.std.proofs.Common.{ℕ, List, true, false, flat_map, ap, sym, ◌∙◌}
 use Rattle.tac_reader.specs.Programs.{Program}
 use Rattle.flow_texts.specs.code.Findings.{knowledge_of}
+use Rattle.flow_texts.specs.declared.remark.Remark.TheVariants.{VeryBusy}
 use Rattle.flow_texts.proofs.RemarkLines.{busy_is}
 use Rattle.flow_texts.proofs.Taking.{takes_as, takes_nothing}
 use Rattle.flow_texts.proofs.findings.Findings.write_busy.Goals as goal
@@ -8,11 +9,13 @@ use Rattle.flow_texts.proofs.findings.Findings.write_busy.Goals as goal
 pub returns-clause-takes : goal.returns-clause-takes
 returns-clause-takes g c =
     let program : Program = c.args.self.now.graph.now in
+    let text : ℕ → List ℕ = λ e. g.F.RemarkForm.text c.args.form.now program c.args.point (VeryBusy e) in
     takes_as _ _ _ _ c.write_busy_words.ensures.takes
-    (sym (busy_is program (knowledge_of c.args.self.now) c.args.point c.args.kind.now true c.requires.kind (sym c.tells_busy.ensures ∙ c.if-not-tells_busy.false)))
+    (sym (ap (flat_map text) (busy_is program (knowledge_of c.args.self.now) c.args.point c.args.kind.now true c.requires.kind (sym c.tells_busy.ensures ∙ c.if-not-tells_busy.false))))
 
 pub returns-then-not-tells_busy-clause-takes : goal.returns-then-not-tells_busy-clause-takes
 returns-then-not-tells_busy-clause-takes g c =
     let program : Program = c.args.self.now.graph.now in
+    let text : ℕ → List ℕ = λ e. g.F.RemarkForm.text c.args.form.now program c.args.point (VeryBusy e) in
     takes_as _ _ _ _ (takes_nothing _)
-    (sym (busy_is program (knowledge_of c.args.self.now) c.args.point c.args.kind.now false c.requires.kind (sym c.tells_busy.ensures ∙ c.if-not-tells_busy.true)))
+    (sym (ap (flat_map text) (busy_is program (knowledge_of c.args.self.now) c.args.point c.args.kind.now false c.requires.kind (sym c.tells_busy.ensures ∙ c.if-not-tells_busy.true))))

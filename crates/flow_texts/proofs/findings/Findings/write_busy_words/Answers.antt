@@ -4,10 +4,11 @@ use Rattle.tac_reader.specs.Programs.{Program}
 use Rattle.bit_rows.specs.RowSet.{RowSet, IsWordOf}
 use Rattle.bit_rows.specs.RowTable.{set_at}
 use Rattle.flow_graph.specs.Universes.{expressions}
-use Rattle.flow_texts.specs.code.Findings.{busy_text, knowledge_of}
+use Rattle.flow_texts.specs.code.Findings.{knowledge_of}
 use Rattle.flow_texts.specs.Pieces.{Outlet, Takes, outlet}
 use Rattle.flow_texts.specs.declared.pieces.Pieces.{Pieces}
-use Rattle.flow_texts.proofs.RangeLines.{lines_between, next_word, no_lines}
+use Rattle.flow_texts.specs.declared.remark.Remark.TheVariants.{VeryBusy}
+use Rattle.flow_texts.proofs.RangeLines.{next_word, no_texts, texts_between}
 use Rattle.flow_texts.proofs.Taking.{takes_as, takes_nothing}
 use Rattle.flow_texts.proofs.findings.Findings.write_busy_words.Goals as goal
 use Rattle.flow_texts.proofs.findings.Findings.write_busy_words.Goals.{then-word-ne0, else-word-ne0}
@@ -16,26 +17,35 @@ pub loop-word-preserved : goal.loop-word-preserved
 loop-word-preserved g c =
     let program : Program = c.args.self.now.graph.now in
     let point : ℕ = c.args.point in
+    let text : ℕ → List ℕ = λ e. g.F.RemarkForm.text c.args.form.now program point (VeryBusy e) in
     let bits : ℕ = length (expressions program) in
     let word : ℕ = c.loop-word.word in
     let row : RowSet = set_at c.args.self.now.tables.now.busy.rows point in
     let test : ℕ → Bool = (knowledge_of c.args.self.now).busy.contains point in
     let at : Pieces _ → Outlet = outlet g.K.Sink.contents g.K.Sink.faults in
-    let more : List ℕ = lines_between program point (busy_text program) test (64 * word) (min bits (64 * word + 64) - 64 * word) in
+    let more : List ℕ = texts_between text test (64 * word) (min bits (64 * word + 64) - 64 * word) in
     let below : 64 * word < bits = omega (arith, c.bits-bits.ensures.count, c.loop-word-test.true) in
     let is_word : IsWordOf row word c.word.result = subst (λ (r : RowSet). IsWordOf r word c.word.result) c.row-row.ensures.value c.word.ensures in
-    let step = next_word program point (busy_text program) test bits word (at c.args.out.now) (at c.loop-word.out) (at c.if-word-ne0.out) below c.loop-word.invariant.takes in
+    let step = next_word text test bits word (at c.args.out.now) (at c.loop-word.out) (at c.if-word-ne0.out) below c.loop-word.invariant.takes in
     elim c.if-word-ne0.branch [
       | then-word-ne0 w ↦ (
           let end : w.min.result ≡ min bits (64 * word + 64) = omega (arith, w.min.ensures, c.bits-bits.ensures.count) in
           record {
             reference = ap (λ p. p.sink.ghost_name) w.out-is ∙ w.write_busy_between.ensures.same_reference ∙ c.loop-word.invariant.reference;
             takes = step (subst (λ p. Takes (at c.loop-word.out) (at p) more) (sym w.out-is)
-                (takes_as _ _ _ _ w.write_busy_between.ensures.takes (ap (λ e. lines_between program point (busy_text program) test (64 * word) (e - 64 * word)) end)));
+                (takes_as _ _ _ _ w.write_busy_between.ensures.takes (ap (λ e. texts_between text test (64 * word) (e - 64 * word)) end)));
           })
       | else-word-ne0 w ↦ record {
         reference = ap (λ p. p.sink.ghost_name) w.out-is ∙ c.loop-word.invariant.reference;
         takes = step (subst (λ p. Takes (at c.loop-word.out) (at p) more) (sym w.out-is)
-            (takes_as _ _ _ _ (takes_nothing (at c.loop-word.out)) (sym (no_lines program point (busy_text program) row bits word c.word.result is_word w.if-word-ne0.false))));
+            (takes_as _ _ _ _ (takes_nothing (at c.loop-word.out)) (sym (no_texts text row bits word c.word.result is_word w.if-word-ne0.false))));
       }
     ]
+
+pub returns-clause-takes : goal.returns-clause-takes
+returns-clause-takes g c =
+    let program : Program = c.args.self.now.graph.now in
+    let text : ℕ → List ℕ = λ e. g.F.RemarkForm.text c.args.form.now program c.args.point (VeryBusy e) in
+    let bits : ℕ = length (expressions program) in
+    let all : min bits (64 * c.loop-word.word) ≡ bits = omega (arith, c.loop-word-test.false, c.bits-bits.ensures.count) in
+    takes_as _ _ _ _ c.loop-word.invariant.takes (ap (texts_between text ((knowledge_of c.args.self.now).busy.contains c.args.point) 0) all)

@@ -1,6 +1,23 @@
-use Rattle.flow_texts.proofs.Taking.{takes_then}
+use Rattle.std.proofs.Common.{List, ℕ, true, false, flat_map, append-nil, ap, ◌∙◌, sym}
+use Rattle.tac_reader.specs.Programs.{Program}
+use Rattle.flow_texts.specs.code.Findings.{knowledge_of}
+use Rattle.flow_texts.specs.declared.remark.Remark.{Remark}
+use Rattle.flow_texts.specs.declared.remark.Remark.TheVariants.{NeverReached}
+use Rattle.flow_texts.proofs.RemarkLines.{remarks_if}
+use Rattle.flow_texts.proofs.Taking.{takes_as}
 use Rattle.flow_texts.proofs.findings.Findings.write_remarks.Goals as goal
+
+pub returns-then-has_path-clause-takes : goal.returns-then-has_path-clause-takes
+returns-then-has_path-clause-takes g c =
+    let program : Program = c.args.self.now.graph.now in
+    let text : Remark → List ℕ = g.F.RemarkForm.text c.args.form.now program c.args.point in
+    takes_as _ _ _ _ c.write_when_reached.ensures.takes
+    (ap (flat_map text) (sym (remarks_if program (knowledge_of c.args.self.now) c.args.point c.in-Some.stmt.now true (sym c.in-Some.ensures.stmt) (sym c.has_path.ensures ∙ c.if-has_path.true))))
 
 pub returns-clause-takes : goal.returns-clause-takes
 returns-clause-takes g c =
-    takes_then _ _ _ _ _ (takes_then _ _ _ _ _ (takes_then _ _ _ _ _ c.write_unset.ensures.takes c.write_computed.ensures.takes) c.write_busy.ensures.takes) c.write_dead.ensures.takes
+    let program : Program = c.args.self.now.graph.now in
+    let text : Remark → List ℕ = g.F.RemarkForm.text c.args.form.now program c.args.point in
+    takes_as _ _ _ _ c.write_remark.ensures.takes
+    (sym (ap (flat_map text) (remarks_if program (knowledge_of c.args.self.now) c.args.point c.in-Some.stmt.now false (sym c.in-Some.ensures.stmt) (sym c.has_path.ensures ∙ c.if-has_path.false))
+    ∙ append-nil (text NeverReached)))

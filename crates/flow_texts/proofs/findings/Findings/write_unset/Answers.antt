@@ -1,9 +1,10 @@
-use Rattle.std.proofs.Common.{ℕ, [], ◌∷◌, map, ap, ◌∙◌, sym}
+use Rattle.std.proofs.Common.{ℕ, List, [], ◌∷◌, flat_map, ap, ◌∙◌, sym}
 use Rattle.tac_reader.specs.Programs.{Program}
-use Rattle.flow_texts.specs.code.Findings.{knowledge_of, remark_lines, unset_text}
+use Rattle.flow_texts.specs.code.Findings.{knowledge_of}
 use Rattle.flow_texts.specs.Reports.{Knowledge}
+use Rattle.flow_texts.specs.declared.remark.Remark.TheVariants.{Unset}
 use Rattle.flow_texts.proofs.Taking.{takes_as, takes_nothing, takes_then}
-use Rattle.flow_texts.proofs.RemarkLines.{AreRead, variables_are_there, unset_are, first_of, second_of, two_lines}
+use Rattle.flow_texts.proofs.RemarkLines.{AreRead, variables_are_there, unset_are, first_of, second_of, two_texts}
 use Rattle.flow_texts.proofs.findings.Findings.write_unset.Goals as goal
 
 pub write_unset_variable-requires-clause-variable : goal.write_unset_variable-requires-clause-variable
@@ -29,26 +30,29 @@ write_unset_variable-requires-in-Two-2-clause-variable g c =
 pub returns-in-None-clause-takes : goal.returns-in-None-clause-takes
 returns-in-None-clause-takes g c =
     let program : Program = c.args.self.now.graph.now in
+    let text : ℕ → List ℕ = λ v. g.F.RemarkForm.text c.args.form.now program c.args.point (Unset v) in
     let are : AreRead c.args.kind.now [] = record { rising = c.in-None.ensures.rising; read = c.in-None.ensures.read } in
     takes_as _ _ _ _ (takes_nothing _)
-    (sym (ap (λ xs. remark_lines program c.args.point (map (unset_text program) xs)) (unset_are program (knowledge_of c.args.self.now) c.args.point c.args.kind.now [] c.requires.found.sound c.requires.point c.requires.kind are)))
+    (sym (ap (flat_map text) (unset_are program (knowledge_of c.args.self.now) c.args.point c.args.kind.now [] c.requires.found.sound c.requires.point c.requires.kind are)))
 
 pub returns-in-One-clause-takes : goal.returns-in-One-clause-takes
 returns-in-One-clause-takes g c =
     let program : Program = c.args.self.now.graph.now in
+    let text : ℕ → List ℕ = λ v. g.F.RemarkForm.text c.args.form.now program c.args.point (Unset v) in
     let x : ℕ = c.in-One.variable in
     let are : AreRead c.args.kind.now (x ∷ []) = record { rising = c.in-One.ensures.rising; read = c.in-One.ensures.read } in
     takes_as _ _ _ _ c.write_unset_variable.ensures.takes
-    (ap (λ xs. remark_lines program c.args.point (map (unset_text program) xs)) (sym (unset_are program (knowledge_of c.args.self.now) c.args.point c.args.kind.now (x ∷ []) c.requires.found.sound c.requires.point c.requires.kind are)))
+    (ap (flat_map text) (sym (unset_are program (knowledge_of c.args.self.now) c.args.point c.args.kind.now (x ∷ []) c.requires.found.sound c.requires.point c.requires.kind are)))
 
 pub returns-in-Two-clause-takes : goal.returns-in-Two-clause-takes
 returns-in-Two-clause-takes g c =
     let program : Program = c.args.self.now.graph.now in
     let known : Knowledge = knowledge_of c.args.self.now in
     let point : ℕ = c.args.point in
+    let text : ℕ → List ℕ = λ v. g.F.RemarkForm.text c.args.form.now program point (Unset v) in
     let x : ℕ = c.in-Two.first in
     let y : ℕ = c.in-Two.second in
     let are : AreRead c.args.kind.now (x ∷ y ∷ []) = record { rising = c.in-Two.ensures.rising; read = c.in-Two.ensures.read } in
     takes_as _ _ _ _ (takes_then _ _ _ _ _ c.write_unset_variable-in-Two.ensures.takes c.write_unset_variable-in-Two-2.ensures.takes)
-    (sym (two_lines program point (unset_text program) (known.reach.contains point) x y)
-    ∙ ap (λ xs. remark_lines program point (map (unset_text program) xs)) (sym (unset_are program known point c.args.kind.now (x ∷ y ∷ []) c.requires.found.sound c.requires.point c.requires.kind are)))
+    (sym (two_texts text (known.reach.contains point) x y)
+    ∙ ap (flat_map text) (sym (unset_are program known point c.args.kind.now (x ∷ y ∷ []) c.requires.found.sound c.requires.point c.requires.kind are)))

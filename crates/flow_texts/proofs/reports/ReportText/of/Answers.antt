@@ -1,21 +1,20 @@
--- Both clauses are about one knowledge, that of the tables and of the doubtful points found.
-use Rattle.std.proofs.Common.{refl}
-use Rattle.flow_texts.specs.code.Findings.{AreFindings, knowledge_of}
-use Rattle.flow_texts.specs.Reports.{report_of}
+-- Both clauses are about one knowledge, that of what was found.
+use Rattle.std.proofs.Common.{List, ℕ, refl, subst}
+use Rattle.tac_reader.specs.Programs.{Program}
+use Rattle.flow_texts.specs.code.Findings.{knowledge_of}
+use Rattle.flow_texts.specs.Reports.{IsReport, ListsSafely, report_of}
 use Rattle.flow_texts.specs.declared.findings.Findings.{Findings}
 use Rattle.flow_texts.proofs.SafeReports.{is_report, lists_safely}
 use Rattle.flow_texts.proofs.reports.ReportText.of.Goals as goal
 
 pub returns-clause-report : goal.returns-clause-report
 returns-clause-report c =
-    let found : Findings = record { graph = c.args.graph; tables = c.args.tables; doubtful = c.in_ok-doubtful.doubtful; expressions = c.in_ok-expressions.expressions } in
-    let told = c.in_ok-doubtful.ensures in
-    let are : AreFindings found = record { sound = told.sound; few = told.few; tables = c.requires; doubts = told.points.count; expressions = c.in_ok-expressions.ensures } in
-    is_report found (report_of c.args.graph.now (knowledge_of found)) are told.points refl
+    let found : Findings = c.in_ok-found.found in
+    let text : List ℕ = report_of found.graph.now (knowledge_of found) in
+    subst (λ (p : Program). IsReport p text) c.in_ok-found.ensures.program (is_report found text c.in_ok-found.ensures.known refl)
 
 pub returns-clause-safe : goal.returns-clause-safe
 returns-clause-safe c =
-    let found : Findings = record { graph = c.args.graph; tables = c.args.tables; doubtful = c.in_ok-doubtful.doubtful; expressions = c.in_ok-expressions.expressions } in
-    let told = c.in_ok-doubtful.ensures in
-    let are : AreFindings found = record { sound = told.sound; few = told.few; tables = c.requires; doubts = told.points.count; expressions = c.in_ok-expressions.ensures } in
-    lists_safely found (report_of c.args.graph.now (knowledge_of found)) are told.points refl
+    let found : Findings = c.in_ok-found.found in
+    let text : List ℕ = report_of found.graph.now (knowledge_of found) in
+    subst (λ (p : Program). ListsSafely p text) c.in_ok-found.ensures.program (lists_safely found text c.in_ok-found.ensures.found c.in_ok-found.ensures.known refl)

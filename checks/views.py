@@ -1,0 +1,139 @@
+"""Tries tacview on each program of examples/. Each line of JSON is parsed and compared with what tacflow writes of the same program: tables,
+report, listing and source. Each picture goes through Graphviz, where `dot` is there. TACVIEW=/path/to/program and TACFLOW=/path/to/program
+take other programs than ./tacview and ./tacflow. Prints `N passed, M failed`."""
+
+import json
+import os
+import re
+import shutil
+import subprocess
+import sys
+
+HERE = os.path.dirname(os.path.realpath(__file__))
+ROOT = os.path.join(HERE, "..")
+EXAMPLES = os.path.join(ROOT, "examples")
+TACVIEW = os.environ.get("TACVIEW", os.path.join(ROOT, "tacview"))
+TACFLOW = os.environ.get("TACFLOW", os.path.join(ROOT, "tacflow"))
+ANALYSES = ["reach", "live", "avail", "busy"]
+REMARKS = {
+    "never_reached": "never reached",
+    "unset": "{variable} may be used before it is set",
+    "computed": "{expression} is already computed",
+    "busy": "{expression} is very busy",
+    "dead": "assignment to {variable} is dead",
+}
+
+
+def run(program, words, source):
+    """What the program writes on a source; it has to end well and say nothing else."""
+    done = subprocess.run([program, *words], input=source, capture_output=True)
+    if done.returncode or done.stderr:
+        raise AssertionError(f"{' '.join(words)}: status {done.returncode}, {done.stderr.decode()}")
+    return done.stdout
+
+
+def objects(source, *words):
+    """The objects of tacview's JSON: the program, its points, its remarks."""
+    rows = [json.loads(row) for row in run(TACVIEW, ["--format", "json", *words], source).decode().splitlines()]
+    kinds = [row["type"] for row in rows]
+    points, remarks = kinds.count("point"), kinds.count("remark")
+    assert kinds == ["program"] + ["point"] * points + ["remark"] * remarks, kinds
+    return rows[0], rows[1:1 + points], rows[1 + points:]
+
+
+def report_of(program, remarks):
+    """The report that these objects tell."""
+    counts = f"points {program['points']}, variables {len(program['variables'])}, definitions {program['definitions']}, expressions {program['expressions']}"
+    return "\n".join([counts, *(f"{remark['line']}: {REMARKS[remark['kind']].format(**remark)}" for remark in remarks)]) + "\n"
+
+
+def table_of(points, analysis):
+    """The table that these objects tell."""
+    lines = []
+    for point in points:
+        facts = point[analysis]
+        assert len(facts["bits"]) == len(facts["names"]) and facts["bits"] == sorted(set(facts["bits"])), facts
+        path = "" if facts["path"] else " (no path)"
+        lines.append(f"{point['procedure']} {point['place']}{path}: {', '.join(facts['names']) or '-'}\n")
+    return "".join(lines)
+
+
+def statements_of(listing):
+    """The statements of a listing, in order, with None for each procedure's end."""
+    rows = [row for row in listing.splitlines() if not row.endswith(":") and not row.startswith("proc ")]
+    return [None if row == "end" else row.strip() for row in rows]
+
+
+def check_spans(source, rows):
+    """Each statement's first and last byte spell it, but for blanks."""
+    for row in rows:
+        if row["line"] is None:
+            assert row["first"] is None and row["last"] is None and row["statement"] is None, row
+        else:
+            text = source[row["first"] - 1:row["last"]].decode()
+            assert re.sub(r"\s", "", text) == re.sub(r"\s", "", row["statement"]), (text, row)
+            assert source[:row["first"] - 1].count(b"\n") + 1 == row["line"], row
+
+
+def check_edges(points):
+    """Steps stay in their procedure; calls begin at their site, and each has a return to the point behind the site."""
+    calls, returns = set(), set()
+    for point in points:
+        for edge in point["edges"]:
+            target = points[edge["to"]]
+            if edge["kind"] == "step":
+                assert target["procedure"] == point["procedure"], (point, edge)
+            elif edge["kind"] == "call":
+                assert edge["site"] == point["point"] and target["place"] == 0, (point, edge)
+                calls.add((edge["site"], target["procedure"]))
+            else:
+                assert edge["kind"] == "return" and edge["to"] == edge["site"] + 1 and point["statement"] is None, (point, edge)
+                returns.add((edge["site"], point["procedure"]))
+    assert calls == returns, (calls, returns)
+
+
+def check_json(source):
+    """The objects tell what tacflow tells."""
+    program, points, remarks = objects(source)
+    assert [point["point"] for point in points] == list(range(program["points"]))
+    assert report_of(program, remarks) == run(TACFLOW, [], source).decode()
+    for analysis in ANALYSES:
+        assert table_of(points, analysis) == run(TACFLOW, ["--show", analysis], source).decode(), analysis
+    assert [point["statement"] for point in points] == statements_of(run(TACFLOW, ["--show", "list"], source).decode())
+    check_spans(source, points)
+    check_edges(points)
+    for name in program["procedures"]:
+        _, own, told = objects(source, "--procedure", name, "--facts", "live", "--workers", "3", "--cut", "1")
+        kept = [{key: value for key, value in point.items() if key not in ("reach", "avail", "busy")} for point in points if point["procedure"] == name]
+        assert own == kept, name
+        assert told == [remark for remark in remarks if points[remark["point"]]["procedure"] == name], name
+
+
+def check_dot(source):
+    """Graphviz takes each picture."""
+    if not shutil.which("dot"):
+        return
+    names = objects(source)[0]["procedures"]
+    for words in [[], ["--facts", "all"], *(["--procedure", name, "--facts", "reach,busy"] for name in names)]:
+        done = subprocess.run(["dot", "-Tsvg"], input=run(TACVIEW, words, source), capture_output=True)
+        assert done.returncode == 0 and not done.stderr, done.stderr.decode()
+
+
+def main():
+    """Tries all examples."""
+    passed = failed = 0
+    for name in sorted(name for name in os.listdir(EXAMPLES) if name.endswith(".tac")):
+        with open(os.path.join(EXAMPLES, name), "rb") as file:
+            source = file.read()
+        for check in (check_json, check_dot):
+            try:
+                check(source)
+                passed += 1
+            except (AssertionError, ValueError, KeyError, OSError) as fault:
+                failed += 1
+                print(f"{name}, {check.__name__}: {str(fault)[:500]}")
+    print(f"{passed} passed, {failed} failed")
+    return 1 if failed else 0
+
+
+sys.exit(main())

@@ -1,0 +1,37 @@
+-- What an answer tells of a text that was to be written
+use Rattle.std.proofs.Common.{List, ℕ, Option, Result, Ok, Err, IfErr}
+use Rattle.flow_graph.specs.declared.fault.GraphFault.{GraphFault}
+use Rattle.flow_runs.specs.Faults.{Delivers, OfProgram, WhereNoProcedure}
+use Rattle.flow_runs.specs.declared.fault.Fault.{Fault}
+use Rattle.flow_runs.specs.declared.fault.Fault.TheVariants as fault
+
+-- a text of one kind is one of another
+pub delivers_as : {T : Type 0} (IsText IsOther : List ℕ → Type 0) (held holds : Option (List ℕ)) (r : Result T Fault) → ((out : List ℕ) → IsText out → IsOther out)
+    → Delivers IsText held holds r → Delivers IsOther held holds r
+delivers_as IsText IsOther held holds (Ok x) is told = (told.0, is told.0 told.1, told.2)
+delivers_as IsText IsOther held holds (Err fault.Write) is told = (told.0, is told.0 told.1, told.2)
+delivers_as IsText IsOther held holds (Err (fault.Refused f)) is told = told
+delivers_as IsText IsOther held holds (Err (fault.Graph f)) is told = told
+delivers_as IsText IsOther held holds (Err fault.NoProcedure) is told = told
+delivers_as IsText IsOther held holds (Err fault.OutOfMemory) is told = told
+delivers_as IsText IsOther held holds (Err fault.Read) is told = told
+
+-- a fault that is none of the graph or a procedure is one of any program
+pub no_graph_fault : {T : Type 0} (P : GraphFault → Type 0) (Q : Type 0) (r : Result T Fault) → IfErr r (OfProgram (λ _. ⊥) ⊥) → IfErr r (OfProgram P Q)
+no_graph_fault P Q (Ok x) told = tt
+no_graph_fault P Q (Err fault.Write) told = told
+no_graph_fault P Q (Err (fault.Refused f)) told = told
+no_graph_fault P Q (Err (fault.Graph f)) told = absurd told
+no_graph_fault P Q (Err fault.NoProcedure) told = absurd told
+no_graph_fault P Q (Err fault.OutOfMemory) told = told
+no_graph_fault P Q (Err fault.Read) told = told
+
+-- of a run that lacks no procedure, no fault tells of one
+pub lacks_none : {T : Type 0} (P Q : Type 0) (r : Result T Fault) → (P → Q) → IfErr r (WhereNoProcedure P) → IfErr r (WhereNoProcedure Q)
+lacks_none P Q (Ok x) of told = tt
+lacks_none P Q (Err fault.NoProcedure) of told = of told
+lacks_none P Q (Err fault.Write) of told = tt
+lacks_none P Q (Err (fault.Refused f)) of told = tt
+lacks_none P Q (Err (fault.Graph f)) of told = tt
+lacks_none P Q (Err fault.OutOfMemory) of told = tt
+lacks_none P Q (Err fault.Read) of told = tt

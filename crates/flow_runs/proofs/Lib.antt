@@ -1,0 +1,4 @@
+pub mod Deliveries
+pub mod Entries
+pub mod HeldValues
+pub mod Numbers

@@ -1,0 +1,79 @@
+-- What a run makes of the text that it pulled, whatever it shows of a program.
+use Rattle.std.specs.Prelude.{◌≡◌, ℕ, List, Bool, true, Option, None, Some}
+use Rattle.std.specs.Io.KnownBytes.{Appends}
+use Rattle.flow_graph.specs.Limits.{HasFewBits, HasFewPoints, HasManyBits, HasManyPoints}
+use Rattle.flow_graph.specs.declared.fault.GraphFault.{GraphFault}
+use Rattle.flow_graph.specs.declared.fault.GraphFault.TheVariants as graph_fault
+use Rattle.tac_reader.specs.Faults.{refusal_of}
+use Rattle.tac_reader.specs.Programs.{Program, program_of}
+use Rattle.tac_reader.specs.declared.refusal.Refusal.{Refusal}
+use Rattle.flow_texts.specs.Devices.{AppendsBeginning}
+use Rattle.flow_texts.specs.Pulls.{PullsUpTo}
+
+-- At most one byte more than the longest text has is pulled.
+abbrev pub PullsAll : Option (List ℕ) → Option (List ℕ) → Bool → List ℕ → Type 0
+PullsAll = PullsUpTo 1048577
+
+-- the graph is within its limits, where one is needed
+abbrev pub HasItsGraph : Bool → Program → Type 0
+HasItsGraph is_needed program = is_needed ≡ true → HasFewPoints program × HasFewBits program
+
+-- the program has no graph, for this cause; want of memory is none
+abbrev pub IsOverLimit : Program → GraphFault → Type 0
+IsOverLimit program graph_fault.TooManyPoints = HasManyPoints program
+IsOverLimit program graph_fault.TooManyBits = HasManyBits program
+IsOverLimit program graph_fault.OutOfMemory = ⊥
+
+-- The text is a program that is shown, and this is what is written for it. Whether its graph is needed, and what is written of a
+-- program, is each program's own.
+pub record Shows (is_needed : Bool) (IsShown : Program → List ℕ → Type 0) (text out : List ℕ) : Type 0 where
+  pub faultless : refusal_of text ≡ None
+  pub fits : HasItsGraph is_needed (program_of text)
+  pub answer : IsShown (program_of text) out
+
+-- The text is a program of which nothing is shown that needs its graph, for this cause.
+pub record HasNoGraph (is_needed : Bool) (text : List ℕ) (cause : GraphFault) : Type 0 where
+  pub faultless : refusal_of text ≡ None
+  pub needed : is_needed ≡ true
+  pub over : IsOverLimit (program_of text) cause
+
+-- The text is a program that has not the procedure that is asked for.
+pub record LacksProcedure (Lacks : Program → Type 0) (text : List ℕ) : Type 0 where
+  pub faultless : refusal_of text ≡ None
+  pub lacks : Lacks (program_of text)
+
+-- The whole text was pulled, and the answer to it was written and nothing else.
+pub record WritesAnswer (is_needed : Bool) (IsShown : Program → List ℕ → Type 0) (before after : Option (List ℕ)) (ended : Bool)
+    (held holds : Option (List ℕ)) : Type 0 where
+  pub text : List ℕ
+  pub out : List ℕ
+  pub pulls : PullsAll before after ended text
+  pub shows : Shows is_needed IsShown text out
+  pub writes : Appends held holds out
+
+-- The whole text was pulled, and a beginning of the answer to it was written.
+pub record WritesBeginning (is_needed : Bool) (IsShown : Program → List ℕ → Type 0) (before after : Option (List ℕ)) (ended : Bool)
+    (held holds : Option (List ℕ)) : Type 0 where
+  pub text : List ℕ
+  pub out : List ℕ
+  pub pulls : PullsAll before after ended text
+  pub shows : Shows is_needed IsShown text out
+  pub writes : AppendsBeginning held holds out
+
+-- The whole text was pulled, and it is refused so.
+pub record PullsRefused (before after : Option (List ℕ)) (ended : Bool) (refusal : Refusal) : Type 0 where
+  pub text : List ℕ
+  pub pulls : PullsAll before after ended text
+  pub refuses : refusal_of text ≡ Some refusal
+
+-- The whole text was pulled, and it is a program, but has no graph for this cause.
+pub record PullsOverLimit (is_needed : Bool) (before after : Option (List ℕ)) (ended : Bool) (cause : GraphFault) : Type 0 where
+  pub text : List ℕ
+  pub pulls : PullsAll before after ended text
+  pub refuses : HasNoGraph is_needed text cause
+
+-- The whole text was pulled, and it is a program, but has not the procedure that is asked for.
+pub record PullsNoProcedure (Lacks : Program → Type 0) (before after : Option (List ℕ)) (ended : Bool) : Type 0 where
+  pub text : List ℕ
+  pub pulls : PullsAll before after ended text
+  pub lacks : LacksProcedure Lacks text

@@ -1,0 +1,18 @@
+//! What programs over the analyses share: a run from the bytes of a source to the bytes of a sink, its faults and their lines, and
+//! the options that say how tables are found.
+#![tactic(auto)]
+
+mod answer;
+mod arguments;
+mod fault;
+mod parts;
+mod runs;
+mod showing;
+mod streams;
+
+pub use arguments::{cut_option, kind_word, number_of, workers_option};
+pub use fault::{Fault, fault_line, line_with};
+pub use parts::{graph_of, push_text};
+pub use runs::run;
+pub use showing::Shown;
+pub use streams::{tell_line, tell_no_words, tell_words};

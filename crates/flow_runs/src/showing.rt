@@ -1,0 +1,49 @@
+// What a run shows of a program.
+
+ghost use Rattle.std.specs.Prelude.{◌≡◌, ◌<◌, ◌+◌, ◌-◌, ◌^◌, ℕ, Bool, true, List, IfErr, OnOk};
+ghost use Rattle.std.specs.Thread.{IsSync};
+ghost use Rattle.tac_reader.specs.Programs.{Program as SourceProgram};
+ghost use Rattle.flow_runs.specs.Faults.{Delivers, OfProgram, WhereNoGraph, write_faults_in};
+ghost use Rattle.flow_runs.specs.Runs.{HasItsGraph, IsOverLimit};
+
+use crate::fault::Fault;
+use flow_texts::Sink;
+use std::alloc::Global;
+use std::thread::Threads;
+use tac_reader::Program;
+
+/// What a run shows of a program, and how.
+pub trait Shown {
+    // Whether the program's graph is needed.
+    ghost needs_graph: { Self → Bool };
+
+    // What is written of a program.
+    ghost is_shown: { Self → SourceProgram → List ℕ → Type 0 };
+
+    // The program has not the procedure that is asked for.
+    ghost lacks: { Self → SourceProgram → Type 0 };
+
+    /// Writes what is shown of a program, and flushes. All that it needs memory for it has before the first push.
+    ///
+    /// The condition: the sink's count of faults is below `u32::MAX`.
+    ///
+    /// - `Graph`: a graph is needed, and the program has too many points or bits.
+    /// - `NoProcedure`: the program has not the procedure that is asked for.
+    /// - `OutOfMemory`: memory was refused.
+    /// - `Write`: a push or the flush was answered by a fault; a beginning of what is to be shown was pushed. After every other
+    ///   fault nothing was.
+    fn show<R: Threads + Sync, K: Sink>(
+        &self,
+        rt: &R,
+        alloc: Global,
+        program: &Program,
+        sink: &mut K,
+    ) -> Result<(), Fault>
+        requires threads { IsSync R.row }
+        requires below { K.faults sink.old < 2 ^ 32 - 1 }
+        ensures delivers { Delivers (λ out. HasItsGraph (needs_graph self.now) program.now × is_shown self.now program.now out) (K.contents sink.old) (K.contents sink.new) result }
+        ensures flushed { OnOk result (K.flushed sink.new ≡ true) }
+        ensures fault { IfErr result (OfProgram (IsOverLimit program.now) (lacks self.now program.now)) }
+        ensures needed { IfErr result (WhereNoGraph (λ _. needs_graph self.now ≡ true)) }
+        ensures faults { K.faults sink.new ≡ K.faults sink.old + write_faults_in result };
+}

@@ -1,0 +1,35 @@
+// How remarks are written.
+
+ghost use Rattle.std.specs.Prelude.{◌≡◌, ◌<◌, ℕ, List};
+ghost use Rattle.flow_graph.specs.Points.{point_count};
+ghost use Rattle.tac_reader.specs.Programs.{Program};
+ghost use Rattle.flow_texts.specs.code.Findings.{AreFindings, IsRemarkIn};
+ghost use Rattle.flow_texts.specs.Pieces.{IsOpen, Takes, outlet};
+ghost use Rattle.flow_texts.specs.declared.remark.Remark.{Remark as RemarkValue};
+
+use crate::device::Sink;
+use crate::findings::Findings;
+use crate::pieces::Pieces;
+use crate::remark::Remark;
+
+/// How one remark is written, as the line of a report.
+pub trait RemarkForm {
+    ghost text: { Self → Program → ℕ → RemarkValue → List ℕ };
+
+    /// Writes a remark on the statement at a point.
+    ///
+    /// The conditions: what was found is of one program, and it has the point and what the remark names.
+    fn write_remark<K: Sink>(
+        &self,
+        out: &mut Pieces<'_, K>,
+        found: &Findings<'_>,
+        point: u32,
+        remark: Remark,
+    )
+        requires ready { IsOpen (outlet K.contents K.faults out.old) }
+        requires found { AreFindings found.now }
+        requires point { point < point_count found.now.graph.now }
+        requires remark { IsRemarkIn found.now.graph.now remark }
+        ensures same_reference { out.new.sink.ghost_name ≡ out.old.sink.ghost_name }
+        ensures takes { Takes (outlet K.contents K.faults out.old) (outlet K.contents K.faults out.new) (text self.now found.now.graph.now point remark) };
+}

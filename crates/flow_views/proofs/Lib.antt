@@ -1,0 +1,5 @@
+pub mod Escapes
+pub mod Rows
+pub mod Walks
+pub mod Statements
+pub mod Tables

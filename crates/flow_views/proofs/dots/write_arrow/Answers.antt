@@ -1,0 +1,7 @@
+use Rattle.flow_texts.proofs.Taking.{takes_then}
+use Rattle.flow_views.proofs.dots.write_arrow.Goals as goal
+
+pub returns-clause-takes : goal.returns-clause-takes
+returns-clause-takes g c =
+    takes_then _ _ _ _ _ (takes_then _ _ _ _ _ (takes_then _ _ _ _ _ c.write.ensures.takes c.write_number.ensures.takes)
+    c.write-2.ensures.takes) c.write_number-2.ensures.takes

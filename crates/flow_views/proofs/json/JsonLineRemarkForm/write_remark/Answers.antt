@@ -1,0 +1,8 @@
+use Rattle.flow_texts.proofs.Taking.{takes_then}
+use Rattle.flow_views.proofs.json.JsonLineRemarkForm.write_remark.Goals as goal
+
+pub returns-clause-takes : goal.returns-clause-takes
+returns-clause-takes g c =
+    takes_then _ _ _ _ _ (takes_then _ _ _ _ _ (takes_then _ _ _ _ _ (takes_then _ _ _ _ _ (takes_then _ _ _ _ _
+    c.write.ensures.takes c.write_number.ensures.takes) c.write_place.ensures.takes) c.write-2.ensures.takes)
+    c.write_kind.ensures.takes) c.write-3.ensures.takes

@@ -1,0 +1,6 @@
+use Rattle.flow_texts.proofs.Taking.{takes_as}
+use Rattle.flow_views.proofs.json.JsonTextText.write.Goals as goal
+
+pub returns-clause-takes : goal.returns-clause-takes
+returns-clause-takes g c =
+    takes_as _ _ _ _ c.write_json.ensures.takes c.self.view_is

@@ -1,0 +1,7 @@
+use Rattle.std.proofs.Common.{sym}
+use Rattle.flow_texts.proofs.Taking.{takes_as}
+use Rattle.flow_views.proofs.Tables.{no_span}
+use Rattle.flow_views.proofs.json.write_place.Goals as goal
+
+pub returns-in-None-clause-takes : goal.returns-in-None-clause-takes
+returns-in-None-clause-takes g c = takes_as _ _ _ _ c.write.ensures.takes (sym (no_span c.args.graph.now c.args.point (sym c.in-None.ensures.stmt)))

@@ -1,0 +1,20 @@
+use Rattle.std.proofs.Common.{List, ℕ, ◌++◌, codes, ap}
+use Rattle.flow_texts.proofs.Taking.{takes_as}
+use Rattle.tac_reader.specs.Listings.{operand_text}
+use Rattle.tac_reader.specs.Programs.{Names, sign_of}
+use Rattle.flow_views.specs.Strings.{escaped}
+use Rattle.flow_views.specs.Views.{names_in}
+use Rattle.flow_views.proofs.Escapes.{shows_then}
+use Rattle.flow_views.proofs.scope.Scope.write_binary.Goals as goal
+
+pub returns-clause-takes : goal.returns-clause-takes
+returns-clause-takes g c =
+    let names : Names = names_in c.args.self.now.program.now c.args.self.now.procedure in
+    let left : List ℕ = operand_text names c.args.left in
+    let sign : List ℕ = sign_of c.args.op in
+    shows_then (left ++ codes " " ++ sign ++ codes " ") (operand_text names c.args.right) _ _ _
+    (shows_then (left ++ codes " " ++ sign) (codes " ") _ _ _
+    (shows_then (left ++ codes " ") sign _ _ _ (shows_then left (codes " ") _ _ _ c.write_operand.ensures.takes c.write.ensures.takes)
+    (takes_as _ _ _ _ c.write_escaped.ensures.takes (ap escaped c.sign.ensures)))
+    c.write-2.ensures.takes)
+    c.write_operand-2.ensures.takes

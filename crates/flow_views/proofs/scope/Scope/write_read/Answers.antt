@@ -1,0 +1,11 @@
+use Rattle.std.proofs.Common.{codes}
+use Rattle.tac_reader.specs.Listings.{name_at}
+use Rattle.tac_reader.specs.Programs.{Names}
+use Rattle.flow_views.specs.Views.{names_in}
+use Rattle.flow_views.proofs.Escapes.{shows_then}
+use Rattle.flow_views.proofs.scope.Scope.write_read.Goals as goal
+
+pub returns-clause-takes : goal.returns-clause-takes
+returns-clause-takes g c =
+    let names : Names = names_in c.args.self.now.program.now c.args.self.now.procedure in
+    shows_then (codes "read ") (name_at names.variables c.args.target) _ _ _ c.write.ensures.takes c.write_variable.ensures.takes

@@ -1,0 +1,8 @@
+use Rattle.std.proofs.Common.{codes}
+use Rattle.tac_reader.specs.Listings.{name_at}
+use Rattle.flow_views.proofs.Escapes.{shows_then}
+use Rattle.flow_views.proofs.scope.Scope.write_target.Goals as goal
+
+pub returns-clause-takes : goal.returns-clause-takes
+returns-clause-takes g c =
+    shows_then (name_at c.args.self.now.program.now.variable_names c.args.target) (codes " = ") _ _ _ c.write_variable.ensures.takes c.write.ensures.takes

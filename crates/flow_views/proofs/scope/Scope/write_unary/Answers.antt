@@ -1,0 +1,13 @@
+use Rattle.std.proofs.Common.{ap}
+use Rattle.flow_texts.proofs.Taking.{takes_as}
+use Rattle.tac_reader.specs.Listings.{operand_text}
+use Rattle.tac_reader.specs.Programs.{Names, sign_of}
+use Rattle.flow_views.specs.Strings.{escaped}
+use Rattle.flow_views.specs.Views.{names_in}
+use Rattle.flow_views.proofs.Escapes.{shows_then}
+use Rattle.flow_views.proofs.scope.Scope.write_unary.Goals as goal
+
+pub returns-clause-takes : goal.returns-clause-takes
+returns-clause-takes g c =
+    let names : Names = names_in c.args.self.now.program.now c.args.self.now.procedure in
+    shows_then (sign_of c.args.op) (operand_text names c.args.operand) _ _ _ (takes_as _ _ _ _ c.write_escaped.ensures.takes (ap escaped c.sign.ensures)) c.write_operand.ensures.takes

@@ -1,0 +1,20 @@
+use Rattle.std.proofs.Common.{◌≡◌, ◌-◌, flat_map, ap, ◌∙◌, arith}
+use Rattle.std.specs.List.{range_with_len}
+use Rattle.flow_texts.proofs.Taking.{takes_as, takes_then}
+use Rattle.flow_texts.specs.code.Findings.{knowledge_of}
+use Rattle.flow_views.specs.Dots.{cluster}
+use Rattle.flow_views.proofs.Walks.{walk_more}
+use Rattle.flow_views.proofs.shown.Shown.write_clusters.Goals as goal
+
+pub loop-procedure-preserved : goal.loop-procedure-preserved
+loop-procedure-preserved g c = record {
+  reference = c.write_cluster.ensures.same_reference ∙ c.loop-procedure.invariant.reference;
+  takes =
+      takes_as _ _ _ _ (takes_then _ _ _ _ _ c.loop-procedure.invariant.takes c.write_cluster.ensures.takes)
+      (walk_more (cluster c.args.self.now.found.graph.now (knowledge_of c.args.self.now.found) c.args.self.now.view.facts) c.args.procedures.first c.loop-procedure.procedure c.loop-procedure.auto.procedure);
+}
+
+pub returns-clause-takes : goal.returns-clause-takes
+returns-clause-takes g c =
+    let all : c.loop-procedure.procedure ≡ c.args.procedures.end = omega (arith, c.requires.ordered) in
+    takes_as _ _ _ _ c.loop-procedure.invariant.takes (ap (λ n. flat_map (cluster c.args.self.now.found.graph.now (knowledge_of c.args.self.now.found) c.args.self.now.view.facts) (range_with_len c.args.procedures.first (n - c.args.procedures.first))) all)

@@ -1,0 +1,34 @@
+use Rattle.std.proofs.Common.{List, ℕ, ◌++◌, codes, if◌then◌else◌, ap, ap₂, sym, ◌∙◌}
+use Rattle.flow_texts.specs.Reports.{dead_at, unset_at}
+use Rattle.flow_texts.proofs.Taking.{takes_as, takes_nothing}
+use Rattle.tac_reader.specs.Programs.{Program}
+use Rattle.flow_texts.specs.code.Findings.{knowledge_of}
+use Rattle.flow_texts.specs.Reports.{Knowledge}
+use Rattle.flow_views.specs.Dots.{text_if_some}
+use Rattle.flow_views.proofs.Tables.{none_dead, none_unset}
+use Rattle.flow_views.proofs.shown.Shown.write_path_marks.Goals as goal
+
+pub returns-then-not-has_path-clause-takes : goal.returns-then-not-has_path-clause-takes
+returns-then-not-has_path-clause-takes g c =
+    let program : Program = c.args.self.now.found.graph.now in
+    let known : Knowledge = knowledge_of c.args.self.now.found in
+    let reached : List ℕ = text_if_some (unset_at program known c.args.point) (codes ", color=red, fontcolor=red") ++ text_if_some (dead_at program known c.args.point) (codes ", style=filled, fillcolor=khaki") in
+    takes_as _ _ _ _ c.write.ensures.takes (sym (ap (λ b. if b then reached else codes ", style=filled, fillcolor=grey80") (sym c.has_path.ensures ∙ c.if-not-has_path.true)))
+
+pub returns-in-None-clause-takes : goal.returns-in-None-clause-takes
+returns-in-None-clause-takes g c =
+    let program : Program = c.args.self.now.found.graph.now in
+    let known : Knowledge = knowledge_of c.args.self.now.found in
+    let red : List ℕ = codes ", color=red, fontcolor=red" in
+    let yellow : List ℕ = codes ", style=filled, fillcolor=khaki" in
+    let reached : List ℕ = text_if_some (unset_at program known c.args.point) red ++ text_if_some (dead_at program known c.args.point) yellow in
+    takes_as _ _ _ _ (takes_nothing _)
+    (sym (ap (λ b. if b then reached else codes ", style=filled, fillcolor=grey80") (sym c.has_path.ensures ∙ c.if-not-has_path.false)
+    ∙ ap₂ (λ us ds. text_if_some us red ++ text_if_some ds yellow) (none_unset program known c.args.point (sym c.in-None.ensures.stmt)) (none_dead program known c.args.point (sym c.in-None.ensures.stmt))))
+
+pub returns-in-Some-clause-takes : goal.returns-in-Some-clause-takes
+returns-in-Some-clause-takes g c =
+    let program : Program = c.args.self.now.found.graph.now in
+    let known : Knowledge = knowledge_of c.args.self.now.found in
+    let reached : List ℕ = text_if_some (unset_at program known c.args.point) (codes ", color=red, fontcolor=red") ++ text_if_some (dead_at program known c.args.point) (codes ", style=filled, fillcolor=khaki") in
+    takes_as _ _ _ _ c.write_statement_marks.ensures.takes (sym (ap (λ b. if b then reached else codes ", style=filled, fillcolor=grey80") (sym c.has_path.ensures ∙ c.if-not-has_path.false)))

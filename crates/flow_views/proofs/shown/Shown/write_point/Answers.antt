@@ -1,0 +1,24 @@
+use Rattle.std.proofs.Common.{List, ℕ, ◌++◌, codes, decimal, map, flat_map, ap}
+use Rattle.flow_graph.specs.Points.{place_of, procedure_at}
+use Rattle.flow_texts.proofs.Taking.{takes_as, takes_then}
+use Rattle.tac_reader.specs.Programs.{Program}
+use Rattle.flow_texts.specs.code.Findings.{knowledge_of}
+use Rattle.flow_texts.specs.Reports.{Knowledge}
+use Rattle.flow_views.specs.Json.{array, edge_object, facts_field, span_fields, statement_field}
+use Rattle.flow_views.specs.Strings.{quoted}
+use Rattle.flow_views.specs.Views.{chosen_analyses, procedure_name}
+use Rattle.flow_views.proofs.shown.Shown.write_point.Goals as goal
+
+pub returns-clause-takes : goal.returns-clause-takes
+returns-clause-takes g c =
+    let program : Program = c.args.self.now.found.graph.now in
+    let known : Knowledge = knowledge_of c.args.self.now.found in
+    let point : ℕ = c.args.point in
+    let first : List ℕ = codes "{\"type\":\"point\",\"point\":" ++ decimal point ++ codes ",\"procedure\":" ++ quoted (procedure_name program (procedure_at program point))
+    ++ codes ",\"place\":" ++ decimal (place_of program point).place ++ span_fields program point ++ codes ",\"statement\":" ++ statement_field program point ++ codes ",\"edges\":" in
+    takes_as _ _ _ _
+    (takes_then _ _ _ _ _ (takes_then _ _ _ _ _ (takes_then _ _ _ _ _ (takes_then _ _ _ _ _ (takes_then _ _ _ _ _
+    (takes_then _ _ _ _ _ (takes_then _ _ _ _ _ c.write_point_place.ensures.takes c.write_place.ensures.takes)
+    c.write.ensures.takes) c.write_statement_or_null.ensures.takes) c.write-2.ensures.takes) c.write_edges.ensures.takes)
+    c.write_facts_fields.ensures.takes) c.write-3.ensures.takes)
+    (ap (λ es. first ++ array (map edge_object es) ++ flat_map (facts_field program known point) (chosen_analyses c.args.self.now.view.facts) ++ codes "}\n") c.edges.ensures)

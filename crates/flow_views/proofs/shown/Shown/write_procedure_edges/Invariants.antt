@@ -1,0 +1,12 @@
+use Rattle.std.proofs.Common.{◌≡◌, ◌-◌, flat_map}
+use Rattle.std.specs.List.{range_with_len}
+use Rattle.flow_texts.specs.Pieces.{Takes, outlet}
+use Rattle.flow_views.specs.Dots.{edge_lines}
+use Rattle.flow_views.proofs.shown.Shown.write_procedure_edges.Given as goal
+
+abbrev pub invariant-loop-point : goal.invariant-loop-point
+invariant-loop-point g l = record {
+  reference : l.out.sink.ghost_name ≡ l.fn.out.sink.ghost_name;
+  takes : Takes (outlet g.K.Sink.contents g.K.Sink.faults l.fn.out) (outlet g.K.Sink.contents g.K.Sink.faults l.out)
+      (flat_map (edge_lines l.fn.self.found.graph.now l.fn.self.view) (range_with_len l.fn.points.first (l.point - l.fn.points.first)));
+}

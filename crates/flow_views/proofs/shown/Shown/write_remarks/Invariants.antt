@@ -1,0 +1,13 @@
+use Rattle.std.proofs.Common.{◌≡◌, ◌-◌, flat_map}
+use Rattle.std.specs.List.{range_with_len}
+use Rattle.flow_texts.specs.Pieces.{Takes, outlet}
+use Rattle.flow_texts.specs.code.Findings.{knowledge_of}
+use Rattle.flow_views.specs.Json.{remark_lines}
+use Rattle.flow_views.proofs.shown.Shown.write_remarks.Given as goal
+
+abbrev pub invariant-loop-point : goal.invariant-loop-point
+invariant-loop-point g l = record {
+  reference : l.out.sink.ghost_name ≡ l.fn.out.sink.ghost_name;
+  takes : Takes (outlet g.K.Sink.contents g.K.Sink.faults l.fn.out) (outlet g.K.Sink.contents g.K.Sink.faults l.out)
+      (flat_map (remark_lines l.fn.self.found.graph.now (knowledge_of l.fn.self.found)) (range_with_len l.fn.points.first (l.point - l.fn.points.first)));
+}

@@ -1,0 +1,11 @@
+use Rattle.std.proofs.Common.{◌++◌, codes, decimal}
+use Rattle.tac_reader.specs.Listings.{statement_text}
+use Rattle.flow_views.specs.Views.{names_at}
+use Rattle.flow_views.proofs.Escapes.{shows_then}
+use Rattle.flow_views.proofs.shown.Shown.write_statement_title.Goals as goal
+
+pub returns-clause-takes : goal.returns-clause-takes
+returns-clause-takes g c =
+    shows_then (decimal c.args.stmt.now.span.line ++ codes ": ") (statement_text (names_at c.args.self.now.found.graph.now c.args.point) c.args.stmt.now.kind) _ _ _
+    (shows_then (decimal c.args.stmt.now.span.line) (codes ": ") _ _ _ c.write_escaped_number.ensures.takes c.write.ensures.takes)
+    c.write_statement.ensures.takes

@@ -1,0 +1,6 @@
+pub mod Strings
+pub mod Views
+pub mod Dots
+pub mod Json
+pub mod WorkedViews
+pub mod code

@@ -1,0 +1,62 @@
+-- What is shown of a program, in both texts: which procedures and points, which analyses, and what a statement is called.
+use Rattle.std.specs.Prelude.{ℕ, suc, Bool, List, [], ◌∷◌, ◌++◌, flat_map, length, Some, None, option_map, slice_get, unwrap_or, if◌then◌else◌, codes}
+use Rattle.std.specs.List.{range_with_len}
+use Rattle.flow_graph.specs.Points.{end_place, entry_point, procedure_at}
+use Rattle.flow_graph.specs.declared.analysis.Analysis.{Analysis}
+use Rattle.flow_graph.specs.declared.analysis.Analysis.TheVariants.{Reach, Live, Avail, Busy}
+use Rattle.flow_team.specs.Tables.{Facts}
+use Rattle.flow_texts.specs.Reports.{Knowledge}
+use Rattle.tac_reader.specs.Listings.{name_at}
+use Rattle.tac_reader.specs.Programs.{Names, Program}
+use Rattle.flow_views.specs.declared.view.Chosen.{Chosen}
+use Rattle.flow_views.specs.declared.view.View.{View}
+
+-- the procedures that are shown: the one that is named, or all
+abbrev pub shown_procedures : Program → View → List ℕ
+shown_procedures program view = elim view.procedure [
+  | Some procedure ↦ procedure ∷ []
+  | None ↦ range_with_len 0 (length program.procedures)
+]
+
+-- the points of a procedure, from its entry to its end
+abbrev pub points_in : Program → ℕ → List ℕ
+points_in program procedure = range_with_len (entry_point program procedure) (suc (end_place program procedure))
+
+-- the points that are shown
+abbrev pub shown_points : Program → View → List ℕ
+shown_points program view = flat_map (points_in program) (shown_procedures program view)
+
+-- the analyses whose facts are shown, in their order
+abbrev pub analysis_if : Bool → Analysis → List Analysis
+analysis_if is analysis = if is then analysis ∷ [] else []
+
+abbrev pub chosen_analyses : Chosen → List Analysis
+chosen_analyses chosen =
+    analysis_if chosen.reach Reach ++ analysis_if chosen.live Live
+    ++ analysis_if chosen.avail Avail ++ analysis_if chosen.busy Busy
+
+abbrev pub analysis_name : Analysis → List ℕ
+analysis_name Reach = codes "reach"
+analysis_name Live = codes "live"
+analysis_name Avail = codes "avail"
+analysis_name Busy = codes "busy"
+
+abbrev pub told_by : Knowledge → Analysis → Facts
+told_by known Reach = known.reach
+told_by known Live = known.live
+told_by known Avail = known.avail
+told_by known Busy = known.busy
+
+abbrev pub procedure_name : Program → ℕ → List ℕ
+procedure_name program procedure = name_at program.procedure_names procedure
+
+-- the names that a statement of a procedure uses
+abbrev pub names_in : Program → ℕ → Names
+names_in program procedure = record {
+  procedures = program.procedure_names;
+  variables = program.variable_names;
+  labels = unwrap_or (option_map (λ p. p.label_names) (slice_get program.procedures procedure)) [];
+}
+
+abbrev pub names_at : Program → ℕ → Names
+names_at program point = names_in program (procedure_at program point)

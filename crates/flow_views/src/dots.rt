@@ -1,0 +1,552 @@
+// The text for Graphviz.
+
+ghost use Rattle.std.specs.Prelude.{◌≡◌, ◌++◌, ◌<◌, ◌≤◌, All, Some, flat_map, length, if◌then◌else◌, IfOk, IfSome, codes, decimal};
+ghost use Rattle.bit_rows.specs.RowSet.{HasRange, contains as is_in};
+ghost use Rattle.std.specs.Prelude.{filter, map};
+ghost use Rattle.std.specs.List.{range_with_len};
+ghost use Rattle.flow_graph.specs.Paths.{target_of};
+ghost use Rattle.flow_graph.specs.Points.{point_count, procedure_at, statement_at};
+ghost use Rattle.flow_texts.specs.code.Findings.{knowledge_of};
+ghost use Rattle.flow_texts.specs.code.Lists.{text_at};
+ghost use Rattle.flow_texts.specs.Pieces.{IsOpen, Takes, outlet};
+ghost use Rattle.flow_texts.specs.Reports.{AreTablesOf, dead_at, remark_text, unset_at};
+ghost use Rattle.flow_texts.specs.Tables.{line_at, listed};
+ghost use Rattle.tac_reader.specs.Listings.{statement_text};
+ghost use Rattle.flow_views.specs.code.Shown.{AreShown, IsSiteIn, numbers_of};
+ghost use Rattle.flow_views.specs.Dots.{IsDot, arrow, calls_at, cluster, dot_of, edge_line, edge_lines, fact_line, head, is_edge_shown, label_line, label_lines, marks, node, passed_call, path_marks, shown_edge, text_if_some, title};
+ghost use Rattle.flow_views.specs.Strings.{escaped};
+ghost use Rattle.flow_views.specs.Views.{analysis_if, chosen_analyses, names_at, points_in, procedure_name};
+
+use crate::items::{ItemForm, write_if, write_row};
+use crate::shown::{Numbers, Shown, name_of};
+use crate::strings::{write_escaped, write_escaped_number, write_quoted};
+use crate::view::View;
+use bit_rows::Row;
+use flow_graph::{Analysis, Edge, Graph, OutOfMemory};
+use flow_texts::{
+    BitTexts, Findings, Pieces, Remark, RemarkForm, Sink, Tables, Text, line, words_before_name,
+    words_behind_name, write_number,
+};
+use std::alloc::Global;
+use std::marker::Model;
+use tac_reader::{Stmt, StmtKind};
+
+// A remark as a line of a label.
+#[derive(Clone, Copy)]
+struct DotLine;
+
+impl RemarkForm for DotLine {
+    ghost text = { λ _ program _ remark. label_line (remark_text program remark) };
+
+    fn write_remark<K: Sink>(
+        &self,
+        out: &mut Pieces<'_, K>,
+        found: &Findings<'_>,
+        _point: u32,
+        remark: Remark,
+    ) {
+        write_escaped(out, words_before_name(remark));
+        write_escaped(out, found.name(remark));
+        write_escaped(out, words_behind_name(remark));
+        out.write(b"\\l");
+    }
+}
+
+// Writes what the bits of a set are called, or that there are none.
+fn write_names<K: Sink>(out: &mut Pieces<'_, K>, texts: &BitTexts, row: &Row)
+    requires ready { IsOpen (outlet K.contents K.faults out.old) }
+    requires range { HasRange row.now 0 (length texts.now) }
+    ensures same_reference { out.new.sink.ghost_name ≡ out.old.sink.ghost_name }
+    ensures takes { Takes (outlet K.contents K.faults out.old) (outlet K.contents K.faults out.new) (escaped (listed (map (text_at texts.now) (filter (is_in row.now) (range_with_len 0 (length texts.now)))))) }
+{
+    if write_row(out, ItemForm::Names, texts, row) {
+        return;
+    }
+    out.write(b"-");
+}
+
+// Writes an arrow from a point to a point.
+fn write_arrow<K: Sink>(out: &mut Pieces<'_, K>, source: u32, target: u32)
+    requires { IsOpen (outlet K.contents K.faults out.old) }
+    ensures same_reference { out.new.sink.ghost_name ≡ out.old.sink.ghost_name }
+    ensures takes { Takes (outlet K.contents K.faults out.old) (outlet K.contents K.faults out.new) (arrow source target) }
+{
+    out.write(b"  ");
+    write_number(out, source);
+    out.write(b" -> ");
+    write_number(out, target);
+}
+
+// Writes what the text begins with.
+fn write_head<K: Sink>(out: &mut Pieces<'_, K>)
+    requires { IsOpen (outlet K.contents K.faults out.old) }
+    ensures same_reference { out.new.sink.ghost_name ≡ out.old.sink.ghost_name }
+    ensures takes { Takes (outlet K.contents K.faults out.old) (outlet K.contents K.faults out.new) head }
+{
+    out.write(b"digraph \"tacflow\" {\n");
+    out.write(b"  graph [fontname=\"monospace\", labeljust=l];\n");
+    out.write(b"  node [shape=box, fontname=\"monospace\", fontsize=11];\n");
+    out.write(b"  edge [fontname=\"monospace\", fontsize=10];\n");
+}
+
+// The point that an edge leads to.
+fn target(edge: Edge) -> u32
+    ensures { result ≡ target_of edge }
+{
+    match edge {
+        Edge::Step { to, .. } => to,
+        Edge::Call { to, .. } => to,
+        Edge::Ret { to, .. } => to,
+    }
+}
+
+impl Shown<'_> {
+    // Writes the title of a statement.
+    fn write_statement_title<K: Sink>(&self, out: &mut Pieces<'_, K>, point: u32, stmt: &Stmt)
+        requires ready { IsOpen (outlet K.contents K.faults out.old) }
+        requires shown { AreShown self.now }
+        requires point { point < point_count self.now.found.graph.now }
+        requires statement { statement_at self.now.found.graph.now point ≡ Some stmt.now }
+        ensures same_reference { out.new.sink.ghost_name ≡ out.old.sink.ghost_name }
+        ensures takes { Takes (outlet K.contents K.faults out.old) (outlet K.contents K.faults out.new) (escaped (decimal stmt.now.span.line ++ codes ": " ++ statement_text (names_at self.now.found.graph.now point) stmt.now.kind)) }
+    {
+        write_escaped_number(out, stmt.span.line as u64);
+        out.write(b": ");
+        self.write_statement(out, point, stmt);
+    }
+
+    // Writes the title of a procedure's end.
+    fn write_end_title<K: Sink>(&self, out: &mut Pieces<'_, K>, point: u32)
+        requires ready { IsOpen (outlet K.contents K.faults out.old) }
+        requires shown { AreShown self.now }
+        requires point { point < point_count self.now.found.graph.now }
+        ensures same_reference { out.new.sink.ghost_name ≡ out.old.sink.ghost_name }
+        ensures takes { Takes (outlet K.contents K.faults out.old) (outlet K.contents K.faults out.new) (escaped (codes "end of " ++ procedure_name self.now.found.graph.now (procedure_at self.now.found.graph.now point))) }
+    {
+        out.write(b"end of ");
+        write_escaped(out, self.procedure_name(self.scope(point).procedure));
+    }
+
+    // Writes the first line of a label.
+    fn write_title<K: Sink>(&self, out: &mut Pieces<'_, K>, point: u32)
+        requires ready { IsOpen (outlet K.contents K.faults out.old) }
+        requires shown { AreShown self.now }
+        requires point { point < point_count self.now.found.graph.now }
+        ensures same_reference { out.new.sink.ghost_name ≡ out.old.sink.ghost_name }
+        ensures takes { Takes (outlet K.contents K.faults out.old) (outlet K.contents K.faults out.new) (escaped (title self.now.found.graph.now point)) }
+    {
+        match self.found.graph.stmt(point) {
+            Some(stmt) => self.write_statement_title(out, point, stmt),
+            None => self.write_end_title(out, point),
+        }
+    }
+
+    // Writes what an analysis tells at a point.
+    fn write_fact_line<K: Sink>(&self, out: &mut Pieces<'_, K>, point: u32, analysis: Analysis)
+        requires ready { IsOpen (outlet K.contents K.faults out.old) }
+        requires shown { AreShown self.now }
+        requires point { point < point_count self.now.found.graph.now }
+        ensures same_reference { out.new.sink.ghost_name ≡ out.old.sink.ghost_name }
+        ensures takes { Takes (outlet K.contents K.faults out.old) (outlet K.contents K.faults out.new) (label_line (fact_line self.now.found.graph.now (knowledge_of self.now.found) point analysis)) }
+    {
+        write_escaped(out, name_of(analysis));
+        out.write(b": ");
+        let row = self.table(analysis).row(point);
+        write_names(out, self.names(analysis), row);
+        out.write(b"\\l");
+    }
+
+    // Writes it where the analysis is chosen.
+    fn write_fact_if<K: Sink>(
+        &self,
+        out: &mut Pieces<'_, K>,
+        chosen: bool,
+        point: u32,
+        analysis: Analysis,
+    )
+        requires ready { IsOpen (outlet K.contents K.faults out.old) }
+        requires shown { AreShown self.now }
+        requires point { point < point_count self.now.found.graph.now }
+        ensures same_reference { out.new.sink.ghost_name ≡ out.old.sink.ghost_name }
+        ensures takes { Takes (outlet K.contents K.faults out.old) (outlet K.contents K.faults out.new) (flat_map (λ a. label_line (fact_line self.now.found.graph.now (knowledge_of self.now.found) point a)) (analysis_if chosen analysis)) }
+    {
+        if !chosen {
+            return;
+        }
+        self.write_fact_line(out, point, analysis);
+    }
+
+    // Writes what the chosen analyses tell at a point.
+    fn write_facts<K: Sink>(&self, out: &mut Pieces<'_, K>, point: u32)
+        requires ready { IsOpen (outlet K.contents K.faults out.old) }
+        requires shown { AreShown self.now }
+        requires point { point < point_count self.now.found.graph.now }
+        ensures same_reference { out.new.sink.ghost_name ≡ out.old.sink.ghost_name }
+        ensures takes { Takes (outlet K.contents K.faults out.old) (outlet K.contents K.faults out.new) (flat_map (λ a. label_line (fact_line self.now.found.graph.now (knowledge_of self.now.found) point a)) (chosen_analyses self.now.view.facts)) }
+    {
+        let chosen = self.view.facts;
+        self.write_fact_if(out, chosen.reach, point, Analysis::Reach);
+        self.write_fact_if(out, chosen.live, point, Analysis::Live);
+        self.write_fact_if(out, chosen.avail, point, Analysis::Avail);
+        self.write_fact_if(out, chosen.busy, point, Analysis::Busy);
+    }
+
+    // Writes the lines of a node.
+    fn write_label<K: Sink>(&self, out: &mut Pieces<'_, K>, point: u32)
+        requires ready { IsOpen (outlet K.contents K.faults out.old) }
+        requires shown { AreShown self.now }
+        requires point { point < point_count self.now.found.graph.now }
+        ensures same_reference { out.new.sink.ghost_name ≡ out.old.sink.ghost_name }
+        ensures takes { Takes (outlet K.contents K.faults out.old) (outlet K.contents K.faults out.new) (flat_map label_line (label_lines self.now.found.graph.now (knowledge_of self.now.found) self.now.view.facts point)) }
+    {
+        self.write_title(out, point);
+        out.write(b"\\l");
+        self.found.write_remarks(&DotLine, out, point);
+        self.write_facts(out, point);
+    }
+
+    // Writes the marks of a statement that is reached.
+    fn write_statement_marks<K: Sink>(&self, out: &mut Pieces<'_, K>, point: u32, stmt: &Stmt)
+        requires ready { IsOpen (outlet K.contents K.faults out.old) }
+        requires shown { AreShown self.now }
+        requires point { point < point_count self.now.found.graph.now }
+        requires statement { statement_at self.now.found.graph.now point ≡ Some stmt.now }
+        ensures same_reference { out.new.sink.ghost_name ≡ out.old.sink.ghost_name }
+        ensures takes { Takes (outlet K.contents K.faults out.old) (outlet K.contents K.faults out.new) (text_if_some (unset_at self.now.found.graph.now (knowledge_of self.now.found) point) (codes ", color=red, fontcolor=red") ++ text_if_some (dead_at self.now.found.graph.now (knowledge_of self.now.found) point) (codes ", style=filled, fillcolor=khaki")) }
+    {
+        let unset = self.found.reads_unset(point, &stmt.kind);
+        write_if(out, unset, b", color=red, fontcolor=red");
+        let dead = self.found.sets_dead(point, &stmt.kind);
+        write_if(out, dead, b", style=filled, fillcolor=khaki");
+    }
+
+    // Writes the marks of a point by its valid paths.
+    fn write_path_marks<K: Sink>(&self, out: &mut Pieces<'_, K>, point: u32)
+        requires ready { IsOpen (outlet K.contents K.faults out.old) }
+        requires shown { AreShown self.now }
+        requires point { point < point_count self.now.found.graph.now }
+        ensures same_reference { out.new.sink.ghost_name ≡ out.old.sink.ghost_name }
+        ensures takes { Takes (outlet K.contents K.faults out.old) (outlet K.contents K.faults out.new) (path_marks self.now.found.graph.now (knowledge_of self.now.found) point) }
+    {
+        if !self.found.tables.reach.has_path(point) {
+            out.write(b", style=filled, fillcolor=grey80");
+            return;
+        }
+        match self.found.graph.stmt(point) {
+            Some(stmt) => self.write_statement_marks(out, point, stmt),
+            None => {},
+        }
+    }
+
+    // Whether a point is doubtful.
+    fn is_doubtful(&self, point: u32) -> bool
+        requires shown { AreShown self.now }
+        requires point { point < point_count self.now.found.graph.now }
+        ensures { result ≡ (knowledge_of self.now.found).doubtful point }
+    {
+        self.found.doubtful[point as usize]
+    }
+
+    // Writes the marks of a point.
+    fn write_marks<K: Sink>(&self, out: &mut Pieces<'_, K>, point: u32)
+        requires ready { IsOpen (outlet K.contents K.faults out.old) }
+        requires shown { AreShown self.now }
+        requires point { point < point_count self.now.found.graph.now }
+        ensures same_reference { out.new.sink.ghost_name ≡ out.old.sink.ghost_name }
+        ensures takes { Takes (outlet K.contents K.faults out.old) (outlet K.contents K.faults out.new) (marks self.now.found.graph.now (knowledge_of self.now.found) point) }
+    {
+        self.write_path_marks(out, point);
+        write_if(out, self.is_doubtful(point), b", peripheries=2");
+    }
+
+    // Writes a point as a node.
+    fn write_node<K: Sink>(&self, out: &mut Pieces<'_, K>, point: u32)
+        requires ready { IsOpen (outlet K.contents K.faults out.old) }
+        requires shown { AreShown self.now }
+        requires point { point < point_count self.now.found.graph.now }
+        ensures same_reference { out.new.sink.ghost_name ≡ out.old.sink.ghost_name }
+        ensures takes { Takes (outlet K.contents K.faults out.old) (outlet K.contents K.faults out.new) (node self.now.found.graph.now (knowledge_of self.now.found) self.now.view.facts point) }
+    {
+        if out.has_failed() {
+            return;
+        }
+        out.write(b"    ");
+        write_number(out, point);
+        out.write(b" [label=\"");
+        self.write_label(out, point);
+        out.write(b"\"");
+        self.write_marks(out, point);
+        out.write(b"];\n");
+    }
+
+    // Writes the nodes of a procedure.
+    fn write_nodes<K: Sink>(&self, out: &mut Pieces<'_, K>, points: Numbers)
+        requires ready { IsOpen (outlet K.contents K.faults out.old) }
+        requires shown { AreShown self.now }
+        requires ordered { points.first ≤ points.end }
+        requires points { points.end ≤ point_count self.now.found.graph.now }
+        ensures same_reference { out.new.sink.ghost_name ≡ out.old.sink.ghost_name }
+        ensures takes { Takes (outlet K.contents K.faults out.old) (outlet K.contents K.faults out.new) (flat_map (node self.now.found.graph.now (knowledge_of self.now.found) self.now.view.facts) (numbers_of points)) }
+    {
+        for point in points.first..points.end {
+            self.write_node(out, point);
+        }
+    }
+
+    // Writes a procedure as a cluster.
+    fn write_cluster<K: Sink>(&self, out: &mut Pieces<'_, K>, procedure: u32)
+        requires ready { IsOpen (outlet K.contents K.faults out.old) }
+        requires shown { AreShown self.now }
+        requires procedure { procedure < length self.now.found.graph.now.procedures }
+        ensures same_reference { out.new.sink.ghost_name ≡ out.old.sink.ghost_name }
+        ensures takes { Takes (outlet K.contents K.faults out.old) (outlet K.contents K.faults out.new) (cluster self.now.found.graph.now (knowledge_of self.now.found) self.now.view.facts procedure) }
+    {
+        out.write(b"  subgraph \"cluster_");
+        write_number(out, procedure);
+        out.write(b"\" {\n");
+        out.write(b"    label=");
+        write_quoted(out, self.procedure_name(procedure));
+        out.write(b";\n");
+        self.write_nodes(out, self.points_of(procedure));
+        out.write(b"  }\n");
+    }
+
+    // Writes the procedures that are shown.
+    fn write_clusters<K: Sink>(&self, out: &mut Pieces<'_, K>, procedures: Numbers)
+        requires ready { IsOpen (outlet K.contents K.faults out.old) }
+        requires shown { AreShown self.now }
+        requires ordered { procedures.first ≤ procedures.end }
+        requires procedures { procedures.end ≤ length self.now.found.graph.now.procedures }
+        ensures same_reference { out.new.sink.ghost_name ≡ out.old.sink.ghost_name }
+        ensures takes { Takes (outlet K.contents K.faults out.old) (outlet K.contents K.faults out.new) (flat_map (cluster self.now.found.graph.now (knowledge_of self.now.found) self.now.view.facts) (numbers_of procedures)) }
+    {
+        for procedure in procedures.first..procedures.end {
+            self.write_cluster(out, procedure);
+        }
+    }
+
+    // Writes the edge of a call or a return, with the line of the call.
+    fn write_dashed<K: Sink>(
+        &self,
+        out: &mut Pieces<'_, K>,
+        source: u32,
+        target: u32,
+        word: &[u8],
+        site: u32,
+    )
+        requires ready { IsOpen (outlet K.contents K.faults out.old) }
+        requires site { site < point_count self.now.found.graph.now }
+        ensures same_reference { out.new.sink.ghost_name ≡ out.old.sink.ghost_name }
+        ensures takes { Takes (outlet K.contents K.faults out.old) (outlet K.contents K.faults out.new) (arrow source target ++ codes " [style=dashed, label=\"" ++ word.now ++ decimal (line_at self.now.found.graph.now site) ++ codes "\"];\n") }
+    {
+        write_arrow(out, source, target);
+        out.write(b" [style=dashed, label=\"");
+        out.write(word);
+        write_number(out, line(self.found.graph, site));
+        out.write(b"\"];\n");
+    }
+
+    // Writes an edge.
+    fn write_edge<K: Sink>(&self, out: &mut Pieces<'_, K>, edge: Edge)
+        requires ready { IsOpen (outlet K.contents K.faults out.old) }
+        requires edge { IsSiteIn self.now.found.graph.now edge }
+        ensures same_reference { out.new.sink.ghost_name ≡ out.old.sink.ghost_name }
+        ensures takes { Takes (outlet K.contents K.faults out.old) (outlet K.contents K.faults out.new) (edge_line self.now.found.graph.now edge) }
+    {
+        match edge {
+            Edge::Step { from, to } => {
+                write_arrow(out, from, to);
+                out.write(b";\n");
+            }
+            Edge::Call { site, from, to } => self.write_dashed(out, from, to, b"call ", site),
+            Edge::Ret { site, from, to } => self.write_dashed(out, from, to, b"return ", site),
+        }
+    }
+
+    // Whether an edge is shown: of one procedure those that stay in it.
+    fn shows(&self, edge: Edge) -> bool
+        requires { AreShown self.now }
+        ensures { result ≡ is_edge_shown self.now.found.graph.now self.now.view edge }
+    {
+        let Some(procedure) = self.view.procedure else {
+            return true;
+        };
+        let points = self.points_of(procedure);
+        let target = target(edge);
+        points.first <= target && target < points.end
+    }
+
+    // Writes an edge where it is shown.
+    fn write_shown_edge<K: Sink>(&self, out: &mut Pieces<'_, K>, edge: Edge)
+        requires ready { IsOpen (outlet K.contents K.faults out.old) }
+        requires shown { AreShown self.now }
+        requires edge { IsSiteIn self.now.found.graph.now edge }
+        ensures same_reference { out.new.sink.ghost_name ≡ out.old.sink.ghost_name }
+        ensures takes { Takes (outlet K.contents K.faults out.old) (outlet K.contents K.faults out.new) (shown_edge self.now.found.graph.now self.now.view edge) }
+    {
+        if !self.shows(edge) {
+            return;
+        }
+        self.write_edge(out, edge);
+    }
+
+    // Writes those of some edges that are shown.
+    fn write_shown_edges<K: Sink>(&self, out: &mut Pieces<'_, K>, edges: &[Edge])
+        requires ready { IsOpen (outlet K.contents K.faults out.old) }
+        requires shown { AreShown self.now }
+        requires edges { All (IsSiteIn self.now.found.graph.now) edges.now }
+        ensures same_reference { out.new.sink.ghost_name ≡ out.old.sink.ghost_name }
+        ensures takes { Takes (outlet K.contents K.faults out.old) (outlet K.contents K.faults out.new) (flat_map (shown_edge self.now.found.graph.now self.now.view) edges.now) }
+    {
+        for edge in edges {
+            self.write_shown_edge(out, *edge);
+        }
+    }
+
+    // Whether the statement at a point is a call.
+    fn is_call(&self, point: u32) -> bool
+        requires { point < point_count self.now.found.graph.now }
+        ensures { result ≡ calls_at self.now.found.graph.now point }
+    {
+        match self.found.graph.stmt(point) {
+            Some(stmt) => matches!(stmt.kind, StmtKind::Call { .. }),
+            None => false,
+        }
+    }
+
+    // Writes the edge to the point behind a call, where one procedure is shown.
+    fn write_passed_call<K: Sink>(&self, out: &mut Pieces<'_, K>, point: u32)
+        requires ready { IsOpen (outlet K.contents K.faults out.old) }
+        requires shown { AreShown self.now }
+        requires point { point < point_count self.now.found.graph.now }
+        ensures same_reference { out.new.sink.ghost_name ≡ out.old.sink.ghost_name }
+        ensures takes { Takes (outlet K.contents K.faults out.old) (outlet K.contents K.faults out.new) (passed_call self.now.found.graph.now self.now.view point) }
+    {
+        let Some(_) = self.view.procedure else {
+            return;
+        };
+        if !self.is_call(point) {
+            return;
+        }
+        write_arrow(out, point, point + 1);
+        out.write(b" [style=dashed, label=\"call\"];\n");
+    }
+
+    // Writes the edges of a point.
+    fn write_edges<K: Sink>(&self, out: &mut Pieces<'_, K>, point: u32)
+        requires ready { IsOpen (outlet K.contents K.faults out.old) }
+        requires shown { AreShown self.now }
+        requires point { point < point_count self.now.found.graph.now }
+        ensures same_reference { out.new.sink.ghost_name ≡ out.old.sink.ghost_name }
+        ensures takes { Takes (outlet K.contents K.faults out.old) (outlet K.contents K.faults out.new) (edge_lines self.now.found.graph.now self.now.view point) }
+    {
+        if out.has_failed() {
+            return;
+        }
+        self.write_shown_edges(out, self.edges(point));
+        self.write_passed_call(out, point);
+    }
+
+    // Writes the edges of a procedure's points.
+    fn write_procedure_edges<K: Sink>(&self, out: &mut Pieces<'_, K>, points: Numbers)
+        requires ready { IsOpen (outlet K.contents K.faults out.old) }
+        requires shown { AreShown self.now }
+        requires ordered { points.first ≤ points.end }
+        requires points { points.end ≤ point_count self.now.found.graph.now }
+        ensures same_reference { out.new.sink.ghost_name ≡ out.old.sink.ghost_name }
+        ensures takes { Takes (outlet K.contents K.faults out.old) (outlet K.contents K.faults out.new) (flat_map (edge_lines self.now.found.graph.now self.now.view) (numbers_of points)) }
+    {
+        for point in points.first..points.end {
+            self.write_edges(out, point);
+        }
+    }
+
+    // Writes all edges that are shown.
+    fn write_all_edges<K: Sink>(&self, out: &mut Pieces<'_, K>, procedures: Numbers)
+        requires ready { IsOpen (outlet K.contents K.faults out.old) }
+        requires shown { AreShown self.now }
+        requires ordered { procedures.first ≤ procedures.end }
+        requires procedures { procedures.end ≤ length self.now.found.graph.now.procedures }
+        ensures same_reference { out.new.sink.ghost_name ≡ out.old.sink.ghost_name }
+        ensures takes { Takes (outlet K.contents K.faults out.old) (outlet K.contents K.faults out.new) (flat_map (edge_lines self.now.found.graph.now self.now.view) (flat_map (points_in self.now.found.graph.now) (numbers_of procedures))) }
+    {
+        for procedure in procedures.first..procedures.end {
+            self.write_procedure_edges(out, self.points_of(procedure));
+        }
+    }
+
+    // Writes the whole text.
+    fn write_dot<K: Sink>(&self, out: &mut Pieces<'_, K>)
+        requires ready { IsOpen (outlet K.contents K.faults out.old) }
+        requires shown { AreShown self.now }
+        ensures same_reference { out.new.sink.ghost_name ≡ out.old.sink.ghost_name }
+        ensures takes { Takes (outlet K.contents K.faults out.old) (outlet K.contents K.faults out.new) (dot_of self.now.found.graph.now (knowledge_of self.now.found) self.now.view) }
+    {
+        let procedures = self.procedures();
+        write_head(out);
+        self.write_clusters(out, procedures);
+        self.write_all_edges(out, procedures);
+        out.write(b"}\n");
+    }
+}
+
+/// The flow graph of a program with its facts, as a picture for Graphviz: each procedure is a cluster `cluster_NUMBER` with its
+/// name, each point a node, named by its number. Its label has a line each for
+///
+/// - the statement, `LINE: STATEMENT` as a listing writes it, or `end of NAME` at a procedure's end;
+/// - each remark that a report makes on it, in the report's words and order;
+/// - each chosen analysis, `reach: SET`, `live: SET`, `avail: SET`, `busy: SET`, with the set as `TableText` has it.
+///
+/// A point is grey where no valid path leads there. Else it is red where its statement reads a variable that may be unset, and
+/// yellow where it is an assignment that is dead. A doubtful point has a second border, whatever else it is.
+///
+/// A step is a solid edge. A call and a return are dashed, with the line of the call. Where one procedure is shown, these are the
+/// edges that stay in it, and from each call a dashed edge leads to the point behind it.
+///
+/// The work is linear in the program, its edges, the text, and the words of the chosen analyses' sets and of the tests' sets of
+/// very busy expressions.
+#[derive(Drop)]
+pub struct DotText<'a> {
+    shown: Shown<'a>,
+}
+
+impl<'a> Model for DotText<'a> {
+    ghost use Rattle.std.specs.Prelude.{List, ℕ};
+    ghost use Rattle.flow_texts.specs.code.Findings.{knowledge_of};
+    ghost use Rattle.flow_views.specs.code.Shown.{AreShown};
+    ghost use Rattle.flow_views.specs.Dots.{dot_of};
+
+    ghost Value = { List ℕ };
+
+    ghost view = { λ text. dot_of text.shown.found.graph.now (knowledge_of text.shown.found) text.shown.view };
+
+    ghost invariant = { λ text. AreShown text.shown };
+}
+
+impl<'a> DotText<'a> {
+    /// The picture, ready to be written.
+    ///
+    /// The conditions: the tables are of this graph, and the procedure that is shown is one of its program. Fails only where
+    /// memory runs out.
+    pub fn of(
+        alloc: Global,
+        graph: &'a Graph<'a>,
+        tables: &'a Tables,
+        view: View,
+    ) -> Result<DotText<'a>, OutOfMemory>
+        requires tables { AreTablesOf graph.now tables.now }
+        requires procedure { IfSome view.procedure (λ procedure. procedure < length graph.now.procedure_names) }
+        ensures { IfOk result (IsDot graph.now view) }
+    {
+        let shown = Shown::of(alloc, graph, tables, view)?;
+        Ok(DotText { shown })
+    }
+}
+
+impl<'a> Text for DotText<'a> {
+    ghost bytes = { λ text. text };
+
+    fn write<K: Sink>(&self, out: &mut Pieces<'_, K>) {
+        self.shown.write_dot(out);
+    }
+}

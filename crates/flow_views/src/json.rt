@@ -1,0 +1,504 @@
+// The text of lines of JSON.
+
+ghost use Rattle.std.specs.Prelude.{◌≡◌, ◌+◌, ◌++◌, ◌<◌, ◌≤◌, Some, codes, decimal, filter, flat_map, length, map, IfOk, IfSome};
+ghost use Rattle.std.specs.List.{range_with_len};
+ghost use Rattle.bit_rows.specs.RowSet.{HasRange, contains as is_in};
+ghost use Rattle.flow_graph.specs.Points.{place_of, point_count, procedure_at, statement_at};
+ghost use Rattle.flow_texts.specs.code.Findings.{AreFindings, IsRemarkIn, knowledge_of};
+ghost use Rattle.flow_texts.specs.Pieces.{IsOpen, Takes, outlet};
+ghost use Rattle.flow_texts.specs.Reports.{AreTablesOf};
+ghost use Rattle.tac_reader.specs.Listings.{statement_text};
+ghost use Rattle.flow_views.specs.code.Items.{between, item_text};
+ghost use Rattle.flow_views.specs.code.Shown.{AreShown, numbers_of};
+ghost use Rattle.flow_views.specs.Json.{IsJson, array, boolean, edge_object, facts_field, json_of, point_line, program_line, remark_fields, remark_lines, remark_object, span_fields, statement_field};
+ghost use Rattle.flow_views.specs.Strings.{quoted};
+ghost use Rattle.flow_views.specs.Views.{analysis_if, chosen_analyses, names_at, points_in, procedure_name};
+
+use crate::items::{ItemForm, write_if, write_row};
+use crate::shown::{Numbers, Shown, name_of};
+use crate::strings::write_quoted;
+use crate::view::View;
+use bit_rows::Row;
+use flow_graph::{Analysis, Edge, Graph, OutOfMemory};
+use flow_texts::{
+    BitTexts, Findings, Pieces, Remark, RemarkForm, Sink, Tables, Text, write_number,
+};
+use itoa::Buffer;
+use std::alloc::Global;
+use std::marker::Model;
+use tac_reader::{Span, Stmt};
+
+// Writes a kind with the field of what is named, and the name.
+fn write_named<K: Sink>(out: &mut Pieces<'_, K>, kind: &[u8], name: &[u8])
+    requires { IsOpen (outlet K.contents K.faults out.old) }
+    ensures same_reference { out.new.sink.ghost_name ≡ out.old.sink.ghost_name }
+    ensures takes { Takes (outlet K.contents K.faults out.old) (outlet K.contents K.faults out.new) (kind.now ++ quoted name.now) }
+{
+    out.write(kind);
+    write_quoted(out, name);
+}
+
+// Writes the kind of a remark, and what it names.
+fn write_kind<K: Sink>(out: &mut Pieces<'_, K>, found: &Findings<'_>, remark: Remark)
+    requires ready { IsOpen (outlet K.contents K.faults out.old) }
+    requires found { AreFindings found.now }
+    requires remark { IsRemarkIn found.now.graph.now remark }
+    ensures same_reference { out.new.sink.ghost_name ≡ out.old.sink.ghost_name }
+    ensures takes { Takes (outlet K.contents K.faults out.old) (outlet K.contents K.faults out.new) (remark_fields found.now.graph.now remark) }
+{
+    let name = found.name(remark);
+    match remark {
+        Remark::NeverReached => out.write(b"\"never_reached\""),
+        Remark::Unset { .. } => write_named(out, b"\"unset\",\"variable\":", name),
+        Remark::Computed { .. } => write_named(out, b"\"computed\",\"expression\":", name),
+        Remark::VeryBusy { .. } => write_named(out, b"\"busy\",\"expression\":", name),
+        Remark::Dead { .. } => write_named(out, b"\"dead\",\"variable\":", name),
+    }
+}
+
+// Writes a place in the text.
+fn write_position<K: Sink>(out: &mut Pieces<'_, K>, position: u64)
+    requires { IsOpen (outlet K.contents K.faults out.old) }
+    ensures same_reference { out.new.sink.ghost_name ≡ out.old.sink.ghost_name }
+    ensures takes { Takes (outlet K.contents K.faults out.old) (outlet K.contents K.faults out.new) (decimal position) }
+{
+    out.write(Buffer::new().format(position).as_bytes());
+}
+
+// Writes where a statement stands.
+fn write_span<K: Sink>(out: &mut Pieces<'_, K>, span: Span)
+    requires { IsOpen (outlet K.contents K.faults out.old) }
+    ensures same_reference { out.new.sink.ghost_name ≡ out.old.sink.ghost_name }
+    ensures takes { Takes (outlet K.contents K.faults out.old) (outlet K.contents K.faults out.new)
+        (codes ",\"line\":" ++ decimal span.line ++ codes ",\"first\":" ++ decimal (span.start + 1) ++ codes ",\"last\":" ++ decimal span.end) }
+{
+    out.write(b",\"line\":");
+    write_number(out, span.line);
+    out.write(b",\"first\":");
+    write_position(out, span.start as u64 + 1);
+    out.write(b",\"last\":");
+    write_number(out, span.end);
+}
+
+// Writes where the statement at a point stands; nulls at a procedure's end.
+fn write_place<K: Sink>(out: &mut Pieces<'_, K>, graph: &Graph<'_>, point: u32)
+    requires ready { IsOpen (outlet K.contents K.faults out.old) }
+    requires point { point < point_count graph.now }
+    ensures same_reference { out.new.sink.ghost_name ≡ out.old.sink.ghost_name }
+    ensures takes { Takes (outlet K.contents K.faults out.old) (outlet K.contents K.faults out.new) (span_fields graph.now point) }
+{
+    match graph.stmt(point) {
+        Some(stmt) => write_span(out, stmt.span),
+        None => out.write(b",\"line\":null,\"first\":null,\"last\":null"),
+    }
+}
+
+// A remark as an object.
+#[derive(Clone, Copy)]
+struct JsonLine;
+
+impl RemarkForm for JsonLine {
+    ghost text = { λ _ program point remark. remark_object program point remark };
+
+    fn write_remark<K: Sink>(
+        &self,
+        out: &mut Pieces<'_, K>,
+        found: &Findings<'_>,
+        point: u32,
+        remark: Remark,
+    ) {
+        out.write(b"{\"type\":\"remark\",\"point\":");
+        write_number(out, point);
+        write_place(out, found.graph, point);
+        out.write(b",\"kind\":");
+        write_kind(out, found, remark);
+        out.write(b"}\n");
+    }
+}
+
+// Writes a truth value.
+fn write_boolean<K: Sink>(out: &mut Pieces<'_, K>, value: bool)
+    requires { IsOpen (outlet K.contents K.faults out.old) }
+    ensures same_reference { out.new.sink.ghost_name ≡ out.old.sink.ghost_name }
+    ensures takes { Takes (outlet K.contents K.faults out.old) (outlet K.contents K.faults out.new) (boolean value) }
+{
+    if value {
+        out.write(b"true");
+    } else {
+        out.write(b"false");
+    }
+}
+
+// Writes the bits of a set as an array.
+fn write_array<K: Sink>(out: &mut Pieces<'_, K>, form: ItemForm, texts: &BitTexts, row: &Row)
+    requires ready { IsOpen (outlet K.contents K.faults out.old) }
+    requires range { HasRange row.now 0 (length texts.now) }
+    requires commas { between form ≡ codes "," }
+    ensures same_reference { out.new.sink.ghost_name ≡ out.old.sink.ghost_name }
+    ensures takes { Takes (outlet K.contents K.faults out.old) (outlet K.contents K.faults out.new) (array (map (item_text form texts.now) (filter (is_in row.now) (range_with_len 0 (length texts.now))))) }
+{
+    out.write(b"[");
+    write_row(out, form, texts, row);
+    out.write(b"]");
+}
+
+// Writes an edge that goes from call to callee or back, by the call's point and where it leads.
+fn write_site<K: Sink>(out: &mut Pieces<'_, K>, kind: &[u8], site: u32, target: u32)
+    requires { IsOpen (outlet K.contents K.faults out.old) }
+    ensures same_reference { out.new.sink.ghost_name ≡ out.old.sink.ghost_name }
+    ensures takes { Takes (outlet K.contents K.faults out.old) (outlet K.contents K.faults out.new) (kind.now ++ decimal site ++ codes ",\"to\":" ++ decimal target ++ codes "}") }
+{
+    out.write(kind);
+    write_number(out, site);
+    out.write(b",\"to\":");
+    write_number(out, target);
+    out.write(b"}");
+}
+
+// Writes a step.
+fn write_step<K: Sink>(out: &mut Pieces<'_, K>, target: u32)
+    requires { IsOpen (outlet K.contents K.faults out.old) }
+    ensures same_reference { out.new.sink.ghost_name ≡ out.old.sink.ghost_name }
+    ensures takes { Takes (outlet K.contents K.faults out.old) (outlet K.contents K.faults out.new) (codes "{\"kind\":\"step\",\"to\":" ++ decimal target ++ codes "}") }
+{
+    out.write(b"{\"kind\":\"step\",\"to\":");
+    write_number(out, target);
+    out.write(b"}");
+}
+
+// Writes an edge.
+fn write_edge<K: Sink>(out: &mut Pieces<'_, K>, edge: Edge)
+    requires { IsOpen (outlet K.contents K.faults out.old) }
+    ensures same_reference { out.new.sink.ghost_name ≡ out.old.sink.ghost_name }
+    ensures takes { Takes (outlet K.contents K.faults out.old) (outlet K.contents K.faults out.new) (edge_object edge) }
+{
+    match edge {
+        Edge::Step { to, .. } => write_step(out, to),
+        Edge::Call { site, to, .. } => write_site(out, b"{\"kind\":\"call\",\"site\":", site, to),
+        Edge::Ret { site, to, .. } => write_site(out, b"{\"kind\":\"return\",\"site\":", site, to),
+    }
+}
+
+// Writes edges as an array.
+fn write_edges<K: Sink>(out: &mut Pieces<'_, K>, edges: &[Edge])
+    requires { IsOpen (outlet K.contents K.faults out.old) }
+    ensures same_reference { out.new.sink.ghost_name ≡ out.old.sink.ghost_name }
+    ensures takes { Takes (outlet K.contents K.faults out.old) (outlet K.contents K.faults out.new) (array (map edge_object edges.now)) }
+{
+    out.write(b"[");
+    for (place, edge) in edges.iter().enumerate() {
+        write_if(out, 0 < place, b",");
+        write_edge(out, *edge);
+    }
+    out.write(b"]");
+}
+
+impl Shown<'_> {
+    // Writes the names of the procedures as an array.
+    fn write_procedures<K: Sink>(&self, out: &mut Pieces<'_, K>)
+        requires ready { IsOpen (outlet K.contents K.faults out.old) }
+        requires shown { AreShown self.now }
+        ensures same_reference { out.new.sink.ghost_name ≡ out.old.sink.ghost_name }
+        ensures takes { Takes (outlet K.contents K.faults out.old) (outlet K.contents K.faults out.new) (array (map quoted self.now.found.graph.now.procedure_names)) }
+    {
+        let count = self.found.graph.program().procs().len();
+        out.write(b"[");
+        for procedure in 0..count as u32 {
+            write_if(out, 0 < procedure, b",");
+            write_quoted(out, self.procedure_name(procedure));
+        }
+        out.write(b"]");
+    }
+
+    // Writes the names of the variables as an array.
+    fn write_variables<K: Sink>(&self, out: &mut Pieces<'_, K>)
+        requires ready { IsOpen (outlet K.contents K.faults out.old) }
+        ensures same_reference { out.new.sink.ghost_name ≡ out.old.sink.ghost_name }
+        ensures takes { Takes (outlet K.contents K.faults out.old) (outlet K.contents K.faults out.new) (array (map quoted self.now.found.graph.now.variable_names)) }
+    {
+        let program = self.found.graph.program();
+        out.write(b"[");
+        for variable in 0..program.variables() {
+            write_if(out, 0 < variable, b",");
+            write_quoted(out, program.variable(variable));
+        }
+        out.write(b"]");
+    }
+
+    // Writes the line of the program.
+    fn write_program<K: Sink>(&self, out: &mut Pieces<'_, K>)
+        requires ready { IsOpen (outlet K.contents K.faults out.old) }
+        requires shown { AreShown self.now }
+        ensures same_reference { out.new.sink.ghost_name ≡ out.old.sink.ghost_name }
+        ensures takes { Takes (outlet K.contents K.faults out.old) (outlet K.contents K.faults out.new) (program_line self.now.found.graph.now) }
+    {
+        let graph = self.found.graph;
+        out.write(b"{\"type\":\"program\",\"points\":");
+        write_number(out, graph.points());
+        out.write(b",\"procedures\":");
+        self.write_procedures(out);
+        out.write(b",\"variables\":");
+        self.write_variables(out);
+        out.write(b",\"definitions\":");
+        write_number(out, graph.bits(Analysis::Reach));
+        out.write(b",\"expressions\":");
+        write_number(out, graph.bits(Analysis::Avail));
+        out.write(b"}\n");
+    }
+
+    // Writes a statement between quotes.
+    fn write_statement_field<K: Sink>(&self, out: &mut Pieces<'_, K>, point: u32, stmt: &Stmt)
+        requires ready { IsOpen (outlet K.contents K.faults out.old) }
+        requires shown { AreShown self.now }
+        requires point { point < point_count self.now.found.graph.now }
+        requires statement { statement_at self.now.found.graph.now point ≡ Some stmt.now }
+        ensures same_reference { out.new.sink.ghost_name ≡ out.old.sink.ghost_name }
+        ensures takes { Takes (outlet K.contents K.faults out.old) (outlet K.contents K.faults out.new) (quoted (statement_text (names_at self.now.found.graph.now point) stmt.now.kind)) }
+    {
+        out.write(b"\"");
+        self.write_statement(out, point, stmt);
+        out.write(b"\"");
+    }
+
+    // Writes the statement at a point; null at a procedure's end.
+    fn write_statement_or_null<K: Sink>(&self, out: &mut Pieces<'_, K>, point: u32)
+        requires ready { IsOpen (outlet K.contents K.faults out.old) }
+        requires shown { AreShown self.now }
+        requires point { point < point_count self.now.found.graph.now }
+        ensures same_reference { out.new.sink.ghost_name ≡ out.old.sink.ghost_name }
+        ensures takes { Takes (outlet K.contents K.faults out.old) (outlet K.contents K.faults out.new) (statement_field self.now.found.graph.now point) }
+    {
+        match self.found.graph.stmt(point) {
+            Some(stmt) => self.write_statement_field(out, point, stmt),
+            None => out.write(b"null"),
+        }
+    }
+
+    // Writes what an analysis tells at a point.
+    fn write_facts_field<K: Sink>(&self, out: &mut Pieces<'_, K>, point: u32, analysis: Analysis)
+        requires ready { IsOpen (outlet K.contents K.faults out.old) }
+        requires shown { AreShown self.now }
+        requires point { point < point_count self.now.found.graph.now }
+        ensures same_reference { out.new.sink.ghost_name ≡ out.old.sink.ghost_name }
+        ensures takes { Takes (outlet K.contents K.faults out.old) (outlet K.contents K.faults out.new) (facts_field self.now.found.graph.now (knowledge_of self.now.found) point analysis) }
+    {
+        let table = self.table(analysis);
+        let texts = self.names(analysis);
+        out.write(b",\"");
+        out.write(name_of(analysis));
+        out.write(b"\":{\"path\":");
+        write_boolean(out, table.has_path(point));
+        out.write(b",\"bits\":");
+        write_array(out, ItemForm::Numbers, texts, table.row(point));
+        out.write(b",\"names\":");
+        write_array(out, ItemForm::Strings, texts, table.row(point));
+        out.write(b"}");
+    }
+
+    // Writes it where the analysis is chosen.
+    fn write_facts_field_if<K: Sink>(
+        &self,
+        out: &mut Pieces<'_, K>,
+        chosen: bool,
+        point: u32,
+        analysis: Analysis,
+    )
+        requires ready { IsOpen (outlet K.contents K.faults out.old) }
+        requires shown { AreShown self.now }
+        requires point { point < point_count self.now.found.graph.now }
+        ensures same_reference { out.new.sink.ghost_name ≡ out.old.sink.ghost_name }
+        ensures takes { Takes (outlet K.contents K.faults out.old) (outlet K.contents K.faults out.new) (flat_map (facts_field self.now.found.graph.now (knowledge_of self.now.found) point) (analysis_if chosen analysis)) }
+    {
+        if !chosen {
+            return;
+        }
+        self.write_facts_field(out, point, analysis);
+    }
+
+    // Writes what the chosen analyses tell at a point.
+    fn write_facts_fields<K: Sink>(&self, out: &mut Pieces<'_, K>, point: u32)
+        requires ready { IsOpen (outlet K.contents K.faults out.old) }
+        requires shown { AreShown self.now }
+        requires point { point < point_count self.now.found.graph.now }
+        ensures same_reference { out.new.sink.ghost_name ≡ out.old.sink.ghost_name }
+        ensures takes { Takes (outlet K.contents K.faults out.old) (outlet K.contents K.faults out.new) (flat_map (facts_field self.now.found.graph.now (knowledge_of self.now.found) point) (chosen_analyses self.now.view.facts)) }
+    {
+        let chosen = self.view.facts;
+        self.write_facts_field_if(out, chosen.reach, point, Analysis::Reach);
+        self.write_facts_field_if(out, chosen.live, point, Analysis::Live);
+        self.write_facts_field_if(out, chosen.avail, point, Analysis::Avail);
+        self.write_facts_field_if(out, chosen.busy, point, Analysis::Busy);
+    }
+
+    // Writes which point it is.
+    fn write_point_place<K: Sink>(&self, out: &mut Pieces<'_, K>, point: u32)
+        requires ready { IsOpen (outlet K.contents K.faults out.old) }
+        requires shown { AreShown self.now }
+        requires point { point < point_count self.now.found.graph.now }
+        ensures same_reference { out.new.sink.ghost_name ≡ out.old.sink.ghost_name }
+        ensures takes { Takes (outlet K.contents K.faults out.old) (outlet K.contents K.faults out.new) (codes "{\"type\":\"point\",\"point\":" ++ decimal point ++ codes ",\"procedure\":" ++ quoted (procedure_name self.now.found.graph.now (procedure_at self.now.found.graph.now point)) ++ codes ",\"place\":" ++ decimal (place_of self.now.found.graph.now point).place) }
+    {
+        let place = self.found.graph.place(point);
+        out.write(b"{\"type\":\"point\",\"point\":");
+        write_number(out, point);
+        out.write(b",\"procedure\":");
+        write_quoted(out, self.procedure_name(place.procedure));
+        out.write(b",\"place\":");
+        write_number(out, place.place);
+    }
+
+    // Writes the line of a point.
+    fn write_point<K: Sink>(&self, out: &mut Pieces<'_, K>, point: u32)
+        requires ready { IsOpen (outlet K.contents K.faults out.old) }
+        requires shown { AreShown self.now }
+        requires point { point < point_count self.now.found.graph.now }
+        ensures same_reference { out.new.sink.ghost_name ≡ out.old.sink.ghost_name }
+        ensures takes { Takes (outlet K.contents K.faults out.old) (outlet K.contents K.faults out.new) (point_line self.now.found.graph.now (knowledge_of self.now.found) self.now.view.facts point) }
+    {
+        if out.has_failed() {
+            return;
+        }
+        self.write_point_place(out, point);
+        write_place(out, self.found.graph, point);
+        out.write(b",\"statement\":");
+        self.write_statement_or_null(out, point);
+        out.write(b",\"edges\":");
+        write_edges(out, self.edges(point));
+        self.write_facts_fields(out, point);
+        out.write(b"}\n");
+    }
+
+    // Writes the lines of a procedure's points.
+    fn write_points<K: Sink>(&self, out: &mut Pieces<'_, K>, points: Numbers)
+        requires ready { IsOpen (outlet K.contents K.faults out.old) }
+        requires shown { AreShown self.now }
+        requires ordered { points.first ≤ points.end }
+        requires points { points.end ≤ point_count self.now.found.graph.now }
+        ensures same_reference { out.new.sink.ghost_name ≡ out.old.sink.ghost_name }
+        ensures takes { Takes (outlet K.contents K.faults out.old) (outlet K.contents K.faults out.new) (flat_map (point_line self.now.found.graph.now (knowledge_of self.now.found) self.now.view.facts) (numbers_of points)) }
+    {
+        for point in points.first..points.end {
+            self.write_point(out, point);
+        }
+    }
+
+    // Writes the lines of all points that are shown.
+    fn write_all_points<K: Sink>(&self, out: &mut Pieces<'_, K>, procedures: Numbers)
+        requires ready { IsOpen (outlet K.contents K.faults out.old) }
+        requires shown { AreShown self.now }
+        requires ordered { procedures.first ≤ procedures.end }
+        requires procedures { procedures.end ≤ length self.now.found.graph.now.procedures }
+        ensures same_reference { out.new.sink.ghost_name ≡ out.old.sink.ghost_name }
+        ensures takes { Takes (outlet K.contents K.faults out.old) (outlet K.contents K.faults out.new) (flat_map (point_line self.now.found.graph.now (knowledge_of self.now.found) self.now.view.facts) (flat_map (points_in self.now.found.graph.now) (numbers_of procedures))) }
+    {
+        for procedure in procedures.first..procedures.end {
+            self.write_points(out, self.points_of(procedure));
+        }
+    }
+
+    // Writes the remarks on a procedure's statements.
+    fn write_remarks<K: Sink>(&self, out: &mut Pieces<'_, K>, points: Numbers)
+        requires ready { IsOpen (outlet K.contents K.faults out.old) }
+        requires shown { AreShown self.now }
+        requires ordered { points.first ≤ points.end }
+        requires points { points.end ≤ point_count self.now.found.graph.now }
+        ensures same_reference { out.new.sink.ghost_name ≡ out.old.sink.ghost_name }
+        ensures takes { Takes (outlet K.contents K.faults out.old) (outlet K.contents K.faults out.new) (flat_map (remark_lines self.now.found.graph.now (knowledge_of self.now.found)) (numbers_of points)) }
+    {
+        for point in points.first..points.end {
+            self.found.write_remarks(&JsonLine, out, point);
+        }
+    }
+
+    // Writes all remarks that are shown.
+    fn write_all_remarks<K: Sink>(&self, out: &mut Pieces<'_, K>, procedures: Numbers)
+        requires ready { IsOpen (outlet K.contents K.faults out.old) }
+        requires shown { AreShown self.now }
+        requires ordered { procedures.first ≤ procedures.end }
+        requires procedures { procedures.end ≤ length self.now.found.graph.now.procedures }
+        ensures same_reference { out.new.sink.ghost_name ≡ out.old.sink.ghost_name }
+        ensures takes { Takes (outlet K.contents K.faults out.old) (outlet K.contents K.faults out.new) (flat_map (remark_lines self.now.found.graph.now (knowledge_of self.now.found)) (flat_map (points_in self.now.found.graph.now) (numbers_of procedures))) }
+    {
+        for procedure in procedures.first..procedures.end {
+            self.write_remarks(out, self.points_of(procedure));
+        }
+    }
+
+    // Writes the whole text.
+    fn write_json<K: Sink>(&self, out: &mut Pieces<'_, K>)
+        requires ready { IsOpen (outlet K.contents K.faults out.old) }
+        requires shown { AreShown self.now }
+        ensures same_reference { out.new.sink.ghost_name ≡ out.old.sink.ghost_name }
+        ensures takes { Takes (outlet K.contents K.faults out.old) (outlet K.contents K.faults out.new) (json_of self.now.found.graph.now (knowledge_of self.now.found) self.now.view) }
+    {
+        let procedures = self.procedures();
+        self.write_program(out);
+        self.write_all_points(out, procedures);
+        self.write_all_remarks(out, procedures);
+    }
+}
+
+/// The flow graph of a program with its facts, for tools: one object of JSON a line, in a fixed layout. First the
+/// program, then each point in order, then each remark of the report in its order:
+///
+///     {"type":"program","points":2,"procedures":["main"],"variables":["x","y"],"definitions":3,"expressions":1}
+///     {"type":"point","point":0,"procedure":"main","place":0,"line":2,"first":11,"last":19,"statement":"x = x + y","edges":[{"kind":"step","to":1}]}
+///     {"type":"remark","point":0,"line":2,"first":11,"last":19,"kind":"dead","variable":"x"}
+///
+/// - `line`, `first` and `last` are the statement's line and the places of its first and its last byte in the whole text, each from
+///   1; labels do not count. At a procedure's end they and `statement` are null.
+/// - An edge is a `step`, a `call` or a `return`; the latter two have the point of the call, `site`. `to` is the point where it leads.
+/// - Behind the edges stand `reach`, `live`, `avail` and `busy` as they are chosen, each
+///   `{"path":BOOLEAN,"bits":[NUMBER..],"names":[STRING..]}`: whether some valid path is there, and the set by number and by name.
+/// - The kinds of remarks are `never_reached`, `unset` and `dead` with a `variable`, `computed` and `busy` with an `expression`.
+///
+/// Procedures, variables and bits stand in the order of their numbers. Where one procedure is shown, the lines of the other points
+/// and remarks are left out, and nothing else.
+///
+/// The work is linear in the program, its edges, the text, and the words of the chosen analyses' sets and of the tests' sets of
+/// very busy expressions.
+#[derive(Drop)]
+pub struct JsonText<'a> {
+    shown: Shown<'a>,
+}
+
+impl<'a> Model for JsonText<'a> {
+    ghost use Rattle.std.specs.Prelude.{List, ℕ};
+    ghost use Rattle.flow_texts.specs.code.Findings.{knowledge_of};
+    ghost use Rattle.flow_views.specs.code.Shown.{AreShown};
+    ghost use Rattle.flow_views.specs.Json.{json_of};
+
+    ghost Value = { List ℕ };
+
+    ghost view = { λ text. json_of text.shown.found.graph.now (knowledge_of text.shown.found) text.shown.view };
+
+    ghost invariant = { λ text. AreShown text.shown };
+}
+
+impl<'a> JsonText<'a> {
+    /// The lines, ready to be written.
+    ///
+    /// The conditions: the tables are of this graph, and the procedure that is shown is one of its program. Fails only where
+    /// memory runs out.
+    pub fn of(
+        alloc: Global,
+        graph: &'a Graph<'a>,
+        tables: &'a Tables,
+        view: View,
+    ) -> Result<JsonText<'a>, OutOfMemory>
+        requires tables { AreTablesOf graph.now tables.now }
+        requires procedure { IfSome view.procedure (λ procedure. procedure < length graph.now.procedure_names) }
+        ensures { IfOk result (IsJson graph.now view) }
+    {
+        let shown = Shown::of(alloc, graph, tables, view)?;
+        Ok(JsonText { shown })
+    }
+}
+
+impl<'a> Text for JsonText<'a> {
+    ghost bytes = { λ text. text };
+
+    fn write<K: Sink>(&self, out: &mut Pieces<'_, K>) {
+        self.shown.write_json(out);
+    }
+}

@@ -1,0 +1,18 @@
+//! Two texts of a program's flow graph with its facts, written in pieces: for Graphviz, and as lines of JSON.
+#![tactic(auto)]
+
+mod dots;
+mod items;
+mod json;
+mod scope;
+mod shown;
+mod strings;
+#[cfg(test)]
+mod tests;
+mod view;
+pub mod view_examples;
+
+pub use dots::DotText;
+pub use json::JsonText;
+pub use std::alloc::AllocError as OutOfMemory;
+pub use view::{Chosen, View};

@@ -1,0 +1,219 @@
+// What both texts are made of.
+
+ghost use Rattle.std.specs.Prelude.{◌≡◌, ◌+◌, ◌<◌, ◌≤◌, suc, Some, length, map, IfOk, IfSome};
+ghost use Rattle.flow_graph.specs.Edges.{edges_from};
+ghost use Rattle.flow_graph.specs.Points.{end_place, entry_point, point_count, points, procedure_at, statement_at};
+ghost use Rattle.flow_graph.specs.Universes.{bits as bits_of};
+ghost use Rattle.flow_team.specs.Tables.{IsTableOf, facts_of};
+ghost use Rattle.flow_texts.specs.code.Findings.{knowledge_of};
+ghost use Rattle.flow_texts.specs.code.Lists.{AreTexts};
+ghost use Rattle.flow_texts.specs.Pieces.{IsOpen, Takes, outlet};
+ghost use Rattle.flow_texts.specs.Reports.{AreTablesOf, IsKnowledge};
+ghost use Rattle.flow_texts.specs.Tables.{bit_text};
+ghost use Rattle.tac_reader.specs.Listings.{statement_text};
+ghost use Rattle.flow_views.specs.code.Shown.{AreShown, contents, numbers_of};
+ghost use Rattle.flow_views.specs.Strings.{escaped};
+ghost use Rattle.flow_views.specs.Views.{analysis_name, names_at, points_in, procedure_name as name_of_procedure, shown_procedures, told_by};
+
+use crate::scope::Scope;
+use crate::view::View;
+use flow_graph::{Analysis, Edge, Graph, OutOfMemory};
+use flow_team::Table;
+use flow_texts::{BitTexts, Findings, Pieces, Sink, Tables};
+use smallvec::SmallVec;
+use std::alloc::Global;
+use tac_reader::Stmt;
+
+/// Numbers from the first on and before the end.
+#[derive(Clone, Copy)]
+pub(crate) struct Numbers {
+    pub(crate) first: u32,
+    pub(crate) end: u32,
+}
+
+/// What was found of a program, what the bits of its analyses are called, its edges, and what is shown of it.
+#[derive(Drop)]
+pub(crate) struct Shown<'a> {
+    /// What was found.
+    pub(crate) found: Findings<'a>,
+    /// The texts of the definitions.
+    pub(crate) definitions: BitTexts,
+    /// The names of the variables.
+    pub(crate) variables: BitTexts,
+    /// The edges out of each point.
+    pub(crate) successors: Vec<SmallVec<Edge, 2, Global>>,
+    /// What is shown.
+    pub(crate) view: View,
+}
+
+// The edges out of each point.
+fn successors(
+    alloc: Global,
+    graph: &Graph<'_>,
+) -> Result<Vec<SmallVec<Edge, 2, Global>>, OutOfMemory>
+    ensures { IfOk result (λ lists. contents lists.items ≡ map (edges_from graph.now) (points graph.now)) }
+{
+    let mut lists = Vec::with_capacity(alloc, graph.points() as usize)?;
+    for point in 0..graph.points() {
+        lists.push(graph.succ(alloc, point)?)?;
+    }
+    Ok(lists)
+}
+
+/// What an analysis is called.
+pub(crate) fn name_of(analysis: Analysis) -> &'static [u8]
+    ensures { result.now ≡ analysis_name analysis }
+{
+    match analysis {
+        Analysis::Reach => b"reach",
+        Analysis::Live => b"live",
+        Analysis::Avail => b"avail",
+        Analysis::Busy => b"busy",
+    }
+}
+
+impl<'a> Shown<'a> {
+    /// What is shown of a graph with its tables.
+    ///
+    /// The conditions: the tables are of this graph, and the procedure is there. Fails only where memory runs out.
+    pub(crate) fn of(
+        alloc: Global,
+        graph: &'a Graph<'a>,
+        tables: &'a Tables,
+        view: View,
+    ) -> Result<Shown<'a>, OutOfMemory>
+        requires tables { AreTablesOf graph.now tables.now }
+        requires procedure { IfSome view.procedure (λ procedure. procedure < length graph.now.procedure_names) }
+        ensures program { IfOk result (λ shown. shown.found.graph.now ≡ graph.now) }
+        ensures view { IfOk result (λ shown. shown.view ≡ view) }
+        ensures shown { IfOk result AreShown }
+        ensures known { IfOk result (λ shown. IsKnowledge shown.found.graph.now (knowledge_of shown.found)) }
+    {
+        let found = Findings::of(alloc, graph, tables)?;
+        let definitions = BitTexts::of(alloc, graph, Analysis::Reach)?;
+        let variables = BitTexts::of(alloc, graph, Analysis::Live)?;
+        let successors = successors(alloc, graph)?;
+        Ok(Shown {
+            found,
+            definitions,
+            variables,
+            successors,
+            view,
+        })
+    }
+}
+
+impl Shown<'_> {
+    /// What the bits of an analysis are called.
+    pub(crate) fn names(&self, analysis: Analysis) -> &BitTexts
+        requires { AreShown self.now }
+        ensures { AreTexts (bit_text self.now.found.graph.now analysis) (bits_of self.now.found.graph.now analysis) result.now }
+    {
+        match analysis {
+            Analysis::Reach => &self.definitions,
+            Analysis::Live => &self.variables,
+            Analysis::Avail => &self.found.expressions,
+            Analysis::Busy => &self.found.expressions,
+        }
+    }
+
+    /// The table of an analysis.
+    pub(crate) fn table(&self, analysis: Analysis) -> &Table
+        requires { AreShown self.now }
+        ensures analysis { result.now.analysis ≡ analysis }
+        ensures table { IsTableOf self.now.found.graph.now result.now }
+        ensures facts { facts_of result.now ≡ told_by (knowledge_of self.now.found) analysis }
+    {
+        match analysis {
+            Analysis::Reach => &self.found.tables.reach,
+            Analysis::Live => &self.found.tables.live,
+            Analysis::Avail => &self.found.tables.avail,
+            Analysis::Busy => &self.found.tables.busy,
+        }
+    }
+
+    /// The edges out of a point.
+    pub(crate) fn edges(&self, point: u32) -> &[Edge]
+        requires shown { AreShown self.now }
+        requires point { point < point_count self.now.found.graph.now }
+        ensures { result.now ≡ edges_from self.now.found.graph.now point }
+    {
+        self.successors[point as usize].as_slice()
+    }
+
+    /// The procedures that are shown.
+    pub(crate) fn procedures(&self) -> Numbers
+        requires { AreShown self.now }
+        ensures numbers { numbers_of result ≡ shown_procedures self.now.found.graph.now self.now.view }
+        ensures ordered { result.first ≤ result.end }
+        ensures there { result.end ≤ length self.now.found.graph.now.procedures }
+    {
+        let procs = self.found.graph.program().procs();
+        match self.view.procedure {
+            Some(procedure) => Numbers {
+                first: procedure,
+                end: procedure + 1,
+            },
+            None => Numbers {
+                first: 0,
+                end: procs.len() as u32,
+            },
+        }
+    }
+
+    /// The points of a procedure.
+    pub(crate) fn points_of(&self, procedure: u32) -> Numbers
+        requires shown { AreShown self.now }
+        requires procedure { procedure < length self.now.found.graph.now.procedures }
+        ensures numbers { numbers_of result ≡ points_in self.now.found.graph.now procedure }
+        ensures first { result.first ≡ entry_point self.now.found.graph.now procedure }
+        ensures end { result.end ≡ entry_point self.now.found.graph.now procedure + suc (end_place self.now.found.graph.now procedure) }
+        ensures there { result.end ≤ point_count self.now.found.graph.now }
+    {
+        let graph = self.found.graph;
+        let procs = graph.program().procs();
+        let places = procs[procedure as usize].stmts().len() as u32;
+        let first = graph.point(procedure, 0);
+        let last = graph.point(procedure, places);
+        Numbers {
+            first,
+            end: last + 1,
+        }
+    }
+
+    /// The name of a procedure.
+    pub(crate) fn procedure_name(&self, procedure: u32) -> &[u8]
+        requires { procedure < length self.now.found.graph.now.procedures }
+        ensures { result.now ≡ name_of_procedure self.now.found.graph.now procedure }
+    {
+        let program = self.found.graph.program();
+        // Its contract tells that each procedure has a name.
+        let _ = program.procs();
+        program.procedure(procedure)
+    }
+
+    /// The procedure of a point.
+    pub(crate) fn scope(&self, point: u32) -> Scope<'_>
+        requires { point < point_count self.now.found.graph.now }
+        ensures program { result.program.now ≡ self.now.found.graph.now }
+        ensures procedure { result.procedure ≡ procedure_at self.now.found.graph.now point }
+        ensures there { result.procedure < length self.now.found.graph.now.procedures }
+    {
+        Scope {
+            program: self.found.graph.program(),
+            procedure: self.found.graph.place(point).procedure,
+        }
+    }
+
+    /// Writes the statement at a point as it stands between quotes.
+    pub(crate) fn write_statement<K: Sink>(&self, out: &mut Pieces<'_, K>, point: u32, stmt: &Stmt)
+        requires ready { IsOpen (outlet K.contents K.faults out.old) }
+        requires shown { AreShown self.now }
+        requires point { point < point_count self.now.found.graph.now }
+        requires statement { statement_at self.now.found.graph.now point ≡ Some stmt.now }
+        ensures same_reference { out.new.sink.ghost_name ≡ out.old.sink.ghost_name }
+        ensures takes { Takes (outlet K.contents K.faults out.old) (outlet K.contents K.faults out.new) (escaped (statement_text (names_at self.now.found.graph.now point) stmt.now.kind)) }
+    {
+        self.scope(point).write_statement(out, &stmt.kind);
+    }
+}

@@ -1,0 +1,75 @@
+// What stands between quotes.
+
+ghost use Rattle.std.specs.Prelude.{◌≡◌, ◌==◌, ◌||◌, true, decimal};
+ghost use Rattle.flow_texts.specs.Pieces.{IsOpen, Takes, outlet};
+ghost use Rattle.flow_views.specs.Strings.{escaped, escaped_byte, quoted};
+
+use flow_texts::{Pieces, Sink};
+use itoa::Buffer;
+
+// Whether a byte has a backslash before it.
+fn is_special(byte: u8) -> bool
+    ensures { result ≡ (byte == 34 || byte == 92) }
+{
+    byte == b'"' || byte == b'\\'
+}
+
+// Whether no byte has a backslash before it, as is so of all names and operators.
+fn is_plain(bytes: &[u8]) -> bool
+    ensures { result ≡ true → escaped bytes.now ≡ bytes.now }
+{
+    for byte in bytes {
+        if is_special(*byte) {
+            return false;
+        }
+    }
+    true
+}
+
+// Writes a byte, behind a backslash where it needs one.
+fn write_byte<K: Sink>(out: &mut Pieces<'_, K>, byte: u8)
+    requires { IsOpen (outlet K.contents K.faults out.old) }
+    ensures same_reference { out.new.sink.ghost_name ≡ out.old.sink.ghost_name }
+    ensures takes { Takes (outlet K.contents K.faults out.old) (outlet K.contents K.faults out.new) (escaped_byte byte) }
+{
+    if is_special(byte) {
+        out.write(&[b'\\', byte]);
+    } else {
+        out.write(&[byte]);
+    }
+}
+
+/// Writes a text as it stands between quotes.
+pub(crate) fn write_escaped<K: Sink>(out: &mut Pieces<'_, K>, bytes: &[u8])
+    requires { IsOpen (outlet K.contents K.faults out.old) }
+    ensures same_reference { out.new.sink.ghost_name ≡ out.old.sink.ghost_name }
+    ensures takes { Takes (outlet K.contents K.faults out.old) (outlet K.contents K.faults out.new) (escaped bytes.now) }
+{
+    if is_plain(bytes) {
+        out.write(bytes);
+        return;
+    }
+    for byte in bytes {
+        write_byte(out, *byte);
+    }
+}
+
+/// Writes a text between quotes.
+pub(crate) fn write_quoted<K: Sink>(out: &mut Pieces<'_, K>, bytes: &[u8])
+    requires { IsOpen (outlet K.contents K.faults out.old) }
+    ensures same_reference { out.new.sink.ghost_name ≡ out.old.sink.ghost_name }
+    ensures takes { Takes (outlet K.contents K.faults out.old) (outlet K.contents K.faults out.new) (quoted bytes.now) }
+{
+    out.write(b"\"");
+    write_escaped(out, bytes);
+    out.write(b"\"");
+}
+
+/// Writes a number as it stands between quotes.
+pub(crate) fn write_escaped_number<K: Sink>(out: &mut Pieces<'_, K>, number: u64)
+    requires { IsOpen (outlet K.contents K.faults out.old) }
+    ensures same_reference { out.new.sink.ghost_name ≡ out.old.sink.ghost_name }
+    ensures takes { Takes (outlet K.contents K.faults out.old) (outlet K.contents K.faults out.new) (escaped (decimal number)) }
+{
+    write_escaped(out, Buffer::new().format(number).as_bytes());
+}

@@ -1,0 +1,90 @@
+// What is written of a program.
+
+ghost use Rattle.std.specs.Prelude.{◌≡◌, ◌+◌, ◌-◌, ◌^◌, ◌<◌, IfErr, OnOk, true};
+ghost use Rattle.std.specs.Thread.{IsSync};
+ghost use Rattle.flow_graph.specs.Limits.{HasFewBits, HasFewPoints};
+ghost use Rattle.flow_texts.specs.Reports.{IsReport, ListsSafely};
+ghost use Rattle.flow_texts.specs.Tables.{IsTableText};
+ghost use Rattle.flow_runs.specs.Faults.{Delivers, OfProgram, write_faults_in};
+ghost use Rattle.flow_runs.specs.Runs.{IsOverLimit};
+ghost use Rattle.tacflow.specs.Runs.{IsShown, needs_graph as kind_needs_graph};
+
+use crate::options::{Options, Show};
+use flow_graph::Analysis;
+use flow_runs::{Fault, Shown, graph_of, push_text};
+use flow_texts::{Bytes, ReportText, Sink, TableText, Tables, table_of};
+use std::alloc::Global;
+use std::thread::Threads;
+use tac_reader::{Program, listing};
+
+// Writes the table of an analysis.
+fn show_table<R: Threads + Sync, K: Sink>(
+    rt: &R,
+    alloc: Global,
+    program: &Program,
+    analysis: Analysis,
+    options: Options,
+    sink: &mut K,
+) -> Result<(), Fault>
+    requires threads { IsSync R.row }
+    requires below { K.faults sink.old < 2 ^ 32 - 1 }
+    ensures delivers { Delivers (λ out. HasFewPoints program.now × HasFewBits program.now × IsTableText program.now analysis out) (K.contents sink.old) (K.contents sink.new) result }
+    ensures flushed { OnOk result (K.flushed sink.new ≡ true) }
+    ensures fault { IfErr result (OfProgram (IsOverLimit program.now) ⊥) }
+    ensures faults { K.faults sink.new ≡ K.faults sink.old + write_faults_in result }
+{
+    let graph = graph_of(alloc, program)?;
+    let table = table_of(rt, alloc, &graph, analysis, options.workers, options.cut)?;
+    let text = TableText::of(alloc, &graph, &table)?;
+    push_text(alloc, &text, sink)
+}
+
+// Writes the report.
+fn show_report<R: Threads + Sync, K: Sink>(
+    rt: &R,
+    alloc: Global,
+    program: &Program,
+    options: Options,
+    sink: &mut K,
+) -> Result<(), Fault>
+    requires threads { IsSync R.row }
+    requires below { K.faults sink.old < 2 ^ 32 - 1 }
+    ensures delivers { Delivers (λ out. HasFewPoints program.now × HasFewBits program.now × IsReport program.now out × ListsSafely program.now out) (K.contents sink.old) (K.contents sink.new) result }
+    ensures flushed { OnOk result (K.flushed sink.new ≡ true) }
+    ensures fault { IfErr result (OfProgram (IsOverLimit program.now) ⊥) }
+    ensures faults { K.faults sink.new ≡ K.faults sink.old + write_faults_in result }
+{
+    let graph = graph_of(alloc, program)?;
+    let tables = Tables::of(rt, alloc, &graph, options.workers, options.cut)?;
+    let text = ReportText::of(alloc, &graph, &tables)?;
+    push_text(alloc, &text, sink)
+}
+
+impl Shown for Options {
+    ghost needs_graph = { λ options. kind_needs_graph options.show };
+
+    ghost is_shown = { λ options. IsShown options.show };
+
+    ghost lacks = { λ _ _. ⊥ };
+
+    fn show<R: Threads + Sync, K: Sink>(
+        &self,
+        rt: &R,
+        alloc: Global,
+        program: &Program,
+        sink: &mut K,
+    ) -> Result<(), Fault> {
+        let options = *self;
+        match options.show {
+            Show::List => {
+                let text = listing(alloc, program)?;
+                push_text(alloc, &Bytes(&text), sink)
+            }
+            Show::Report => show_report(rt, alloc, program, options, sink),
+            Show::Reach => show_table(rt, alloc, program, Analysis::Reach, options, sink),
+            Show::Live => show_table(rt, alloc, program, Analysis::Live, options, sink),
+            Show::Avail => show_table(rt, alloc, program, Analysis::Avail, options, sink),
+            Show::Busy => show_table(rt, alloc, program, Analysis::Busy, options, sink),
+        }
+    }
+}

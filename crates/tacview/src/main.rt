@@ -1,0 +1,53 @@
+//! `tacview`: reads a program of three-address code, and writes its flow graph with what holds at its points, for Graphviz or as
+//! lines of JSON.
+#![tactic(auto)]
+
+mod facts;
+mod lines;
+mod options;
+mod run;
+#[cfg(test)]
+mod tests;
+mod views;
+mod words;
+
+use flow_runs::{tell_line, tell_no_words, tell_words};
+use flow_texts::{FromRead, ToWrite};
+use lines::line_of;
+use options::Options;
+use run::run;
+use std::process::ExitCode;
+use std::thread::Threads;
+use std::{env, io};
+
+/// The program's name, which its lines begin with.
+const NAME: &str = "tacview";
+
+// `threads` is the runtime once more: it is a handle for threads only where `main` names it.
+fn run_by<R: Threads + Sync>(rt: &HostRuntime, threads: &R, options: &Options) -> ExitCode {
+    let mut source = FromRead::new(rt.stdin());
+    let mut sink = ToWrite::new(rt.stdout());
+    match run(threads, rt.alloc(), &mut source, &mut sink, options) {
+        Ok(()) => ExitCode::SUCCESS,
+        Err(fault) => {
+            let procedure = options.procedure.as_ref().map(|name| name.as_str());
+            tell_line(rt, NAME, line_of(rt.alloc(), procedure, &fault))
+        }
+    }
+}
+
+fn run_words<R: Threads + Sync>(rt: &HostRuntime, threads: &R) -> io::Result<ExitCode> {
+    let owned: Vec<String> = env::args(rt)?.collect(rt.alloc())?;
+    let words: Vec<&str> = owned.iter().map(|word| word.as_str()).collect(rt.alloc())?;
+    match Options::from_words(rt.alloc(), &words) {
+        Ok(options) => Ok(run_by(rt, threads, &options)),
+        Err(error) => Ok(tell_words(rt, NAME, &error)),
+    }
+}
+
+fn main(rt: HostRuntime) -> ExitCode {
+    match run_words(&rt, &rt) {
+        Ok(code) => code,
+        Err(error) => tell_no_words(&rt, NAME, &error),
+    }
+}
