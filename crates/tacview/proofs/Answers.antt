@@ -1,5 +1,5 @@
 -- What is answered to the words, by what `clap` answered
-use Rattle.std.proofs.Common.{◌≡◌, ◌∙◌, ◌⊎◌, ap, subst, sym, inl, inr, true, Bool, List, Result, Ok, Err}
+use Rattle.std.proofs.Common.{◌≡◌, ◌⊎◌, subst, sym, inl, inr, true, Bool, List, Result, Ok, Err}
 use Rattle.std.specs.Prelude.{[], ◌∷◌, IfOk, IfErr, if◌then◌else◌}
 use Rattle.std.specs.Borrow.{Bor}
 use Rattle.clap.specs.Kinds.{Kinds, or_else}

@@ -1,5 +1,5 @@
 -- The matches of the program's command hold each of its options.
-use Rattle.std.proofs.Common.{◌≡◌, Bool, true, false, refl, sym, subst, List, codes, true≢false, ◌⊎◌, inl, inr}
+use Rattle.std.proofs.Common.{◌≡◌, true, false, refl, sym, subst, List, codes, true≢false, ◌⊎◌, inl, inr}
 use Rattle.std.specs.Borrow.{Bor}
 use Rattle.clap.specs.Facts.{HasDefaults, ValuesPass}
 use Rattle.clap.specs.Simple.{App, app_of, built}

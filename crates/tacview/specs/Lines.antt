@@ -1,5 +1,5 @@
 -- The line on standard error for each fault.
-use Rattle.std.specs.Prelude.{ℕ, ◌+◌, ◌/◌, ◌%◌, ◌&&◌, ◌==◌, Bool, not, List, [], ◌∷◌, ◌++◌, flat_map, Option, None, Some, codes, nat_lt, if◌then◌else◌}
+use Rattle.std.specs.Prelude.{ℕ, ◌+◌, ◌/◌, ◌%◌, ◌&&◌, ◌==◌, Bool, not, List, [], ◌∷◌, ◌++◌, flat_map, Option, Some, codes, nat_lt, if◌then◌else◌}
 use Rattle.flow_runs.specs.FaultLines.{line_of_fault}
 use Rattle.flow_runs.specs.declared.fault.Fault.{Fault}
 use Rattle.flow_runs.specs.declared.fault.Fault.TheVariants as fault

@@ -1,6 +1,6 @@
-use Rattle.std.proofs.Common.{◌≡◌, ◌∙◌, sym, ap, Option, Some, None, codes}
+use Rattle.std.proofs.Common.{◌≡◌, ◌∙◌, sym, ap, Some, None, codes}
 use Rattle.std.specs.Prelude.{option_map}
-use Rattle.clap.specs.Words.{Text, found_of, rows_of, first_of}
+use Rattle.clap.specs.Words.{found_of, rows_of, first_of}
 use Rattle.clap.proofs.WalkLemmas.{first_value-rows}
 use Rattle.tacview.specs.Kinds.{facts_asked}
 use Rattle.tacview.proofs.words.facts_found.Goals as goal

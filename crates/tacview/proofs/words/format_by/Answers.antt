@@ -1,4 +1,4 @@
-use Rattle.std.proofs.Common.{◌≡◌, ◌∙◌, rules, sym, ap, Option, Some, None, codes, is_some, true}
+use Rattle.std.proofs.Common.{◌≡◌, ◌∙◌, rules, sym, ap, Option, Some, None, is_some, true}
 use Rattle.std.specs.Prelude.{IsSome, option_and_then, unwrap_or}
 use Rattle.clap.specs.Words.{Text}
 use Rattle.tacview.specs.Kinds.{format_named}

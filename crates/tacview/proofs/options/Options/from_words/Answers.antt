@@ -1,16 +1,8 @@
-use Rattle.std.proofs.Common.{◌≡◌, ◌∙◌, ◌⊎◌, ap, subst, sym, map, inl, inr, true, List, Result, Ok, Err, rules}
-use Rattle.std.specs.Prelude.{[], IfOk, IfErr}
-use Rattle.std.specs.Borrow.{Bor}
-use Rattle.clap.specs.Kinds.{Kinds, or_else}
+use Rattle.std.proofs.Common.{◌≡◌, ◌∙◌, ◌⊎◌, ap, subst, sym, map, inl, inr, rules}
 use Rattle.clap.specs.Simple.{App, app_of, built, is_buildable, is_simple}
-use Rattle.clap.specs.Words.{FailsBy, HasKind, Row, Text, fault_of, found_of, is_simple_and_free, kind_of, matches_of, rows_of, takes}
-use Rattle.clap.specs.declared.builder.possible_value.PossibleValue.{PossibleValue}
-use Rattle.clap.specs.declared.error.Error.{Error}
+use Rattle.clap.specs.Words.{HasKind, fault_of, found_of, is_simple_and_free, matches_of, rows_of, takes}
 use Rattle.clap.proofs.SimpleLemmas.{plain_fields}
-use Rattle.flow_runs.specs.Words.{AreKindsOf}
-use Rattle.tacview.specs.Commands.{AnswersWords, NamesOptions, facts_kinds, knows_facts, tacview_command}
-use Rattle.tacview.specs.Kinds.{formats}
-use Rattle.tacview.specs.declared.options.Options.{Options}
+use Rattle.tacview.specs.Commands.{tacview_command}
 use Rattle.tacview.proofs.Held.{has_options, options_held}
 use Rattle.tacview.proofs.Answers.{answered, refused}
 use Rattle.tacview.proofs.options.Options.from_words.Goals as goal
