@@ -1,3 +1,5 @@
+//! Worked shapes: their paths, values and runs, each checked by computing it.
+
 ghost use Rattle.std.specs.Prelude.{◌≡◌, true, false, Some, None, [], ◌∷◌};
 ghost use Rattle.flow_graph.specs.Paths.{root, final, IsPath, open_sites_after, IsValidPath, IsMatchedPath, value_after, value_before, open_sites_before, HasBackwardPath, SomeBackwardPathHas, IsBackwardValidPath, IsWellFormed, reversed_path, reversed_shape, reversed_transfer, complemented_transfer};
 ghost use Rattle.flow_graph.specs.Runs.{IsDoubtful, IsRun, run_sites_after, ReadsBeforeWriting, CallsReturn, IsLiveness};

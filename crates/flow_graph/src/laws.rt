@@ -1,3 +1,5 @@
+//! Laws of paths and runs: each is the clause of a function without a body.
+
 ghost use Rattle.flow_graph.specs.PathLaws.{ValidPathsReverse, ValuesReverse, MeetsReverse, ReversalUndoesItself, ReversedIsWellFormed, TransferComplement, ValuesComplement, MeetsComplement, ComplementOfReversed, MatchedReturnsLeaveTheirCallee, StepsJoin, CalleePathsJoin, CallsEnter, ValidPathsSplit, PathsCompose, FrontsAreValid, SameEdgesSamePaths, SameEdgesSameBackwardPaths};
 ghost use Rattle.flow_graph.specs.RunLaws.{ContinuationsAreRuns, FrontsOfRunsAreRuns, WhatFinishesIsNotDoubtful, UndoubtedFinishes, RunsExtend, UndoubtedRunsExtend, DeadIsSafe};
 

@@ -1,4 +1,5 @@
 pub mod Tables
+pub mod Beginnings
 pub mod Laws
 pub mod Sets
 pub mod Teams

@@ -1,14 +1,16 @@
 // The sets of a graph's analysis, slice by slice.
-ghost use Rattle.std.specs.Prelude.{◌≡◌, IfOk};
+ghost use Rattle.std.specs.Prelude.{◌≡◌, ◌≤◌, IfOk};
 ghost use Rattle.flow_graph.specs.Points.{point_count};
 ghost use Rattle.flow_graph.specs.Universes.{bits as bits_of};
 ghost use Rattle.gk_solve.specs.Solved.{HasPathFlags, IsMeetOverPaths, IsSliceOf, direction_of};
 ghost use Rattle.flow_team.specs.Sets.{HasMayPath, IsInMaySet};
+ghost use Rattle.flow_team.specs.Beginnings.{IsBeginningOf};
 ghost use Rattle.flow_team.specs.Tables.{IsTableOf};
 
 use crate::OutOfMemory;
 use crate::solve::Solve;
 use crate::table::{Table, complement_all};
+use crate::word_block::WordBlock;
 use bit_rows::Rows;
 use flow_graph::{Analysis, Graph, Problem};
 use gk_solve::{Routes, SliceWords, Solver};
@@ -88,24 +90,67 @@ impl<'g, 'p> GraphSets<'g, 'p> {
         Table::with_rows(problem.analysis(), rows)
     }
 
-    // The analysis's table, solved at once.
-    fn solve_all(&self, alloc: Global) -> Result<Table, OutOfMemory>
+    // The first bits of the analysis's table, solved at once.
+    fn solve_first(&self, alloc: Global, bits: u32) -> Result<Table, OutOfMemory>
+        requires { bits ≤ bits_of self.now.program self.now.analysis }
         ensures analysis { IfOk result (λ table. table.analysis ≡ self.now.analysis) }
-        ensures table { IfOk result (IsTableOf self.now.program) }
+        ensures bits { IfOk result (λ table. table.rows.hi ≡ bits) }
+        ensures beginning { IfOk result (IsBeginningOf self.now.program) }
     {
-        let bits = self.solver.problem().bits();
-        let rows = self.solver.solve(alloc, 0, bits)?;
-        Ok(self.table(rows))
+        let words = WordBlock::solved(alloc, &self.solver, bits)?;
+        Ok(Table::with_words(self.solver.problem().analysis(), words))
     }
 
-    // The analysis's table, solved at once, and what another of the same direction can use.
-    fn solved_with_routes(self, alloc: Global) -> Result<(Table, Routes<'g, 'p>), OutOfMemory>
+    // The first bits of the analysis's table, and what another of the same direction can use.
+    fn first_with_routes(
+        self,
+        alloc: Global,
+        bits: u32,
+    ) -> Result<(Table, Routes<'g, 'p>), OutOfMemory>
+        requires { bits ≤ bits_of self.program self.analysis }
         ensures analysis { IfOk result (λ r. r.0.analysis ≡ self.entry.analysis) }
-        ensures table { IfOk result (λ r. IsTableOf self.entry.program r.0) }
+        ensures bits { IfOk result (λ r. r.0.rows.hi ≡ bits) }
+        ensures beginning { IfOk result (λ r. IsBeginningOf self.entry.program r.0) }
         ensures routes { IfOk result (λ r. r.1 ≡ direction_of self.entry) }
     {
-        let table = self.solve_all(alloc)?;
+        let table = self.solve_first(alloc, bits)?;
         Ok((table, self.into_routes()))
+    }
+
+    /// The first bits of the table of an analysis of a graph, solved at once, and what another of the same direction can use.
+    pub(crate) fn solved_first(
+        alloc: Global,
+        graph: &'g Graph<'p>,
+        analysis: Analysis,
+        bits: u32,
+    ) -> Result<(Table, Routes<'g, 'p>), OutOfMemory>
+        requires { bits ≤ bits_of graph.now analysis }
+        ensures analysis { IfOk result (λ r. r.0.analysis ≡ analysis) }
+        ensures bits { IfOk result (λ r. r.0.rows.hi ≡ bits) }
+        ensures beginning { IfOk result (λ r. IsBeginningOf graph.now r.0) }
+        ensures routes { IfOk result (λ r. r.1 ≡ direction_of (record { program = graph.now; analysis = analysis })) }
+    {
+        let sets = GraphSets::of(alloc, graph, analysis)?;
+        sets.first_with_routes(alloc, bits)
+    }
+
+    /// The same, over edges and path flags that were found for another analysis of the same direction.
+    pub(crate) fn solved_first_over(
+        alloc: Global,
+        graph: &'g Graph<'p>,
+        analysis: Analysis,
+        bits: u32,
+        routes: Routes<'g, 'p>,
+    ) -> Result<(Table, Routes<'g, 'p>), OutOfMemory>
+        requires bits { bits ≤ bits_of graph.now analysis }
+        requires routes { routes ≡ direction_of (record { program = graph.now; analysis = analysis }) }
+        ensures analysis { IfOk result (λ r. r.0.analysis ≡ analysis) }
+        ensures bits { IfOk result (λ r. r.0.rows.hi ≡ bits) }
+        ensures beginning { IfOk result (λ r. IsBeginningOf graph.now r.0) }
+        ensures routes { IfOk result (λ r. r.1 ≡ direction_of (record { program = graph.now; analysis = analysis })) }
+    {
+        let sets = GraphSets::over(alloc, graph, analysis, routes)?;
+        sets.first_with_routes(alloc, bits)
     }
 
     /// The table of an analysis of a graph, solved at once, and what another of the same direction can use.
@@ -118,8 +163,7 @@ impl<'g, 'p> GraphSets<'g, 'p> {
         ensures table { IfOk result (λ r. IsTableOf graph.now r.0) }
         ensures routes { IfOk result (λ r. r.1 ≡ direction_of (record { program = graph.now; analysis = analysis })) }
     {
-        let sets = GraphSets::of(alloc, graph, analysis)?;
-        sets.solved_with_routes(alloc)
+        GraphSets::solved_first(alloc, graph, analysis, graph.bits(analysis))
     }
 
     /// The same, over edges and path flags that were found for another analysis of the same direction.
@@ -134,8 +178,7 @@ impl<'g, 'p> GraphSets<'g, 'p> {
         ensures table { IfOk result (λ r. IsTableOf graph.now r.0) }
         ensures routes { IfOk result (λ r. r.1 ≡ direction_of (record { program = graph.now; analysis = analysis })) }
     {
-        let sets = GraphSets::over(alloc, graph, analysis, routes)?;
-        sets.solved_with_routes(alloc)
+        GraphSets::solved_first_over(alloc, graph, analysis, graph.bits(analysis), routes)
     }
 }
 

@@ -1,9 +1,10 @@
 ghost use Rattle.std.specs.Prelude.{◌≡◌, ◌≤◌, ◌<◌, length};
-ghost use Rattle.bit_rows.specs.RowSet.{HasRange, contains as is_in};
+ghost use Rattle.bit_rows.specs.RowSet.{IsWordOf, contains as is_in};
 ghost use Rattle.bit_rows.specs.RowTable.{flag_at, set_at};
 ghost use Rattle.flow_team.specs.code.Complements.{AreComplemented};
 
-use bit_rows::{Row, Rows};
+use crate::word_block::WordBlock;
+use bit_rows::Rows;
 use flow_graph::Analysis;
 use std::marker::Model;
 
@@ -12,15 +13,23 @@ use std::marker::Model;
 #[derive(Drop)]
 pub struct Table {
     analysis: Analysis,
-    rows: Rows,
+    sets: Sets,
+}
+
+// How the sets are kept: as the rows of a board, or as the words of a single solver.
+#[derive(Drop)]
+enum Sets {
+    Posted(Rows),
+    Solved(WordBlock),
 }
 
 impl Model for Table {
     ghost use Rattle.flow_team.specs.Tables.{TableRows};
+    ghost use Rattle.flow_team.specs.code.Kept.{rows_of};
 
     ghost Value = { TableRows };
 
-    ghost view = { λ table. record { analysis = table.analysis; rows = table.rows } };
+    ghost view = { λ table. record { analysis = table.analysis; rows = rows_of table.sets } };
 }
 
 // Takes out of each row what is in it, and puts in the rest.
@@ -38,7 +47,21 @@ impl Table {
         ensures analysis { result.analysis ≡ analysis }
         ensures rows { result.rows ≡ rows }
     {
-        Table { analysis, rows }
+        Table {
+            analysis,
+            sets: Sets::Posted(rows),
+        }
+    }
+
+    /// The table with these words.
+    pub(crate) fn with_words(analysis: Analysis, words: WordBlock) -> Table
+        ensures analysis { result.analysis ≡ analysis }
+        ensures rows { result.rows ≡ words }
+    {
+        Table {
+            analysis,
+            sets: Sets::Solved(words),
+        }
     }
 
     /// The analysis.
@@ -53,7 +76,10 @@ impl Table {
         requires { point < length self.now.rows.flags }
         ensures { result ≡ flag_at self.now.rows point }
     {
-        self.rows.flag(point)
+        match &self.sets {
+            Sets::Posted(rows) => rows.flag(point),
+            Sets::Solved(words) => words.flag(point),
+        }
     }
 
     /// Whether the bit is in the set of the point.
@@ -63,15 +89,17 @@ impl Table {
         requires high { bit < self.now.rows.hi }
         ensures { result ≡ is_in (set_at self.now.rows point) bit }
     {
-        self.rows.row(point).get(bit)
+        (self.word(point, bit / 64) >> (bit % 64)) & 1 == 1
     }
 
-    /// The set of the point, as a row over all bits of the analysis.
-    pub fn row(&self, point: u32) -> &Row
+    /// A word of the point's set: bit `64 * word + k` at place `k`; 0 at all places past the last bit.
+    pub fn word(&self, point: u32, word: u32) -> u64
         requires { point < length self.now.rows.flags }
-        ensures value { result.now ≡ set_at self.now.rows point }
-        ensures range { HasRange result.now self.now.rows.lo self.now.rows.hi }
+        ensures { IsWordOf (set_at self.now.rows point) word result }
     {
-        self.rows.row(point)
+        match &self.sets {
+            Sets::Posted(rows) => rows.row(point).word(word),
+            Sets::Solved(words) => words.word(point, word),
+        }
     }
 }

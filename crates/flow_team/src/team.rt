@@ -4,6 +4,7 @@ ghost use Rattle.flow_graph.specs.Analyses.{is_backward};
 ghost use Rattle.flow_graph.specs.Universes.{bits as bits_of};
 ghost use Rattle.gk_solve.specs.Solved.{direction_of};
 ghost use Rattle.slice_board.specs.Boards.{IsOf};
+ghost use Rattle.flow_team.specs.Beginnings.{IsBeginningOf};
 ghost use Rattle.flow_team.specs.Tables.{IsTableOf};
 
 use crate::OutOfMemory;
@@ -235,6 +236,46 @@ pub fn analyse_alone(
 {
     let (table, _) = GraphSets::solved(alloc, graph, analysis)?;
     Ok(table)
+}
+
+// The second table of two that are found on the calling thread, over what the first one's direction shares.
+fn with_second_alone<'g, 'p>(
+    alloc: Global,
+    graph: &'g Graph<'p>,
+    first: (Table, Routes<'g, 'p>),
+    analysis: Analysis,
+    bits: u32,
+) -> Result<(Table, Table), OutOfMemory>
+    requires bits { bits ≤ bits_of graph.now analysis }
+    requires routes { first.1 ≡ direction_of (record { program = graph.now; analysis = analysis }) }
+    ensures first { IfOk result (λ r. r.0 ≡ first.entry.0) }
+    ensures second { IfOk result (λ r. (r.1.analysis ≡ analysis) × (r.1.rows.hi ≡ bits) × IsBeginningOf graph.now r.1) }
+{
+    let (table, routes) = first;
+    let (other, _) = GraphSets::solved_first_over(alloc, graph, analysis, bits, routes)?;
+    Ok((table, other))
+}
+
+/// The beginnings of the tables of two analyses of one direction, found on the calling thread: of each as many of its first bits as are
+/// asked, with 0 its path flags alone. The edges, their order and the flags are found once.
+///
+/// The conditions: each analysis has so many bits, and both are forward, or both backward. Fails only where memory runs out.
+pub fn analyse_both_alone(
+    alloc: Global,
+    graph: &Graph<'_>,
+    first: (Analysis, u32),
+    second: (Analysis, u32),
+) -> Result<(Table, Table), OutOfMemory>
+    requires first_bits { first.1 ≤ bits_of graph.now first.0 }
+    requires second_bits { second.1 ≤ bits_of graph.now second.0 }
+    requires direction { is_backward first.0 ≡ is_backward second.0 }
+    ensures first { IfOk result (λ r. (r.0.analysis ≡ first.0) × (r.0.rows.hi ≡ first.1) × IsBeginningOf graph.now r.0) }
+    ensures second { IfOk result (λ r. (r.1.analysis ≡ second.0) × (r.1.rows.hi ≡ second.1) × IsBeginningOf graph.now r.1) }
+{
+    let (analysis, bits) = first;
+    let (other, others) = second;
+    let found = GraphSets::solved_first(alloc, graph, analysis, bits)?;
+    with_second_alone(alloc, graph, found, other, others)
 }
 
 /// The tables of two analyses of one direction, each as [`analyse`] has it: the edges, their order and the path flags are found

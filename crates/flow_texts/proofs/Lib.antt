@@ -1,6 +1,8 @@
+pub mod BitRuns
 pub mod Blocks
 pub mod Buffers
 pub mod Doubts
+pub mod KnownReports
 pub mod ListTexts
 pub mod RangeLines
 pub mod RemarkLines

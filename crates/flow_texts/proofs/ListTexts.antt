@@ -1,5 +1,5 @@
 -- How the text of a set grows, bit by bit and word by word
-use Rattle.std.proofs.Common.{◌≡◌, ℕ, zero, suc, ◌+◌, ◌-◌, ◌<◌, ◌≤◌, Bool, true, false, ◌||◌, List, [], ◌∷◌, ◌++◌, map, filter, refl, sym, ap, ◌∙◌, subst, if◌then◌else◌, arith, append_assoc, append-nil}
+use Rattle.std.proofs.Common.{◌≡◌, ℕ, zero, suc, ◌+◌, ◌-◌, ◌<◌, ◌≤◌, Bool, true, false, ◌||◌, List, [], ◌∷◌, ◌++◌, map, filter, refl, sym, ap, ◌∙◌, subst, if◌then◌else◌, arith, append_assoc}
 use Rattle.std.specs.List.{range_with_len}
 use Rattle.std.specs.Prelude.{codes}
 use Rattle.std.proofs.lemmas.List.{map-append}
@@ -60,21 +60,8 @@ wrote-more between set others first m n old mid new any now before step =
           ∙ ap (λ b. others || b) (sym (ap some_stand split ∙ some_stand-append (members set first m) (members set (first + m) n)));
     }
 
--- one number, which is a member
-pub wrote-member : (between : List ℕ) (set : Named) (any : Bool) (n : ℕ) (old new : Outlet) (text : List ℕ) → set.member n ≡ true → text ≡ set.named n
-    → Takes old new (after between any (text ∷ [])) → Wrote between set any n 1 old new true
-wrote-member between set any n old new text is named added =
-    let one : members set n 1 ≡ n ∷ [] = ap (λ b. if b then n ∷ [] else []) is in
-    record {
-      written = subst (Takes old new) (ap (λ x. after between any (x ∷ [])) named ∙ ap (λ xs. after between any (map set.named xs)) (sym one)) added;
-      known = or_true any ∙ ap (λ xs. any || some_stand xs) (sym one);
-    } where
-      or_true : (b : Bool) → true ≡ (b || true)
-      or_true true = refl
-      or_true false = refl
-
--- and one that is none
-pub wrote-no_member : (between : List ℕ) (set : Named) (any : Bool) (n : ℕ) (at : Outlet) → set.member n ≡ false → Wrote between set any n 1 at at any
+-- one number, which is no member
+wrote-no_member : (between : List ℕ) (set : Named) (any : Bool) (n : ℕ) (at : Outlet) → set.member n ≡ false → Wrote between set any n 1 at at any
 wrote-no_member between set any n at is =
     let none : members set n 1 ≡ [] = ap (λ b. if b then n ∷ [] else []) is in
     let start = wrote-none between set any n at in
@@ -111,39 +98,58 @@ map-members f g member first (suc count) same = by_test (member first) (map-memb
   by_test true rest = ap (λ x. x ∷ map f (filter member (range_with_len (first + 1) count))) (same first (omega arith)) ∙ ap (λ xs. g first ∷ xs) rest
   by_test false rest = rest
 
--- where no number behind a count is a member, more numbers have the same members
-pub members-within : (set : Named) (count more : ℕ) → ((n : ℕ) → count ≤ n → set.member n ≡ false) → members set 0 (count + more) ≡ members set 0 count
-members-within set count zero none =
-    let same : count + zero ≡ count = omega arith in
-    ap (members set 0) same
-members-within set count (suc more) none =
-    let next : count + suc more ≡ (count + more) + 1 = omega arith in
-    let last : 0 + (count + more) ≡ count + more = omega arith in
-    ap (members set 0) next ∙ ap (filter set.member) (range_split 0 (count + more) 1)
-    ∙ filter-append set.member (range_with_len 0 (count + more)) (range_with_len (0 + (count + more)) 1)
-    ∙ ap (λ n. members set 0 (count + more) ++ filter set.member (range_with_len n 1)) last
-    ∙ ap (λ b. members set 0 (count + more) ++ (if b then (count + more) ∷ [] else [])) (none (count + more) (omega arith))
-    ∙ append-nil (members set 0 (count + more)) ∙ members-within set count more none
+-- the text of a set was taken, or nothing where the set is empty
+pub set_written : (between : List ℕ) (set : Named) (count : ℕ) (old new : Outlet) (any : Bool) → between ≡ codes ", "
+    → Wrote between set false 0 count old new any → any ≡ true → Takes old new (listed (map set.named (members set 0 count)))
+set_written between set count old new any commas wrote is =
+    let some : some_stand (map set.named (members set 0 count)) ≡ true = some_stand-map set.named (members set 0 count) ∙ sym wrote.known ∙ is in
+    subst (Takes old new) (ap (λ b. after b false (map set.named (members set 0 count))) commas ∙ sym (listed-some (map set.named (members set 0 count)) some)) wrote.written
 
--- all words of a row are gone over: the text of its set was taken, or nothing where the set is empty
-pub row_written : (set : Named) (count limit : ℕ) (old new : Outlet) (any : Bool) → count ≤ limit → ((n : ℕ) → count ≤ n → set.member n ≡ false)
-    → Wrote (codes ", ") set false 0 limit old new any → any ≡ true → Takes old new (listed (map set.named (members set 0 count)))
-row_written set count limit old new any within none wrote is =
-    let limit_is : count + (limit - count) ≡ limit = omega (arith, within) in
-    let same : members set 0 limit ≡ members set 0 count = ap (members set 0) (sym limit_is) ∙ members-within set count (limit - count) none in
-    let some : some_stand (map set.named (members set 0 count)) ≡ true = some_stand-map set.named (members set 0 count) ∙ ap some_stand (sym same) ∙ sym wrote.known ∙ is in
-    subst (Takes old new) (ap (λ xs. after (codes ", ") false (map set.named xs)) same ∙ sym (listed-some (map set.named (members set 0 count)) some)) wrote.written
+pub set_empty : (between : List ℕ) (set : Named) (count : ℕ) (old new : Outlet) (any : Bool)
+    → Wrote between set false 0 count old new any → any ≡ false → (Takes old new []) × (listed (map set.named (members set 0 count)) ≡ codes "-")
+set_empty between set count old new any wrote is =
+    let no : some_stand (map set.named (members set 0 count)) ≡ false = some_stand-map set.named (members set 0 count) ∙ sym wrote.known ∙ is in
+    let empty = listed-none (map set.named (members set 0 count)) no in
+    (subst (Takes old new) (ap (after between false) empty.1) wrote.written, empty.0)
 
-pub row_empty : (set : Named) (count limit : ℕ) (old new : Outlet) (any : Bool) → count ≤ limit → ((n : ℕ) → count ≤ n → set.member n ≡ false)
-    → Wrote (codes ", ") set false 0 limit old new any → any ≡ false → (Takes old new []) × (listed (map set.named (members set 0 count)) ≡ codes "-")
-row_empty set count limit old new any within none wrote is =
-    let limit_is : count + (limit - count) ≡ limit = omega (arith, within) in
-    let same : members set 0 limit ≡ members set 0 count = ap (members set 0) (sym limit_is) ∙ members-within set count (limit - count) none in
-    let no : some_stand (map set.named (members set 0 limit)) ≡ false = some_stand-map set.named (members set 0 limit) ∙ sym wrote.known ∙ is in
-    let empty = listed-none (map set.named (members set 0 limit)) no in
-    (subst (Takes old new) (ap (after (codes ", ") false) empty.1) wrote.written, ap (λ xs. listed (map set.named xs)) (sym same) ∙ empty.0)
+-- all are members
+all_pass : (test : ℕ → Bool) (a k : ℕ) → ((n : ℕ) → a ≤ n → n < a + k → test n ≡ true) → filter test (range_with_len a k) ≡ range_with_len a k
+all_pass test a zero each = refl
+all_pass test a (suc k) each =
+    ap (λ t. if t then a ∷ filter test (range_with_len (a + 1) k) else filter test (range_with_len (a + 1) k)) (each a (omega arith) (omega arith))
+    ∙ ap (λ ns. a ∷ ns) (all_pass test (a + 1) k (λ n above below. each n (omega (arith, above)) (omega (arith, below))))
 
--- one text, behind what stands between or not
-pub after-one : (between : List ℕ) (others : Bool) (text : List ℕ) → after between others (text ∷ []) ≡ (if others then between ++ text else text)
-after-one between true text = append-nil (between ++ text)
-after-one between false text = append-nil text
+-- members that lie side by side, and behind them none
+pub wrote-run : (between : List ℕ) (set : Named) (others : Bool) (a b c : ℕ) (old new : Outlet) (now : Bool) → a ≤ b → b ≤ c
+    → ((n : ℕ) → a ≤ n → n < b → set.member n ≡ true) → ((n : ℕ) → b ≤ n → n < c → set.member n ≡ false)
+    → Takes old new (after between others (map set.named (range_with_len a (b - a)))) → now ≡ (others || some_stand (range_with_len a (b - a)))
+    → Wrote between set others a (c - a) old new now
+wrote-run between set others a b c old new now low high inside behind taken known =
+    let ends : a + (b - a) ≡ b = omega (arith, low) in
+    let all : (b - a) + (c - b) ≡ c - a = omega (arith, low, high) in
+    let same : range_with_len a (b - a) ≡ members set a (b - a) = sym (all_pass set.member a (b - a) (λ n above below. inside n above (omega (arith, below, ends)))) in
+    let first : Wrote between set others a (b - a) old new now =
+    record {
+      written = subst (Takes old new) (ap (λ ns. after between others (map set.named ns)) same) taken;
+      known = known ∙ ap (λ ns. others || some_stand ns) same;
+    } in
+    subst (λ k. Wrote between set others a k old new now) all
+    (wrote-more between set others a (b - a) (c - b) old new new now now first
+    (wrote-no_members between set now (a + (b - a)) (c - b) new (λ k below. behind (a + (b - a) + k) (omega (arith, ends)) (omega (arith, ends, below)))))
+
+-- first up to one number, then up to the next
+pub wrote-further : (between : List ℕ) (set : Named) (others : Bool) (a b c : ℕ) (old mid new : Outlet) (any now : Bool) → a ≤ b → b ≤ c
+    → Wrote between set others a (b - a) old mid any → Wrote between set any b (c - b) mid new now → Wrote between set others a (c - a) old new now
+wrote-further between set others a b c old mid new any now low high before step =
+    let ends : b ≡ a + (b - a) = omega (arith, low) in
+    let all : (b - a) + (c - b) ≡ c - a = omega (arith, low, high) in
+    subst (λ k. Wrote between set others a k old new now) all
+    (wrote-more between set others a (b - a) (c - b) old mid new any now before (subst (λ n. Wrote between set any n (c - b) mid new now) ends step))
+
+pub wrote-first : (between : List ℕ) (set : Named) (others : Bool) (b c : ℕ) (old mid new : Outlet) (any now : Bool) → b ≤ c
+    → Wrote between set others 0 b old mid any → Wrote between set any b (c - b) mid new now → Wrote between set others 0 c old new now
+wrote-first between set others b c old mid new any now high before step =
+    let from : b ≡ 0 + b = omega arith in
+    let all : b + (c - b) ≡ c = omega (arith, high) in
+    subst (λ k. Wrote between set others 0 k old new now) all
+    (wrote-more between set others 0 b (c - b) old mid new any now before (subst (λ n. Wrote between set any n (c - b) mid new now) from step))

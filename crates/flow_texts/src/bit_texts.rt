@@ -1,13 +1,16 @@
 // What the bits of an analysis are called, and numbers.
 
-ghost use Rattle.std.specs.Prelude.{◌≡◌, ◌++◌, ◌<◌, OnOk, decimal};
+ghost use Rattle.std.specs.Prelude.{◌≡◌, ◌++◌, ◌<◌, IfOk, OnOk, codes, decimal};
 ghost use Rattle.flow_graph.specs.Points.{point_count};
 ghost use Rattle.flow_graph.specs.Universes.{IsDefinitionIn, bits as bits_of};
+ghost use Rattle.flow_texts.specs.code.Blocks.{HoldsTexts};
 ghost use Rattle.flow_texts.specs.Pieces.{IsOpen, Takes, outlet};
 ghost use Rattle.flow_texts.specs.Tables.{bit_text, definition_text, expression_text, line_at};
 
+use crate::block::TextBlock;
 use crate::device::Sink;
 use crate::pieces::Pieces;
+use crate::separator::Separator;
 use flow_graph::{Analysis, Expr, Graph, OutOfMemory};
 use itoa::Buffer;
 use std::alloc::Global;
@@ -75,9 +78,8 @@ fn push_expression(text: &mut Vec<u8>, graph: &Graph<'_>, expr: Expr) -> Result<
     }
 }
 
-/// Puts what a bit of an analysis is called behind a text: a definition as `NAME@LINE` or `NAME@entry`, a variable by its name, an
-/// expression as a listing has it.
-pub(crate) fn push_bit(
+// Puts what a bit of an analysis is called behind a text.
+fn push_bit(
     text: &mut Vec<u8>,
     graph: &Graph<'_>,
     analysis: Analysis,
@@ -95,4 +97,23 @@ pub(crate) fn push_bit(
         Analysis::Avail => push_expression(text, graph, graph.expression(bit)),
         Analysis::Busy => push_expression(text, graph, graph.expression(bit)),
     }
+}
+
+/// What each bit of an analysis is called, by number, with `, ` between: a definition as `NAME@LINE` or `NAME@entry`, a variable
+/// by its name, an expression as a listing has it. Fails only where memory runs out.
+pub fn texts_of_bits(
+    alloc: Global,
+    graph: &Graph<'_>,
+    analysis: Analysis,
+) -> Result<TextBlock, OutOfMemory>
+    ensures { IfOk result (HoldsTexts (codes ", ") (bit_text graph.now analysis) (bits_of graph.now analysis)) }
+{
+    let mut block = TextBlock::new(alloc, Separator::CommaAndBlank)?;
+    let mut text = Vec::new(alloc);
+    for bit in 0..graph.bits(analysis) {
+        text.clear();
+        push_bit(&mut text, graph, analysis, bit)?;
+        block = block.with_text(&text)?;
+    }
+    Ok(block)
 }

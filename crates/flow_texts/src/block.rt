@@ -1,66 +1,90 @@
-// What the bits of an analysis are called, made once.
+// Texts that are written often, made once.
 
-ghost use Rattle.std.specs.Prelude.{◌≡◌, ◌++◌, ◌<◌, length, codes, IfOk};
-ghost use Rattle.flow_graph.specs.Universes.{bits as bits_of};
-ghost use Rattle.flow_texts.specs.code.Lists.{AreTexts, text_at};
-ghost use Rattle.flow_texts.specs.Tables.{bit_text};
+ghost use Rattle.std.specs.Prelude.{◌≡◌, ◌-◌, ◌<◌, ◌≤◌, [], length, map, IfOk};
+ghost use Rattle.std.specs.List.{range_with_len};
+ghost use Rattle.flow_texts.specs.code.Blocks.{separator_text, with_text};
+ghost use Rattle.flow_texts.specs.code.Lists.{after, text_at};
 
-use crate::bit_texts::push_bit;
-use flow_graph::{Analysis, Graph, OutOfMemory};
+use crate::OutOfMemory;
+use crate::separator::Separator;
 use std::alloc::Global;
 use std::marker::Model;
 
-/// What each bit of an analysis is called, by number: all in one block, each behind `, `, and where each begins and ends.
+/// Texts by number, all in one block of bytes, each behind the same separator, and where each begins and ends. So the texts of
+/// numbers in a row are one range of bytes.
 #[derive(Drop)]
-pub struct BitTexts {
+pub struct TextBlock {
+    separator: Separator,
     bytes: Vec<u8>,
     marks: Vec<usize>,
 }
 
-impl Model for BitTexts {
-    ghost use Rattle.std.specs.Prelude.{List, ℕ};
-    ghost use Rattle.flow_texts.specs.code.Blocks.{IsBlock, texts_of};
+impl Model for TextBlock {
+    ghost use Rattle.flow_texts.specs.code.Blocks.{IsBlock, SeparatedTexts, separator_text, texts_of};
 
-    ghost Value = { List (List ℕ) };
+    ghost Value = { SeparatedTexts };
 
-    ghost view = { λ texts. texts_of texts.bytes.items texts.marks.items };
+    ghost view = { λ block. record {
+      between = separator_text block.separator;
+      texts = texts_of (separator_text block.separator) block.bytes.items block.marks.items;
+    } };
 
-    ghost invariant = { λ texts. IsBlock texts.bytes.items texts.marks.items };
+    ghost invariant = { λ block. IsBlock (separator_text block.separator) block.bytes.items block.marks.items };
 }
 
-impl BitTexts {
-    /// The texts of all bits. Fails only where memory runs out.
-    pub fn of(alloc: Global, graph: &Graph<'_>, analysis: Analysis) -> Result<BitTexts, OutOfMemory>
-        ensures { IfOk result (AreTexts (bit_text graph.now analysis) (bits_of graph.now analysis)) }
+impl TextBlock {
+    /// No texts yet. Fails only where memory runs out.
+    pub fn new(alloc: Global, separator: Separator) -> Result<TextBlock, OutOfMemory>
+        ensures { IfOk result (λ block. block ≡ record { between = separator_text separator; texts = [] }) }
     {
-        let mut bytes = Vec::new(alloc);
         let mut marks = Vec::new(alloc);
         marks.push(0)?;
-        for bit in 0..graph.bits(analysis) {
-            bytes.extend_from_slice(b", ")?;
-            push_bit(&mut bytes, graph, analysis, bit)?;
-            marks.push(bytes.len())?;
-        }
-        Ok(BitTexts { bytes, marks })
+        Ok(TextBlock {
+            separator,
+            bytes: Vec::new(alloc),
+            marks,
+        })
     }
 
-    /// The text of a bit behind `, `.
-    pub(crate) fn behind_comma(&self, bit: usize) -> &[u8]
-        requires { bit < length self.now }
-        ensures { result.now ≡ codes ", " ++ text_at self.now bit }
+    /// One text more. Fails only where memory runs out.
+    pub fn with_text(self, text: &[u8]) -> Result<TextBlock, OutOfMemory>
+        ensures { IfOk result (λ block. block ≡ with_text self text.now) }
     {
-        let start = self.marks[bit];
-        let end = self.marks[bit + 1];
-        &self.bytes[start..end]
+        let TextBlock {
+            separator,
+            mut bytes,
+            mut marks,
+        } = self;
+        bytes.extend_from_slice(separator.bytes())?;
+        bytes.extend_from_slice(text)?;
+        marks.push(bytes.len())?;
+        Ok(TextBlock {
+            separator,
+            bytes,
+            marks,
+        })
     }
 
-    /// The text of a bit.
+    /// The texts of the numbers from the first on and before the end, with the separator between them, and before the first too
+    /// where others stand already.
+    #[inline]
+    pub(crate) fn range(&self, first: usize, end: usize, others: bool) -> &[u8]
+        requires some { first < end }
+        requires end { end ≤ length self.now.texts }
+        ensures { result.now ≡ after self.now.between others (map (text_at self.now.texts) (range_with_len first (end - first))) }
+    {
+        let stop = self.marks[end];
+        let start = self.marks[first] + self.separator.skipped(others);
+        &self.bytes[start..stop]
+    }
+
+    /// The text of a number.
     ///
-    /// The condition: the bit is one of the analysis.
-    pub fn text(&self, bit: usize) -> &[u8]
-        requires { bit < length self.now }
-        ensures { result.now ≡ text_at self.now bit }
+    /// The condition: the number has one.
+    pub fn text(&self, number: u32) -> &[u8]
+        requires { number < length self.now.texts }
+        ensures { result.now ≡ text_at self.now.texts number }
     {
-        &self.behind_comma(bit)[2..]
+        self.range(number as usize, number as usize + 1, false)
     }
 }

@@ -4,7 +4,7 @@
 
 ghost use Rattle.std.specs.Prelude.{◌≡◌, IfOk};
 ghost use Rattle.flow_team.specs.Tables.{IsTableOf};
-ghost use Rattle.flow_texts.specs.Reports.{AreTablesOf};
+ghost use Rattle.flow_texts.specs.Reports.{TellReport};
 
 use crate::device::Source;
 use crate::from_read::FromRead;
@@ -30,6 +30,7 @@ enum Call {
     WholeTable,
     TablesOf,
     TablesAlone,
+    TablesForReport,
     ReportText,
     WholeReport,
 }
@@ -124,19 +125,19 @@ fn told_of_its_table<R: Threads + Sync>(
     told_of_table(alloc, graph, &table, call, refused)
 }
 
-// The four tables, by one worker or on the calling thread.
+// The four tables, as a call asks for them.
 fn tables_of<R: Threads + Sync>(
     rt: &R,
     alloc: Global,
     graph: &Graph<'_>,
-    alone: bool,
+    call: Call,
 ) -> Result<Tables, OutOfMemory>
-    ensures { IfOk result (AreTablesOf graph.now) }
+    ensures { IfOk result (TellReport graph.now) }
 {
-    if alone {
-        Tables::alone(alloc, graph)
-    } else {
-        Tables::of(rt, alloc, graph, 1, 1)
+    match call {
+        Call::TablesOf => Tables::of(rt, alloc, graph, 1, 1),
+        Call::TablesAlone => Tables::alone(alloc, graph),
+        _ => Tables::for_report(rt, alloc, graph, 1, 1),
     }
 }
 
@@ -144,16 +145,16 @@ fn tables_again<R: Threads + Sync>(
     rt: &R,
     alloc: Global,
     graph: &Graph<'_>,
-    alone: bool,
+    call: Call,
     refused: &mut bool,
 ) -> Result<Tables, Fail>
-    ensures { IfOk result (AreTablesOf graph.now) }
+    ensures { IfOk result (TellReport graph.now) }
 {
-    match tables_of(rt, alloc, graph, alone) {
+    match tables_of(rt, alloc, graph, call) {
         Ok(tables) => Ok(tables),
         Err(_) => {
             *refused = true;
-            Ok(tables_of(rt, alloc, graph, alone)?)
+            Ok(tables_of(rt, alloc, graph, call)?)
         }
     }
 }
@@ -164,7 +165,7 @@ fn report_text_again(
     tables: &Tables,
     refused: &mut bool,
 ) -> Result<Vec<u8>, Fail>
-    requires { AreTablesOf graph.now tables.now }
+    requires { TellReport graph.now tables.now }
 {
     let text = match ReportText::of(alloc, graph, tables) {
         Ok(text) => text,
@@ -182,7 +183,7 @@ fn whole_report_again(
     tables: &Tables,
     refused: &mut bool,
 ) -> Result<Vec<u8>, Fail>
-    requires { AreTablesOf graph.now tables.now }
+    requires { TellReport graph.now tables.now }
 {
     match report(alloc, graph, tables) {
         Ok(text) => Ok(text),
@@ -200,7 +201,7 @@ fn told_of_tables(
     call: Call,
     refused: &mut bool,
 ) -> Result<Vec<u8>, Fail>
-    requires { AreTablesOf graph.now tables.now }
+    requires { TellReport graph.now tables.now }
 {
     match call {
         Call::ReportText => report_text_again(alloc, graph, tables, refused),
@@ -217,9 +218,12 @@ fn told_of_its_tables<R: Threads + Sync>(
     refused: &mut bool,
 ) -> Result<Vec<u8>, Fail> {
     let mut again = false;
-    let alone = !matches!(call, Call::TablesOf);
-    let tables = tables_again(rt, alloc, graph, alone, &mut again)?;
-    *refused = again && matches!(call, Call::TablesOf | Call::TablesAlone);
+    let tables = tables_again(rt, alloc, graph, call, &mut again)?;
+    *refused = again
+        && matches!(
+            call,
+            Call::TablesOf | Call::TablesAlone | Call::TablesForReport
+        );
     told_of_tables(alloc, graph, &tables, call, refused)
 }
 
@@ -295,6 +299,11 @@ fn tables_are_refused(rt: HostRuntime) -> Result<(), Fail> {
 #[test]
 fn tables_alone_are_refused(rt: HostRuntime) -> Result<(), Fail> {
     check(&rt, Call::TablesAlone, "Tables::alone", REPORT)
+}
+
+#[test]
+fn tables_for_a_report_are_refused(rt: HostRuntime) -> Result<(), Fail> {
+    check(&rt, Call::TablesForReport, "Tables::for_report", REPORT)
 }
 
 #[test]

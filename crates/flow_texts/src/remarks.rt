@@ -58,8 +58,8 @@ impl Findings<'_> {
         match remark {
             Remark::NeverReached => b"",
             Remark::Unset { variable } => self.graph.program().variable(variable),
-            Remark::Computed { expression } => self.expressions.text(expression as usize),
-            Remark::VeryBusy { expression } => self.expressions.text(expression as usize),
+            Remark::Computed { expression } => self.expressions.text(expression),
+            Remark::VeryBusy { expression } => self.expressions.text(expression),
             Remark::Dead { variable } => self.graph.program().variable(variable),
         }
     }
@@ -212,9 +212,8 @@ impl Findings<'_> {
         ensures takes { Takes (outlet K.contents K.faults out.old) (outlet K.contents K.faults out.new) (texts_where (λ e. F.text form.now self.now.graph.now point (VeryBusy e)) ((knowledge_of self.now).busy.contains point) (range_with_len 0 (bits_of self.now.graph.now Busy))) }
     {
         let bits = self.graph.bits(Analysis::Busy);
-        let row = self.tables.busy.row(point);
         for word in 0..(bits + 63) / 64 {
-            if row.word(word) != 0 {
+            if self.tables.busy.word(point, word) != 0 {
                 self.write_busy_between(form, out, point, 64 * word, bits.min(64 * word + 64));
             }
         }

@@ -3,7 +3,7 @@
 ghost use Rattle.std.specs.Prelude.{◌≡◌, ◌++◌, IfOk, decimal};
 ghost use Rattle.flow_texts.specs.code.Findings.{AreFindings, knowledge_of};
 ghost use Rattle.flow_texts.specs.Pieces.{IsOpen, Takes, outlet};
-ghost use Rattle.flow_texts.specs.Reports.{AreTablesOf, IsReport, ListsSafely, count_line, remark_line, report_of};
+ghost use Rattle.flow_texts.specs.Reports.{IsReport, ListsSafely, TellReport, count_line, remark_line, report_of};
 
 use crate::bit_texts::{line, write_number};
 use crate::device::Sink;
@@ -112,13 +112,13 @@ impl<'a> Model for ReportText<'a> {
 impl<'a> ReportText<'a> {
     /// The report, ready to be written.
     ///
-    /// The condition: the tables are of this graph. Fails only where memory runs out.
+    /// The condition: the tables tell what a report on this graph's program asks. Fails only where memory runs out.
     pub fn of(
         alloc: Global,
         graph: &'a Graph<'a>,
         tables: &'a Tables,
     ) -> Result<ReportText<'a>, OutOfMemory>
-        requires { AreTablesOf graph.now tables.now }
+        requires { TellReport graph.now tables.now }
         ensures report { IfOk result (IsReport graph.now) }
         ensures safe { IfOk result (ListsSafely graph.now) }
     {
@@ -137,9 +137,9 @@ impl<'a> Text for ReportText<'a> {
 
 /// The report on a program, made whole: that of `ReportText`.
 ///
-/// The condition: the tables are of this graph. Its room grows by doubling; fails only where memory runs out.
+/// The condition: the tables tell what a report on this graph's program asks. Its room grows by doubling; fails only where memory runs out.
 pub fn report(alloc: Global, graph: &Graph<'_>, tables: &Tables) -> Result<Vec<u8>, OutOfMemory>
-    requires { AreTablesOf graph.now tables.now }
+    requires { TellReport graph.now tables.now }
     ensures report { IfOk result (λ text. IsReport graph.now text.items) }
     ensures safe { IfOk result (λ text. ListsSafely graph.now text.items) }
 {

@@ -1,100 +1,24 @@
 // The text of a table.
 
-ghost use Rattle.std.specs.Prelude.{◌≡◌, ◌∷◌, [], ◌+◌, ◌^◌, ◌<◌, ℕ, Bool, true, length, map, filter, IfOk, codes, if◌then◌else◌};
-ghost use Rattle.std.specs.List.{range_with_len};
-ghost use Rattle.bit_rows.specs.RowSet.{HasRange, contains as is_in};
-ghost use Rattle.bit_rows.specs.Words.{has_bit};
+ghost use Rattle.std.specs.Prelude.{◌≡◌, ◌<◌, IfOk, codes, if◌then◌else◌};
 ghost use Rattle.flow_graph.specs.Points.{point_count};
 ghost use Rattle.flow_graph.specs.Universes.{bits as bits_of};
 ghost use Rattle.flow_team.specs.Tables.{IsTableOf, facts_of};
-ghost use Rattle.flow_texts.specs.code.Lists.{AreTexts, Named, Wrote, after, text_at};
+ghost use Rattle.flow_texts.specs.code.Blocks.{HoldsTexts};
 ghost use Rattle.flow_texts.specs.Pieces.{IsOpen, Takes, outlet};
-ghost use Rattle.flow_texts.specs.Tables.{IsTableText, bit_text, listed, place_text, point_line};
+ghost use Rattle.flow_texts.specs.Tables.{IsTableText, bit_text, place_text, point_line};
 
-use crate::bit_texts::write_number;
-use crate::block::BitTexts;
+use crate::bit_texts::{texts_of_bits, write_number};
+use crate::block::TextBlock;
 use crate::device::Sink;
+use crate::members::write_set;
 use crate::pieces::Pieces;
 use crate::text::Text;
 use crate::whole::whole_text;
-use bit_rows::Row;
 use flow_graph::{Graph, OutOfMemory};
 use flow_team::Table;
 use std::alloc::Global;
 use std::marker::Model;
-
-/// Writes one text, behind a comma where others stand already.
-#[inline]
-fn write_next<K: Sink>(out: &mut Pieces<'_, K>, texts: &BitTexts, bit: usize, others: bool)
-    requires ready { IsOpen (outlet K.contents K.faults out.old) }
-    requires bit { bit < length texts.now }
-    ensures same_reference { out.new.sink.ghost_name ≡ out.old.sink.ghost_name }
-    ensures takes { Takes (outlet K.contents K.faults out.old) (outlet K.contents K.faults out.new) (after (codes ", ") others (text_at texts.now bit ∷ [])) }
-{
-    if others {
-        out.write(texts.behind_comma(bit));
-    } else {
-        out.write(texts.text(bit));
-    }
-}
-
-/// Whether a place of a word is 1.
-fn is_one(word: u64, place: u32) -> bool
-    requires { place < 64 }
-    ensures { result ≡ has_bit word place }
-{
-    (word >> place) & 1 == 1
-}
-
-/// Writes the texts of the bits of one word, and answers whether any text stands now.
-fn write_word<K: Sink>(
-    out: &mut Pieces<'_, K>,
-    texts: &BitTexts,
-    first: usize,
-    word: u64,
-    others: bool,
-) -> bool
-    ghost set: { Named }
-    requires ready { IsOpen (outlet K.contents K.faults out.old) }
-    requires texts { AreTexts set.named (length texts.now) texts.now }
-    requires word { (k : ℕ) → k < 64 → has_bit word k ≡ set.member (first + k) }
-    requires within { (bit : ℕ) → set.member bit ≡ true → bit < length texts.now }
-    requires first { first < 2 ^ 38 }
-    ensures same_reference { out.new.sink.ghost_name ≡ out.old.sink.ghost_name }
-    ensures wrote { Wrote (codes ", ") set others first 64 (outlet K.contents K.faults out.old) (outlet K.contents K.faults out.new) result }
-{
-    let mut any = others;
-    for k in 0..64 {
-        if is_one(word, k) {
-            write_next(out, texts, first + k as usize, any);
-            any = true;
-        }
-    }
-    any
-}
-
-/// Writes the texts of a set's bits, or that there are none.
-fn write_set<K: Sink>(out: &mut Pieces<'_, K>, texts: &BitTexts, row: &Row)
-    ghost member: { ℕ → Bool }
-    requires ready { IsOpen (outlet K.contents K.faults out.old) }
-    requires range { HasRange row.now 0 (length texts.now) }
-    requires member { (bit : ℕ) → is_in row.now bit ≡ member bit }
-    ensures same_reference { out.new.sink.ghost_name ≡ out.old.sink.ghost_name }
-    ensures takes { Takes (outlet K.contents K.faults out.old) (outlet K.contents K.faults out.new)
-        (listed (map (text_at texts.now) (filter member (range_with_len 0 (length texts.now))))) }
-{
-    let mut any = false;
-    for word in 0..row.hi().div_ceil(64) {
-        let bits = row.word(word);
-        if bits != 0 {
-            any = write_word(out, texts, 64 * word as usize, bits, any);
-        }
-    }
-    if any {
-        return;
-    }
-    out.write(b"-");
-}
 
 /// Writes the procedure of a point and its place there.
 fn write_place<K: Sink>(out: &mut Pieces<'_, K>, graph: &Graph<'_>, point: u32)
@@ -124,13 +48,13 @@ fn write_point<K: Sink>(
     out: &mut Pieces<'_, K>,
     graph: &Graph<'_>,
     table: &Table,
-    texts: &BitTexts,
+    texts: &TextBlock,
     point: u32,
 )
     requires ready { IsOpen (outlet K.contents K.faults out.old) }
     requires point { point < point_count graph.now }
     requires table { IsTableOf graph.now table.now }
-    requires texts { AreTexts (bit_text graph.now table.now.analysis) (bits_of graph.now table.now.analysis) texts.now }
+    requires texts { HoldsTexts (codes ", ") (bit_text graph.now table.now.analysis) (bits_of graph.now table.now.analysis) texts.now }
     ensures same_reference { out.new.sink.ghost_name ≡ out.old.sink.ghost_name }
     ensures takes { Takes (outlet K.contents K.faults out.old) (outlet K.contents K.faults out.new) (point_line graph.now table.now.analysis (facts_of table.now) point) }
 {
@@ -139,7 +63,7 @@ fn write_point<K: Sink>(
     }
     write_place(out, graph, point);
     out.write(path_mark(table.has_path(point)));
-    write_set(out, texts, table.row(point));
+    write_set(out, texts, table, point, graph.bits(table.analysis()));
     out.write(b"\n");
 }
 
@@ -150,14 +74,14 @@ fn write_point<K: Sink>(
 pub struct TableText<'a> {
     graph: &'a Graph<'a>,
     table: &'a Table,
-    texts: BitTexts,
+    texts: TextBlock,
 }
 
 impl<'a> Model for TableText<'a> {
-    ghost use Rattle.std.specs.Prelude.{List, ℕ};
+    ghost use Rattle.std.specs.Prelude.{List, ℕ, codes};
     ghost use Rattle.flow_graph.specs.Universes.{bits as bits_of};
     ghost use Rattle.flow_team.specs.Tables.{IsTableOf, facts_of};
-    ghost use Rattle.flow_texts.specs.code.Lists.{AreTexts};
+    ghost use Rattle.flow_texts.specs.code.Blocks.{HoldsTexts};
     ghost use Rattle.flow_texts.specs.Tables.{bit_text, table_text_of};
 
     ghost Value = { List ℕ };
@@ -165,7 +89,7 @@ impl<'a> Model for TableText<'a> {
     ghost view = { λ text. table_text_of text.graph.now text.table.now.analysis (facts_of text.table.now) };
 
     ghost invariant = { λ text. IsTableOf text.graph.now text.table.now
-        × AreTexts (bit_text text.graph.now text.table.now.analysis) (bits_of text.graph.now text.table.now.analysis) text.texts };
+        × HoldsTexts (codes ", ") (bit_text text.graph.now text.table.now.analysis) (bits_of text.graph.now text.table.now.analysis) text.texts };
 }
 
 impl<'a> TableText<'a> {
@@ -180,7 +104,7 @@ impl<'a> TableText<'a> {
         requires { IsTableOf graph.now table.now }
         ensures { IfOk result (IsTableText graph.now table.now.analysis) }
     {
-        let texts = BitTexts::of(alloc, graph, table.analysis())?;
+        let texts = texts_of_bits(alloc, graph, table.analysis())?;
         Ok(TableText {
             graph,
             table,

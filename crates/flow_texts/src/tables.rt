@@ -2,11 +2,11 @@ ghost use Rattle.std.specs.Prelude.{◌≡◌, IfOk};
 ghost use Rattle.flow_graph.specs.Analyses.{is_backward};
 ghost use Rattle.flow_team.specs.Tables.{IsTableOf};
 ghost use Rattle.flow_texts.specs.Ranges.{AreInRange};
-ghost use Rattle.flow_texts.specs.Reports.{AreTablesOf};
+ghost use Rattle.flow_texts.specs.Reports.{AreTablesOf, TellReport};
 
 use bit_rows::Cut;
 use flow_graph::{Analysis, Graph, OutOfMemory};
-use flow_team::{OpenGate, Table, analyse, analyse_alone, analyse_both};
+use flow_team::{OpenGate, Table, analyse, analyse_alone, analyse_both, analyse_both_alone};
 use std::alloc::{AllocError, Global};
 use std::thread::Threads;
 
@@ -85,7 +85,8 @@ pub struct Tables {
 impl Tables {
     /// The four tables of a graph's program, found on the calling thread. Fails only where memory runs out.
     pub fn alone(alloc: Global, graph: &Graph<'_>) -> Result<Tables, OutOfMemory>
-        ensures { IfOk result (λ tables. AreTablesOf graph.now tables) }
+        ensures tables { IfOk result (AreTablesOf graph.now) }
+        ensures report { IfOk result (TellReport graph.now) }
     {
         Ok(Tables {
             reach: analyse_alone(alloc, graph, Analysis::Reach)?,
@@ -93,6 +94,50 @@ impl Tables {
             avail: analyse_alone(alloc, graph, Analysis::Avail)?,
             busy: analyse_alone(alloc, graph, Analysis::Busy)?,
         })
+    }
+
+    /// What a report asks of the four tables, found on the calling thread: of reaching definitions only the dummies, which tell what may be
+    /// used before it is set. Fails only where memory runs out.
+    pub fn alone_for_report(alloc: Global, graph: &Graph<'_>) -> Result<Tables, OutOfMemory>
+        ensures { IfOk result (TellReport graph.now) }
+    {
+        let (reach, avail) = analyse_both_alone(
+            alloc,
+            graph,
+            (Analysis::Reach, graph.bits(Analysis::Live)),
+            (Analysis::Avail, graph.bits(Analysis::Avail)),
+        )?;
+        let (live, busy) = analyse_both_alone(
+            alloc,
+            graph,
+            (Analysis::Live, graph.bits(Analysis::Live)),
+            (Analysis::Busy, graph.bits(Analysis::Busy)),
+        )?;
+        Ok(Tables {
+            reach,
+            live,
+            avail,
+            busy,
+        })
+    }
+
+    /// What a report asks of the four tables, by so many workers, in slices of so many bits. Several workers find them whole.
+    ///
+    /// The condition: 1 to 64 workers, and 1 to 4,096 bits. Fails only where memory runs out.
+    pub fn for_report<R: Threads + Sync>(
+        rt: &R,
+        alloc: Global,
+        graph: &Graph<'_>,
+        workers: u32,
+        cut: u32,
+    ) -> Result<Tables, OutOfMemory>
+        requires { AreInRange workers cut }
+        ensures { IfOk result (TellReport graph.now) }
+    {
+        if workers == 1 {
+            return Tables::alone_for_report(alloc, graph);
+        }
+        Tables::of(rt, alloc, graph, workers, cut)
     }
 
     /// The four tables of a graph's program, by so many workers, in slices of so many bits.
@@ -106,7 +151,8 @@ impl Tables {
         cut: u32,
     ) -> Result<Tables, OutOfMemory>
         requires { AreInRange workers cut }
-        ensures { IfOk result (λ tables. AreTablesOf graph.now tables) }
+        ensures tables { IfOk result (AreTablesOf graph.now) }
+        ensures report { IfOk result (TellReport graph.now) }
     {
         let (reach, avail) = both_tables_of(
             rt,

@@ -1,5 +1,5 @@
 -- Texts in a row, with something between them
-use Rattle.std.proofs.Common.{◌≡◌, ℕ, zero, suc, ◌+◌, ◌<◌, Bool, true, false, List, [], ◌∷◌, ◌++◌, length, map, flat_map, take, get_or, nat_lt, if◌then◌else◌, refl, sym, ap, ◌∙◌, append_assoc, append-nil, codes, arith}
+use Rattle.std.proofs.Common.{◌≡◌, ℕ, zero, suc, ◌+◌, ◌<◌, false, List, [], ◌∷◌, ◌++◌, length, map, flat_map, take, get_or, nat_lt, if◌then◌else◌, refl, sym, ap, ◌∙◌, append_assoc, append-nil, codes, arith}
 use Rattle.std.proofs.lemmas.Grind.{flat_map-append}
 use Rattle.std.proofs.lemmas.List.{map-append, take_more}
 use Rattle.std.proofs.Math.Seq.{take-length}
@@ -11,11 +11,6 @@ use Rattle.flow_views.specs.Json.{joined}
 use Rattle.flow_views.specs.Strings.{escaped}
 use Rattle.flow_views.proofs.Escapes.{escaped-append}
 use Rattle.flow_views.proofs.Statements.{stand_before}
-
--- one text, behind what stands between two or not
-pub after_if : (between : List ℕ) (others : Bool) (text : List ℕ) → (if others then between else []) ++ text ≡ after between others (text ∷ [])
-after_if between true text = sym (append-nil (between ++ text))
-after_if between false text = sym (append-nil text)
 
 pub after-joined : (between : List ℕ) (texts : List (List ℕ)) → after between false texts ≡ joined between texts
 after-joined between [] = refl
@@ -40,17 +35,11 @@ escaped_others named (n ∷ numbers) =
     ∙ sym (escaped-append (codes ", " ++ named n) (flat_map (λ t. codes ", " ++ t) (map named numbers))
     ∙ ap (λ t. t ++ escaped (flat_map (λ t. codes ", " ++ t) (map named numbers))) (escaped-append (codes ", ") (named n)))
 
-pub escaped_names : (named : ℕ → List ℕ) (numbers : List ℕ) → some_stand numbers ≡ true
-    → after (codes ", ") false (map (λ n. escaped (named n)) numbers) ≡ escaped (listed (map named numbers))
-escaped_names named [] some = absurd (cc some)
-escaped_names named (n ∷ numbers) some =
+pub escaped_listed : (named : ℕ → List ℕ) (numbers : List ℕ) → listed (map (λ n. escaped (named n)) numbers) ≡ escaped (listed (map named numbers))
+escaped_listed named [] = refl
+escaped_listed named (n ∷ numbers) =
     ap (λ t. escaped (named n) ++ t) (escaped_others named numbers)
     ∙ sym (escaped-append (named n) (flat_map (λ t. codes ", " ++ t) (map named numbers)))
-
-pub no_names : (named : ℕ → List ℕ) (numbers : List ℕ) → some_stand numbers ≡ false
-    → (after (codes ", ") false (map (λ n. escaped (named n)) numbers) ≡ []) × (escaped (listed (map named numbers)) ≡ codes "-")
-no_names named [] some = (refl, refl)
-no_names named (n ∷ numbers) some = absurd (cc some)
 
 -- one text more, of those before a place
 pub joined_next : {A : Type 0} (between : List ℕ) (f : A → List ℕ) (xs : List A) (i : ℕ) (x : A) → i < length xs → x ≡ get_or xs i x

@@ -14,21 +14,23 @@ use Rattle.flow_graph.specs.Points.{end_place, entry_point, point_count, points,
 use Rattle.flow_graph.specs.Universes.{bits}
 use Rattle.flow_graph.specs.Transfers.{names_variable, operands_of, reads}
 use Rattle.flow_graph.specs.declared.analysis.Analysis.{Analysis}
-use Rattle.flow_graph.specs.declared.analysis.Analysis.TheVariants.{Reach, Live}
+use Rattle.flow_graph.specs.declared.analysis.Analysis.TheVariants.{Reach, Live, Avail, Busy}
 use Rattle.flow_graph.specs.declared.edge.Edge.{Edge}
-use Rattle.bit_rows.specs.RowSet.{RowSet, contains}
+use Rattle.bit_rows.specs.RowSet.{contains}
 use Rattle.bit_rows.specs.RowTable.{set_at}
 use Rattle.flow_team.specs.Tables.{Facts, TableRows, facts_of}
 use Rattle.flow_graph.proofs.edges.EdgeLemmas.{IsFrom, a_step, a_call, a_return, edges_from_are, in_procedure}
-use Rattle.flow_texts.specs.Reports.{Knowledge, assigned, dead_at, unset_at}
-use Rattle.flow_texts.specs.Tables.{bit_text, bits_at}
+use Rattle.flow_texts.specs.Reports.{AreTablesOf, Knowledge, assigned, dead_at, unset_at}
+use Rattle.flow_texts.specs.Tables.{bits_at}
 use Rattle.flow_texts.specs.code.Findings.{AreFindings}
-use Rattle.flow_texts.specs.code.Lists.{AreTexts, some_stand}
+use Rattle.flow_texts.specs.code.Lists.{some_stand}
 use Rattle.flow_texts.proofs.ListTexts.{map-members}
 use Rattle.flow_views.specs.Dots.{arrow, calls_at, passed_call, text_if_some}
 use Rattle.flow_views.specs.Json.{array, boolean, span_fields}
 use Rattle.flow_views.specs.Views.{analysis_if}
+use Rattle.flow_views.specs.code.Names.{AreNames, numbered}
 use Rattle.flow_views.specs.code.Shown.{AreShown, IsSiteIn, contents}
+use Rattle.flow_views.specs.declared.names.NameForm.TheVariants.{Quoted}
 use Rattle.flow_views.specs.declared.shown.Shown.{Shown}
 use Rattle.flow_views.specs.declared.view.View.{View}
 
@@ -85,16 +87,21 @@ none_dead program known point ends = ap (λ o. variables (option_and_then assign
       | None ↦ []
     ]
 
--- the bits of a row, as they are called
-pub row_texts : (program : Program) (analysis : Analysis) (table : TableRows) (facts : Facts) (texts : List (List ℕ)) (row : RowSet) (point : ℕ) (f g : ℕ → List ℕ)
-    → AreTexts (bit_text program analysis) (bits program analysis) texts → facts_of table ≡ facts → row ≡ set_at table.rows point
-    → ((n : ℕ) → n < bits program analysis → f n ≡ g n)
-    → map f (filter (contains row) (range_with_len 0 (length texts))) ≡ map g (bits_at program analysis facts point)
-row_texts program analysis table facts texts row point f g are told is same =
-    ap (λ r. map f (filter (contains r) (range_with_len 0 (length texts)))) is
-    ∙ ap (λ n. map f (filter (contains (set_at table.rows point)) (range_with_len 0 n))) are.same_count
+-- the bits of a point, as they are called
+pub set_texts : (program : Program) (analysis : Analysis) (table : TableRows) (facts : Facts) (count point : ℕ) (f g : ℕ → List ℕ)
+    → count ≡ bits program analysis → facts_of table ≡ facts → ((n : ℕ) → n < bits program analysis → f n ≡ g n)
+    → map f (filter (contains (set_at table.rows point)) (range_with_len 0 count)) ≡ map g (bits_at program analysis facts point)
+set_texts program analysis table facts count point f g all told same =
+    ap (λ n. map f (filter (contains (set_at table.rows point)) (range_with_len 0 n))) all
     ∙ map-members f g (contains (set_at table.rows point)) 0 (bits program analysis) (λ n below. same n (omega (arith, below)))
     ∙ ap (λ (told : Facts). map g (bits_at program analysis told point)) told
+
+-- each bit of an analysis has its number
+pub has_number : (program : Program) (analysis : Analysis) → bits program analysis ≤ numbered Quoted program
+has_number program Reach = omega arith
+has_number program Live = omega arith
+has_number program Avail = omega arith
+has_number program Busy = omega arith
 
 -- the texts of four lists, each of one element or none
 pub flat_map_four : {A : Type 0} (f : A → List ℕ) (a b d e : List A) → flat_map f a ++ flat_map f b ++ flat_map f d ++ flat_map f e ≡ flat_map f (a ++ b ++ d ++ e)
@@ -108,14 +115,13 @@ pub one_chosen : (f : Analysis → List ℕ) (chosen : Bool) (analysis : Analysi
 one_chosen f chosen analysis is = sym (ap (λ b. flat_map f (analysis_if b analysis)) is ∙ append-nil (f analysis))
 
 -- what is shown, put together
-pub shown_is : (shown : Shown) (program : Program) → shown.found.graph.now ≡ program → AreFindings shown.found
-    → AreTexts (bit_text program Reach) (bits program Reach) shown.definitions → AreTexts (bit_text program Live) (bits program Live) shown.variables
+pub shown_is : (shown : Shown) (program : Program) → shown.found.graph.now ≡ program → AreFindings shown.found → AreTablesOf program shown.found.tables.now → AreNames program shown.names
     → contents shown.successors.items ≡ map (edges_from program) (points program)
     → IfSome shown.view.procedure (λ procedure. procedure < length program.procedure_names) → AreShown shown
-shown_is shown program same found definitions variables successors procedure = record {
+shown_is shown program same found tables names successors procedure = record {
   found = found;
-  definitions = subst (λ (p : Program). AreTexts (bit_text p Reach) (bits p Reach) shown.definitions) (sym same) definitions;
-  variables = subst (λ (p : Program). AreTexts (bit_text p Live) (bits p Live) shown.variables) (sym same) variables;
+  tables = subst (λ (p : Program). AreTablesOf p shown.found.tables.now) (sym same) tables;
+  names = subst (λ (p : Program). AreNames p shown.names) (sym same) names;
   successors = subst (λ (p : Program). contents shown.successors.items ≡ map (edges_from p) (points p)) (sym same) successors;
   procedure = there shown.view.procedure (subst (λ (p : Program). IfSome shown.view.procedure (λ procedure. procedure < length p.procedure_names)) (sym same) procedure);
 }

@@ -1,31 +1,28 @@
 // The text for Graphviz.
 
 ghost use Rattle.std.specs.Prelude.{◌≡◌, ◌++◌, ◌<◌, ◌≤◌, All, Some, flat_map, length, if◌then◌else◌, IfOk, IfSome, codes, decimal};
-ghost use Rattle.bit_rows.specs.RowSet.{HasRange, contains as is_in};
-ghost use Rattle.std.specs.Prelude.{filter, map};
-ghost use Rattle.std.specs.List.{range_with_len};
 ghost use Rattle.flow_graph.specs.Paths.{target_of};
 ghost use Rattle.flow_graph.specs.Points.{point_count, procedure_at, statement_at};
 ghost use Rattle.flow_texts.specs.code.Findings.{knowledge_of};
-ghost use Rattle.flow_texts.specs.code.Lists.{text_at};
 ghost use Rattle.flow_texts.specs.Pieces.{IsOpen, Takes, outlet};
 ghost use Rattle.flow_texts.specs.Reports.{AreTablesOf, dead_at, remark_text, unset_at};
-ghost use Rattle.flow_texts.specs.Tables.{line_at, listed};
+ghost use Rattle.flow_texts.specs.Tables.{line_at};
 ghost use Rattle.tac_reader.specs.Listings.{statement_text};
 ghost use Rattle.flow_views.specs.code.Shown.{AreShown, IsSiteIn, numbers_of};
+ghost use Rattle.flow_views.specs.declared.names.NameForm.TheVariants.{Escaped};
 ghost use Rattle.flow_views.specs.Dots.{IsDot, arrow, calls_at, cluster, dot_of, edge_line, edge_lines, fact_line, head, is_edge_shown, label_line, label_lines, marks, node, passed_call, path_marks, shown_edge, text_if_some, title};
 ghost use Rattle.flow_views.specs.Strings.{escaped};
 ghost use Rattle.flow_views.specs.Views.{analysis_if, chosen_analyses, names_at, points_in, procedure_name};
 
-use crate::items::{ItemForm, write_if, write_row};
+use crate::names::NameForm;
+use crate::optional::write_if;
 use crate::shown::{Numbers, Shown, name_of};
 use crate::strings::{write_escaped, write_escaped_number, write_quoted};
 use crate::view::View;
-use bit_rows::Row;
 use flow_graph::{Analysis, Edge, Graph, OutOfMemory};
 use flow_texts::{
-    BitTexts, Findings, Pieces, Remark, RemarkForm, Sink, Tables, Text, line, words_before_name,
-    words_behind_name, write_number,
+    Findings, Pieces, Remark, RemarkForm, Sink, Tables, Text, line, words_before_name,
+    words_behind_name, write_number, write_set,
 };
 use std::alloc::Global;
 use std::marker::Model;
@@ -50,19 +47,6 @@ impl RemarkForm for DotLine {
         write_escaped(out, words_behind_name(remark));
         out.write(b"\\l");
     }
-}
-
-// Writes what the bits of a set are called, or that there are none.
-fn write_names<K: Sink>(out: &mut Pieces<'_, K>, texts: &BitTexts, row: &Row)
-    requires ready { IsOpen (outlet K.contents K.faults out.old) }
-    requires range { HasRange row.now 0 (length texts.now) }
-    ensures same_reference { out.new.sink.ghost_name ≡ out.old.sink.ghost_name }
-    ensures takes { Takes (outlet K.contents K.faults out.old) (outlet K.contents K.faults out.new) (escaped (listed (map (text_at texts.now) (filter (is_in row.now) (range_with_len 0 (length texts.now)))))) }
-{
-    if write_row(out, ItemForm::Names, texts, row) {
-        return;
-    }
-    out.write(b"-");
 }
 
 // Writes an arrow from a point to a point.
@@ -145,14 +129,15 @@ impl Shown<'_> {
     fn write_fact_line<K: Sink>(&self, out: &mut Pieces<'_, K>, point: u32, analysis: Analysis)
         requires ready { IsOpen (outlet K.contents K.faults out.old) }
         requires shown { AreShown self.now }
+        requires form { self.now.names.form ≡ Escaped }
         requires point { point < point_count self.now.found.graph.now }
         ensures same_reference { out.new.sink.ghost_name ≡ out.old.sink.ghost_name }
         ensures takes { Takes (outlet K.contents K.faults out.old) (outlet K.contents K.faults out.new) (label_line (fact_line self.now.found.graph.now (knowledge_of self.now.found) point analysis)) }
     {
         write_escaped(out, name_of(analysis));
         out.write(b": ");
-        let row = self.table(analysis).row(point);
-        write_names(out, self.names(analysis), row);
+        let bits = self.found.graph.bits(analysis);
+        write_set(out, self.names(analysis), self.table(analysis), point, bits);
         out.write(b"\\l");
     }
 
@@ -166,6 +151,7 @@ impl Shown<'_> {
     )
         requires ready { IsOpen (outlet K.contents K.faults out.old) }
         requires shown { AreShown self.now }
+        requires form { self.now.names.form ≡ Escaped }
         requires point { point < point_count self.now.found.graph.now }
         ensures same_reference { out.new.sink.ghost_name ≡ out.old.sink.ghost_name }
         ensures takes { Takes (outlet K.contents K.faults out.old) (outlet K.contents K.faults out.new) (flat_map (λ a. label_line (fact_line self.now.found.graph.now (knowledge_of self.now.found) point a)) (analysis_if chosen analysis)) }
@@ -180,6 +166,7 @@ impl Shown<'_> {
     fn write_facts<K: Sink>(&self, out: &mut Pieces<'_, K>, point: u32)
         requires ready { IsOpen (outlet K.contents K.faults out.old) }
         requires shown { AreShown self.now }
+        requires form { self.now.names.form ≡ Escaped }
         requires point { point < point_count self.now.found.graph.now }
         ensures same_reference { out.new.sink.ghost_name ≡ out.old.sink.ghost_name }
         ensures takes { Takes (outlet K.contents K.faults out.old) (outlet K.contents K.faults out.new) (flat_map (λ a. label_line (fact_line self.now.found.graph.now (knowledge_of self.now.found) point a)) (chosen_analyses self.now.view.facts)) }
@@ -195,6 +182,7 @@ impl Shown<'_> {
     fn write_label<K: Sink>(&self, out: &mut Pieces<'_, K>, point: u32)
         requires ready { IsOpen (outlet K.contents K.faults out.old) }
         requires shown { AreShown self.now }
+        requires form { self.now.names.form ≡ Escaped }
         requires point { point < point_count self.now.found.graph.now }
         ensures same_reference { out.new.sink.ghost_name ≡ out.old.sink.ghost_name }
         ensures takes { Takes (outlet K.contents K.faults out.old) (outlet K.contents K.faults out.new) (flat_map label_line (label_lines self.now.found.graph.now (knowledge_of self.now.found) self.now.view.facts point)) }
@@ -263,6 +251,7 @@ impl Shown<'_> {
     fn write_node<K: Sink>(&self, out: &mut Pieces<'_, K>, point: u32)
         requires ready { IsOpen (outlet K.contents K.faults out.old) }
         requires shown { AreShown self.now }
+        requires form { self.now.names.form ≡ Escaped }
         requires point { point < point_count self.now.found.graph.now }
         ensures same_reference { out.new.sink.ghost_name ≡ out.old.sink.ghost_name }
         ensures takes { Takes (outlet K.contents K.faults out.old) (outlet K.contents K.faults out.new) (node self.now.found.graph.now (knowledge_of self.now.found) self.now.view.facts point) }
@@ -283,6 +272,7 @@ impl Shown<'_> {
     fn write_nodes<K: Sink>(&self, out: &mut Pieces<'_, K>, points: Numbers)
         requires ready { IsOpen (outlet K.contents K.faults out.old) }
         requires shown { AreShown self.now }
+        requires form { self.now.names.form ≡ Escaped }
         requires ordered { points.first ≤ points.end }
         requires points { points.end ≤ point_count self.now.found.graph.now }
         ensures same_reference { out.new.sink.ghost_name ≡ out.old.sink.ghost_name }
@@ -297,6 +287,7 @@ impl Shown<'_> {
     fn write_cluster<K: Sink>(&self, out: &mut Pieces<'_, K>, procedure: u32)
         requires ready { IsOpen (outlet K.contents K.faults out.old) }
         requires shown { AreShown self.now }
+        requires form { self.now.names.form ≡ Escaped }
         requires procedure { procedure < length self.now.found.graph.now.procedures }
         ensures same_reference { out.new.sink.ghost_name ≡ out.old.sink.ghost_name }
         ensures takes { Takes (outlet K.contents K.faults out.old) (outlet K.contents K.faults out.new) (cluster self.now.found.graph.now (knowledge_of self.now.found) self.now.view.facts procedure) }
@@ -315,6 +306,7 @@ impl Shown<'_> {
     fn write_clusters<K: Sink>(&self, out: &mut Pieces<'_, K>, procedures: Numbers)
         requires ready { IsOpen (outlet K.contents K.faults out.old) }
         requires shown { AreShown self.now }
+        requires form { self.now.names.form ≡ Escaped }
         requires ordered { procedures.first ≤ procedures.end }
         requires procedures { procedures.end ≤ length self.now.found.graph.now.procedures }
         ensures same_reference { out.new.sink.ghost_name ≡ out.old.sink.ghost_name }
@@ -479,6 +471,7 @@ impl Shown<'_> {
     fn write_dot<K: Sink>(&self, out: &mut Pieces<'_, K>)
         requires ready { IsOpen (outlet K.contents K.faults out.old) }
         requires shown { AreShown self.now }
+        requires form { self.now.names.form ≡ Escaped }
         ensures same_reference { out.new.sink.ghost_name ≡ out.old.sink.ghost_name }
         ensures takes { Takes (outlet K.contents K.faults out.old) (outlet K.contents K.faults out.new) (dot_of self.now.found.graph.now (knowledge_of self.now.found) self.now.view) }
     {
@@ -511,16 +504,17 @@ pub struct DotText<'a> {
 }
 
 impl<'a> Model for DotText<'a> {
-    ghost use Rattle.std.specs.Prelude.{List, ℕ};
+    ghost use Rattle.std.specs.Prelude.{◌≡◌, List, ℕ};
     ghost use Rattle.flow_texts.specs.code.Findings.{knowledge_of};
     ghost use Rattle.flow_views.specs.code.Shown.{AreShown};
+    ghost use Rattle.flow_views.specs.declared.names.NameForm.TheVariants.{Escaped};
     ghost use Rattle.flow_views.specs.Dots.{dot_of};
 
     ghost Value = { List ℕ };
 
     ghost view = { λ text. dot_of text.shown.found.graph.now (knowledge_of text.shown.found) text.shown.view };
 
-    ghost invariant = { λ text. AreShown text.shown };
+    ghost invariant = { λ text. AreShown text.shown × (text.shown.names.form ≡ Escaped) };
 }
 
 impl<'a> DotText<'a> {
@@ -538,7 +532,7 @@ impl<'a> DotText<'a> {
         requires procedure { IfSome view.procedure (λ procedure. procedure < length graph.now.procedure_names) }
         ensures { IfOk result (IsDot graph.now view) }
     {
-        let shown = Shown::of(alloc, graph, tables, view)?;
+        let shown = Shown::of(alloc, graph, tables, view, NameForm::Escaped)?;
         Ok(DotText { shown })
     }
 }

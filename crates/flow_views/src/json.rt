@@ -2,26 +2,30 @@
 
 ghost use Rattle.std.specs.Prelude.{◌≡◌, ◌+◌, ◌++◌, ◌<◌, ◌≤◌, Some, codes, decimal, filter, flat_map, length, map, IfOk, IfSome};
 ghost use Rattle.std.specs.List.{range_with_len};
-ghost use Rattle.bit_rows.specs.RowSet.{HasRange, contains as is_in};
+ghost use Rattle.bit_rows.specs.RowSet.{contains as is_in};
+ghost use Rattle.bit_rows.specs.RowTable.{set_at};
 ghost use Rattle.flow_graph.specs.Points.{place_of, point_count, procedure_at, statement_at};
 ghost use Rattle.flow_texts.specs.code.Findings.{AreFindings, IsRemarkIn, knowledge_of};
+ghost use Rattle.flow_texts.specs.code.Lists.{text_at};
 ghost use Rattle.flow_texts.specs.Pieces.{IsOpen, Takes, outlet};
 ghost use Rattle.flow_texts.specs.Reports.{AreTablesOf};
 ghost use Rattle.tac_reader.specs.Listings.{statement_text};
-ghost use Rattle.flow_views.specs.code.Items.{between, item_text};
 ghost use Rattle.flow_views.specs.code.Shown.{AreShown, numbers_of};
+ghost use Rattle.flow_views.specs.declared.names.NameForm.TheVariants.{Quoted};
 ghost use Rattle.flow_views.specs.Json.{IsJson, array, boolean, edge_object, facts_field, json_of, point_line, program_line, remark_fields, remark_lines, remark_object, span_fields, statement_field};
 ghost use Rattle.flow_views.specs.Strings.{quoted};
 ghost use Rattle.flow_views.specs.Views.{analysis_if, chosen_analyses, names_at, points_in, procedure_name};
 
-use crate::items::{ItemForm, write_if, write_row};
+use crate::names::NameForm;
+use crate::optional::write_if;
 use crate::shown::{Numbers, Shown, name_of};
 use crate::strings::write_quoted;
 use crate::view::View;
-use bit_rows::Row;
 use flow_graph::{Analysis, Edge, Graph, OutOfMemory};
+use flow_team::Table;
 use flow_texts::{
-    BitTexts, Findings, Pieces, Remark, RemarkForm, Sink, Tables, Text, write_number,
+    Findings, Pieces, Remark, RemarkForm, Sink, Tables, Text, TextBlock, write_members,
+    write_number,
 };
 use itoa::Buffer;
 use std::alloc::Global;
@@ -129,16 +133,23 @@ fn write_boolean<K: Sink>(out: &mut Pieces<'_, K>, value: bool)
     }
 }
 
-// Writes the bits of a set as an array.
-fn write_array<K: Sink>(out: &mut Pieces<'_, K>, form: ItemForm, texts: &BitTexts, row: &Row)
+// Writes the texts of those of a point's bits that lie before `bits` as an array.
+fn write_array<K: Sink>(
+    out: &mut Pieces<'_, K>,
+    texts: &TextBlock,
+    table: &Table,
+    point: u32,
+    bits: u32,
+)
     requires ready { IsOpen (outlet K.contents K.faults out.old) }
-    requires range { HasRange row.now 0 (length texts.now) }
-    requires commas { between form ≡ codes "," }
+    requires commas { texts.now.between ≡ codes "," }
+    requires point { point < length table.now.rows.flags }
+    requires bits { bits ≤ length texts.now.texts }
     ensures same_reference { out.new.sink.ghost_name ≡ out.old.sink.ghost_name }
-    ensures takes { Takes (outlet K.contents K.faults out.old) (outlet K.contents K.faults out.new) (array (map (item_text form texts.now) (filter (is_in row.now) (range_with_len 0 (length texts.now))))) }
+    ensures takes { Takes (outlet K.contents K.faults out.old) (outlet K.contents K.faults out.new) (array (map (text_at texts.now.texts) (filter (is_in (set_at table.now.rows point)) (range_with_len 0 bits)))) }
 {
     out.write(b"[");
-    write_row(out, form, texts, row);
+    write_members(out, texts, table, point, bits);
     out.write(b"]");
 }
 
@@ -278,20 +289,21 @@ impl Shown<'_> {
     fn write_facts_field<K: Sink>(&self, out: &mut Pieces<'_, K>, point: u32, analysis: Analysis)
         requires ready { IsOpen (outlet K.contents K.faults out.old) }
         requires shown { AreShown self.now }
+        requires form { self.now.names.form ≡ Quoted }
         requires point { point < point_count self.now.found.graph.now }
         ensures same_reference { out.new.sink.ghost_name ≡ out.old.sink.ghost_name }
         ensures takes { Takes (outlet K.contents K.faults out.old) (outlet K.contents K.faults out.new) (facts_field self.now.found.graph.now (knowledge_of self.now.found) point analysis) }
     {
         let table = self.table(analysis);
-        let texts = self.names(analysis);
+        let bits = self.found.graph.bits(analysis);
         out.write(b",\"");
         out.write(name_of(analysis));
         out.write(b"\":{\"path\":");
         write_boolean(out, table.has_path(point));
         out.write(b",\"bits\":");
-        write_array(out, ItemForm::Numbers, texts, table.row(point));
+        write_array(out, &self.names.numbers, table, point, bits);
         out.write(b",\"names\":");
-        write_array(out, ItemForm::Strings, texts, table.row(point));
+        write_array(out, self.names(analysis), table, point, bits);
         out.write(b"}");
     }
 
@@ -305,6 +317,7 @@ impl Shown<'_> {
     )
         requires ready { IsOpen (outlet K.contents K.faults out.old) }
         requires shown { AreShown self.now }
+        requires form { self.now.names.form ≡ Quoted }
         requires point { point < point_count self.now.found.graph.now }
         ensures same_reference { out.new.sink.ghost_name ≡ out.old.sink.ghost_name }
         ensures takes { Takes (outlet K.contents K.faults out.old) (outlet K.contents K.faults out.new) (flat_map (facts_field self.now.found.graph.now (knowledge_of self.now.found) point) (analysis_if chosen analysis)) }
@@ -319,6 +332,7 @@ impl Shown<'_> {
     fn write_facts_fields<K: Sink>(&self, out: &mut Pieces<'_, K>, point: u32)
         requires ready { IsOpen (outlet K.contents K.faults out.old) }
         requires shown { AreShown self.now }
+        requires form { self.now.names.form ≡ Quoted }
         requires point { point < point_count self.now.found.graph.now }
         ensures same_reference { out.new.sink.ghost_name ≡ out.old.sink.ghost_name }
         ensures takes { Takes (outlet K.contents K.faults out.old) (outlet K.contents K.faults out.new) (flat_map (facts_field self.now.found.graph.now (knowledge_of self.now.found) point) (chosen_analyses self.now.view.facts)) }
@@ -351,6 +365,7 @@ impl Shown<'_> {
     fn write_point<K: Sink>(&self, out: &mut Pieces<'_, K>, point: u32)
         requires ready { IsOpen (outlet K.contents K.faults out.old) }
         requires shown { AreShown self.now }
+        requires form { self.now.names.form ≡ Quoted }
         requires point { point < point_count self.now.found.graph.now }
         ensures same_reference { out.new.sink.ghost_name ≡ out.old.sink.ghost_name }
         ensures takes { Takes (outlet K.contents K.faults out.old) (outlet K.contents K.faults out.new) (point_line self.now.found.graph.now (knowledge_of self.now.found) self.now.view.facts point) }
@@ -372,6 +387,7 @@ impl Shown<'_> {
     fn write_points<K: Sink>(&self, out: &mut Pieces<'_, K>, points: Numbers)
         requires ready { IsOpen (outlet K.contents K.faults out.old) }
         requires shown { AreShown self.now }
+        requires form { self.now.names.form ≡ Quoted }
         requires ordered { points.first ≤ points.end }
         requires points { points.end ≤ point_count self.now.found.graph.now }
         ensures same_reference { out.new.sink.ghost_name ≡ out.old.sink.ghost_name }
@@ -386,6 +402,7 @@ impl Shown<'_> {
     fn write_all_points<K: Sink>(&self, out: &mut Pieces<'_, K>, procedures: Numbers)
         requires ready { IsOpen (outlet K.contents K.faults out.old) }
         requires shown { AreShown self.now }
+        requires form { self.now.names.form ≡ Quoted }
         requires ordered { procedures.first ≤ procedures.end }
         requires procedures { procedures.end ≤ length self.now.found.graph.now.procedures }
         ensures same_reference { out.new.sink.ghost_name ≡ out.old.sink.ghost_name }
@@ -428,6 +445,7 @@ impl Shown<'_> {
     fn write_json<K: Sink>(&self, out: &mut Pieces<'_, K>)
         requires ready { IsOpen (outlet K.contents K.faults out.old) }
         requires shown { AreShown self.now }
+        requires form { self.now.names.form ≡ Quoted }
         ensures same_reference { out.new.sink.ghost_name ≡ out.old.sink.ghost_name }
         ensures takes { Takes (outlet K.contents K.faults out.old) (outlet K.contents K.faults out.new) (json_of self.now.found.graph.now (knowledge_of self.now.found) self.now.view) }
     {
@@ -463,16 +481,17 @@ pub struct JsonText<'a> {
 }
 
 impl<'a> Model for JsonText<'a> {
-    ghost use Rattle.std.specs.Prelude.{List, ℕ};
+    ghost use Rattle.std.specs.Prelude.{◌≡◌, List, ℕ};
     ghost use Rattle.flow_texts.specs.code.Findings.{knowledge_of};
     ghost use Rattle.flow_views.specs.code.Shown.{AreShown};
+    ghost use Rattle.flow_views.specs.declared.names.NameForm.TheVariants.{Quoted};
     ghost use Rattle.flow_views.specs.Json.{json_of};
 
     ghost Value = { List ℕ };
 
     ghost view = { λ text. json_of text.shown.found.graph.now (knowledge_of text.shown.found) text.shown.view };
 
-    ghost invariant = { λ text. AreShown text.shown };
+    ghost invariant = { λ text. AreShown text.shown × (text.shown.names.form ≡ Quoted) };
 }
 
 impl<'a> JsonText<'a> {
@@ -490,7 +509,7 @@ impl<'a> JsonText<'a> {
         requires procedure { IfSome view.procedure (λ procedure. procedure < length graph.now.procedure_names) }
         ensures { IfOk result (IsJson graph.now view) }
     {
-        let shown = Shown::of(alloc, graph, tables, view)?;
+        let shown = Shown::of(alloc, graph, tables, view, NameForm::Quoted)?;
         Ok(JsonText { shown })
     }
 }

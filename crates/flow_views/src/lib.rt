@@ -2,8 +2,9 @@
 #![tactic(auto)]
 
 mod dots;
-mod items;
 mod json;
+mod names;
+mod optional;
 mod scope;
 mod shown;
 mod strings;

@@ -8,7 +8,7 @@ ghost use Rattle.tac_reader.specs.declared.program.StmtKind.TheVariants as kind_
 ghost use Rattle.flow_views.specs.Strings.{escaped};
 ghost use Rattle.flow_views.specs.Views.{names_in};
 
-use crate::items::write_if;
+use crate::optional::write_if;
 use crate::strings::{write_escaped, write_escaped_number};
 use flow_texts::{Pieces, Sink};
 use tac_reader::{Op, Operand, Program, StmtKind};

@@ -3,23 +3,22 @@
 ghost use Rattle.std.specs.Prelude.{◌≡◌, ◌+◌, ◌<◌, ◌≤◌, suc, Some, length, map, IfOk, IfSome};
 ghost use Rattle.flow_graph.specs.Edges.{edges_from};
 ghost use Rattle.flow_graph.specs.Points.{end_place, entry_point, point_count, points, procedure_at, statement_at};
-ghost use Rattle.flow_graph.specs.Universes.{bits as bits_of};
 ghost use Rattle.flow_team.specs.Tables.{IsTableOf, facts_of};
 ghost use Rattle.flow_texts.specs.code.Findings.{knowledge_of};
-ghost use Rattle.flow_texts.specs.code.Lists.{AreTexts};
 ghost use Rattle.flow_texts.specs.Pieces.{IsOpen, Takes, outlet};
 ghost use Rattle.flow_texts.specs.Reports.{AreTablesOf, IsKnowledge};
-ghost use Rattle.flow_texts.specs.Tables.{bit_text};
 ghost use Rattle.tac_reader.specs.Listings.{statement_text};
+ghost use Rattle.flow_views.specs.code.Names.{AreNamesOf};
 ghost use Rattle.flow_views.specs.code.Shown.{AreShown, contents, numbers_of};
 ghost use Rattle.flow_views.specs.Strings.{escaped};
 ghost use Rattle.flow_views.specs.Views.{analysis_name, names_at, points_in, procedure_name as name_of_procedure, shown_procedures, told_by};
 
+use crate::names::{NameForm, Names};
 use crate::scope::Scope;
 use crate::view::View;
 use flow_graph::{Analysis, Edge, Graph, OutOfMemory};
 use flow_team::Table;
-use flow_texts::{BitTexts, Findings, Pieces, Sink, Tables};
+use flow_texts::{Findings, Pieces, Sink, Tables, TextBlock};
 use smallvec::SmallVec;
 use std::alloc::Global;
 use tac_reader::Stmt;
@@ -36,10 +35,8 @@ pub(crate) struct Numbers {
 pub(crate) struct Shown<'a> {
     /// What was found.
     pub(crate) found: Findings<'a>,
-    /// The texts of the definitions.
-    pub(crate) definitions: BitTexts,
-    /// The names of the variables.
-    pub(crate) variables: BitTexts,
+    /// What its bits are called.
+    pub(crate) names: Names,
     /// The edges out of each point.
     pub(crate) successors: Vec<SmallVec<Edge, 2, Global>>,
     /// What is shown.
@@ -73,7 +70,7 @@ pub(crate) fn name_of(analysis: Analysis) -> &'static [u8]
 }
 
 impl<'a> Shown<'a> {
-    /// What is shown of a graph with its tables.
+    /// What is shown of a graph with its tables, and the names of bits in this form.
     ///
     /// The conditions: the tables are of this graph, and the procedure is there. Fails only where memory runs out.
     pub(crate) fn of(
@@ -81,22 +78,22 @@ impl<'a> Shown<'a> {
         graph: &'a Graph<'a>,
         tables: &'a Tables,
         view: View,
+        form: NameForm,
     ) -> Result<Shown<'a>, OutOfMemory>
         requires tables { AreTablesOf graph.now tables.now }
         requires procedure { IfSome view.procedure (λ procedure. procedure < length graph.now.procedure_names) }
         ensures program { IfOk result (λ shown. shown.found.graph.now ≡ graph.now) }
         ensures view { IfOk result (λ shown. shown.view ≡ view) }
+        ensures form { IfOk result (λ shown. shown.names.form ≡ form) }
         ensures shown { IfOk result AreShown }
         ensures known { IfOk result (λ shown. IsKnowledge shown.found.graph.now (knowledge_of shown.found)) }
     {
         let found = Findings::of(alloc, graph, tables)?;
-        let definitions = BitTexts::of(alloc, graph, Analysis::Reach)?;
-        let variables = BitTexts::of(alloc, graph, Analysis::Live)?;
+        let names = Names::of(alloc, graph, form)?;
         let successors = successors(alloc, graph)?;
         Ok(Shown {
             found,
-            definitions,
-            variables,
+            names,
             successors,
             view,
         })
@@ -105,15 +102,15 @@ impl<'a> Shown<'a> {
 
 impl Shown<'_> {
     /// What the bits of an analysis are called.
-    pub(crate) fn names(&self, analysis: Analysis) -> &BitTexts
+    pub(crate) fn names(&self, analysis: Analysis) -> &TextBlock
         requires { AreShown self.now }
-        ensures { AreTexts (bit_text self.now.found.graph.now analysis) (bits_of self.now.found.graph.now analysis) result.now }
+        ensures { AreNamesOf self.now.names.form self.now.found.graph.now analysis result.now }
     {
         match analysis {
-            Analysis::Reach => &self.definitions,
-            Analysis::Live => &self.variables,
-            Analysis::Avail => &self.found.expressions,
-            Analysis::Busy => &self.found.expressions,
+            Analysis::Reach => &self.names.definitions,
+            Analysis::Live => &self.names.variables,
+            Analysis::Avail => &self.names.expressions,
+            Analysis::Busy => &self.names.expressions,
         }
     }
 

@@ -1,10 +1,10 @@
 // What stands between quotes.
 
-ghost use Rattle.std.specs.Prelude.{◌≡◌, ◌==◌, ◌||◌, true, decimal};
+ghost use Rattle.std.specs.Prelude.{◌≡◌, ◌++◌, ◌==◌, ◌||◌, true, decimal, OnOk};
 ghost use Rattle.flow_texts.specs.Pieces.{IsOpen, Takes, outlet};
 ghost use Rattle.flow_views.specs.Strings.{escaped, escaped_byte, quoted};
 
-use flow_texts::{Pieces, Sink};
+use flow_texts::{OutOfMemory, Pieces, Sink};
 use itoa::Buffer;
 
 // Whether a byte has a backslash before it.
@@ -72,4 +72,34 @@ pub(crate) fn write_escaped_number<K: Sink>(out: &mut Pieces<'_, K>, number: u64
     ensures takes { Takes (outlet K.contents K.faults out.old) (outlet K.contents K.faults out.new) (escaped (decimal number)) }
 {
     write_escaped(out, Buffer::new().format(number).as_bytes());
+}
+
+// Puts a byte behind a text, behind a backslash where it needs one.
+fn push_byte(text: &mut Vec<u8>, byte: u8) -> Result<(), OutOfMemory>
+    ensures { OnOk result (text.new.items ≡ text.old.items ++ escaped_byte byte) }
+{
+    if is_special(byte) {
+        text.extend_from_slice(&[b'\\', byte])
+    } else {
+        text.extend_from_slice(&[byte])
+    }
+}
+
+/// Puts bytes behind a text as they stand between quotes.
+pub(crate) fn push_escaped(text: &mut Vec<u8>, bytes: &[u8]) -> Result<(), OutOfMemory>
+    ensures { OnOk result (text.new.items ≡ text.old.items ++ escaped bytes.now) }
+{
+    for byte in bytes {
+        push_byte(text, *byte)?;
+    }
+    Ok(())
+}
+
+/// Puts bytes behind a text, between quotes.
+pub(crate) fn push_quoted(text: &mut Vec<u8>, bytes: &[u8]) -> Result<(), OutOfMemory>
+    ensures { OnOk result (text.new.items ≡ text.old.items ++ quoted bytes.now) }
+{
+    text.extend_from_slice(b"\"")?;
+    push_escaped(text, bytes)?;
+    text.extend_from_slice(b"\"")
 }

@@ -1,3 +1,5 @@
+//! Laws of the equations: each is the clause of a function without a body.
+
 ghost use Rattle.gk_solve.specs.Laws.{SummariesArePaths, EntriesArePaths, SolutionIsMeet, ForwardMustIsComplement, BackwardFlagsAreReversed, BackwardMayIsReversed, BackwardMustIsReversedComplement, SolutionIsClosed, ReachedIsLeast, KeptIsLeast, MadeIsLeast, EnteredIsLeast, BroughtIsLeast, BitsAreApart, SolutionIsDecided, MeetsAreDecided, BackwardMeetsAreDecided, EachUndoubtedRunExtends, FlagsAreSolutions, MayTablesAreSolutions, MustTablesAreSolutions, TablesAreDecided};
 
 /// Reached, kept and made at a point: some matched path from its procedure's entry exists, keeps the bit, makes the bit.

@@ -126,7 +126,7 @@ impl SliceWords {
     }
 
     /// The words that were solved last, at a point, and the number of the first.
-    pub(crate) fn words_at(&self, point: u32) -> (u32, &[u64])
+    pub fn words_at(&self, point: u32) -> (u32, &[u64])
         requires { point < self.now.points }
         ensures first { result.0 ≡ self.now.from }
         ensures count { result.0 + length result.1.now ≡ self.now.until }
@@ -140,7 +140,7 @@ impl SliceWords {
         }
     }
 
-    /// Solves the words from one on, as many as are solved at once and to the slice's end, and answers the word after the last.
+    /// Solves the words from one on, four or to the slice's end, and answers the word after the last.
     pub(crate) fn solve_from<'a, 'g, 'p>(
         &mut self,
         problem: &'a Problem<'g, 'p>,
@@ -159,6 +159,8 @@ impl SliceWords {
         ensures until { self.new.until ≡ result }
         ensures more { word < result }
         ensures last { 64 * result < self.old.hi + 64 }
+        ensures most { result ≤ word + 4 }
+        ensures whole { self.old.lo / 64 ≤ word → 64 * result < self.old.hi → result ≡ word + 4 }
         ensures solved { AreSolved problem.now self.new }
     {
         // Their contracts tell that there are few bits, and what a shape's edges are.

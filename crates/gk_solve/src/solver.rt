@@ -1,5 +1,5 @@
 // The solver: a problem, and what is found of it once.
-ghost use Rattle.std.specs.Prelude.{◌≡◌, ◌+◌, ◌*◌, ◌<◌, ◌≤◌, ◌↔◌, ◌⊎◌, true, IfOk, length};
+ghost use Rattle.std.specs.Prelude.{◌≡◌, ◌+◌, ◌*◌, ◌/◌, ◌<◌, ◌≤◌, ◌↔◌, ◌⊎◌, true, IfOk, length};
 ghost use Rattle.bit_rows.specs.RowTable.{RowTable};
 ghost use Rattle.flow_graph.specs.Analyses.{may_shape};
 ghost use Rattle.flow_graph.specs.Paths.{HasPath, IsWellFormed};
@@ -249,8 +249,8 @@ impl<'g, 'p> Solver<'g, 'p> {
         slice_words(alloc, &self.routes, lo, hi)
     }
 
-    /// Solves the words of a slice from one on, as many as are solved at once and to the slice's end. Answers the word after
-    /// the last one solved. It takes no memory.
+    /// Solves the words of a slice from one on, four or to the slice's end. Answers the word after the last one solved. It takes
+    /// no memory.
     pub fn solve_from(&self, slice: &mut SliceWords, word: u32) -> u32
         requires slice { IsSliceOf self.now slice.old }
         requires word { 64 * word < slice.old.hi }
@@ -260,6 +260,8 @@ impl<'g, 'p> Solver<'g, 'p> {
         ensures until { slice.new.until ≡ result }
         ensures more { word < result }
         ensures last { 64 * result < slice.old.hi + 64 }
+        ensures most { result ≤ word + 4 }
+        ensures whole { slice.old.lo / 64 ≤ word → 64 * result < slice.old.hi → result ≡ word + 4 }
         ensures equations { AreSolved self.now slice.new }
         ensures paths { AreMeetWords self.now slice.new }
     {

@@ -6,3 +6,4 @@ pub mod LineForms
 pub mod Rows
 pub mod Shapes
 pub mod Table
+pub mod Walks

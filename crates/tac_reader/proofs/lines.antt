@@ -1,4 +1,5 @@
 pub mod CursorLines
+pub mod EarlyFaults
 pub mod FaultPlaces
 pub mod FaultlessLines
 pub mod FineRows

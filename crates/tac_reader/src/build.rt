@@ -10,10 +10,10 @@ ghost use Rattle.tac_reader.specs.declared.program.StmtKind.TheVariants.{Binary,
 
 use crate::form::Form;
 use crate::formed::Statement;
-use crate::line::stop_of;
 use crate::names::NameTable;
 use crate::piece::number_value;
-use crate::program::{Callees, Op, Operand, Span, Stmt, StmtKind};
+use crate::program::{Callees, Op, Operand, StmtKind};
+use crate::statement::{Role, cells};
 use crate::token::{Token, TokenKind};
 use std::alloc::AllocError;
 
@@ -93,43 +93,68 @@ fn comparison(names: Names<'_>, text: &[u8], tokens: &[Token]) -> StmtKind
     }
 }
 
-/// What a statement says; `callees` are a call's.
-pub fn kind(names: Names<'_>, text: &[u8], statement: Statement<'_>, callees: Callees) -> StmtKind
-    ensures { result ≡ kind_of (names_view names.entry) callees (form_in (tokens_view text.now statement.entry.tokens.now)) (map (λ t. t.word) (tokens_view text.now statement.entry.tokens.now)) }
+/// The procedures that a statement calls, by number. What `found` holds is lost.
+fn callees(
+    procedures: &NameTable,
+    text: &[u8],
+    statement: Statement<'_>,
+    found: &mut Vec<Token>,
+) -> Result<Callees, AllocError>
+    ensures { IfOk result (λ callees. callees ≡ call_numbers procedures.now (tokens_view text.now statement.entry.tokens.now)) }
+{
+    found.clear();
+    cells(found, Role::Callee, statement)?;
+    let mut callees = Callees::new();
+    for token in &*found {
+        callees.push(procedures.find(token.spelling(text)).unwrap_or(0));
+    }
+    Ok(callees)
+}
+
+/// What a statement says. What `found` holds is lost.
+pub fn kind(
+    names: Names<'_>,
+    text: &[u8],
+    statement: Statement<'_>,
+    found: &mut Vec<Token>,
+) -> Result<StmtKind, AllocError>
+    ensures { IfOk result (λ k. k ≡ kind_of (names_view names.entry) (call_numbers names.entry.procedures.now (tokens_view text.now statement.entry.tokens.now)) (form_in (tokens_view text.now statement.entry.tokens.now)) (map (λ t. t.word) (tokens_view text.now statement.entry.tokens.now))) }
 {
     let tokens = statement.tokens;
     match statement.form() {
-        Some(Form::Copy) => StmtKind::Copy {
+        Some(Form::Copy) => Ok(StmtKind::Copy {
             target: number_at(names.variables, text, tokens, 0),
             value: operand_at(names, text, tokens, 2),
-        },
-        Some(Form::Unary) => StmtKind::Unary {
+        }),
+        Some(Form::Unary) => Ok(StmtKind::Unary {
             target: number_at(names.variables, text, tokens, 0),
             op: operator_at(tokens, 2),
             operand: operand_at(names, text, tokens, 3),
-        },
-        Some(Form::Binary) => binary(names, text, tokens),
-        Some(Form::Jump) => StmtKind::Goto {
+        }),
+        Some(Form::Binary) => Ok(binary(names, text, tokens)),
+        Some(Form::Jump) => Ok(StmtKind::Goto {
             label: number_at(names.labels, text, tokens, 1),
-        },
-        Some(Form::Test) => StmtKind::If {
+        }),
+        Some(Form::Test) => Ok(StmtKind::If {
             condition: operand_at(names, text, tokens, 1),
             label: number_at(names.labels, text, tokens, 3),
-        },
-        Some(Form::NegatedTest) => StmtKind::IfFalse {
+        }),
+        Some(Form::NegatedTest) => Ok(StmtKind::IfFalse {
             condition: operand_at(names, text, tokens, 1),
             label: number_at(names.labels, text, tokens, 3),
-        },
-        Some(Form::Comparison) => comparison(names, text, tokens),
-        Some(Form::Call) => StmtKind::Call { callees },
-        Some(Form::Return) => StmtKind::Return,
-        Some(Form::Read) => StmtKind::Read {
+        }),
+        Some(Form::Comparison) => Ok(comparison(names, text, tokens)),
+        Some(Form::Call) => Ok(StmtKind::Call {
+            callees: callees(names.procedures, text, statement, found)?,
+        }),
+        Some(Form::Return) => Ok(StmtKind::Return),
+        Some(Form::Read) => Ok(StmtKind::Read {
             target: number_at(names.variables, text, tokens, 1),
-        },
-        Some(Form::Print) => StmtKind::Print {
+        }),
+        Some(Form::Print) => Ok(StmtKind::Print {
             value: operand_at(names, text, tokens, 1),
-        },
-        Some(Form::Skip) => StmtKind::Skip,
-        None => StmtKind::Skip,
+        }),
+        Some(Form::Skip) => Ok(StmtKind::Skip),
+        None => Ok(StmtKind::Skip),
     }
 }

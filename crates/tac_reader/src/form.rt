@@ -265,16 +265,18 @@ pub fn follow(slots: &[Slot], tokens: &[Token]) -> Walk
     ensures wrong { (text : List ℕ) → option_map (λ t. t.start) (first_wrong (slots_view slots.now ∷ []) [] (tokens_view text tokens.now)) ≡ wrong_of result }
     ensures whole { (text : List ℕ) → has_form (slots_view slots.now) (tokens_view text tokens.now) ≡ is_whole result }
 {
-    match (slots.split_first(), tokens.split_first()) {
-        (None, None) => Walk::Whole,
-        (Some(_), None) => Walk::Unfinished,
-        (None, Some((token, _))) => Walk::Wrong(token.start),
-        (Some((slot, slots)), Some((token, tokens))) => {
-            if fits(*slot, token.kind) {
-                follow(slots, tokens)
-            } else {
-                Walk::Wrong(token.start)
-            }
+    let mut at = 0;
+    while at < slots.len() && at < tokens.len() {
+        if !fits(slots[at], tokens[at].kind) {
+            return Walk::Wrong(tokens[at].start);
         }
+        at += 1;
+    }
+    if at < tokens.len() {
+        Walk::Wrong(tokens[at].start)
+    } else if at < slots.len() {
+        Walk::Unfinished
+    } else {
+        Walk::Whole
     }
 }

@@ -87,7 +87,7 @@ pub fn lex(alloc: Global, text: &[u8]) -> Result<Lexed, Stop>
     let mut at = 0;
     while at < text.len() {
         let stop = line_stop(text, at);
-        let bad = read_row(&mut row, text, at, stop)?;
+        let bad = read_row(inside, &mut row, text, at, stop)?;
         if let Some(fault) = row_fault(inside, text, &row, bad) {
             return Err(Stop::Fault(fault));
         }

@@ -1,9 +1,9 @@
 // The longest token, blank or comment at the front of some bytes.
 
-ghost use Rattle.std.specs.Prelude.{◌≡◌, ℕ, ◌+◌, ◌<◌, ◌≤◌, [], ◌∷◌, length, false, slice_index, take, IsTrue, IfSome, Some, None, option_map};
+ghost use Rattle.std.specs.Prelude.{◌≡◌, ℕ, List, ◌+◌, ◌<◌, ◌≤◌, [], ◌∷◌, length, true, false, slice_index, take, IsTrue, IfSome, Some, None, option_map};
 ghost use Rattle.std.specs.List.{prefix_len};
 ghost use Rattle.tac_reader.specs.Text.{no_line_end};
-ghost use Rattle.tac_reader.specs.Tokens.{longest, is_letter, is_digit, is_name_byte, is_one_of, signs, is_blank, picked, name_or_keyword, number_piece, value_of, word, gap};
+ghost use Rattle.tac_reader.specs.Tokens.{longest, is_letter, is_digit, is_name_byte, is_one_of, signs, is_blank, picked, name_or_keyword, number_piece, value_of, word, gap, keywords};
 ghost use Rattle.tac_reader.specs.code.Views.{piece_at, front_view, word_at};
 
 use crate::program::Op;
@@ -136,10 +136,32 @@ fn single(byte: u8) -> Option<Option<TokenKind>>
     Some(Some(TokenKind::Operator(op)))
 }
 
+/// Whether no keyword begins as this name does.
+fn begins_no_keyword(name: &[u8]) -> bool
+    ensures { result ≡ true → is_one_of name.now keywords ≡ false }
+{
+    match name.first() {
+        None => false,
+        Some(first) => match *first {
+            b'c' => false,
+            b'e' => false,
+            b'g' => false,
+            b'i' => false,
+            b'p' => false,
+            b'r' => false,
+            b's' => false,
+            _ => true,
+        },
+    }
+}
+
 /// The keyword that is spelled so, or a name.
 fn name_kind(name: &[u8]) -> TokenKind
     ensures { word (word_at name.now result) ≡ name_or_keyword name.now }
 {
+    if begins_no_keyword(name) {
+        return TokenKind::Name;
+    }
     if name == b"proc".as_slice() {
         TokenKind::Keyword(Keyword::Proc)
     } else if name == b"end".as_slice() {
@@ -165,6 +187,13 @@ fn name_kind(name: &[u8]) -> TokenKind
     }
 }
 
+/// Whether the byte is a blank whatever stands behind it.
+fn is_plain_blank(byte: u8) -> bool
+    ensures { result ≡ true → (rest : List ℕ) → longest (byte ∷ rest) ≡ Some (1, gap) }
+{
+    byte == b' ' || byte == b'\n'
+}
+
 /// The longest piece at the front: its length, and what it is where it is no gap.
 pub fn front(rest: &[u8]) -> Option<(usize, Option<TokenKind>)>
     ensures piece { longest rest.now ≡ option_map (front_view rest.now) result }
@@ -175,6 +204,9 @@ pub fn front(rest: &[u8]) -> Option<(usize, Option<TokenKind>)>
         None => return None,
         Some(first) => *first,
     };
+    if is_plain_blank(first) {
+        return Some((1, None));
+    }
     if starts_name(first) {
         let len = name_len(rest);
         return Some((len, Some(name_kind(&rest[..len]))));

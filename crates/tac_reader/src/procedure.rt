@@ -1,7 +1,7 @@
 // Procedures out of sections: their statements and labels by number, and the program.
 
 ghost use Rattle.std.specs.Prelude.{◌≡◌, ◌+◌, ◌*◌, ◌<◌, ◌≤◌, ◌^◌, ◌++◌, ℕ, List, length, map, fold, flat_map, IfOk, OnOk};
-ghost use Rattle.tac_reader.specs.code.Built.{names_view, call_numbers};
+ghost use Rattle.tac_reader.specs.code.Built.{names_view};
 ghost use Rattle.tac_reader.specs.code.Procedures.{labels_at};
 ghost use Rattle.tac_reader.specs.Programs.{label_places, labels_from, names_in, noted, procedure_of, procedures_from, start_of as start_in, statement_of, variables_in};
 ghost use Rattle.tac_reader.specs.code.SectionViews.{section_view, sections_view};
@@ -15,9 +15,9 @@ use crate::formed::{Line, Statement, counted};
 use crate::line::stop_of;
 use crate::name_hashers::NameHashers;
 use crate::names::NameTable;
-use crate::program::{Callees, Label, Proc, Program, Span, Stmt};
+use crate::program::{Label, Proc, Program, Span, Stmt};
 use crate::section::{Section, section_cells};
-use crate::statement::{Role, cells};
+use crate::statement::Role;
 use crate::token::{Token, TokenKind};
 use std::alloc::{AllocError, Global};
 
@@ -26,24 +26,6 @@ use std::alloc::{AllocError, Global};
 struct Tables<'a> {
     procedures: &'a NameTable,
     variables: &'a NameTable,
-}
-
-/// The procedures that a statement calls, by number. What `found` holds is lost.
-fn callees(
-    procedures: &NameTable,
-    text: &[u8],
-    statement: Statement<'_>,
-    found: &mut Vec<Token>,
-) -> Result<Callees, AllocError>
-    ensures { IfOk result (λ callees. callees ≡ call_numbers procedures.now (tokens_view text.now statement.entry.tokens.now)) }
-{
-    found.clear();
-    cells(found, Role::Callee, statement)?;
-    let mut callees = Callees::new();
-    for token in &*found {
-        callees.push(procedures.find(token.spelling(text)).unwrap_or(0));
-    }
-    Ok(callees)
 }
 
 /// Where the first token starts.
@@ -68,17 +50,14 @@ fn statement(
     ensures text { cursor.new ≡ cursor.old }
 {
     let text = cursor.text();
-    let callees = callees(names.procedures, text, formed, found)?;
     let start = start_of(formed.tokens);
     let span = Span {
         line: cursor.line_at(start),
         start,
         end: stop_of(formed.tokens),
     };
-    Ok(Stmt {
-        kind: kind(names, text, formed, callees),
-        span,
-    })
+    let kind = kind(names, text, formed, found)?;
+    Ok(Stmt { kind, span })
 }
 
 /// How many lines have a statement.

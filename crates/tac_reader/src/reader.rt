@@ -101,7 +101,7 @@ fn read_checked(alloc: Global, text: &[u8]) -> Result<Program, Stop>
     ensures fault { IfErr result (IfFault (λ f. fault_of text.now ≡ Some f)) }
 {
     let lexed = lex(alloc, text)?;
-    let hashers = NameHashers::of(text, lexed.tokens.len());
+    let hashers = NameHashers::of(text, lexed.tokens.as_slice());
     let lines = token_lines(alloc, &lexed)?;
     let sections = sections(alloc, &lines)?;
     let (procedures, labels) = check_names(alloc, hashers, text, &sections)?;

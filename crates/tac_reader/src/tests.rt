@@ -56,6 +56,50 @@ fn refuses_lines(rt: HostRuntime) -> Result<(), Fail> {
     Ok(())
 }
 
+/// Lines of more than 32 tokens, which are judged before they are read whole. The first 16 labels have 32 tokens and 32 bytes.
+#[test]
+fn judges_long_lines(rt: HostRuntime) -> Result<(), Fail> {
+    let alloc = rt.alloc();
+    let table: [(&[u8], &str); 8] = [
+        (
+            b"proc main\nx x x x x x x x x x x x x x x x x x x x x x x x x x x x x x x x x x x x x x x x \nend\n",
+            "2:3: refusal 4: Syntax",
+        ),
+        (
+            b"proc main\nx x x x x x x x x x x x x x x x x x x x x x x x x x x x x x x x x x x x x x x x $\nend\n",
+            "2:3: refusal 4: Syntax",
+        ),
+        (
+            b"proc main\nx $x x x x x x x x x x x x x x x x x x x x x x x x x x x x x x x x x x x x x x x x \nend\n",
+            "2:3: refusal 1: BadByte",
+        ),
+        (
+            b"proc main\nx = 9223372036854775808 x x x x x x x x x x x x x x x x x x x x x x x x x x x x x x x x x x x x x x x x \nend\n",
+            "2:5: refusal 2: NumberTooLarge",
+        ),
+        (
+            b"proc main\na:b:c:d:e:f:g:h:i:j:k:l:m:n:o:p:x x = 1\nend\n",
+            "2:35: refusal 4: Syntax",
+        ),
+        (
+            b"proc main\na:b:c:d:e:f:g:h:i:j:k:l:m:n:o:p:7 x = 1\nend\n",
+            "2:33: refusal 4: Syntax",
+        ),
+        (
+            b"proc main\na:b:c:d:e:f:g:h:i:j:k:l:m:n:o:x x = 1\nend\n",
+            "2:33: refusal 4: Syntax",
+        ),
+        (
+            b"proc main\na:b:c:d:e:f:g:h:i:j:k:l:m:n:o:p:q:x = 1\nend\n",
+            "proc main\na:\nb:\nc:\nd:\ne:\nf:\ng:\nh:\ni:\nj:\nk:\nl:\nm:\nn:\no:\np:\nq:\n  x = 1\nend\n",
+        ),
+    ];
+    for (text, want) in table {
+        assert_eq!(rt; answer(alloc, text)?.as_str(), want);
+    }
+    Ok(())
+}
+
 #[test]
 fn refuses_names(rt: HostRuntime) -> Result<(), Fail> {
     let alloc = rt.alloc();

@@ -3,19 +3,39 @@
 ghost use Rattle.std.specs.Prelude.{◌≡◌, ◌+◌, ◌-◌, ◌^◌, ◌<◌, IfErr, OnOk, true};
 ghost use Rattle.std.specs.Thread.{IsSync};
 ghost use Rattle.flow_graph.specs.Limits.{HasFewBits, HasFewPoints};
-ghost use Rattle.flow_texts.specs.Reports.{IsReport, ListsSafely};
+ghost use Rattle.flow_team.specs.Tables.{IsTableOf};
+ghost use Rattle.flow_texts.specs.Reports.{IsReport, ListsSafely, TellReport};
 ghost use Rattle.flow_texts.specs.Tables.{IsTableText};
 ghost use Rattle.flow_runs.specs.Faults.{Delivers, OfProgram, write_faults_in};
 ghost use Rattle.flow_runs.specs.Runs.{IsOverLimit};
 ghost use Rattle.tacflow.specs.Runs.{IsShown, needs_graph as kind_needs_graph};
 
 use crate::options::{Options, Show};
-use flow_graph::Analysis;
+use flow_graph::{Analysis, Graph};
 use flow_runs::{Fault, Shown, graph_of, push_text};
+use flow_team::Table;
 use flow_texts::{Bytes, ReportText, Sink, TableText, Tables, table_of};
 use std::alloc::Global;
 use std::thread::Threads;
 use tac_reader::{Program, listing};
+
+// Writes a table of a graph. It is not owned here, so that no way out drops it.
+fn push_table<K: Sink>(
+    alloc: Global,
+    graph: &Graph<'_>,
+    table: &Table,
+    sink: &mut K,
+) -> Result<(), Fault>
+    requires table { IsTableOf graph.now table.now }
+    requires below { K.faults sink.old < 2 ^ 32 - 1 }
+    ensures delivers { Delivers (IsTableText graph.now table.now.analysis) (K.contents sink.old) (K.contents sink.new) result }
+    ensures flushed { OnOk result (K.flushed sink.new ≡ true) }
+    ensures fault { IfErr result (OfProgram (λ _. ⊥) ⊥) }
+    ensures faults { K.faults sink.new ≡ K.faults sink.old + write_faults_in result }
+{
+    let text = TableText::of(alloc, graph, table)?;
+    push_text(alloc, &text, sink)
+}
 
 // Writes the table of an analysis.
 fn show_table<R: Threads + Sync, K: Sink>(
@@ -35,7 +55,24 @@ fn show_table<R: Threads + Sync, K: Sink>(
 {
     let graph = graph_of(alloc, program)?;
     let table = table_of(rt, alloc, &graph, analysis, options.workers, options.cut)?;
-    let text = TableText::of(alloc, &graph, &table)?;
+    push_table(alloc, &graph, &table, sink)
+}
+
+// Writes the report of a graph with its tables. They are not owned here, so that no way out drops them.
+fn push_report<K: Sink>(
+    alloc: Global,
+    graph: &Graph<'_>,
+    tables: &Tables,
+    sink: &mut K,
+) -> Result<(), Fault>
+    requires tables { TellReport graph.now tables.now }
+    requires below { K.faults sink.old < 2 ^ 32 - 1 }
+    ensures delivers { Delivers (λ out. IsReport graph.now out × ListsSafely graph.now out) (K.contents sink.old) (K.contents sink.new) result }
+    ensures flushed { OnOk result (K.flushed sink.new ≡ true) }
+    ensures fault { IfErr result (OfProgram (λ _. ⊥) ⊥) }
+    ensures faults { K.faults sink.new ≡ K.faults sink.old + write_faults_in result }
+{
+    let text = ReportText::of(alloc, graph, tables)?;
     push_text(alloc, &text, sink)
 }
 
@@ -55,9 +92,8 @@ fn show_report<R: Threads + Sync, K: Sink>(
     ensures faults { K.faults sink.new ≡ K.faults sink.old + write_faults_in result }
 {
     let graph = graph_of(alloc, program)?;
-    let tables = Tables::of(rt, alloc, &graph, options.workers, options.cut)?;
-    let text = ReportText::of(alloc, &graph, &tables)?;
-    push_text(alloc, &text, sink)
+    let tables = Tables::for_report(rt, alloc, &graph, options.workers, options.cut)?;
+    push_report(alloc, &graph, &tables, sink)
 }
 
 impl Shown for Options {

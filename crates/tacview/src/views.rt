@@ -5,12 +5,14 @@ ghost use Rattle.std.specs.Thread.{IsSync};
 ghost use Rattle.flow_graph.specs.Limits.{HasFewBits, HasFewPoints};
 ghost use Rattle.flow_runs.specs.Faults.{Delivers, OfProgram, write_faults_in};
 ghost use Rattle.flow_runs.specs.Runs.{IsOverLimit};
+ghost use Rattle.flow_texts.specs.Reports.{AreTablesOf};
 ghost use Rattle.flow_views.specs.Dots.{IsDot};
 ghost use Rattle.flow_views.specs.Json.{IsJson};
 ghost use Rattle.tacview.specs.Commands.{name_asked};
 ghost use Rattle.tacview.specs.Views.{HasProcedure, IsShown, IsText, LacksProcedure, ShowsProcedure};
 
 use crate::options::{Format, Options};
+use flow_graph::Graph;
 use flow_runs::{Fault, Shown, graph_of, push_text};
 use flow_texts::{Sink, Tables};
 use flow_views::{DotText, JsonText, View};
@@ -53,6 +55,26 @@ fn view_of(program: &Program, options: &Options) -> Result<View, Fault>
     }
 }
 
+// Writes the graph for Graphviz, with tables that are not owned here, so that no way out drops them.
+fn push_dot<K: Sink>(
+    alloc: Global,
+    graph: &Graph<'_>,
+    tables: &Tables,
+    view: View,
+    sink: &mut K,
+) -> Result<(), Fault>
+    requires tables { AreTablesOf graph.now tables.now }
+    requires below { K.faults sink.old < 2 ^ 32 - 1 }
+    requires there { IfSome view.procedure (λ number. number < length graph.now.procedure_names) }
+    ensures delivers { Delivers (λ out. IsDot graph.now view out) (K.contents sink.old) (K.contents sink.new) result }
+    ensures flushed { OnOk result (K.flushed sink.new ≡ true) }
+    ensures fault { IfErr result (OfProgram (λ _. ⊥) ⊥) }
+    ensures faults { K.faults sink.new ≡ K.faults sink.old + write_faults_in result }
+{
+    let text = DotText::of(alloc, graph, tables, view)?;
+    push_text(alloc, &text, sink)
+}
+
 // Writes the graph for Graphviz.
 fn show_dot<R: Threads + Sync, K: Sink>(
     rt: &R,
@@ -72,7 +94,26 @@ fn show_dot<R: Threads + Sync, K: Sink>(
 {
     let graph = graph_of(alloc, program)?;
     let tables = Tables::of(rt, alloc, &graph, options.workers, options.cut)?;
-    let text = DotText::of(alloc, &graph, &tables, view)?;
+    push_dot(alloc, &graph, &tables, view, sink)
+}
+
+// Writes the lines of JSON, with tables that are not owned here, so that no way out drops them.
+fn push_json<K: Sink>(
+    alloc: Global,
+    graph: &Graph<'_>,
+    tables: &Tables,
+    view: View,
+    sink: &mut K,
+) -> Result<(), Fault>
+    requires tables { AreTablesOf graph.now tables.now }
+    requires below { K.faults sink.old < 2 ^ 32 - 1 }
+    requires there { IfSome view.procedure (λ number. number < length graph.now.procedure_names) }
+    ensures delivers { Delivers (λ out. IsJson graph.now view out) (K.contents sink.old) (K.contents sink.new) result }
+    ensures flushed { OnOk result (K.flushed sink.new ≡ true) }
+    ensures fault { IfErr result (OfProgram (λ _. ⊥) ⊥) }
+    ensures faults { K.faults sink.new ≡ K.faults sink.old + write_faults_in result }
+{
+    let text = JsonText::of(alloc, graph, tables, view)?;
     push_text(alloc, &text, sink)
 }
 
@@ -95,8 +136,7 @@ fn show_json<R: Threads + Sync, K: Sink>(
 {
     let graph = graph_of(alloc, program)?;
     let tables = Tables::of(rt, alloc, &graph, options.workers, options.cut)?;
-    let text = JsonText::of(alloc, &graph, &tables, view)?;
-    push_text(alloc, &text, sink)
+    push_json(alloc, &graph, &tables, view, sink)
 }
 
 // Writes the text of a format.

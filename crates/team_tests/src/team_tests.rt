@@ -6,7 +6,8 @@ ghost use Rattle.flow_team.specs.Tables.{IsTableOf};
 
 use crate::gates::Recorder;
 use crate::texts::{
-    Ask, RECURSIVE, RECURSIVE_REACH, asked, lines, printed, prints, slices, slices_at,
+    Ask, RECURSIVE, RECURSIVE_REACH, asked, lines, printed, prints, slices, slices_at, summed,
+    sums, words,
 };
 use bit_rows::Cut;
 use flow_graph::{Analysis, Graph};
@@ -148,6 +149,66 @@ fn more_bits_than_a_word(rt: HostRuntime) -> Result<(), Fail> {
                 want.as_str(),
                 "{cutting:?}, {workers} workers"
             );
+        }
+    }
+    Ok(())
+}
+
+// Two groups of words, the second of which has two, the last of them with 10 bits.
+const BITS_OF_TWO_GROUPS: u32 = 330;
+
+#[test]
+fn more_words_than_a_group(rt: HostRuntime) -> Result<(), Fail> {
+    let text = prints(rt.alloc(), BITS_OF_TWO_GROUPS)?;
+    let want = printed(rt.alloc(), BITS_OF_TWO_GROUPS)?;
+    let how = (Analysis::Live, Cutting::Even(64), 1);
+    let told = text_lines(&rt, rt.alloc(), text.as_str(), how)?;
+    assert_eq!(rt; told.as_str(), want.as_str());
+    Ok(())
+}
+
+#[test]
+fn complements_of_more_words_than_a_group(rt: HostRuntime) -> Result<(), Fail> {
+    let text = sums(rt.alloc(), BITS_OF_TWO_GROUPS)?;
+    let want = summed(rt.alloc(), BITS_OF_TWO_GROUPS)?;
+    let how = (Analysis::Avail, Cutting::Even(64), 1);
+    let told = text_lines(&rt, rt.alloc(), text.as_str(), how)?;
+    assert_eq!(rt; told.as_str(), want.as_str());
+    Ok(())
+}
+
+// The words of a point's set, and one more.
+#[derive(Clone, Copy)]
+struct WordsOf {
+    workers: u32,
+    point: u32,
+}
+
+impl Ask for WordsOf {
+    fn answer<R: Threads + Sync + Abort>(
+        &self,
+        rt: &R,
+        alloc: Global,
+        graph: &Graph<'_>,
+    ) -> Result<String, Fail> {
+        let how = (Analysis::Live, Cutting::Even(64), self.workers);
+        let table = table_by(rt, alloc, graph, how, &OpenGate)?;
+        Ok(words(alloc, graph, &table, self.point, 7)?)
+    }
+}
+
+const ALL_ONES: &str = "18446744073709551615";
+
+#[test]
+fn words_of_a_set(rt: HostRuntime) -> Result<(), Fail> {
+    let text = prints(rt.alloc(), BITS_OF_TWO_GROUPS)?;
+    let all = format!(in rt.alloc();
+        " {ALL_ONES} {ALL_ONES} {ALL_ONES} {ALL_ONES} {ALL_ONES} 1023 0"
+    )?;
+    for workers in [1, 3] {
+        for (point, want) in [(0, all.as_str()), (325, " 0 0 0 0 0 992 0")] {
+            let told = asked(&rt, rt.alloc(), text.as_str(), &WordsOf { workers, point })?;
+            assert_eq!(rt; told.as_str(), want, "point {point}, {workers} workers");
         }
     }
     Ok(())

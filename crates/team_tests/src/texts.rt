@@ -46,6 +46,30 @@ pub fn printed(alloc: Global, count: u32) -> Result<String, OutOfMemory> {
     Ok(text)
 }
 
+/// `main` that evaluates so many sums, one after the other.
+pub fn sums(alloc: Global, count: u32) -> Result<String, OutOfMemory> {
+    let mut text = String::new(alloc);
+    text.push_str("proc main\n")?;
+    for number in 0..count {
+        write!(text, "x = v{number} + 1\n")?;
+    }
+    text.push_str("end\n")?;
+    Ok(text)
+}
+
+/// What is available there: at each point the sums that are evaluated before it.
+pub fn summed(alloc: Global, count: u32) -> Result<String, OutOfMemory> {
+    let mut text = String::new(alloc);
+    for point in 0..=count {
+        write!(text, "{point}:")?;
+        for number in 0..point {
+            write!(text, " {number}")?;
+        }
+        text.push('\n')?;
+    }
+    Ok(text)
+}
+
 // The program of a text that is one.
 fn program(alloc: Global, text: &str) -> Result<Program, Fail> {
     match read(alloc, text.as_bytes()) {
@@ -115,6 +139,25 @@ pub fn lines(alloc: Global, graph: &Graph<'_>, table: &Table) -> Result<String, 
             }
         }
         text.push('\n')?;
+    }
+    Ok(text)
+}
+
+/// So many words of the set of a point.
+pub fn words(
+    alloc: Global,
+    graph: &Graph<'_>,
+    table: &Table,
+    point: u32,
+    count: u32,
+) -> Result<String, OutOfMemory>
+    requires { IsTableOf graph.now table.now }
+{
+    let mut text = String::new(alloc);
+    if point < graph.points() {
+        for word in 0..count {
+            write!(text, " {}", table.word(point, word))?;
+        }
     }
     Ok(text)
 }

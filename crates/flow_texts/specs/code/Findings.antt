@@ -9,7 +9,7 @@ use Rattle.flow_graph.specs.declared.analysis.Analysis.TheVariants.{Avail, Busy}
 use Rattle.tac_reader.specs.Programs.{Program}
 use Rattle.tac_reader.specs.Sound.{IsSound}
 use Rattle.flow_texts.specs.code.Lists.{AreTexts}
-use Rattle.flow_texts.specs.Reports.{AreTablesOf, Knowledge}
+use Rattle.flow_texts.specs.Reports.{Knowledge, TellReport}
 use Rattle.flow_team.specs.Tables.{facts_of}
 use Rattle.flow_texts.specs.Tables.{bit_text, variable_text}
 use Rattle.flow_texts.specs.declared.findings.Findings.{Findings}
@@ -21,14 +21,14 @@ pub record TellDoubtful (program : Program) (doubtful : List Bool) : Type 0 wher
   pub count : length doubtful ≡ point_count program
   pub each : (point : ℕ) → point < point_count program → (get_or doubtful point false ≡ true) ↔ IsDoubtful (shape_of program) point
 
--- The tables are the program's, which is sound and has few points, there is one truth value for each point, and the texts are
+-- The tables tell a report on the program, which is sound and has few points, there is one truth value for each point, and the texts are
 -- those of the program's expressions.
 pub record AreFindings (found : Findings) : Type 0 where
   pub sound : IsSound found.graph.now
   pub few : HasFewPoints found.graph.now
-  pub tables : AreTablesOf found.graph.now found.tables.now
+  pub tables : TellReport found.graph.now found.tables.now
   pub doubts : length found.doubtful.items ≡ point_count found.graph.now
-  pub expressions : AreTexts (bit_text found.graph.now Avail) (bits found.graph.now Avail) found.expressions
+  pub expressions : AreTexts (bit_text found.graph.now Avail) (bits found.graph.now Avail) found.expressions.texts
 
 -- what they tell
 abbrev pub knowledge_of : Findings → Knowledge

@@ -36,3 +36,7 @@ members set first count = filter set.member (range_with_len first count)
 pub record Wrote (between : List ℕ) (set : Named) (others : Bool) (first count : ℕ) (old new : Outlet) (any : Bool) : Type 0 where
   pub written : Takes old new (after between others (map set.named (members set first count)))
   pub known : any ≡ (others || some_stand (members set first count))
+
+-- the texts whose numbers are in a set
+abbrev pub chosen : List (List ℕ) → (ℕ → Bool) → Named
+chosen texts member = record { named = text_at texts; member = member }

@@ -4,14 +4,12 @@ use Rattle.std.specs.List.{range_with_len}
 use Rattle.smallvec.specs.SmallVec.{SmallVec}
 use Rattle.flow_graph.specs.Edges.{edges_from}
 use Rattle.flow_graph.specs.Points.{point_count, points}
-use Rattle.flow_graph.specs.Universes.{bits}
-use Rattle.flow_graph.specs.declared.analysis.Analysis.TheVariants.{Reach, Live}
 use Rattle.flow_graph.specs.declared.edge.Edge.{Edge}
 use Rattle.flow_graph.specs.declared.edge.Edge.TheVariants.{Step, Call, Ret}
-use Rattle.flow_texts.specs.Tables.{bit_text}
+use Rattle.flow_texts.specs.Reports.{AreTablesOf}
 use Rattle.flow_texts.specs.code.Findings.{AreFindings}
-use Rattle.flow_texts.specs.code.Lists.{AreTexts}
 use Rattle.tac_reader.specs.Programs.{Program}
+use Rattle.flow_views.specs.code.Names.{AreNames}
 use Rattle.flow_views.specs.declared.shown.Numbers.{Numbers}
 use Rattle.flow_views.specs.declared.shown.Shown.{Shown}
 
@@ -23,12 +21,12 @@ contents lists = map (λ list. list.items) lists
 abbrev pub numbers_of : Numbers → List ℕ
 numbers_of numbers = range_with_len numbers.first (numbers.end - numbers.first)
 
--- What was found is of one program, the texts are those of its definitions and variables, the edges are those out of each point,
+-- What was found is of one program, whose tables are whole, the names are those of its bits, the edges are those out of each point,
 -- and the procedure that is shown is there.
 pub record AreShown (shown : Shown) : Type 0 where
   pub found : AreFindings shown.found
-  pub definitions : AreTexts (bit_text shown.found.graph.now Reach) (bits shown.found.graph.now Reach) shown.definitions
-  pub variables : AreTexts (bit_text shown.found.graph.now Live) (bits shown.found.graph.now Live) shown.variables
+  pub tables : AreTablesOf shown.found.graph.now shown.found.tables.now
+  pub names : AreNames shown.found.graph.now shown.names
   pub successors : contents shown.successors.items ≡ map (edges_from shown.found.graph.now) (points shown.found.graph.now)
   pub procedure : IfSome shown.view.procedure (λ procedure. procedure < length shown.found.graph.now.procedures)
 

@@ -1,5 +1,5 @@
 -- How a slice's tables stand for its words.
-use Rattle.std.specs.Prelude.{◌≡◌, ◌≤◌, ◌+◌, ℕ, Bool, List, length, map, if◌then◌else◌}
+use Rattle.std.specs.Prelude.{◌≡◌, ◌≤◌, ◌+◌, ◌*◌, ◌/◌, ℕ, Bool, false, List, length, map, if◌then◌else◌}
 use Rattle.gk_solve.specs.Solved.{SliceTable}
 use Rattle.gk_solve.specs.declared.slice_words.SliceWords.TheInside.{Inside}
 
@@ -22,9 +22,11 @@ view_of slice = record {
   words = words_of slice;
 }
 
--- the table that it uses has a place for each point and procedure, and no more words were solved than it holds
+-- The table that it uses has a place for each point and procedure, and no more words were solved than it holds. Where they are solved
+-- one at a time, the slice has no second.
 pub record IsSliceWords (slice : Inside) : Type 0 where
   pub points : (if slice.wide then length slice.many.items else length slice.one.items) ≡ length slice.dirty
   pub procedures : (if slice.wide then length slice.many_brought.items else length slice.one_brought.items) ≡ length slice.callers
   pub ordered : slice.from ≤ slice.until
   pub few : slice.until ≤ slice.from + width_of slice.wide
+  pub narrow : slice.wide ≡ false → slice.hi ≤ 64 * (slice.lo / 64) + 64

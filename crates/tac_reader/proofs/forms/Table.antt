@@ -52,3 +52,6 @@ same_behind fs gs t ts e = step fs gs t ts (ap (λ r. some_begins r []) e) (reco
 -- One row, whose first slot the token fills: the rest of it judges the rest.
 pub row_on : (s : Slot) (r : List Slot) (t : Token) (ts : List Token) → fills s t.word ≡ true → first_wrong ((s ∷ r) ∷ []) [] (t ∷ ts) ≡ first_wrong (r ∷ []) [] ts
 row_on s r t ts h = wrong_step ((s ∷ r) ∷ []) t ts ∙ ap (λ b. let fs : List (List Slot) = (if b then r ∷ [] else []) in elim (some_begins fs []) as (λ _. Option Token) [ true ↦ first_wrong fs [] ts | false ↦ Some t ]) h
+
+pub row_off : (s : Slot) (r : List Slot) (t : Token) (ts : List Token) → fills s t.word ≡ false → first_wrong ((s ∷ r) ∷ []) [] (t ∷ ts) ≡ Some t
+row_off s r t ts h = wrong_step ((s ∷ r) ∷ []) t ts ∙ ap (λ b. let fs : List (List Slot) = (if b then r ∷ [] else []) in elim (some_begins fs []) as (λ _. Option Token) [ true ↦ first_wrong fs [] ts | false ↦ Some t ]) h

@@ -6,7 +6,10 @@ use Rattle.tac_reader.specs.Tokens.{Word, name, number, fixed, Token, Row, row_f
 use Rattle.tac_reader.specs.Forms.{Slot, label_form, has_form, labels_of, behind_labels, forms_for, some_begins, some_form, first_wrong}
 use Rattle.tac_reader.specs.Programs.{stop_of}
 use Rattle.tac_reader.specs.Faults.{number_of_kind, at, word_fault, bad_fault, form_fault, row_faults, line_faults, inside_after, first_by_place, longest_name, largest_number}
+use Rattle.tac_reader.specs.code.Lexed.{IfFault}
 use Rattle.tac_reader.specs.declared.fault.Fault.{Fault}
+use Rattle.tac_reader.specs.declared.fault.Stop.{Stop}
+use Rattle.tac_reader.specs.declared.fault.Stop.TheVariants as stop
 use Rattle.tac_reader.specs.declared.refusal.RefusalKind.{RefusalKind}
 use Rattle.tac_reader.specs.declared.refusal.RefusalKind.TheVariants as kind
 use Rattle.tac_reader.proofs.lines.FirstFault.{Before, Each, each-append, first_each, first_front}
@@ -40,15 +43,15 @@ module _ (low high : ℕ) (ended : Bool) where
     go (number n) = yes_no (nat_lt largest_number n) kind.NumberTooLarge (omega arith)
     go (fixed s) = tt
 
-  words_in : (ts : List Token) → EachToken (StandsIn low high ended) ts → Each (FaultIn low high ended) (flat_map word_fault ts)
+  pub words_in : (ts : List Token) → EachToken (StandsIn low high ended) ts → Each (FaultIn low high ended) (flat_map word_fault ts)
   words_in [] h = tt
   words_in (t ∷ ts) h = each-append (FaultIn low high ended) (word_fault t) (flat_map word_fault ts) (word_in t h.0) (words_in ts h.1)
 
-  bad_in : (bad : Option ℕ) → BadIn low high bad → Each (FaultIn low high ended) (bad_fault bad)
+  pub bad_in : (bad : Option ℕ) → BadIn low high bad → Each (FaultIn low high ended) (bad_fault bad)
   bad_in None h = tt
   bad_in (Some b) h = (record { from = h.0; to = omega (arith, h.1); before = λ e. h.1; small = omega arith }, tt)
 
-  wrong_in : (forms : List (List Slot)) (before ts : List Token) (t : Token) → EachToken (StandsIn low high ended) ts → first_wrong forms before ts ≡ Some t → StandsIn low high ended t
+  pub wrong_in : (forms : List (List Slot)) (before ts : List Token) (t : Token) → EachToken (StandsIn low high ended) ts → first_wrong forms before ts ≡ Some t → StandsIn low high ended t
   wrong_in forms before [] t h e = absurd (cc e)
   wrong_in forms before (u ∷ us) t h e = go (some_begins forms (before ++ u ∷ [])) e (λ k. wrong_in forms (before ++ u ∷ []) us t h.1 k) where
     same : (x y : Token) → ◌≡◌ {A = Option Token} (Some x) (Some y) → x ≡ y
@@ -58,7 +61,7 @@ module _ (low high : ℕ) (ended : Bool) where
     go true k later = later k
     go false k later = subst (StandsIn low high ended) (same u t k) h.0
 
-  others_in : (ts : List Token) → EachToken (StandsIn low high ended) ts → EachToken (StandsIn low high ended) (behind_labels ts)
+  pub others_in : (ts : List Token) → EachToken (StandsIn low high ended) ts → EachToken (StandsIn low high ended) (behind_labels ts)
   others_in [] h = tt
   others_in (t ∷ []) h = h
   others_in (t ∷ u ∷ ts) h = go (has_form label_form (t ∷ u ∷ [])) (others_in ts h.1.1) where
@@ -95,7 +98,7 @@ module _ (low high : ℕ) (ended : Bool) where
       (form_in inside row h.tokens)
 
 -- Faults from a place on.
-weaken : (P Q : Fault → Type 0) (fs : List Fault) → ((f : Fault) → P f → Q f) → Each P fs → Each Q fs
+pub weaken : (P Q : Fault → Type 0) (fs : List Fault) → ((f : Fault) → P f → Q f) → Each P fs → Each Q fs
 weaken P Q [] g h = tt
 weaken P Q (f ∷ fs) g h = (g f h.0, weaken P Q fs g h.1)
 
@@ -169,3 +172,8 @@ first_of_text text start stop inside row f all cut after within e found whole =
     ap first_by_place (whole ∙ ap (line_faults inside (length text)) (rows_step text start stop row cut after within e))
     ∙ first_front (row_faults inside row) (line_faults (inside_after inside row) (length text) (rows_from stop (lines (drop stop text)))) f found
     (rest_behind text start stop inside (inside_after inside row) f cut after within (ap (λ r. first_by_place (row_faults inside r)) e ∙ found))
+
+-- The same, where a line's first fault is told or memory runs out.
+pub stop_of_text : (text : List ℕ) (start end : ℕ) (inside : Bool) (s : Stop) (all : List Fault) → lines (drop start text) ≡ slice_range text start end ∷ lines (drop end text) → start < end → end ≤ length text → IfFault (λ f. first_by_place (row_faults inside (row_from start zero (slice_range text start end))) ≡ Some f) s → all ≡ line_faults inside (length text) (rows_from start (lines (drop start text))) → IfFault (λ f. first_by_place all ≡ Some f) s
+stop_of_text text start end inside (stop.Fault f) all cut after within found whole = first_of_text text start end inside (row_from start zero (slice_range text start end)) f all cut after within refl found whole
+stop_of_text text start end inside stop.OutOfMemory all cut after within found whole = tt

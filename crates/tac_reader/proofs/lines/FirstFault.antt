@@ -23,10 +23,10 @@ ne_eqb m n h = by_test (m == n) refl where
 test : Bool → Bool → Bool → Bool
 test lower same few = lower || (same && few)
 
-Tells : Fault → Fault → Type 0
+unfoldable pub Tells : Fault → Fault → Type 0
 Tells a b = ((precedes a b ≡ true) × Before a b) ⊎ ((precedes a b ≡ false) × Behind a b)
 
-tells : (a b : Fault) → Tells a b
+pub tells : (a b : Fault) → Tells a b
 unfolding Tells test
 tells a b = by_place (cases_order a.place b.place) where
   by_number : a.place ≡ b.place → ((nat_le (number_of_kind a.kind) (number_of_kind b.kind) ≡ true) × (number_of_kind a.kind ≤ number_of_kind b.kind)) ⊎ ((nat_le (number_of_kind a.kind) (number_of_kind b.kind) ≡ false) × (number_of_kind b.kind < number_of_kind a.kind)) → Tells a b

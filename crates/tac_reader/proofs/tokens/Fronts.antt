@@ -1,7 +1,7 @@
 -- The last arms of the search for a piece: two bytes, one, or none.
 use Rattle.std.proofs.Common.{◌≡◌, ◌≢◌, ℕ, ◌<◌, ◌≤◌, Bool, true, false, List, [], ◌∷◌, take, length, refl, sym, ◌∙◌, subst, arith, Option, Some, None, eqb, get_or, slice_get, option_map}
 use Rattle.std.proofs.lemmas.Bool.{eqb-true}
-use Rattle.tac_reader.specs.Tokens.{Piece, picked, longest, is_letter, is_digit, is_one_of, signs, is_blank}
+use Rattle.tac_reader.specs.Tokens.{Piece, gap, picked, longest, is_letter, is_digit, is_one_of, signs, is_blank}
 use Rattle.tac_reader.specs.code.Views.{piece_at}
 use Rattle.tac_reader.specs.declared.token.TokenKind.{TokenKind}
 use Rattle.tac_reader.proofs.tokens.Pieces.{piece_of-other, two_longest, one_longest, none_longest}
@@ -63,3 +63,10 @@ pub too_few : (s : List ℕ) (b : ℕ) → length s ≤ 1 → NoPair b s
 too_few [] b few c h = absurd (no_first c (sym h))
 too_few (x ∷ []) b few c h = absurd (no_first c (sym h))
 too_few (x ∷ y ∷ s) b few c h = absurd (let never : ⊥ = omega (arith, few) in never)
+
+-- A space and a line feed are blanks whatever stands behind them.
+pub space_at : (s : List ℕ) → longest (32 ∷ s) ≡ Some (1, gap)
+space_at s = one_at (32 ∷ s) 32 None refl (record { letter = refl; digit = refl; hash = λ e. omega (arith, e) }) (λ c h. refl) refl
+
+pub line_feed_at : (s : List ℕ) → longest (10 ∷ s) ≡ Some (1, gap)
+line_feed_at s = one_at (10 ∷ s) 10 None refl (record { letter = refl; digit = refl; hash = λ e. omega (arith, e) }) (λ c h. refl) refl

@@ -1,11 +1,16 @@
-use Rattle.std.proofs.Common.{◌∙◌, sym, ap, length, map}
-use Rattle.tac_reader.specs.code.Built.{names_view}
+use Rattle.std.proofs.Common.{◌∙◌, ℕ, List, sym, ap, length, map}
+use Rattle.tac_reader.specs.code.Built.{call_numbers, names_view}
 use Rattle.tac_reader.specs.Programs.{kind_of}
 use Rattle.tac_reader.specs.code.Views.{tokens_view}
+use Rattle.tac_reader.specs.declared.build.Names.{Names as Tables}
 use Rattle.tac_reader.specs.declared.form.Form.TheVariants as form
 use Rattle.tac_reader.specs.declared.program.StmtKind.TheVariants as stmt
+use Rattle.tac_reader.specs.declared.token.Token.{Token as Lexed}
 use Rattle.tac_reader.proofs.programs.StatementWords.{row_of, row_length, row_form, unary_words, binary_words, comparison_words, copy_words, jump_words, test_words, negated_words, read_words, print_words}
 use Rattle.tac_reader.proofs.build.kind.Goals as goal
+
+abbrev called : Tables → List ℕ → List Lexed → List ℕ
+called names text tokens = call_numbers names.procedures.now (tokens_view text tokens)
 
 pub returns-in-Some-Unary : goal.returns-in-Some-Unary
 returns-in-Some-Unary c =
@@ -14,8 +19,8 @@ returns-in-Some-Unary c =
     let names = names_view c.args.names in
     let row = row_of ts (length c.args.statement.tokens.now) c.form.result c.in-Some-Unary.field-0 form.Unary (c.form.ensures text) c.in-Some-Unary.is c.in-Some-Unary.field-0-is in
     (λ i. stmt.Unary (c.number_at-in-Some-Unary.ensures i) (sym (c.operator_at.ensures text) i) (c.operand_at-in-Some-Unary.ensures i))
-    ∙ unary_words names c.args.callees ts (row_length ts _ row)
-    ∙ ap (λ f. kind_of names c.args.callees f (map (λ t. t.word) ts)) (sym (row_form ts _ row))
+    ∙ unary_words names (called c.args.names c.args.text.now c.args.statement.tokens.now) ts (row_length ts _ row)
+    ∙ ap (λ f. kind_of names (called c.args.names c.args.text.now c.args.statement.tokens.now) f (map (λ t. t.word) ts)) (sym (row_form ts _ row))
 
 pub returns-in-Some-Binary : goal.returns-in-Some-Binary
 returns-in-Some-Binary c =
@@ -24,8 +29,8 @@ returns-in-Some-Binary c =
     let names = names_view c.args.names in
     let row = row_of ts (length c.args.statement.tokens.now) c.form.result c.in-Some-Binary.field-0 form.Binary (c.form.ensures text) c.in-Some-Binary.is c.in-Some-Binary.field-0-is in
     c.binary.ensures
-    ∙ binary_words names c.args.callees ts (row_length ts _ row)
-    ∙ ap (λ f. kind_of names c.args.callees f (map (λ t. t.word) ts)) (sym (row_form ts _ row))
+    ∙ binary_words names (called c.args.names c.args.text.now c.args.statement.tokens.now) ts (row_length ts _ row)
+    ∙ ap (λ f. kind_of names (called c.args.names c.args.text.now c.args.statement.tokens.now) f (map (λ t. t.word) ts)) (sym (row_form ts _ row))
 
 pub returns-in-Some-Comparison : goal.returns-in-Some-Comparison
 returns-in-Some-Comparison c =
@@ -34,8 +39,8 @@ returns-in-Some-Comparison c =
     let names = names_view c.args.names in
     let row = row_of ts (length c.args.statement.tokens.now) c.form.result c.in-Some-Comparison.field-0 form.Comparison (c.form.ensures text) c.in-Some-Comparison.is c.in-Some-Comparison.field-0-is in
     c.comparison.ensures
-    ∙ comparison_words names c.args.callees ts (row_length ts _ row)
-    ∙ ap (λ f. kind_of names c.args.callees f (map (λ t. t.word) ts)) (sym (row_form ts _ row))
+    ∙ comparison_words names (called c.args.names c.args.text.now c.args.statement.tokens.now) ts (row_length ts _ row)
+    ∙ ap (λ f. kind_of names (called c.args.names c.args.text.now c.args.statement.tokens.now) f (map (λ t. t.word) ts)) (sym (row_form ts _ row))
 
 pub returns-in-Some-Copy : goal.returns-in-Some-Copy
 returns-in-Some-Copy c =
@@ -44,8 +49,8 @@ returns-in-Some-Copy c =
     let names = names_view c.args.names in
     let row = row_of ts (length c.args.statement.tokens.now) c.form.result c.in-Some-Copy.field-0 form.Copy (c.form.ensures text) c.in-Some-Copy.is c.in-Some-Copy.field-0-is in
     (λ i. stmt.Copy (c.number_at.ensures i) (c.operand_at.ensures i))
-    ∙ copy_words names c.args.callees ts (row_length ts _ row)
-    ∙ ap (λ f. kind_of names c.args.callees f (map (λ t. t.word) ts)) (sym (row_form ts _ row))
+    ∙ copy_words names (called c.args.names c.args.text.now c.args.statement.tokens.now) ts (row_length ts _ row)
+    ∙ ap (λ f. kind_of names (called c.args.names c.args.text.now c.args.statement.tokens.now) f (map (λ t. t.word) ts)) (sym (row_form ts _ row))
 
 pub returns-in-Some-Jump : goal.returns-in-Some-Jump
 returns-in-Some-Jump c =
@@ -54,8 +59,8 @@ returns-in-Some-Jump c =
     let names = names_view c.args.names in
     let row = row_of ts (length c.args.statement.tokens.now) c.form.result c.in-Some-Jump.field-0 form.Jump (c.form.ensures text) c.in-Some-Jump.is c.in-Some-Jump.field-0-is in
     (λ i. stmt.Goto (c.number_at-in-Some-Jump.ensures i))
-    ∙ jump_words names c.args.callees ts (row_length ts _ row)
-    ∙ ap (λ f. kind_of names c.args.callees f (map (λ t. t.word) ts)) (sym (row_form ts _ row))
+    ∙ jump_words names (called c.args.names c.args.text.now c.args.statement.tokens.now) ts (row_length ts _ row)
+    ∙ ap (λ f. kind_of names (called c.args.names c.args.text.now c.args.statement.tokens.now) f (map (λ t. t.word) ts)) (sym (row_form ts _ row))
 
 pub returns-in-Some-Test : goal.returns-in-Some-Test
 returns-in-Some-Test c =
@@ -64,8 +69,8 @@ returns-in-Some-Test c =
     let names = names_view c.args.names in
     let row = row_of ts (length c.args.statement.tokens.now) c.form.result c.in-Some-Test.field-0 form.Test (c.form.ensures text) c.in-Some-Test.is c.in-Some-Test.field-0-is in
     (λ i. stmt.If (c.operand_at-in-Some-Test.ensures i) (c.number_at-in-Some-Test.ensures i))
-    ∙ test_words names c.args.callees ts (row_length ts _ row)
-    ∙ ap (λ f. kind_of names c.args.callees f (map (λ t. t.word) ts)) (sym (row_form ts _ row))
+    ∙ test_words names (called c.args.names c.args.text.now c.args.statement.tokens.now) ts (row_length ts _ row)
+    ∙ ap (λ f. kind_of names (called c.args.names c.args.text.now c.args.statement.tokens.now) f (map (λ t. t.word) ts)) (sym (row_form ts _ row))
 
 pub returns-in-Some-NegatedTest : goal.returns-in-Some-NegatedTest
 returns-in-Some-NegatedTest c =
@@ -74,8 +79,8 @@ returns-in-Some-NegatedTest c =
     let names = names_view c.args.names in
     let row = row_of ts (length c.args.statement.tokens.now) c.form.result c.in-Some-NegatedTest.field-0 form.NegatedTest (c.form.ensures text) c.in-Some-NegatedTest.is c.in-Some-NegatedTest.field-0-is in
     (λ i. stmt.IfFalse (c.operand_at-in-Some-NegatedTest.ensures i) (c.number_at-in-Some-NegatedTest.ensures i))
-    ∙ negated_words names c.args.callees ts (row_length ts _ row)
-    ∙ ap (λ f. kind_of names c.args.callees f (map (λ t. t.word) ts)) (sym (row_form ts _ row))
+    ∙ negated_words names (called c.args.names c.args.text.now c.args.statement.tokens.now) ts (row_length ts _ row)
+    ∙ ap (λ f. kind_of names (called c.args.names c.args.text.now c.args.statement.tokens.now) f (map (λ t. t.word) ts)) (sym (row_form ts _ row))
 
 pub returns-in-Some-Read : goal.returns-in-Some-Read
 returns-in-Some-Read c =
@@ -84,8 +89,8 @@ returns-in-Some-Read c =
     let names = names_view c.args.names in
     let row = row_of ts (length c.args.statement.tokens.now) c.form.result c.in-Some-Read.field-0 form.Read (c.form.ensures text) c.in-Some-Read.is c.in-Some-Read.field-0-is in
     (λ i. stmt.Read (c.number_at-in-Some-Read.ensures i))
-    ∙ read_words names c.args.callees ts (row_length ts _ row)
-    ∙ ap (λ f. kind_of names c.args.callees f (map (λ t. t.word) ts)) (sym (row_form ts _ row))
+    ∙ read_words names (called c.args.names c.args.text.now c.args.statement.tokens.now) ts (row_length ts _ row)
+    ∙ ap (λ f. kind_of names (called c.args.names c.args.text.now c.args.statement.tokens.now) f (map (λ t. t.word) ts)) (sym (row_form ts _ row))
 
 pub returns-in-Some-Print : goal.returns-in-Some-Print
 returns-in-Some-Print c =
@@ -94,5 +99,5 @@ returns-in-Some-Print c =
     let names = names_view c.args.names in
     let row = row_of ts (length c.args.statement.tokens.now) c.form.result c.in-Some-Print.field-0 form.Print (c.form.ensures text) c.in-Some-Print.is c.in-Some-Print.field-0-is in
     (λ i. stmt.Print (c.operand_at-in-Some-Print.ensures i))
-    ∙ print_words names c.args.callees ts (row_length ts _ row)
-    ∙ ap (λ f. kind_of names c.args.callees f (map (λ t. t.word) ts)) (sym (row_form ts _ row))
+    ∙ print_words names (called c.args.names c.args.text.now c.args.statement.tokens.now) ts (row_length ts _ row)
+    ∙ ap (λ f. kind_of names (called c.args.names c.args.text.now c.args.statement.tokens.now) f (map (λ t. t.word) ts)) (sym (row_form ts _ row))

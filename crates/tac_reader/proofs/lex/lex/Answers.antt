@@ -1,15 +1,21 @@
 use Rattle.std.proofs.Common.{◌∙◌, sym, ap, length, drop, ◌++◌, List}
+use Rattle.std.proofs.lemmas.Result.{err_from_is_err_and}
 use Rattle.tac_reader.specs.declared.token.Token.{Token}
 use Rattle.tac_reader.specs.Faults.{row_faults, line_faults, inside_after}
 use Rattle.tac_reader.specs.code.Lexed.{lexed_view, some_of}
 use Rattle.tac_reader.specs.Text.{lines}
-use Rattle.tac_reader.specs.Text.{lines}
 use Rattle.tac_reader.specs.Tokens.{Row, rows_from}
 use Rattle.tac_reader.specs.code.Views.{tokens_view}
 use Rattle.tac_reader.proofs.lines.FirstFault.{none_first}
-use Rattle.tac_reader.proofs.lines.FaultPlaces.{first_of_text, rows_step, no_fault_step}
+use Rattle.tac_reader.proofs.lines.FaultPlaces.{first_of_text, stop_of_text, rows_step, no_fault_step}
 use Rattle.tac_reader.proofs.lines.LexSteps.{lines_step, not_some, row_is}
 use Rattle.tac_reader.proofs.lex.lex.Goals as goal
+
+pub returns-in_err-bad-clause-fault : goal.returns-in_err-bad-clause-fault
+returns-in_err-bad-clause-fault c =
+    let line = c.line_stop-stop.ensures in
+    let p = err_from_is_err_and c.from_residual.result c.from_residual.ensures.1 in
+    rw p.1 (rw p.2 (stop_of_text c.args.text.now c.loop-at.at c.line_stop-stop.result c.loop-at.inside c.in_err-bad.field-0.0 _ line.line line.after line.within c.in_err-bad.ensures.fault c.loop-at.invariant.faults))
 
 pub returns-in-Some-clause-fault : goal.returns-in-Some-clause-fault
 returns-in-Some-clause-fault c =

@@ -1,4 +1,4 @@
-use Rattle.std.proofs.Common.{List, ℕ, sym, subst}
+use Rattle.std.proofs.Common.{subst}
 use Rattle.tac_reader.specs.Programs.{Program}
 use Rattle.flow_runs.specs.Runs.{IsOverLimit}
 use Rattle.flow_runs.proofs.Deliveries.{delivers_as, no_graph_fault}
@@ -8,14 +8,9 @@ use Rattle.tacview.proofs.views.show_dot.Goals as goal
 pub returns-clause-delivers : goal.returns-clause-delivers
 returns-clause-delivers g c =
     let made = c.in_ok-graph.ensures in
-    delivers_as _ _ _ _ c.push_text.result
-    (λ out is. (
-      made.few_points,
-      made.few_bits,
-      subst (λ (p : Program). IsDot p c.args.view out) made.graph
-          (subst (λ (t : List ℕ). IsDot c.in_ok-graph.graph c.args.view t) (sym is) c.in_ok-text.ensures),
-    ))
-    c.push_text.ensures.delivers
+    delivers_as _ _ _ _ c.push_dot.result
+    (λ out is. (made.few_points, made.few_bits, subst (λ (p : Program). IsDot p c.args.view out) made.graph is))
+    c.push_dot.ensures.delivers
 
 pub returns-clause-fault : goal.returns-clause-fault
-returns-clause-fault g c = no_graph_fault (IsOverLimit c.args.program.now) ⊥ c.push_text.result c.push_text.ensures.fault
+returns-clause-fault g c = no_graph_fault (IsOverLimit c.args.program.now) ⊥ c.push_dot.result c.push_dot.ensures.fault

@@ -8,5 +8,5 @@ pub returns-clause-known : goal.returns-clause-known
 returns-clause-known c =
     let found : Findings = record { graph = c.args.graph; tables = c.args.tables; doubtful = c.in_ok-doubtful.doubtful; expressions = c.in_ok-expressions.expressions } in
     let told = c.in_ok-doubtful.ensures in
-    let are : AreFindings found = record { sound = told.sound; few = told.few; tables = c.requires; doubts = told.points.count; expressions = c.in_ok-expressions.ensures } in
-    is_knowledge found are told.points
+    let are : AreFindings found = record { sound = told.sound; few = told.few; tables = c.requires; doubts = told.points.count; expressions = c.in_ok-expressions.ensures.texts } in
+    λ whole. is_knowledge found are whole told.points

@@ -1,7 +1,7 @@
 -- A word more, be it passed over or written.
 use Rattle.std.proofs.Common.{◌≡◌, ◌+◌, ◌-◌, ◌*◌, ◌<◌, ℕ, List, Bool, min, length, ap, ◌∙◌, sym, subst, arith}
 use Rattle.tac_reader.specs.Programs.{Program}
-use Rattle.bit_rows.specs.RowSet.{RowSet, IsWordOf}
+use Rattle.bit_rows.specs.RowSet.{RowSet}
 use Rattle.bit_rows.specs.RowTable.{set_at}
 use Rattle.flow_graph.specs.Universes.{expressions}
 use Rattle.flow_texts.specs.code.Findings.{knowledge_of}
@@ -25,7 +25,6 @@ loop-word-preserved g c =
     let at : Pieces _ → Outlet = outlet g.K.Sink.contents g.K.Sink.faults in
     let more : List ℕ = texts_between text test (64 * word) (min bits (64 * word + 64) - 64 * word) in
     let below : 64 * word < bits = omega (arith, c.bits-bits.ensures.count, c.loop-word-test.true) in
-    let is_word : IsWordOf row word c.word.result = subst (λ (r : RowSet). IsWordOf r word c.word.result) c.row-row.ensures.value c.word.ensures in
     let step = next_word text test bits word (at c.args.out.now) (at c.loop-word.out) (at c.if-word-ne0.out) below c.loop-word.invariant.takes in
     elim c.if-word-ne0.branch [
       | then-word-ne0 w ↦ (
@@ -38,7 +37,7 @@ loop-word-preserved g c =
       | else-word-ne0 w ↦ record {
         reference = ap (λ p. p.sink.ghost_name) w.out-is ∙ c.loop-word.invariant.reference;
         takes = step (subst (λ p. Takes (at c.loop-word.out) (at p) more) (sym w.out-is)
-            (takes_as _ _ _ _ (takes_nothing (at c.loop-word.out)) (sym (no_texts text row bits word c.word.result is_word w.if-word-ne0.false))));
+            (takes_as _ _ _ _ (takes_nothing (at c.loop-word.out)) (sym (no_texts text row bits word c.word.result c.word.ensures w.if-word-ne0.false))));
       }
     ]
 

@@ -1,4 +1,4 @@
--- Both clauses are about one knowledge, that of what was found.
+-- Both clauses are about one knowledge, all that is known where this was found.
 use Rattle.std.proofs.Common.{List, ℕ, refl, subst}
 use Rattle.tac_reader.specs.Programs.{Program}
 use Rattle.flow_texts.specs.code.Findings.{knowledge_of}
@@ -11,10 +11,10 @@ pub returns-clause-report : goal.returns-clause-report
 returns-clause-report c =
     let found : Findings = c.in_ok-found.found in
     let text : List ℕ = report_of found.graph.now (knowledge_of found) in
-    subst (λ (p : Program). IsReport p text) c.in_ok-found.ensures.program (is_report found text c.in_ok-found.ensures.known refl)
+    subst (λ (p : Program). IsReport p text) c.in_ok-found.ensures.program (is_report found text c.in_ok-found.ensures.found c.in_ok-found.ensures.doubtful refl)
 
 pub returns-clause-safe : goal.returns-clause-safe
 returns-clause-safe c =
     let found : Findings = c.in_ok-found.found in
     let text : List ℕ = report_of found.graph.now (knowledge_of found) in
-    subst (λ (p : Program). ListsSafely p text) c.in_ok-found.ensures.program (lists_safely found text c.in_ok-found.ensures.found c.in_ok-found.ensures.known refl)
+    subst (λ (p : Program). ListsSafely p text) c.in_ok-found.ensures.program (lists_safely found text c.in_ok-found.ensures.found c.in_ok-found.ensures.doubtful refl)

@@ -1,0 +1,16 @@
+use Rattle.std.proofs.Common.{◌≡◌, ◌*◌, false, min}
+use Rattle.flow_texts.specs.code.Lists.{Wrote, chosen}
+use Rattle.flow_texts.specs.code.Runs.{IsRunBefore}
+use Rattle.flow_texts.specs.Pieces.{outlet}
+use Rattle.flow_texts.proofs.members.write_words.Given as goal
+
+abbrev pub ghost-write_word : goal.ghost-write_word
+ghost-write_word g a = g.member
+
+abbrev pub invariant-loop-at : goal.invariant-loop-at
+invariant-loop-at g l = record {
+  reference : l.out.sink.ghost_name ≡ l.fn.out.sink.ghost_name;
+  after : IsRunBefore g.member (min l.bits (64 * l.at)) l.run.first l.run.end;
+  wrote : Wrote l.fn.texts.between (chosen l.fn.texts.texts g.member) false 0 l.run.first
+      (outlet g.K.Sink.contents g.K.Sink.faults l.fn.out) (outlet g.K.Sink.contents g.K.Sink.faults l.out) l.run.others;
+}
