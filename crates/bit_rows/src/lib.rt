@@ -11,6 +11,3 @@ pub use all_rows::Rows;
 pub use one_row::Row;
 pub use slicing::{Cut, CutFault};
 pub use std::alloc::AllocError as OutOfMemory;
-
-#[cfg(test)]
-mod tests;

@@ -12,8 +12,6 @@ mod members;
 mod operands;
 mod pieces;
 mod pulls;
-#[cfg(test)]
-mod refusal_tests;
 mod remark;
 mod remark_form;
 mod remarks;
@@ -21,8 +19,6 @@ mod reports;
 mod separator;
 mod table_texts;
 mod tables;
-#[cfg(test)]
-mod tests;
 mod text;
 pub mod text_examples;
 mod to_write;
@@ -49,3 +45,4 @@ pub use tables::{Tables, table_of};
 pub use text::{Bytes, Text};
 pub use to_write::ToWrite;
 pub use transfer::TransferFault;
+pub use whole::whole_text;

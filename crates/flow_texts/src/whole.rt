@@ -41,7 +41,7 @@ impl Sink for TextSink {
 }
 
 /// A text made whole. Its room grows by doubling. Fails only where memory runs out.
-pub(crate) fn whole_text<T: Text>(alloc: Global, text: &T) -> Result<Vec<u8>, AllocError>
+pub fn whole_text<T: Text>(alloc: Global, text: &T) -> Result<Vec<u8>, AllocError>
     ensures { IfOk result (λ whole. whole.items ≡ T.bytes text.now) }
 {
     let mut sink = TextSink {

@@ -8,8 +8,6 @@ mod optional;
 mod scope;
 mod shown;
 mod strings;
-#[cfg(test)]
-mod tests;
 mod view;
 pub mod view_examples;
 

@@ -27,8 +27,6 @@ mod refusal;
 mod row;
 mod section;
 mod statement;
-#[cfg(test)]
-mod tests;
 mod token;
 
 pub use listings::{listing, write_binary_expression, write_unary_expression};

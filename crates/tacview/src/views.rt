@@ -55,7 +55,7 @@ fn view_of(program: &Program, options: &Options) -> Result<View, Fault>
     }
 }
 
-// Writes the graph for Graphviz, with tables that are not owned here, so that no way out drops them.
+// Writes the graph for Graphviz.
 fn push_dot<K: Sink>(
     alloc: Global,
     graph: &Graph<'_>,
@@ -75,29 +75,7 @@ fn push_dot<K: Sink>(
     push_text(alloc, &text, sink)
 }
 
-// Writes the graph for Graphviz.
-fn show_dot<R: Threads + Sync, K: Sink>(
-    rt: &R,
-    alloc: Global,
-    program: &Program,
-    view: View,
-    options: &Options,
-    sink: &mut K,
-) -> Result<(), Fault>
-    requires threads { IsSync R.row }
-    requires below { K.faults sink.old < 2 ^ 32 - 1 }
-    requires there { IfSome view.procedure (λ number. number < length program.now.procedure_names) }
-    ensures delivers { Delivers (λ out. HasFewPoints program.now × HasFewBits program.now × IsDot program.now view out) (K.contents sink.old) (K.contents sink.new) result }
-    ensures flushed { OnOk result (K.flushed sink.new ≡ true) }
-    ensures fault { IfErr result (OfProgram (IsOverLimit program.now) ⊥) }
-    ensures faults { K.faults sink.new ≡ K.faults sink.old + write_faults_in result }
-{
-    let graph = graph_of(alloc, program)?;
-    let tables = Tables::of(rt, alloc, &graph, options.workers, options.cut)?;
-    push_dot(alloc, &graph, &tables, view, sink)
-}
-
-// Writes the lines of JSON, with tables that are not owned here, so that no way out drops them.
+// Writes the lines of JSON.
 fn push_json<K: Sink>(
     alloc: Global,
     graph: &Graph<'_>,
@@ -117,30 +95,31 @@ fn push_json<K: Sink>(
     push_text(alloc, &text, sink)
 }
 
-// Writes the lines of JSON.
-fn show_json<R: Threads + Sync, K: Sink>(
-    rt: &R,
+// Writes the text of a format, with tables that are not owned here, so that no way out drops them.
+fn push_view<K: Sink>(
     alloc: Global,
-    program: &Program,
+    graph: &Graph<'_>,
+    tables: &Tables,
+    format: Format,
     view: View,
-    options: &Options,
     sink: &mut K,
 ) -> Result<(), Fault>
-    requires threads { IsSync R.row }
+    requires tables { AreTablesOf graph.now tables.now }
     requires below { K.faults sink.old < 2 ^ 32 - 1 }
-    requires there { IfSome view.procedure (λ number. number < length program.now.procedure_names) }
-    ensures delivers { Delivers (λ out. HasFewPoints program.now × HasFewBits program.now × IsJson program.now view out) (K.contents sink.old) (K.contents sink.new) result }
+    requires there { IfSome view.procedure (λ number. number < length graph.now.procedure_names) }
+    ensures delivers { Delivers (IsText format graph.now view) (K.contents sink.old) (K.contents sink.new) result }
     ensures flushed { OnOk result (K.flushed sink.new ≡ true) }
-    ensures fault { IfErr result (OfProgram (IsOverLimit program.now) ⊥) }
+    ensures fault { IfErr result (OfProgram (λ _. ⊥) ⊥) }
     ensures faults { K.faults sink.new ≡ K.faults sink.old + write_faults_in result }
 {
-    let graph = graph_of(alloc, program)?;
-    let tables = Tables::of(rt, alloc, &graph, options.workers, options.cut)?;
-    push_json(alloc, &graph, &tables, view, sink)
+    match format {
+        Format::Dot => push_dot(alloc, graph, tables, view, sink),
+        Format::Json => push_json(alloc, graph, tables, view, sink),
+    }
 }
 
-// Writes the text of a format.
-fn show_text<R: Threads + Sync, K: Sink>(
+// Writes what the options ask for of this program, but for the procedure, which is found.
+fn show_view<R: Threads + Sync, K: Sink>(
     rt: &R,
     alloc: Global,
     program: &Program,
@@ -156,10 +135,9 @@ fn show_text<R: Threads + Sync, K: Sink>(
     ensures fault { IfErr result (OfProgram (IsOverLimit program.now) ⊥) }
     ensures faults { K.faults sink.new ≡ K.faults sink.old + write_faults_in result }
 {
-    match options.format {
-        Format::Dot => show_dot(rt, alloc, program, view, options, sink),
-        Format::Json => show_json(rt, alloc, program, view, options, sink),
-    }
+    let graph = graph_of(alloc, program)?;
+    let tables = Tables::of(rt, alloc, &graph, options.workers, options.cut)?;
+    push_view(alloc, &graph, &tables, options.format, view, sink)
 }
 
 impl Shown for Options {
@@ -177,6 +155,6 @@ impl Shown for Options {
         sink: &mut K,
     ) -> Result<(), Fault> {
         let view = view_of(program, self)?;
-        show_text(rt, alloc, program, view, self, sink)
+        show_view(rt, alloc, program, view, self, sink)
     }
 }

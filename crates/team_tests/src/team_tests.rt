@@ -6,12 +6,12 @@ ghost use Rattle.flow_team.specs.Tables.{IsTableOf};
 
 use crate::gates::Recorder;
 use crate::texts::{
-    Ask, RECURSIVE, RECURSIVE_REACH, asked, lines, printed, prints, slices, slices_at, summed,
-    sums, words,
+    Ask, RECURSIVE, RECURSIVE_REACH, asked, beginning, lines, printed, prints, slices, slices_at,
+    summed, sums, words,
 };
 use bit_rows::Cut;
 use flow_graph::{Analysis, Graph};
-use flow_team::{Gate, OpenGate, Table, TeamFault, analyse, analyse_both};
+use flow_team::{Gate, OpenGate, Table, TeamFault, analyse, analyse_both, analyse_both_alone};
 use std::alloc::Global;
 use std::process::Abort;
 use std::test::Fail;
@@ -24,6 +24,9 @@ const CALLEE_LOOPS: &str = "proc main\ncall f\na = b + c\nend\nproc f\nL: goto L
 const CALLEE_LOOPS_REACH: &str = "0: 0 1 2\n1 (no path):\n2 (no path):\n3: 0 1 2\n4 (no path):\n";
 
 const CALLEE_LOOPS_AVAIL: &str = "0:\n1 (no path): 0\n2 (no path): 0\n3:\n4 (no path): 0\n";
+
+/// The paths alone, with no bits.
+const NO_BITS: &str = "0:\n1 (no path):\n2 (no path):\n3:\n4 (no path):\n";
 
 const ON_BOTH_BRANCHES: &str =
     "proc main\nread b\nread c\nif c goto L\nx = b + c\nprint x\nreturn\nL: y = b + c\nprint y\nend\n";
@@ -303,6 +306,54 @@ fn two_tables_of_one_direction(rt: HostRuntime) -> Result<(), Fail> {
     for workers in WORKERS {
         let told = asked(&rt, rt.alloc(), CALLEE_LOOPS, &Both { workers })?;
         assert_eq!(rt; told.as_str(), want.as_str(), "{workers} workers");
+    }
+    Ok(())
+}
+
+// The first bits of both, found on one thread: so many of reaching definitions, and so many of available expressions.
+#[derive(Clone, Copy)]
+struct Beginnings {
+    reach: u32,
+    avail: u32,
+}
+
+impl Ask for Beginnings {
+    fn answer<R: Threads + Sync + Abort>(
+        &self,
+        _: &R,
+        alloc: Global,
+        graph: &Graph<'_>,
+    ) -> Result<String, Fail> {
+        if graph.bits(Analysis::Reach) < self.reach || graph.bits(Analysis::Avail) < self.avail {
+            return Err(Fail::new("there are fewer bits"));
+        }
+        let first = (Analysis::Reach, self.reach);
+        let (reach, avail) = analyse_both_alone(
+            alloc,
+            graph,
+            first,
+            (Analysis::Avail, self.avail),
+        )?;
+        let mut text = beginning(alloc, graph, &reach, self.reach)?;
+        text.push_str(beginning(alloc, graph, &avail, self.avail)?.as_str())?;
+        Ok(text)
+    }
+}
+
+#[test]
+fn beginnings_of_two_tables(rt: HostRuntime) -> Result<(), Fail> {
+    let two_of_reach = "0: 0 1\n1 (no path):\n2 (no path):\n3: 0 1\n4 (no path):\n";
+    let rows = [
+        (0, 0, NO_BITS, NO_BITS),
+        (2, 0, two_of_reach, NO_BITS),
+        (3, 0, CALLEE_LOOPS_REACH, NO_BITS),
+        (0, 1, NO_BITS, CALLEE_LOOPS_AVAIL),
+        (3, 1, CALLEE_LOOPS_REACH, CALLEE_LOOPS_AVAIL),
+    ];
+    for (reach, avail, first, second) in rows {
+        let want = format!(in rt.alloc(); "{first}{second}")?;
+        let told = asked(&rt, rt.alloc(), CALLEE_LOOPS, &Beginnings { reach, avail })?;
+        assert_eq!(rt; told.as_str(), want.as_str(), "{reach} and {avail} bits");
     }
     Ok(())
 }

@@ -1,8 +1,10 @@
 // Programs, and tables as text: a line for each point with the numbers of its bits.
 
-ghost use Rattle.std.specs.Prelude.{◌≡◌, IfOk};
+ghost use Rattle.std.specs.Prelude.{◌≡◌, ◌≤◌, IfOk, length};
 ghost use Rattle.std.specs.Thread.{IsSync};
+ghost use Rattle.flow_graph.specs.Points.{point_count};
 ghost use Rattle.flow_graph.specs.Universes.{bits as bits_of};
+ghost use Rattle.flow_team.specs.Beginnings.{IsBeginningOf};
 ghost use Rattle.flow_team.specs.Tables.{IsTableOf};
 
 use bit_rows::Cut;
@@ -121,12 +123,18 @@ pub fn asked<R: Threads + Sync + Abort, A: Ask>(
     asked_of_program(rt, alloc, &program, ask)
 }
 
-/// The lines of all points, `(no path)` behind the number of one without a path.
-pub fn lines(alloc: Global, graph: &Graph<'_>, table: &Table) -> Result<String, OutOfMemory>
-    requires { IsTableOf graph.now table.now }
+// The lines of all points with so many of the first bits, `(no path)` behind the number of one without a path.
+fn lines_below(
+    alloc: Global,
+    graph: &Graph<'_>,
+    table: &Table,
+    bits: u32,
+) -> Result<String, OutOfMemory>
+    requires first { table.now.rows.lo ≡ 0 }
+    requires bits { bits ≤ table.now.rows.hi }
+    requires points { length table.now.rows.flags ≡ point_count graph.now }
 {
     let mut text = String::new(alloc);
-    let bits = graph.bits(table.analysis());
     for point in 0..graph.points() {
         write!(text, "{point}")?;
         if !table.has_path(point) {
@@ -141,6 +149,26 @@ pub fn lines(alloc: Global, graph: &Graph<'_>, table: &Table) -> Result<String, 
         text.push('\n')?;
     }
     Ok(text)
+}
+
+/// The lines of all points, `(no path)` behind the number of one without a path.
+pub fn lines(alloc: Global, graph: &Graph<'_>, table: &Table) -> Result<String, OutOfMemory>
+    requires { IsTableOf graph.now table.now }
+{
+    lines_below(alloc, graph, table, graph.bits(table.analysis()))
+}
+
+/// The lines of all points with the first bits, of which the table has so many.
+pub fn beginning(
+    alloc: Global,
+    graph: &Graph<'_>,
+    table: &Table,
+    bits: u32,
+) -> Result<String, OutOfMemory>
+    requires table { IsBeginningOf graph.now table.now }
+    requires bits { table.now.rows.hi ≡ bits }
+{
+    lines_below(alloc, graph, table, bits)
 }
 
 /// So many words of the set of a point.

@@ -7,7 +7,7 @@ use Rattle.tacview.proofs.views.OptionsShown.show.Goals as goal
 
 pub returns-clause-delivers : goal.returns-clause-delivers
 returns-clause-delivers g c =
-    delivers_as _ _ _ _ c.show_text.result
+    delivers_as _ _ _ _ c.show_view.result
     (λ out is. (
       (λ needed. (is.0, is.1)),
       record {
@@ -16,4 +16,4 @@ returns-clause-delivers g c =
         text = subst (λ (chosen : Chosen). let view : View = record { facts = chosen; procedure = c.in_ok-view.view.procedure } in IsText c.args.self.now.format c.args.program.now view out) c.in_ok-view.ensures.facts is.2;
       },
     ))
-    c.show_text.ensures.delivers
+    c.show_view.ensures.delivers

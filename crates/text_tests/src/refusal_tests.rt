@@ -6,16 +6,12 @@ ghost use Rattle.std.specs.Prelude.{◌≡◌, IfOk};
 ghost use Rattle.flow_team.specs.Tables.{IsTableOf};
 ghost use Rattle.flow_texts.specs.Reports.{TellReport};
 
-use crate::device::Source;
-use crate::from_read::FromRead;
-use crate::pulls::pull_all;
-use crate::reports::{ReportText, report};
-use crate::table_texts::{TableText, table_text};
-use crate::tables::{Tables, table_of};
-use crate::transfer::TransferFault;
-use crate::whole::whole_text;
 use flow_graph::{Analysis, Graph, OutOfMemory};
 use flow_team::Table;
+use flow_texts::{
+    FromRead, ReportText, Source, TableText, Tables, TransferFault, pull_all, report, table_of,
+    table_text, whole_text,
+};
 use std::alloc::Global;
 use std::process::Abort;
 use std::test::Fail;

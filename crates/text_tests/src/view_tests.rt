@@ -3,11 +3,9 @@
 ghost use Rattle.std.specs.Prelude.{◌<◌, length, IfSome};
 ghost use Rattle.flow_texts.specs.Reports.{AreTablesOf};
 
-use crate::dots::DotText;
-use crate::json::JsonText;
-use crate::view::{Chosen, View};
 use flow_graph::Graph;
 use flow_texts::{Tables, ToWrite, deliver};
+use flow_views::{Chosen, DotText, JsonText, View};
 use std::alloc::Global;
 use std::io;
 use std::io::Write;

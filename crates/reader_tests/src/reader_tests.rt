@@ -1,6 +1,6 @@
-use crate::{Operand, ReadFault, Span, StmtKind, listing, read};
 use std::alloc::{AllocError, Global};
 use std::test::Fail;
+use tac_reader::{Operand, ReadFault, Span, StmtKind, listing, read};
 
 /// Every statement form.
 const FORMS: &[u8] =

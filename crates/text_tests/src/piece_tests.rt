@@ -3,16 +3,11 @@
 ghost use Rattle.std.specs.Prelude.{◌<◌};
 ghost use Rattle.flow_team.specs.Tables.{IsTableOf};
 
-use crate::delivery::deliver;
-use crate::device::Sink;
-use crate::pieces::Pieces;
-use crate::table_texts::{TableText, table_text};
-use crate::tables::table_of;
-use crate::text::Bytes;
-use crate::to_write::ToWrite;
-use crate::transfer::TransferFault;
 use flow_graph::{Analysis, Graph};
 use flow_team::Table;
+use flow_texts::{
+    Bytes, Pieces, Sink, TableText, ToWrite, TransferFault, deliver, table_of, table_text,
+};
 use std::alloc::Global;
 use std::io;
 use std::io::{ErrorKind, Write};

@@ -1,6 +1,6 @@
 ghost use Rattle.std.specs.Prelude.{◌≤◌};
 
-use crate::{Cut, CutFault, OutOfMemory, Row, Rows};
+use bit_rows::{Cut, CutFault, OutOfMemory, Row, Rows};
 use std::alloc::Global;
 use std::process::Abort;
 use std::test::Fail;
