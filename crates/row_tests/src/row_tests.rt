@@ -117,42 +117,92 @@ fn drawn_row(alloc: Global, seed: u64, lo: u32, hi: u32) -> Result<Row, OutOfMem
     Ok(row)
 }
 
-// Each operation on drawn rows over `lo..hi`, bit by bit.
-fn check_range(rt: &impl Abort, alloc: Global, lo: u32, hi: u32) -> Result<(), OutOfMemory>
+// What is made of two rows.
+#[derive(Clone, Copy, Debug)]
+enum Operation {
+    Union,
+    Difference,
+    Intersection,
+    Complement,
+}
+
+use Operation::{Complement, Difference, Intersection, Union};
+
+// Makes it of the first row.
+fn apply(operation: Operation, ours: &mut Row, theirs: &Row) {
+    match operation {
+        Union => {
+            united(ours, theirs);
+        }
+        Difference => reduced(ours, theirs),
+        Intersection => restricted(ours, theirs),
+        Complement => ours.flip(),
+    }
+}
+
+// Whether a bit has to be in what is made, by whether it is in the one and in the other.
+fn is_wanted(operation: Operation, ours: bool, theirs: bool) -> bool {
+    match operation {
+        Union => ours || theirs,
+        Difference => ours && !theirs,
+        Intersection => ours && theirs,
+        Complement => !ours,
+    }
+}
+
+// Whether a row has exactly the bits that are wanted of the drawn rows of its range.
+fn is_made(row: &Row, operation: Operation) -> bool {
+    for b in row.lo()..row.hi() {
+        if has(row, b) != is_wanted(operation, drawn(1, b), drawn(7, b)) {
+            return false;
+        }
+    }
+    true
+}
+
+// Whether the operation on drawn rows over `lo..hi` is right at each bit.
+fn is_right(alloc: Global, operation: Operation, lo: u32, hi: u32) -> Result<bool, OutOfMemory>
     requires { lo ≤ hi }
 {
     let theirs = drawn_row(alloc, 7, lo, hi)?;
-    let mut joined = drawn_row(alloc, 1, lo, hi)?;
-    let mut left = joined.copy(alloc)?;
-    let mut common = joined.copy(alloc)?;
-    let mut turned = joined.copy(alloc)?;
-    let changed = united(&mut joined, &theirs);
-    reduced(&mut left, &theirs);
-    restricted(&mut common, &theirs);
-    turned.flip();
-    let mut gained = false;
+    let mut ours = drawn_row(alloc, 1, lo, hi)?;
+    apply(operation, &mut ours, &theirs);
+    Ok(is_made(&ours, operation))
+}
+
+// Whether one of the drawn rows over `lo..hi` has a bit that the other lacks.
+fn is_gain(lo: u32, hi: u32) -> bool {
     for b in lo..hi {
-        let (x, y) = (drawn(1, b), drawn(7, b));
-        gained |= y && !x;
-        assert_eq!(rt; has(&joined, b), x || y, "{lo}..{hi}: bit {b} of the union");
-        assert_eq!(rt;
-            has(&left, b),
-            x && !y,
-            "{lo}..{hi}: bit {b} of the difference"
-        );
-        assert_eq!(rt;
-            has(&common, b),
-            x && y,
-            "{lo}..{hi}: bit {b} of the intersection"
-        );
-        assert_eq!(rt;
-            has(&turned, b),
-            !x,
-            "{lo}..{hi}: bit {b} of the complement"
+        if drawn(7, b) && !drawn(1, b) {
+            return true;
+        }
+    }
+    false
+}
+
+// Whether the union of drawn rows over `lo..hi` tells that it changed, and then that it did not.
+fn changes(alloc: Global, lo: u32, hi: u32) -> Result<(bool, bool), OutOfMemory>
+    requires { lo ≤ hi }
+{
+    let theirs = drawn_row(alloc, 7, lo, hi)?;
+    let mut ours = drawn_row(alloc, 1, lo, hi)?;
+    Ok((united(&mut ours, &theirs), united(&mut ours, &theirs)))
+}
+
+// Each operation on drawn rows over `lo..hi`.
+fn check_range(rt: &impl Abort, alloc: Global, lo: u32, hi: u32) -> Result<(), OutOfMemory>
+    requires { lo ≤ hi }
+{
+    for operation in [Union, Difference, Intersection, Complement] {
+        assert!(rt;
+            is_right(alloc, operation, lo, hi)?,
+            "{lo}..{hi}: {operation:?}"
         );
     }
-    assert_eq!(rt; changed, gained, "{lo}..{hi}");
-    assert!(rt; !united(&mut joined, &theirs), "{lo}..{hi}");
+    assert!(rt;
+        changes(alloc, lo, hi)? == (is_gain(lo, hi), false),
+        "{lo}..{hi}"
+    );
     Ok(())
 }
 
@@ -253,52 +303,86 @@ fn words_posted_at_once(rt: HostRuntime) -> Result<(), Fail> {
     Ok(())
 }
 
+// How bits are cut.
+#[derive(Clone, Copy, Debug)]
+enum Cutting {
+    Even(u32),
+    At(&'static [u32]),
+}
+
+use Cutting::{At, Even};
+
+// So many bits, cut so.
+fn made(alloc: Global, bits: u32, cutting: Cutting) -> Result<Cut, CutFault> {
+    match cutting {
+        Even(width) => Cut::even(alloc, bits, width),
+        At(places) => Cut::at(alloc, bits, places),
+    }
+}
+
 // The ranges of a cut, in order.
-fn check_cut(rt: &impl Abort, cut: &Cut, ranges: &[(u32, u32)]) {
-    assert_eq!(rt; cut.slices() as usize, ranges.len());
+fn write_ranges(cut: &Cut, text: &mut String) -> Result<(), OutOfMemory> {
     for slice in 0..cut.slices() {
         let (start, end) = cut.range(slice);
-        assert_eq!(rt; (start, end), ranges[slice as usize], "slice {slice}");
+        write!(text, "{start}..{end} ")?;
     }
+    Ok(())
+}
+
+// The ranges of a cut, or why it is none.
+fn told(alloc: Global, bits: u32, cutting: Cutting) -> Result<String, OutOfMemory> {
+    let mut text = String::new(alloc);
+    match made(alloc, bits, cutting) {
+        Ok(cut) => write_ranges(&cut, &mut text)?,
+        Err(CutFault::ZeroWidth) => text.push_str("zero width")?,
+        Err(CutFault::BadPlaces) => text.push_str("bad places")?,
+        Err(CutFault::OutOfMemory) => return Err(OutOfMemory),
+    }
+    Ok(text)
 }
 
 #[test]
 fn cuts(rt: HostRuntime) -> Result<(), Fail> {
-    let alloc = rt.alloc();
-    for (width, slices) in [
-        (1, 70),
-        (7, 10),
-        (63, 2),
-        (64, 2),
-        (65, 2),
-        (70, 1),
-        (u32::MAX, 1),
+    for (bits, cutting, want) in [
+        (70, Even(32), "0..32 32..64 64..70 "),
+        (70, Even(63), "0..63 63..70 "),
+        (70, Even(64), "0..64 64..70 "),
+        (70, Even(65), "0..65 65..70 "),
+        (70, Even(70), "0..70 "),
+        (70, Even(u32::MAX), "0..70 "),
+        (70, At(&[1, 64]), "0..1 1..64 64..70 "),
+        (8, At(&[]), "0..8 "),
+        (0, Even(5), ""),
+        (0, At(&[]), ""),
+        (8, Even(0), "zero width"),
+        (8, At(&[0, 3]), "bad places"),
+        (8, At(&[3, 8]), "bad places"),
+        (8, At(&[3, 3]), "bad places"),
+        (8, At(&[5, 3]), "bad places"),
+        (8, At(&[0]), "bad places"),
+        (8, At(&[8]), "bad places"),
+        (0, At(&[0]), "bad places"),
     ] {
-        let cut = Cut::even(alloc, 70, width)?;
-        assert_eq!(rt; cut.slices(), slices, "width {width}");
-        assert_eq!(rt; cut.bits(), 70);
+        let told = told(rt.alloc(), bits, cutting)?;
+        assert_eq!(rt; told.as_str(), want, "{bits} bits, {cutting:?}");
     }
-    check_cut(
-        &rt,
-        &Cut::even(alloc, 70, 32)?,
-        &[(0, 32), (32, 64), (64, 70)],
-    );
-    check_cut(
-        &rt,
-        &Cut::at(alloc, 70, &[1, 64])?,
-        &[(0, 1), (1, 64), (64, 70)],
-    );
-    check_cut(&rt, &Cut::at(alloc, 8, &[])?, &[(0, 8)]);
-    check_cut(&rt, &Cut::even(alloc, 0, 5)?, &[]);
-    check_cut(&rt, &Cut::at(alloc, 0, &[])?, &[]);
-    assert!(rt; matches!(Cut::even(alloc, 8, 0), Err(CutFault::ZeroWidth)));
-    for places in [[0, 3], [3, 8], [3, 3], [5, 3]] {
-        assert!(rt; matches!(Cut::at(alloc, 8, &places), Err(CutFault::BadPlaces)));
+    Ok(())
+}
+
+// How many slices 70 bits have in slices of a width, and how many bits the cut is of.
+fn slices_of_seventy(alloc: Global, width: u32) -> Result<(u32, u32), CutFault> {
+    let cut = Cut::even(alloc, 70, width)?;
+    Ok((cut.slices(), cut.bits()))
+}
+
+#[test]
+fn numbers_of_slices(rt: HostRuntime) -> Result<(), Fail> {
+    for (width, slices) in [(1, 70), (7, 10), (63, 2), (64, 2), (65, 2), (70, 1)] {
+        assert!(rt;
+            slices_of_seventy(rt.alloc(), width)? == (slices, 70),
+            "width {width}"
+        );
     }
-    for place in [0, 8] {
-        assert!(rt; matches!(Cut::at(alloc, 8, &[place]), Err(CutFault::BadPlaces)));
-    }
-    assert!(rt; matches!(Cut::at(alloc, 0, &[0]), Err(CutFault::BadPlaces)));
     Ok(())
 }
 
