@@ -2,7 +2,7 @@ ghost use Rattle.std.specs.Prelude.{◌≡◌, ℕ, ◌^◌, ◌<◌, IfOk, IfSo
 ghost use Rattle.slice_board.specs.Boards.{IsOf, fresh_pass};
 
 use bit_rows::{Cut, Rows};
-use slice_board::{Board, OutOfMemory, Pass, Wanted};
+use slice_board::{Board, OutOfMemory, Pass, Wanted, WordBoard};
 use std::alloc::Global;
 use std::process::Abort;
 use std::test::Fail;
@@ -60,6 +60,21 @@ fn no_slices_close_at_once(rt: HostRuntime) -> Result<(), Fail> {
         panic!(rt; "not closed")
     };
     assert_eq!(rt; (rows.points(), rows.lo(), rows.hi()), (3, 0, 0));
+    Ok(())
+}
+
+#[test]
+fn no_slices_close_into_words(rt: HostRuntime) -> Result<(), Fail> {
+    let Ok(cut) = Cut::even(rt.alloc(), 0, 1) else {
+        panic!(rt; "no cut")
+    };
+    let flags = vec![in rt.alloc(); true; 3]?;
+    let (board, pass) = WordBoard::open(rt.alloc(), &Nothing, flags, cut)?;
+    let Ok(words) = board.close(pass) else {
+        panic!(rt; "not closed")
+    };
+    assert_eq!(rt; (words.points(), words.bits()), (3, 0));
+    assert!(rt; words.points() == 3 && words.flag(2) && words.word(2, 0) == 0);
     Ok(())
 }
 

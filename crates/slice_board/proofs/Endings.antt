@@ -1,25 +1,24 @@
 -- The words of a board at the end, where a pass counted every slice as finished.
-use Rattle.std.proofs.Common.{◌≡◌, ℕ, ◌+◌, ◌*◌, ◌/◌, ◌%◌, ◌<◌, ◌≤◌, ◌↔◌, true, List, length, get_or, Option, Some, None, IsSome, refl, sym, ap, ◌∙◌, subst, arith}
-use mathlib.Core.Logic.{dite}
-use native.Mathlib.Decide.{dec_le}
+use Rattle.std.proofs.Common.{◌≡◌, ℕ, ◌+◌, ◌*◌, ◌/◌, ◌%◌, ◌<◌, ◌≤◌, ◌↔◌, Bool, true, false, List, length, get_or, Option, Some, None, IsSome, refl, sym, ap, ◌∙◌, subst, arith}
 use Rattle.std.specs.Int.{bit_at}
-use Rattle.std.proofs.lemmas.Bool.{both_ways}
 use Rattle.atomic_table.specs.Table.{Final, Seen}
 use Rattle.bit_rows.specs.RowSet.{contains}
-use Rattle.bit_rows.specs.RowTable.{RowTable, set_at, blank_table}
+use Rattle.bit_rows.specs.RowTable.{set_at}
+use Rattle.bit_rows.specs.Words.{has_bit}
 use Rattle.bit_rows.specs.Slices.{CoverBits}
 use Rattle.bit_rows.proofs.Cuts.{slice_of_bit}
-use Rattle.bit_rows.proofs.RowSets.{contains-above}
 use Rattle.slice_board.specs.Passes.{PassState, times, loads_from}
 use Rattle.slice_board.specs.Boards.{slice_count, words_for}
 use Rattle.slice_board.specs.Lawful.{shows_at}
 use Rattle.slice_board.specs.code.Words.{LawfulTable, tally_words, row_place}
-use Rattle.slice_board.specs.code.Closing.{row_bit, Counted, ArePutIn}
+use Rattle.slice_board.specs.code.Closing.{Counted}
+use Rattle.slice_board.specs.code.Worded.{word_of, worded_table}
 use Rattle.slice_board.specs.declared.view.About.{About}
 use Rattle.slice_board.specs.declared.view.View.{View}
 use Rattle.slice_board.proofs.Sums.{shows_at-append}
 use Rattle.slice_board.proofs.Counting.{shown_each, shown_below-full, shows_at-loads}
-use Rattle.slice_board.proofs.Putting.{blank_empty}
+use Rattle.slice_board.proofs.Calls.{one_of_bit, bit_of_one}
+use Rattle.slice_board.proofs.Worded.{bit_there, bit_within}
 
 -- ---- what a count says
 module _ {T : Type 0} (slices done : ℕ) (old new : PassState T) (c : Counted slices old new done) where
@@ -42,6 +41,10 @@ module _ {T : Type 0} (slices done : ℕ) (old new : PassState T) (c : Counted s
   not_whole s h held all = omega (arith, shown_each slices c.once.values (omega (arith, c.once.shown)) s h, c.lacks_held s h held)
 
 -- ---- what the words hold
+not_set : (set : Bool) → (set ≡ true → ⊥) → set ≡ false
+not_set true none = absurd (none refl)
+not_set false none = refl
+
 module _ {T : Type 0} (wants : T → ℕ → ℕ → Type 0) (about : About T) where
   -- the words of the rows hold exactly what is wanted
   pub record IsEnd (ws : List ℕ) : Type 0 where
@@ -63,34 +66,47 @@ module _ {T : Type 0} (wants : T → ℕ → ℕ → Type 0) (about : About T) w
             subst (λ (n : ℕ). wants about.wanted p n) back (lawful.within p (b / 64) (b % 64) hp hq one);
       })
 
-  -- where the rows begin, a point's words stand as far apart as there are points
-  pub row_at : (tallies points point bit : ℕ) → tallies ≡ tally_words about → points ≡ about.points → 2 * tallies + point + bit / 64 * points ≡ row_place about point (bit / 64)
-  row_at tallies points point bit e f = ap (λ (n : ℕ). 2 * tallies + point + bit / 64 * n) f ∙ omega (arith, e)
+  module _ (ws : List ℕ) (end : IsEnd ws) (tallies : ℕ) (flags : List Bool) (bits : ℕ) (tallies_is : tallies ≡ tally_words about) (bits_is : bits ≡ about.cut.bits) (points_is : length flags ≡ about.points) where
+    -- where the points' words begin
+    abbrev first : ℕ
+    first = 2 * tallies
 
-  module _ (ws : List ℕ) (end : IsEnd ws) (tallies : ℕ) (rows : RowTable) (tallies_is : tallies ≡ tally_words about) (hi_is : rows.hi ≡ about.cut.bits) (points_is : length rows.flags ≡ about.points) where
-    same_bit : (point bit : ℕ) → row_bit ws (2 * tallies + point) (length rows.flags) bit ≡ bit_at (get_or ws (row_place about point (bit / 64)) 0) (bit % 64)
-    same_bit point bit = ap (λ (k : ℕ). bit_at (get_or ws k 0) (bit % 64)) (row_at tallies (length rows.flags) point bit tallies_is points_is)
+    abbrev posted : ℕ → ℕ → ℕ
+    posted = word_of ws first (length flags)
 
-    pub wanted_there : (point bit : ℕ) → point < length rows.flags → bit / 64 < words_for rows.hi → row_bit ws (2 * tallies + point) (length rows.flags) bit ≡ 1 → wants about.wanted point bit
-    wanted_there point bit low within one = end.only point bit (omega arith) (omega arith) (sym (same_bit point bit) ∙ one)
+    place_is : (point word : ℕ) → first + point + word * length flags ≡ row_place about point word
+    place_is point word = ap (λ (n : ℕ). first + point + word * n) points_is ∙ omega (arith, tallies_is)
 
-    pub there_wanted : (point bit : ℕ) → point < length rows.flags → bit < rows.hi → wants about.wanted point bit → row_bit ws (2 * tallies + point) (length rows.flags) bit ≡ 1
-    there_wanted point bit low within wanted = same_bit point bit ∙ end.here point bit (omega arith) (omega arith) wanted
+    same_word : (point word : ℕ) → posted point word ≡ get_or ws (row_place about point word) 0
+    same_word point word = ap (λ (k : ℕ). get_or ws k 0) (place_is point word)
 
-    -- blank rows into which these words were put hold exactly what is wanted
-    pub rows_exact : (new : RowTable) → rows ≡ blank_table rows.flags 0 rows.hi → ArePutIn ws (2 * tallies) (length rows.flags) rows new
-        → ((point bit : ℕ) → wants about.wanted point bit → (point < length rows.flags) × (bit < rows.hi)) → (point bit : ℕ) → (contains (set_at new point) bit ≡ true) ↔ wants about.wanted point bit
-    rows_exact new blank put range point bit = (
-      (λ h. dite (dec_le (length rows.flags) point)
-          (λ far. absurd (both_ways (contains (set_at new point) bit) (ap (λ s. contains s bit) (put.left point far) ∙ blank_empty ws 0 rows blank point bit) h))
-          (λ near. dite (dec_le rows.hi bit)
-          (λ above.
-          let high = (put.uniform.ranges point).hi in
-          let same = put.hi in
-          absurd (both_ways (contains (set_at new point) bit) (contains-above (set_at new point) bit (omega arith)) h))
-          (λ below. wanted_there point bit (omega arith) (omega arith) ((put.bits point bit (omega arith) (omega arith)).0 h)))),
-      (λ wanted. let r = range point bit wanted in (put.bits point bit r.0 r.1).1 (there_wanted point bit r.0 r.1 wanted)),
-    )
+    wanted_there : (point bit : ℕ) → point < length flags → bit / 64 < words_for bits → bit_at (posted point (bit / 64)) (bit % 64) ≡ 1 → wants about.wanted point bit
+    wanted_there point bit low within one =
+        end.only point bit (omega (arith, low, points_is)) (omega (arith, within, bits_is)) (ap (λ (w : ℕ). bit_at w (bit % 64)) (sym (same_word point (bit / 64))) ∙ one)
+
+    module _ (range : (point bit : ℕ) → wants about.wanted point bit → (point < length flags) × (bit < bits)) where
+      -- no bit is there past the last
+      pub clear_past : (point word k : ℕ) → point < length flags → word < words_for bits → k < 64 → bits ≤ 64 * word + k → has_bit (posted point word) k ≡ false
+      clear_past point word k low within small past =
+          let q : (64 * word + k) / 64 ≡ word = omega (arith, small) in
+          let j : (64 * word + k) % 64 ≡ k = omega (arith, small) in
+          not_set (has_bit (posted point word) k) (λ set.
+          let one : bit_at (posted point ((64 * word + k) / 64)) ((64 * word + k) % 64) ≡ 1 = (λ i. bit_at (posted point (q i)) (j i)) ∙ one_of_bit (posted point word) k set in
+          omega (arith, past, (range point (64 * word + k) (wanted_there point (64 * word + k) low (omega (arith, within, q)) one)).1))
+
+      -- the sets of the points' words have exactly what is wanted
+      pub words_exact : (point bit : ℕ) → (contains (set_at (worded_table bits flags posted) point) bit ≡ true) ↔ wants about.wanted point bit
+      words_exact point bit = (
+        (λ set.
+            let inside = bit_within bits flags posted point bit set in
+            let has = sym (bit_there bits flags posted point bit inside.0 inside.1) ∙ set in
+            wanted_there point bit inside.0 (omega (arith, inside.1)) (one_of_bit (posted point (bit / 64)) (bit % 64) has)),
+        (λ wanted.
+            let inside = range point bit wanted in
+            let one = end.here point bit (omega (arith, inside.0, points_is)) (omega (arith, inside.1, bits_is)) wanted in
+            bit_there bits flags posted point bit inside.0 inside.1
+            ∙ bit_of_one (posted point (bit / 64)) (bit % 64) (ap (λ (w : ℕ). bit_at w (bit % 64)) (same_word point (bit / 64)) ∙ one)),
+      )
 
 pub some_one : (o : Option ℕ) → IsSome o → (s : ℕ) × (o ≡ Some s)
 some_one (Some s) h = (s, refl)

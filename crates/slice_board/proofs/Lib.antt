@@ -4,4 +4,5 @@ mod Passing
 pub mod Calls
 mod Counting
 mod Putting
+pub mod Worded
 mod Endings

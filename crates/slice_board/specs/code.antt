@@ -3,3 +3,4 @@ pub mod Words
 pub mod Fields
 pub mod Told
 pub mod Closing
+pub mod Worded

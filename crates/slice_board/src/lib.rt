@@ -5,13 +5,18 @@
 #![tactic(auto)]
 
 mod board;
+mod filling;
 mod pass;
 mod plays;
+mod posted_words;
 mod rule;
 mod view;
+mod word_board;
 
-pub use board::{Board, Unfinished};
+pub use board::Board;
 pub use pass::Pass;
+pub use posted_words::PostedWords;
 pub use rule::Wanted;
 pub use std::alloc::AllocError as OutOfMemory;
 pub use view::{About, Count, Mark};
+pub use word_board::{Unfinished, WordBoard};

@@ -1,5 +1,5 @@
 -- How the fields of a pass and of a board stand for what contracts see.
-use Rattle.std.specs.Prelude.{◌≡◌, ℕ, ◌+◌, ◌<◌, ◌≤◌, length, Option, Some}
+use Rattle.std.specs.Prelude.{◌≡◌, ℕ, ◌+◌, ◌^◌, ◌<◌, ◌≤◌, length, Option, Some}
 use Rattle.atomic_table.specs.Seated.{TableId}
 use Rattle.bit_rows.specs.RowTable.{RowTable, blank_table}
 use Rattle.bit_rows.specs.Slices.{Slices}
@@ -38,6 +38,7 @@ module _ {T : Type 0} where
   pub record IsLaid (wants : T → ℕ → ℕ → Type 0) (table : TableId) (key : Key T) (cut : Slices) (blank : RowTable) : Type 0 where
     pub cut_is : key.cut.value ≡ cut
     pub points_is : key.points ≡ length blank.flags
+    pub few : length blank.flags < 2 ^ 32
     pub wide : table.words ≡ word_count (about_key key)
     pub no_slots : table.slots ≡ 0
     pub blank_is : blank ≡ blank_table blank.flags 0 cut.bits
