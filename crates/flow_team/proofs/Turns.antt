@@ -5,11 +5,7 @@ use Rattle.std.specs.Int.{bit_at}
 use Rattle.std.proofs.lemmas.Bool.{cases_lt, lt-ltb, le-ltb}
 use Rattle.std.proofs.lemmas.Nat.Bits.{bit_at_xor, bit_at-lt, bit_at_ones, bit_at_ones_above}
 use Rattle.bit_rows.specs.Words.{has_bit}
-
--- a place that is turned, or not
-abbrev pub turned : Bool → Bool → Bool
-turned true set = not set
-turned false set = set
+use Rattle.flow_team.specs.code.Turned.{turned}
 
 odd : (x y : ℕ) → x < 2 → y < 2 → eqb ((x + y) % 2) 1 ≡ turned (eqb y 1) (eqb x 1)
 odd zero zero p q = refl

@@ -9,7 +9,7 @@ ghost use Rattle.flow_team.specs.Tables.{IsTableOf};
 use crate::OutOfMemory;
 use crate::job::Job;
 use crate::sets::GraphSets;
-use crate::table::{Table, complement_all};
+use crate::table::Table;
 use bit_rows::Cut;
 use flow_graph::{Analysis, Graph};
 use gk_solve::Routes;
@@ -76,8 +76,8 @@ impl<'g, 'p> Job<GraphSets<'g, 'p>> {
         ensures table { IfSome result (λ r. IsTableOf self.entry.wanted.program r.0) }
         ensures routes { IfSome result (λ r. r.1 ≡ direction_of self.entry.wanted) }
     {
-        match self.close_rows(pass) {
-            Ok((sets, rows)) => Some((sets.table(rows), sets.into_routes())),
+        match self.close_words(pass) {
+            Ok((sets, posted)) => Some((sets.table(posted), sets.into_routes())),
             Err(_) => None,
         }
     }
@@ -99,8 +99,8 @@ impl<'g, 'p> Job<GraphSets<'g, 'p>> {
         ensures job { IfErr result (λ r. r.1 ≡ self.entry) }
         ensures pass { IfErr result (λ r. r.2 ≡ record pass.entry { counted = r.2.counted }) }
     {
-        match self.close_rows(pass) {
-            Ok((sets, rows)) => Ok(sets.table(rows)),
+        match self.close_words(pass) {
+            Ok((sets, posted)) => Ok(sets.table(posted)),
             Err(open) => Err(open),
         }
     }

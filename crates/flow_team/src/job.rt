@@ -11,16 +11,16 @@ ghost use Rattle.flow_team.specs.code.Posting.{IsPosted, PostsMore};
 use crate::OutOfMemory;
 use crate::gate::Gate;
 use crate::solve::Solve;
-use bit_rows::{Cut, Rows};
+use bit_rows::Cut;
 use gk_solve::SliceWords;
-use slice_board::{Board, Pass, Unfinished};
+use slice_board::{Pass, PostedWords, Unfinished, WordBoard};
 use std::alloc::Global;
 use std::marker::Model;
 
 /// Sets that several workers solve, each with a pass of its own: slices are drawn from a board, solved, and posted on it.
 #[derive(Drop)]
 pub struct Job<S: Solve> {
-    pub(crate) board: Board<S>,
+    pub(crate) board: WordBoard<S>,
     pub(crate) sets: S,
 }
 
@@ -200,7 +200,7 @@ impl<S: Solve> Job<S> {
 }
 
 impl<S: Solve> Job<S> {
-    // A job of the sets, over blank rows with their flags.
+    // A job of the sets, with their flags.
     pub(crate) fn on_board(
         alloc: Global,
         sets: S,
@@ -215,16 +215,15 @@ impl<S: Solve> Job<S> {
         ensures pass { IfOk result (λ r. r.1 ≡ fresh_pass r.0) }
     {
         let _points = sets.points();
-        let blank = Rows::blank(alloc, flags, 0, cut.bits())?;
-        let (board, pass) = Board::open(alloc, &sets, blank, cut)?;
+        let (board, pass) = WordBoard::open(alloc, &sets, flags, cut)?;
         Ok((Job { board, sets }, pass))
     }
 
-    // The rows, which hold exactly the sets, where every slice is finished. Else all is handed back.
-    pub(crate) fn close_rows(
+    // The words, which hold exactly the sets, where every slice is finished. Else all is handed back.
+    pub(crate) fn close_words(
         self,
         pass: Pass<S>,
-    ) -> Result<(S, Rows), (Unfinished, Job<S>, Pass<S>)>
+    ) -> Result<(S, PostedWords), (Unfinished, Job<S>, Pass<S>)>
         requires { IsOf self pass }
         ensures sets { IfOk result (λ r. r.0 ≡ self.wanted) }
         ensures rows { IfOk result (λ r. HoldSets (S.points self.wanted) (S.bits self.wanted) (S.has_path self.wanted) (S.wants self.wanted) r.1) }
@@ -237,7 +236,7 @@ impl<S: Solve> Job<S> {
     {
         let Job { board, sets } = self;
         match board.close(pass) {
-            Ok(rows) => Ok((sets, rows)),
+            Ok(words) => Ok((sets, words)),
             Err((unfinished, board, pass)) => Err((unfinished, Job { board, sets }, pass)),
         }
     }

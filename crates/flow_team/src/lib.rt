@@ -12,6 +12,7 @@ mod sets;
 mod solve;
 mod table;
 mod team;
+mod turned_words;
 mod word_block;
 mod workers;
 

@@ -9,12 +9,12 @@ ghost use Rattle.flow_team.specs.Tables.{IsTableOf};
 
 use crate::OutOfMemory;
 use crate::solve::Solve;
-use crate::table::{Table, complement_all};
+use crate::table::Table;
+use crate::turned_words::TurnedWords;
 use crate::word_block::WordBlock;
-use bit_rows::Rows;
 use flow_graph::{Analysis, Graph, Problem};
 use gk_solve::{Routes, SliceWords, Solver};
-use slice_board::Wanted;
+use slice_board::{PostedWords, Wanted};
 use std::alloc::Global;
 use std::marker::Model;
 
@@ -77,17 +77,15 @@ impl<'g, 'p> GraphSets<'g, 'p> {
         self.solver.flags(alloc)
     }
 
-    /// The analysis's table, of the rows of its may form: complemented where the analysis is over every path.
-    pub(crate) fn table(&self, mut rows: Rows) -> Table
-        requires { IsMeetOverPaths self.now 0 (bits_of self.now.program self.now.analysis) rows }
+    /// The analysis's table, of the words of its may form: complemented where the analysis is over every path.
+    pub(crate) fn table(&self, posted: PostedWords) -> Table
+        requires { IsMeetOverPaths self.now 0 (bits_of self.now.program self.now.analysis) posted }
         ensures analysis { result.analysis ≡ self.now.analysis }
         ensures table { IsTableOf self.now.program result }
     {
         let problem = self.solver.problem();
-        if problem.complements() {
-            complement_all(&mut rows);
-        }
-        Table::with_rows(problem.analysis(), rows)
+        let words = TurnedWords::of(posted, problem.complements());
+        Table::with_posted(problem.analysis(), words)
     }
 
     // The first bits of the analysis's table, solved at once.

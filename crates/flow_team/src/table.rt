@@ -1,10 +1,9 @@
 ghost use Rattle.std.specs.Prelude.{◌≡◌, ◌≤◌, ◌<◌, length};
 ghost use Rattle.bit_rows.specs.RowSet.{IsWordOf, contains as is_in};
 ghost use Rattle.bit_rows.specs.RowTable.{flag_at, set_at};
-ghost use Rattle.flow_team.specs.code.Complements.{AreComplemented};
 
+use crate::turned_words::TurnedWords;
 use crate::word_block::WordBlock;
-use bit_rows::Rows;
 use flow_graph::Analysis;
 use std::marker::Model;
 
@@ -16,10 +15,10 @@ pub struct Table {
     sets: Sets,
 }
 
-// How the sets are kept: as the rows of a board, or as the words of a single solver.
+// How the sets are kept: as the words of a board, or as those of a single solver.
 #[derive(Drop)]
 enum Sets {
-    Posted(Rows),
+    Posted(TurnedWords),
     Solved(WordBlock),
 }
 
@@ -32,28 +31,19 @@ impl Model for Table {
     ghost view = { λ table. record { analysis = table.analysis; rows = rows_of table.sets } };
 }
 
-// Takes out of each row what is in it, and puts in the rest.
-pub(crate) fn complement_all(rows: &mut Rows)
-    ensures { AreComplemented rows.old rows.new }
-{
-    for point in 0..rows.points() {
-        rows.flip_row(point);
-    }
-}
-
 impl Table {
-    /// The table with these rows.
-    pub(crate) fn with_rows(analysis: Analysis, rows: Rows) -> Table
+    /// The table with the words of a board.
+    pub(crate) fn with_posted(analysis: Analysis, words: TurnedWords) -> Table
         ensures analysis { result.analysis ≡ analysis }
-        ensures rows { result.rows ≡ rows }
+        ensures rows { result.rows ≡ words }
     {
         Table {
             analysis,
-            sets: Sets::Posted(rows),
+            sets: Sets::Posted(words),
         }
     }
 
-    /// The table with these words.
+    /// The table with the words of a solver.
     pub(crate) fn with_words(analysis: Analysis, words: WordBlock) -> Table
         ensures analysis { result.analysis ≡ analysis }
         ensures rows { result.rows ≡ words }
@@ -77,7 +67,7 @@ impl Table {
         ensures { result ≡ flag_at self.now.rows point }
     {
         match &self.sets {
-            Sets::Posted(rows) => rows.flag(point),
+            Sets::Posted(posted) => posted.flag(point),
             Sets::Solved(words) => words.flag(point),
         }
     }
@@ -98,7 +88,7 @@ impl Table {
         ensures { IsWordOf (set_at self.now.rows point) word result }
     {
         match &self.sets {
-            Sets::Posted(rows) => rows.row(point).word(word),
+            Sets::Posted(posted) => posted.word(point, word),
             Sets::Solved(words) => words.word(point, word),
         }
     }

@@ -11,6 +11,7 @@ ghost use Rattle.flow_team.specs.code.Blocks.{Appends, AppendsRows, AreLaid, wor
 ghost use Rattle.flow_team.specs.code.FactWords.{IsFactWord};
 
 use crate::OutOfMemory;
+use crate::turned_words::turned_word;
 use gk_solve::{SliceWords, Solver};
 use std::alloc::Global;
 use std::marker::Model;
@@ -37,28 +38,6 @@ impl Model for WordBlock {
     ghost view = { λ t. block_table t.bits t.flags.items t.words.items };
 
     ghost invariant = { λ t. IsBlock (length t.flags.items) t.bits t.words.items };
-}
-
-// The word whose lowest `count` places are 1.
-fn low_ones(count: u64) -> u64
-    requires { count ≤ 64 }
-    ensures { result ≡ 2 ^ count - 1 }
-{
-    if count == 64 {
-        u64::MAX
-    } else {
-        (1 << count) - 1
-    }
-}
-
-// By what a word's places are turned: where the analysis is over every path, those of its bits.
-fn turned_word(bits: u32, must: bool, word: u32) -> u64
-    ensures { (k : ℕ) → k < 64 → has_bit result k ≡ (must && nat_lt (64 * word + k) bits) }
-{
-    if !must {
-        return 0;
-    }
-    low_ones(u64::from(bits).saturating_sub(64 * u64::from(word)).min(64))
 }
 
 // By what the words of a group are turned.

@@ -62,9 +62,10 @@ impl PostedWords {
         self.flags.len() as u32
     }
 
-    /// How many bits the sets are over.
+    /// How many bits the sets are over: none has another.
     pub fn bits(&self) -> u32
-        ensures { result ≡ self.now.hi }
+        ensures value { result ≡ self.now.hi }
+        ensures within { (point bit : ℕ) → contains (set_at self.now point) bit ≡ true → bit < self.now.hi }
     {
         self.bits
     }

@@ -2,7 +2,7 @@ use Rattle.std.proofs.Common.{◌≡◌, ◌+◌, ◌*◌, ◌-◌, ◌^◌, ◌
 use Rattle.bit_rows.specs.Words.{has_bit}
 use Rattle.bit_rows.proofs.WordBits.{has_bit-zero}
 use Rattle.flow_team.proofs.Turns.{has_bit-low_ones}
-use Rattle.flow_team.proofs.word_block.turned_word.Goals as goal
+use Rattle.flow_team.proofs.turned_words.turned_word.Goals as goal
 
 pub returns-then-not-must : goal.returns-then-not-must
 returns-then-not-must c = λ k small.

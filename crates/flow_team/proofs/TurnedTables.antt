@@ -1,0 +1,89 @@
+-- Words and sets that are turned, and what the solution of a may form says of a table.
+use Rattle.std.proofs.Common.{◌≡◌, ◌↔◌, ℕ, ◌+◌, ◌*◌, ◌<◌, Bool, true, false, not, ◌&&◌, nat_lt, length, inl, inr, refl, sym, ap, ap₂, subst, ◌∙◌, arith}
+use Rattle.std.specs.Prelude.{bit_xor}
+use Rattle.std.proofs.lemmas.Bool.{cases_lt, lt-ltb, le-ltb}
+use Rattle.std.proofs.lemmas.List.FromFn.{get_or-map-range_with_len}
+use Rattle.bit_rows.specs.RowSet.{RowSet, IsWordOf, contains, empty_set}
+use Rattle.bit_rows.specs.RowTable.{RowTable, set_at}
+use Rattle.bit_rows.specs.Words.{has_bit}
+use Rattle.bit_rows.proofs.RowSets.{contains-set_of, contains-above, hi_of-set_of}
+use Rattle.flow_graph.specs.Analyses.{IsInTable, is_must, may_shape, may_transfer}
+use Rattle.flow_graph.specs.Paths.{SomePathHas}
+use Rattle.flow_graph.specs.Universes.{bits}
+use Rattle.flow_graph.specs.declared.analysis.Analysis.{Analysis}
+use Rattle.flow_graph.proofs.graphs.MayForms.{flags_are_may_forms, may_tables_are_may_forms, must_tables_are_may_forms}
+use Rattle.gk_solve.specs.Solved.{IsMeetOverPaths}
+use Rattle.tac_reader.specs.Programs.{Program}
+use Rattle.flow_team.specs.Tables.{IsTableOf}
+use Rattle.flow_team.specs.code.Turned.{turned, turned_set, turned_table}
+use Rattle.flow_team.proofs.Turns.{has_bit-xor}
+
+and_true : (b : Bool) → (b && true) ≡ b
+and_true true = refl
+and_true false = refl
+
+and_false : (b : Bool) → (b && false) ≡ false
+and_false true = refl
+and_false false = refl
+
+none : (set : Bool) → (set ≡ true → ⊥) → set ≡ false
+none true never = absurd (never refl)
+none false never = refl
+
+module _ (turns : Bool) (rows : RowTable) (point : ℕ) (there : point < length rows.flags) where
+  set_at-turned : set_at (turned_table turns rows) point ≡ turned_set turns rows point
+  set_at-turned = get_or-map-range_with_len (turned_set turns rows) 0 (length rows.flags) point point (empty_set 0 rows.hi) there (omega arith)
+
+  pub contains-turned : (bit : ℕ) → bit < rows.hi → contains (set_at (turned_table turns rows) point) bit ≡ turned turns (contains (set_at rows point) bit)
+  contains-turned bit below =
+      ap (λ (s : RowSet). contains s bit) set_at-turned ∙ contains-set_of 0 rows.hi (λ b. turned turns (contains (set_at rows point) b)) bit (omega arith) below
+
+  -- a word of a set, turned at the places of its bits
+  pub word_turned : (word value turn : ℕ) → ((bit : ℕ) → contains (set_at rows point) bit ≡ true → bit < rows.hi) → IsWordOf (set_at rows point) word value
+      → ((k : ℕ) → k < 64 → has_bit turn k ≡ (turns && nat_lt (64 * word + k) rows.hi)) → IsWordOf (set_at (turned_table turns rows) point) word (bit_xor value turn)
+  word_turned word value turn within is turn_is k small =
+      let b = 64 * word + k in
+      let set = contains (set_at rows point) b in
+      has_bit-xor value turn k ∙ ap₂ turned (turn_is k small) (is k small)
+      ∙ elim (cases_lt b rows.hi) [
+        | inl below ↦ ap (λ t. turned (turns && t) set) (lt-ltb b rows.hi below) ∙ ap (λ t. turned t set) (and_true turns) ∙ sym (contains-turned b below)
+        | inr past ↦
+            ap (λ t. turned (turns && t) set) (le-ltb b rows.hi past) ∙ ap (λ t. turned t set) (and_false turns)
+            ∙ none set (λ has. omega (arith, past, within b has))
+            ∙ sym (ap (λ (s : RowSet). contains s b) set_at-turned
+            ∙ contains-above (turned_set turns rows point) b (omega (arith, past, hi_of-set_of 0 rows.hi (λ c. turned turns (contains (set_at rows point) c)) (omega arith))))
+      ]
+
+-- a bit that is taken out of a set or put in is so told by what it was
+flipped : (P : Type 0) (set : Bool) → (set ≡ true) ↔ P → (not set ≡ true) ↔ (¬ P)
+flipped P true told = ((λ turned. absurd (cc turned)), (λ none. absurd (none (told.0 refl))))
+flipped P false told = ((λ turned p. absurd (cc (told.1 p))), (λ none. refl))
+
+module _ (program : Program) (analysis : Analysis) (point bit : ℕ) (set : Bool) (told : (set ≡ true) ↔ SomePathHas (may_shape program analysis) (may_transfer program analysis bit) point) where
+  -- of a may analysis the sets are the table's, of a must analysis their complements
+  turned_bit : (must : Bool) → is_must analysis ≡ must → (turned must set ≡ true) ↔ IsInTable program analysis point bit
+  turned_bit true is =
+      let law = must_tables_are_may_forms program analysis point bit is in
+      let turns = flipped (SomePathHas (may_shape program analysis) (may_transfer program analysis bit) point) set told in
+      ((λ has. law.1 (turns.0 has)), (λ has. turns.1 (law.0 has)))
+  turned_bit false is = let law = may_tables_are_may_forms program analysis point bit is in ((λ has. law.1 (told.0 has)), (λ has. told.1 (law.0 has)))
+
+-- the sets of the may form, turned where the analysis is over every path, are its table
+pub turned_is_table : (program : Program) (analysis : Analysis) (rows : RowTable)
+    → IsMeetOverPaths (record { program = program; analysis = analysis }) 0 (bits program analysis) rows
+    → IsTableOf program (record { analysis = analysis; rows = turned_table (is_must analysis) rows })
+turned_is_table program analysis rows meet = record {
+  from_first = refl;
+  to_last = meet.same_hi;
+  count = meet.count;
+  facts = record {
+    paths = λ point there.
+        let law = flags_are_may_forms program analysis point in
+        let told = meet.flag point there in
+        ((λ is. law.1 (told.0 is)), (λ path. told.1 (law.0 path)));
+    sets = λ point bit there below.
+        subst (λ (b : Bool). (b ≡ true) ↔ IsInTable program analysis point bit)
+        (sym (contains-turned (is_must analysis) rows point (omega (arith, there, meet.count)) bit (omega (arith, below, meet.same_hi))))
+        (turned_bit program analysis point bit (contains (set_at rows point) bit) (meet.bit point bit there (omega arith) below) (is_must analysis) refl);
+  };
+}

@@ -1,0 +1,18 @@
+-- Sets that are turned: what is in them is taken out, and the rest put in.
+use Rattle.std.specs.Prelude.{ℕ, Bool, true, false, not, length, map}
+use Rattle.std.specs.List.{range_with_len}
+use Rattle.bit_rows.specs.RowSet.{RowSet, contains, set_of}
+use Rattle.bit_rows.specs.RowTable.{RowTable, set_at, table}
+
+-- a place that is turned, or not
+abbrev pub turned : Bool → Bool → Bool
+turned true set = not set
+turned false set = set
+
+-- a point's set, turned or not
+abbrev pub turned_set : Bool → RowTable → ℕ → RowSet
+turned_set turns rows point = set_of 0 rows.hi (λ b. turned turns (contains (set_at rows point) b))
+
+-- the flags of a table, and its sets turned or not
+abbrev pub turned_table : Bool → RowTable → RowTable
+turned_table turns rows = table 0 rows.hi rows.flags (map (turned_set turns rows) (range_with_len 0 (length rows.flags)))

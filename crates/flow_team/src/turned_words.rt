@@ -1,0 +1,72 @@
+// The words of a closed board, as a table's sets.
+ghost use Rattle.std.specs.Prelude.{◌≡◌, ℕ, ◌+◌, ◌-◌, ◌*◌, ◌^◌, ◌<◌, ◌≤◌, ◌&&◌, nat_lt, length};
+ghost use Rattle.bit_rows.specs.RowSet.{IsWordOf};
+ghost use Rattle.bit_rows.specs.RowTable.{flag_at, set_at};
+ghost use Rattle.bit_rows.specs.Words.{has_bit};
+ghost use Rattle.flow_team.specs.code.Turned.{turned_table};
+
+use slice_board::PostedWords;
+use std::marker::Model;
+
+/// The posted words themselves. Where the sets are the complements of what was posted, each word is turned as it is read.
+#[derive(Drop)]
+pub(crate) struct TurnedWords {
+    posted: PostedWords,
+    turns: bool,
+}
+
+impl Model for TurnedWords {
+    ghost use Rattle.bit_rows.specs.RowTable.{RowTable};
+    ghost use Rattle.flow_team.specs.code.Turned.{turned_table};
+
+    ghost Value = { RowTable };
+
+    ghost view = { λ t. turned_table t.turns t.posted };
+}
+
+// The word whose lowest `count` places are 1.
+fn low_ones(count: u64) -> u64
+    requires { count ≤ 64 }
+    ensures { result ≡ 2 ^ count - 1 }
+{
+    if count == 64 {
+        u64::MAX
+    } else {
+        (1 << count) - 1
+    }
+}
+
+/// By what a word's places are turned: where the analysis is over every path, those of its bits.
+pub(crate) fn turned_word(bits: u32, must: bool, word: u32) -> u64
+    ensures { (k : ℕ) → k < 64 → has_bit result k ≡ (must && nat_lt (64 * word + k) bits) }
+{
+    if !must {
+        return 0;
+    }
+    low_ones(u64::from(bits).saturating_sub(64 * u64::from(word)).min(64))
+}
+
+impl TurnedWords {
+    /// The posted sets, or where these are to be turned their complements.
+    pub(crate) fn of(posted: PostedWords, turns: bool) -> TurnedWords
+        ensures { result ≡ turned_table turns posted }
+    {
+        TurnedWords { posted, turns }
+    }
+
+    /// The point's path flag.
+    pub(crate) fn flag(&self, point: u32) -> bool
+        requires { point < length self.now.flags }
+        ensures { result ≡ flag_at self.now point }
+    {
+        self.posted.flag(point)
+    }
+
+    /// A word of the point's set, 0 at all places past the last bit.
+    pub(crate) fn word(&self, point: u32, word: u32) -> u64
+        requires { point < length self.now.flags }
+        ensures { IsWordOf (set_at self.now point) word result }
+    {
+        self.posted.word(point, word) ^ turned_word(self.posted.bits(), self.turns, word)
+    }
+}
