@@ -17,8 +17,8 @@ use crate::fault::{Fault, Stop};
 use crate::name_hashers::NameHashers;
 use crate::names::NameTable;
 use crate::refusal::RefusalKind;
-use crate::section::{Section, labels, section_cells};
-use crate::statement::{Role, cells};
+use crate::section::{Section, labels, line_cells, section_cells};
+use crate::statement::Role;
 use crate::token::Token;
 use std::alloc::{AllocError, Global};
 
@@ -260,9 +260,10 @@ fn repeated_callee(
 ) -> Result<Option<Fault>, AllocError>
     ensures { IfOk result (λ fault. fault ≡ head_of (flat_map (λ c. repeated DuplicateCallee [] (callees_of c)) (statements_of (section_view text.now section.now).body))) }
 {
-    for line in section.lines {
+    let lines = section.lines;
+    for at in 0..lines.len() {
         found.clear();
-        cells(found, Role::Callee, line.statement())?;
+        line_cells(found, Role::Callee, lines, at)?;
         if let Some(fault) = first_repeated(RefusalKind::DuplicateCallee, text, found) {
             return Ok(Some(fault));
         }

@@ -4,14 +4,14 @@ use crate::refusal::RefusalKind;
 use std::alloc::AllocError;
 
 /// A fault, and the number of bytes before it.
-#[derive(Clone, Copy, Debug)]
+#[derive(Clone, Copy)]
 pub struct Fault {
     pub kind: RefusalKind,
     pub place: u32,
 }
 
 /// Why a check did not go on: a fault of the text, or want of memory.
-#[derive(Clone, Copy, Debug)]
+#[derive(Clone, Copy)]
 pub enum Stop {
     Fault(Fault),
     OutOfMemory,

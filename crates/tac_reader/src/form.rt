@@ -8,7 +8,7 @@ use crate::program::Op;
 use crate::token::{Keyword, Token, TokenKind};
 
 /// The form of a statement: one for each row of the table of statements.
-#[derive(Clone, Copy, Debug, PartialEq, Eq)]
+#[derive(Clone, Copy, PartialEq, Eq)]
 pub enum Form {
     Copy,
     Unary,
@@ -25,7 +25,7 @@ pub enum Form {
 }
 
 /// What may stand in a place of a form.
-#[derive(Clone, Copy, Debug)]
+#[derive(Clone, Copy)]
 pub enum Slot {
     Keyword(Keyword),
     Colon,
@@ -43,7 +43,7 @@ pub enum Slot {
 
 /// What a walk along a form found: the place of the first token that does not fit, or all of them
 /// fit, and are a part of the form or the whole of it.
-#[derive(Clone, Copy, Debug)]
+#[derive(Clone, Copy)]
 pub enum Walk {
     Wrong(u32),
     Unfinished,

@@ -6,12 +6,14 @@ ghost use Rattle.tac_reader.specs.Forms.{has_form, proc_form, end_form};
 ghost use Rattle.tac_reader.specs.Sections.{token_lines};
 ghost use Rattle.tac_reader.specs.Text.{lines};
 ghost use Rattle.tac_reader.specs.Tokens.{rows};
-ghost use Rattle.tac_reader.specs.code.Lexed.{lexed_view, some_of, text_lines, IfFault};
+ghost use Rattle.tac_reader.specs.code.Formed.{AreLines};
+ghost use Rattle.tac_reader.specs.code.Lexed.{some_of, text_lines, IfFault};
+ghost use Rattle.tac_reader.specs.code.Ranges.{range_views};
 ghost use Rattle.tac_reader.specs.code.Views.{tokens_view};
 
 use crate::fault::{Fault, Stop};
 use crate::form::{END, PROC, Slot, Walk, fits_at, follow};
-use crate::formed::counted;
+use crate::formed::{Line, counted};
 use crate::lexed::{Lexed, LineRange};
 use crate::line::row_fault;
 use crate::piece::line_run;
@@ -59,15 +61,23 @@ fn inside_after(inside: bool, tokens: &[Token]) -> bool
 }
 
 /// Puts a line last, where it has tokens.
-fn push_line(lexed: &mut Lexed, row: &[Token]) -> Result<(), AllocError>
-    ensures { OnOk result (lexed_view lexed.new ≡ lexed_view lexed.old ++ some_of row.now) }
+fn push_line(
+    tokens: &mut Vec<Token>,
+    lines: &mut Vec<LineRange>,
+    row: &[Token],
+) -> Result<(), AllocError>
+    requires { AreLines tokens.old.items lines.old.items }
+    ensures lines { OnOk result (AreLines tokens.new.items lines.new.items) }
+    ensures pushed { OnOk result (range_views tokens.new.items lines.new.items ≡ range_views tokens.old.items lines.old.items ++ some_of row.now) }
 {
-    let first = counted(lexed.tokens.len())?;
-    if !row.is_empty() {
-        lexed.tokens.extend_from_slice(row)?;
-        let end = counted(lexed.tokens.len())?;
-        lexed.lines.push(LineRange { first, end })?;
+    if row.is_empty() {
+        return Ok(());
     }
+    let line = Line::of(row)?;
+    let first = counted(tokens.len())?;
+    tokens.extend_from_slice(row)?;
+    let end = counted(tokens.len())?;
+    lines.push(line.range(first, end))?;
     Ok(())
 }
 
@@ -78,10 +88,8 @@ pub fn lex(alloc: Global, text: &[u8]) -> Result<Lexed, Stop>
     ensures faultless { OnOk result (first_by_place (line_faults false (length text.now) (rows text.now)) ≡ None) }
     ensures fault { IfErr result (IfFault (λ f. first_by_place (line_faults false (length text.now) (rows text.now)) ≡ Some f)) }
 {
-    let mut lexed = Lexed {
-        tokens: Vec::new(alloc),
-        lines: Vec::new(alloc),
-    };
+    let mut tokens = Vec::new(alloc);
+    let mut lines = Vec::new(alloc);
     let mut row = Vec::new(alloc);
     let mut inside = false;
     let mut at = 0;
@@ -92,7 +100,7 @@ pub fn lex(alloc: Global, text: &[u8]) -> Result<Lexed, Stop>
             return Err(Stop::Fault(fault));
         }
         inside = inside_after(inside, &row);
-        push_line(&mut lexed, &row)?;
+        push_line(&mut tokens, &mut lines, &row)?;
         at = stop;
     }
     if inside {
@@ -101,5 +109,5 @@ pub fn lex(alloc: Global, text: &[u8]) -> Result<Lexed, Stop>
             place: text.len() as u32,
         }));
     }
-    Ok(lexed)
+    Ok(Lexed { tokens, lines })
 }

@@ -4,14 +4,14 @@ ghost use Rattle.std.specs.Prelude.{◌≡◌, ◌+◌, ◌*◌, ◌<◌, ◌≤
 ghost use Rattle.tac_reader.specs.code.Built.{names_view};
 ghost use Rattle.tac_reader.specs.code.Procedures.{labels_at};
 ghost use Rattle.tac_reader.specs.Programs.{label_places, labels_from, names_in, noted, procedure_of, procedures_from, start_of as start_in, statement_of, variables_in};
-ghost use Rattle.tac_reader.specs.code.SectionViews.{section_view, sections_view};
+ghost use Rattle.tac_reader.specs.code.SectionViews.{lines_view, section_view, sections_view};
 ghost use Rattle.tac_reader.specs.Sections.{labels_in, only_name, statements_of};
 ghost use Rattle.tac_reader.specs.Sound.{IsSound};
 ghost use Rattle.tac_reader.specs.code.Views.{tokens_view};
 
 use crate::build::{Names, kind};
 use crate::cursor::LineCursor;
-use crate::formed::{Line, Statement, counted};
+use crate::formed::{Lines, Statement, counted};
 use crate::line::stop_of;
 use crate::name_hashers::NameHashers;
 use crate::names::NameTable;
@@ -60,33 +60,20 @@ fn statement(
     Ok(Stmt { kind, span })
 }
 
-/// How many lines have a statement.
-fn statement_count(lines: &[Line<'_>]) -> usize
-    ensures { (text : List ℕ) → length (statements_of (map (λ line. tokens_view text line.tokens.now) lines.now)) ≡ result }
-{
-    let mut count = 0;
-    for line in lines {
-        if !line.statement().tokens.is_empty() {
-            count += 1;
-        }
-    }
-    count
-}
-
 /// The statements of the lines. What `found` holds is lost.
 fn statements(
     alloc: Global,
     names: Names<'_>,
     cursor: &mut LineCursor<'_>,
-    lines: &[Line<'_>],
+    lines: Lines<'_>,
     found: &mut Vec<Token>,
 ) -> Result<Vec<Stmt>, AllocError>
-    ensures statements { IfOk result (λ stmts. stmts.items ≡ map (statement_of cursor.old (names_view names.entry)) (statements_of (map (λ line. tokens_view cursor.old line.tokens.now) lines.now))) }
+    ensures statements { IfOk result (λ stmts. stmts.items ≡ map (statement_of cursor.old (names_view names.entry)) (statements_of (lines_view cursor.old lines.entry))) }
     ensures text { cursor.new ≡ cursor.old }
 {
-    let mut stmts = Vec::with_capacity(alloc, statement_count(lines))?;
-    for line in lines {
-        let formed = line.statement();
+    let mut stmts = Vec::with_capacity(alloc, lines.statements())?;
+    for at in 0..lines.len() {
+        let formed = lines.line(at).statement();
         if !formed.tokens.is_empty() {
             stmts.push(statement(names, cursor, formed, found)?)?;
         }
@@ -106,12 +93,13 @@ fn push_labels(labels: &mut Vec<Label>, count: usize, place: u32) -> Result<(), 
 }
 
 /// The labels of the lines, of which there are so many: by number, each with its place.
-fn section_labels(alloc: Global, count: u32, lines: &[Line<'_>]) -> Result<Vec<Label>, AllocError>
-    ensures { IfOk result (λ labels. (text : List ℕ) → labels.items ≡ labels_from 0 (label_places 0 (map (λ line. tokens_view text line.tokens.now) lines.now))) }
+fn section_labels(alloc: Global, count: u32, lines: Lines<'_>) -> Result<Vec<Label>, AllocError>
+    ensures { IfOk result (λ labels. (text : List ℕ) → labels.items ≡ labels_from 0 (label_places 0 (lines_view text lines.entry))) }
 {
     let mut labels = Vec::with_capacity(alloc, count as usize)?;
     let mut place = 0;
-    for line in lines {
+    for at in 0..lines.len() {
+        let line = lines.line(at);
         push_labels(&mut labels, line.labels(), counted(place)?)?;
         if !line.statement().tokens.is_empty() {
             place += 1;

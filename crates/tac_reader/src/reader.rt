@@ -14,13 +14,14 @@ use crate::checks::{
     check_repeated_callees,
 };
 use crate::fault::{Fault, Stop};
+use crate::formed::Lines;
 use crate::lex::lex;
 use crate::name_hashers::NameHashers;
 use crate::names::NameTable;
 use crate::procedure::{program, variables};
 use crate::program::Program;
 use crate::refusal::{ReadFault, Refusal, RefusalKind};
-use crate::section::{Section, sections, token_lines};
+use crate::section::{Section, sections};
 use std::alloc::Global;
 
 /// The longest text, in bytes.
@@ -102,8 +103,7 @@ fn read_checked(alloc: Global, text: &[u8]) -> Result<Program, Stop>
 {
     let lexed = lex(alloc, text)?;
     let hashers = NameHashers::of(text, lexed.tokens.as_slice());
-    let lines = token_lines(alloc, &lexed)?;
-    let sections = sections(alloc, &lines)?;
+    let sections = sections(alloc, Lines::of(&lexed))?;
     let (procedures, labels) = check_names(alloc, hashers, text, &sections)?;
     let variables = variables(alloc, hashers, text, &sections)?;
     Ok(program(alloc, text, &sections, procedures, labels, variables)?)

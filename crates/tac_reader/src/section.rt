@@ -1,46 +1,26 @@
 // A text's procedures, by their lines.
 
-ghost use Rattle.std.specs.Prelude.{◌≡◌, ◌++◌, ℕ, List, map, flat_map, take_while, slice_range, take, vec_len, IfOk, OnOk};
-ghost use Rattle.tac_reader.specs.Forms.{cells_of, in_slot, labels_of};
-ghost use Rattle.tac_reader.specs.code.Lexed.{lexed_view};
+ghost use Rattle.std.specs.Prelude.{◌≡◌, ◌<◌, ◌≤◌, ◌++◌, ℕ, List, length, map, flat_map, drop, take_while, take, slice_index_or, vec_len, IfOk, OnOk};
+ghost use Rattle.tac_reader.specs.Forms.{behind_labels, cells_of, in_slot, labels_of};
+ghost use Rattle.tac_reader.specs.code.Ranges.{range_view};
 ghost use Rattle.tac_reader.specs.code.Roles.{role_test};
-ghost use Rattle.tac_reader.specs.code.SectionViews.{sections_view};
+ghost use Rattle.tac_reader.specs.code.SectionViews.{lines_view, sections_view};
 ghost use Rattle.tac_reader.specs.Sections.{is_inner as is_inner_line, sections_in, statements_of};
 ghost use Rattle.tac_reader.specs.code.Views.{tokens_view};
+ghost use Rattle.tac_reader.specs.declared.lexed.LineRange.{LineRange};
 
-use crate::formed::Line;
+use crate::formed::Lines;
 use crate::lex::{is_end, is_proc};
-use crate::lexed::{Lexed, LineRange};
 use crate::line::label_at;
 use crate::statement::{Role, cells};
 use crate::token::Token;
 use std::alloc::{AllocError, Global};
 
 /// A procedure: its name, and the lines between its `proc` line and its `end`.
-#[derive(Clone, Copy, Debug)]
+#[derive(Clone, Copy)]
 pub struct Section<'a> {
     pub title: Token,
-    pub lines: &'a [Line<'a>],
-}
-
-/// The tokens of a line; of a range that goes past the tokens, those that there are.
-fn line_tokens<'a>(tokens: &'a [Token], line: LineRange) -> &'a [Token]
-    ensures { result.now ≡ slice_range tokens.now line.first line.end }
-{
-    let end = tokens.len().min(line.end as usize);
-    let first = end.min(line.first as usize);
-    &tokens[first..end]
-}
-
-/// The lines of a text that have tokens, each by them.
-pub fn token_lines<'a>(alloc: Global, lexed: &'a Lexed) -> Result<Vec<Line<'a>>, AllocError>
-    ensures { IfOk result (λ lines. map (λ line. line.tokens.now) lines.items ≡ lexed_view lexed.now) }
-{
-    let mut lines = Vec::with_capacity(alloc, lexed.lines.len())?;
-    for line in &lexed.lines {
-        lines.push(Line::of(line_tokens(&lexed.tokens, *line))?)?;
-    }
-    Ok(lines)
+    pub lines: Lines<'a>,
 }
 
 /// Whether the line neither opens nor closes a procedure.
@@ -50,30 +30,31 @@ fn is_inner(line: &[Token]) -> bool
     !is_proc(line) && !is_end(line)
 }
 
-/// The lines up to the next one that opens or closes a procedure.
-fn inner_lines<'a>(lines: &'a [Line<'a>]) -> &'a [Line<'a>]
-    ensures { (text : List ℕ) → map (λ line. tokens_view text line.tokens.now) result.now ≡ take_while is_inner_line (map (λ line. tokens_view text line.tokens.now) lines.now) }
+/// The lines from the place `first` on, up to the next one that opens or closes a procedure.
+fn inner_lines<'a>(lines: Lines<'a>, first: usize) -> Lines<'a>
+    requires { first ≤ length lines.ranges.now }
+    ensures { (text : List ℕ) → lines_view text result ≡ take_while is_inner_line (map (range_view text lines.entry.tokens.now) (drop first lines.entry.ranges.now)) }
 {
-    let mut at = 0;
-    while at < lines.len() && is_inner(lines[at].tokens) {
+    let mut at = first;
+    while at < lines.len() && is_inner(lines.line(at).tokens) {
         at += 1;
     }
-    &lines[..at]
+    lines.part(first, at)
 }
 
 /// The procedures in text order: one for each `proc` line, with the lines up to the next `proc` or `end`.
-pub fn sections<'a>(alloc: Global, lines: &'a [Line<'a>]) -> Result<Vec<Section<'a>>, AllocError>
-    ensures { IfOk result (λ found. (text : List ℕ) → sections_view text found.items ≡ sections_in (map (λ line. tokens_view text line.tokens.now) lines.now)) }
+pub fn sections<'a>(alloc: Global, lines: Lines<'a>) -> Result<Vec<Section<'a>>, AllocError>
+    ensures { IfOk result (λ found. (text : List ℕ) → sections_view text found.items ≡ sections_in (lines_view text lines.entry)) }
 {
     let mut found = Vec::new(alloc);
     let mut at = 0;
     while at < lines.len() {
-        let line = lines[at].tokens;
+        let line = lines.line(at).tokens;
         at += 1;
         if is_proc(line) {
             found.push(Section {
                 title: line[1],
-                lines: inner_lines(&lines[at..]),
+                lines: inner_lines(lines, at),
             })?;
         }
     }
@@ -94,28 +75,43 @@ fn line_labels(found: &mut Vec<Token>, line: &[Token]) -> Result<(), AllocError>
 }
 
 /// Appends all labels of the lines. What is found already stays, also where memory runs out.
-pub fn labels(found: &mut Vec<Token>, lines: &[Line<'_>]) -> Result<(), AllocError>
+pub fn labels(found: &mut Vec<Token>, lines: Lines<'_>) -> Result<(), AllocError>
     ensures kept { take (vec_len found.old) found.new.items ≡ found.old.items }
-    ensures appended { OnOk result ((text : List ℕ) → tokens_view text found.new.items ≡ tokens_view text found.old.items ++ flat_map labels_of (map (λ line. tokens_view text line.tokens.now) lines.now)) }
+    ensures appended { OnOk result ((text : List ℕ) → tokens_view text found.new.items ≡ tokens_view text found.old.items ++ flat_map labels_of (lines_view text lines.entry)) }
 {
-    for line in lines {
-        line_labels(found, line.tokens)?;
+    for at in 0..lines.len() {
+        line_labels(found, lines.line(at).tokens)?;
     }
+    Ok(())
+}
+
+/// Appends the tokens of the statement in the line there that stand in a place of that role. What is
+/// found already stays, also where memory runs out.
+pub fn line_cells(
+    found: &mut Vec<Token>,
+    role: Role,
+    lines: Lines<'_>,
+    at: usize,
+) -> Result<(), AllocError>
+    requires { at < length lines.ranges.now }
+    ensures kept { take (vec_len found.old) found.new.items ≡ found.old.items }
+    ensures appended { OnOk result ((text : List ℕ) (r : LineRange) → tokens_view text found.new.items ≡ tokens_view text found.old.items ++ in_slot (role_test role) (cells_of (behind_labels (range_view text lines.entry.tokens.now (slice_index_or lines.entry.ranges.now at r))))) }
+{
+    if !lines.plays(at, role) {
+        return Ok(());
+    }
+    cells(found, role, lines.line(at).statement())?;
     Ok(())
 }
 
 /// Appends the tokens of the lines' statements that stand in a place of that role. What is found
 /// already stays, also where memory runs out.
-pub fn section_cells(
-    found: &mut Vec<Token>,
-    role: Role,
-    lines: &[Line<'_>],
-) -> Result<(), AllocError>
+pub fn section_cells(found: &mut Vec<Token>, role: Role, lines: Lines<'_>) -> Result<(), AllocError>
     ensures kept { take (vec_len found.old) found.new.items ≡ found.old.items }
-    ensures appended { OnOk result ((text : List ℕ) → tokens_view text found.new.items ≡ tokens_view text found.old.items ++ flat_map (λ statement. in_slot (role_test role) (cells_of statement)) (statements_of (map (λ line. tokens_view text line.tokens.now) lines.now))) }
+    ensures appended { OnOk result ((text : List ℕ) → tokens_view text found.new.items ≡ tokens_view text found.old.items ++ flat_map (λ statement. in_slot (role_test role) (cells_of statement)) (statements_of (lines_view text lines.entry))) }
 {
-    for line in lines {
-        cells(found, role, line.statement())?;
+    for at in 0..lines.len() {
+        line_cells(found, role, lines, at)?;
     }
     Ok(())
 }

@@ -12,7 +12,7 @@ use crate::token::Token;
 use std::alloc::AllocError;
 
 /// What a name in a statement stands for. A place for a variable may hold a number.
-#[derive(Clone, Copy, Debug)]
+#[derive(Clone, Copy)]
 pub enum Role {
     Label,
     Callee,
@@ -63,7 +63,7 @@ fn filled(
 }
 
 /// Whether some place of the form has that role.
-fn has_role(form: Form, role: Role) -> bool
+pub fn has_role(form: Form, role: Role) -> bool
     ensures { result ≡ has_role_in role form }
 {
     match role {

@@ -7,7 +7,7 @@ ghost use Rattle.tac_reader.specs.code.Views.{keyword_text, token_view};
 use crate::program::Op;
 
 /// The reserved names.
-#[derive(Clone, Copy, Debug, PartialEq, Eq)]
+#[derive(Clone, Copy, PartialEq, Eq)]
 pub enum Keyword {
     Proc,
     End,
@@ -42,7 +42,7 @@ impl Keyword {
 }
 
 /// What a token is. The sign `=` is no operator, and `:` neither.
-#[derive(Clone, Copy, Debug, PartialEq, Eq)]
+#[derive(Clone, Copy, PartialEq, Eq)]
 pub enum TokenKind {
     Name,
     Number,
@@ -53,7 +53,7 @@ pub enum TokenKind {
 }
 
 /// A token of a text: the bytes `start..stop` of it.
-#[derive(Clone, Copy, Debug)]
+#[derive(Clone, Copy)]
 pub struct Token {
     pub kind: TokenKind,
     pub start: u32,

@@ -1,13 +1,15 @@
 -- Forms that are kept with their statements, and labels that are counted.
-use Rattle.std.proofs.Common.{take, length-drop, ◌≡◌, ℕ, zero, suc, ◌-◌, ◌*◌, ◌≤◌, Bool, true, false, not, ◌||◌, List, [], ◌∷◌, ◌++◌, length, drop, refl, sym, ap, ◌∙◌, arith, Option, Some, None, is_some, option_map, true≢false, if◌then◌else◌, append-nil, codes}
+use Rattle.std.proofs.Common.{take, length-drop, ◌≡◌, ℕ, zero, suc, ◌-◌, ◌*◌, ◌<◌, ◌≤◌, All, slice_index_or, slice_range, Bool, true, false, not, ◌||◌, List, [], ◌∷◌, ◌++◌, length, drop, refl, sym, ap, ◌∙◌, arith, Option, Some, None, is_some, option_map, true≢false, if◌then◌else◌, append-nil, codes}
 use Rattle.std.specs.List.{list_any}
 use Rattle.tac_reader.specs.Tokens.{Token}
 use Rattle.tac_reader.specs.Forms.{Slot, key, callee, has_form, label_form, labels_of, behind_labels, statement_row, paired, cells_of, in_slot}
-use Rattle.tac_reader.specs.code.Formed.{is_formed, has_role}
+use Rattle.tac_reader.specs.code.Formed.{IsFormedIn, is_formed, has_role}
+use Rattle.tac_reader.specs.code.Ranges.{range_view}
 use Rattle.tac_reader.specs.code.Roles.{role_test}
 use Rattle.tac_reader.specs.code.Views.{form_slots, further_slots}
 use Rattle.tac_reader.specs.declared.form.Form.{Form}
 use Rattle.tac_reader.specs.declared.form.Form.TheVariants as form
+use Rattle.tac_reader.specs.declared.lexed.LineRange.{LineRange}
 use Rattle.tac_reader.specs.declared.statement.Role.{Role}
 use Rattle.tac_reader.specs.declared.statement.Role.TheVariants as role
 use Rattle.std.proofs.lemmas.List.{length-map, drop-map}
@@ -127,3 +129,25 @@ module _ (text : List ℕ) (tokens : List Lexed) (labels : ℕ) (counted : label
   left_formed f h =
       let size : length (take (length tokens - 2 * labels) (drop (2 * labels) tokens)) ≡ length tokens - 2 * labels = ap length (all-left (2 * labels) tokens) ∙ length-drop (2 * labels) tokens in
       (λ i. is_formed f (size i) (left_is i)) ∙ h
+
+-- A line whose form lacks a role, or that has no form, has no token of it.
+module _ (r : Role) (text : List ℕ) (tokens : List Lexed) (lines : List LineRange) (at : ℕ) (d e : LineRange) (below : at < length lines) (formed : All (IsFormedIn tokens) lines) where
+  any_default : (xs : List LineRange) (i : ℕ) → i < length xs → slice_index_or xs i d ≡ slice_index_or xs i e
+  any_default [] i h = absurd (let never : ⊥ = omega (arith, h) in never)
+  any_default (x ∷ xs) zero h = refl
+  any_default (x ∷ xs) (suc i) h = any_default xs i (omega (arith, h))
+
+  abbrev statement : List Token
+  statement = behind_labels (range_view text tokens (slice_index_or lines at d))
+
+  abbrev size : ℕ
+  size = length (slice_range tokens (slice_index_or lines at d).first (slice_index_or lines at d).end) - 2 * (slice_index_or lines at d).labels
+
+  row_is : statement_row statement ≡ option_map (row_in size) (slice_index_or lines at e).form
+  row_is = row_of_form (slice_index_or lines at d).form size statement (formed at d below text) ∙ ap (λ l. option_map (row_in size) l.form) (any_default lines at below)
+
+  pub no_cells : (slice_index_or lines at e).form ≡ None → in_slot (role_test r) (cells_of statement) ≡ []
+  no_cells none = ap (λ o. in_slot (role_test r) (elim o as (λ _. List (Slot × Token)) [ None ↦ [] | Some row ↦ paired row.1 statement ])) (row_is ∙ ap (option_map (row_in size)) none)
+
+  pub no_cells_of : (f : Form) → (slice_index_or lines at e).form ≡ Some f → has_role r f ≡ false → in_slot (role_test r) (cells_of statement) ≡ []
+  no_cells_of f some lacking = sym (cells_without r f size statement [] (row_is ∙ ap (option_map (row_in size)) some) lacking)

@@ -73,8 +73,8 @@ module _ (faults : List Token → List Fault) (none : faults [] ≡ []) where
       ∙ sym (flat_map-append faults (unless_empty (behind_labels line)) (statements_of lines))
 
 -- The callees of a line's call, in the emptied list.
-pub callees_found : (text : List ℕ) (found cleared : List Lexed) (statement line : List Token) → cleared ≡ [] → tokens_view text found ≡ tokens_view text cleared ++ in_slot is_callee (cells_of statement) → statement ≡ behind_labels line → tokens_view text found ≡ callees_of (behind_labels line)
-callees_found text found cleared statement line empty cells behind = cells ∙ (λ i. tokens_view text (empty i) ++ in_slot is_callee (cells_of (behind i)))
+pub callees_found : (text : List ℕ) (found cleared : List Lexed) (statement : List Token) → cleared ≡ [] → tokens_view text found ≡ tokens_view text cleared ++ in_slot is_callee (cells_of statement) → tokens_view text found ≡ callees_of statement
+callees_found text found cleared statement empty cells = cells ∙ (λ i. tokens_view text (empty i) ++ in_slot is_callee (cells_of statement))
 
 -- What an image's image is at a place.
 pub at_images : {X Y Z : Type 0} (f : Y → Z) (view : X → Y) (xs : List X) (i : ℕ) (d : X) (e : Z) → i < length xs → slice_index_or (map f (map view xs)) i e ≡ f (view (slice_index_or xs i d))

@@ -7,11 +7,11 @@ use Rattle.tac_reader.specs.Forms.{labels_of, behind_labels, label, fills, key}
 use Rattle.tac_reader.specs.Sections.{unless_empty}
 use Rattle.tac_reader.specs.code.Procedures.{labels_at}
 use Rattle.tac_reader.specs.Programs.{label_places, labels_from, LabelsRise}
+use Rattle.tac_reader.specs.code.Ranges.{range_view}
 use Rattle.tac_reader.specs.code.Views.{token_view, tokens_view, starts_label}
 use Rattle.tac_reader.specs.declared.program.Label.{Label}
-use Rattle.tac_reader.specs.declared.formed.Line.{Line}
+use Rattle.tac_reader.specs.declared.lexed.LineRange.{LineRange}
 use Rattle.tac_reader.specs.declared.token.Token.{Token as Lexed}
-use Rattle.tac_reader.proofs.programs.StatementRuns.{line_views}
 
 length-snoc : (labels : List Label) (l : Label) → length (labels ++ l ∷ []) ≡ suc (length labels)
 length-snoc labels l = length-append labels (l ∷ []) ∙ omega arith
@@ -92,14 +92,14 @@ labels_rise labels body e =
     subst IsNonDecreasing (sym (ap (map (λ l. l.place)) e ∙ places_are 0 (label_places 0 body))) (rising 0 (label_places 0 body) (places_rise 0 body))
 
 -- One line of the code's more.
-pub lines_on : (text : List ℕ) (lines : List Line) (at : ℕ) (d : Line) (tokens : List Lexed) (labels pushed : List Label) (place named next count : ℕ) (whole : List Label) → at < length lines → tokens_view text tokens ≡ behind_labels (tokens_view text (slice_index_or lines at d).tokens.now) → count ≡ length (labels_of (tokens_view text (slice_index_or lines at d).tokens.now)) → pushed ≡ labels ++ labels_at (length labels) named count → named ≡ place → next ≡ place + length (unless_empty (tokens_view text tokens)) → labels ++ labels_from (length labels) (label_places place (line_views text (drop at lines))) ≡ whole → pushed ++ labels_from (length pushed) (label_places next (line_views text (drop (at + 1) lines))) ≡ whole
-lines_on text lines at d tokens labels pushed place named next count whole below behind counted added here moved before =
+pub lines_on : (text : List ℕ) (all : List Lexed) (lines : List LineRange) (at : ℕ) (d : LineRange) (tokens : List Lexed) (labels pushed : List Label) (place named next count : ℕ) (whole : List Label) → at < length lines → tokens_view text tokens ≡ behind_labels (range_view text all (slice_index_or lines at d)) → count ≡ length (labels_of (range_view text all (slice_index_or lines at d))) → pushed ≡ labels ++ labels_at (length labels) named count → named ≡ place → next ≡ place + length (unless_empty (tokens_view text tokens)) → labels ++ labels_from (length labels) (label_places place (map (range_view text all) (drop at lines))) ≡ whole → pushed ++ labels_from (length pushed) (label_places next (map (range_view text all) (drop (at + 1) lines))) ≡ whole
+lines_on text all lines at d tokens labels pushed place named next count whole below behind counted added here moved before =
     let line = slice_index_or lines at d in
-    line_on labels pushed place next count (tokens_view text line.tokens.now) (line_views text (drop (at + 1) lines)) whole
+    line_on labels pushed place next count (range_view text all line) (map (range_view text all) (drop (at + 1) lines)) whole
     (added ∙ ap (λ p. labels ++ labels_at (length labels) p count) here)
     counted
     (moved ∙ ap (λ ts. place + length (unless_empty ts)) behind)
-    (sym (at_drop_more (λ rest. labels ++ labels_from (length labels) (label_places place (line_views text rest))) lines at d below) ∙ before)
+    (sym (at_drop_more (λ rest. labels ++ labels_from (length labels) (label_places place (map (range_view text all) rest))) lines at d below) ∙ before)
 
 and_true : (a b : Bool) → (a && b) ≡ true → (a && (b && true)) ≡ true
 and_true true true h = refl

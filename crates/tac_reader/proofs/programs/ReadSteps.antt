@@ -3,7 +3,8 @@ use Rattle.std.proofs.Common.{◌≡◌, ℕ, List, [], ◌∷◌, map, refl, sy
 use Rattle.tac_reader.specs.Tokens.{rows}
 use Rattle.tac_reader.specs.Sections.{Section, sections, sections_in, token_lines, titles}
 use Rattle.tac_reader.specs.Programs.{Program, program_of, procedures_from, names_in, variables_in}
-use Rattle.tac_reader.specs.code.Lexed.{lexed_view, text_lines, IfFault}
+use Rattle.tac_reader.specs.code.Lexed.{text_lines, IfFault}
+use Rattle.tac_reader.specs.code.Ranges.{range_view, range_views}
 use Rattle.tac_reader.specs.code.Views.{tokens_view}
 use Rattle.tac_reader.specs.Faults.{head_of, fault_of, repeated, name_faults, first_by_place, line_faults, longest_text}
 use Rattle.tac_reader.specs.declared.refusal.RefusalKind.TheVariants as kind
@@ -11,14 +12,15 @@ use Rattle.tac_reader.proofs.known_names.NameFaults.{first_1, name_fault}
 use Rattle.tac_reader.specs.declared.fault.Stop.{Stop}
 use Rattle.tac_reader.specs.declared.fault.Stop.TheVariants as stop
 use Rattle.tac_reader.specs.declared.lexed.Lexed.{Lexed}
-use Rattle.tac_reader.specs.declared.formed.Line.{Line}
+use Rattle.tac_reader.specs.declared.lexed.LineRange.{LineRange}
+use Rattle.tac_reader.specs.declared.token.Token.{Token}
 
-views : (text : List ℕ) (lines : List Line) → map (λ line. tokens_view text line.tokens.now) lines ≡ map (tokens_view text) (map (λ line. line.tokens.now) lines)
-views text [] = refl
-views text (l ∷ ls) = ap (λ r. tokens_view text l.tokens.now ∷ r) (views text ls)
+views : (text : List ℕ) (tokens : List Token) (lines : List LineRange) → map (range_view text tokens) lines ≡ map (tokens_view text) (range_views tokens lines)
+views text tokens [] = refl
+views text tokens (l ∷ ls) = ap (λ r. range_view text tokens l ∷ r) (views text tokens ls)
 
-pub sections_are : (text : List ℕ) (lexed : Lexed) (lines now : List Line) (found : List Section) → found ≡ sections_in (map (λ line. tokens_view text line.tokens.now) now) → now ≡ lines → map (λ line. line.tokens.now) lines ≡ lexed_view lexed → text_lines text lexed ≡ token_lines (rows text) → found ≡ sections text
-sections_are text lexed lines now found e f g h = e ∙ ap (λ ls. sections_in (map (λ line. tokens_view text line.tokens.now) ls)) f ∙ ap sections_in (views text lines ∙ ap (map (tokens_view text)) g ∙ h)
+pub sections_are : (text : List ℕ) (lexed : Lexed) (tokens : List Token) (lines : List LineRange) (found : List Section) → found ≡ sections_in (map (range_view text tokens) lines) → tokens ≡ lexed.tokens.items → lines ≡ lexed.lines.items → text_lines text lexed ≡ token_lines (rows text) → found ≡ sections text
+sections_are text lexed tokens lines found e f g h = e ∙ (λ i. sections_in (map (range_view text (f i)) (g i))) ∙ ap sections_in (views text lexed.tokens.items lexed.lines.items ∙ h)
 
 pub program_is : (text : List ℕ) (ss : List Section) (procedures variables : List (List ℕ)) → ss ≡ sections text → procedures ≡ names_in (titles ss) → variables ≡ variables_in ss → (let p : Program = record { procedures = procedures_from text procedures variables 0 ss; procedure_names = procedures; variable_names = variables } in p) ≡ program_of text
 program_is text ss procedures variables e f g = λ i.

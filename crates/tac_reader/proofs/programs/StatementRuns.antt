@@ -1,17 +1,15 @@
 -- The statements of lines, one line after another.
-use Rattle.std.proofs.Common.{◌≡◌, ℕ, suc, ◌+◌, ◌<◌, ◌==◌, true, false, List, [], ◌∷◌, ◌++◌, length, map, drop, refl, sym, ap, ◌∙◌, arith, slice_index_or, append_assoc, true≢false}
+use Rattle.std.proofs.Common.{◌≡◌, ℕ, ◌+◌, ◌<◌, ◌==◌, true, false, List, [], ◌∷◌, ◌++◌, length, map, drop, refl, sym, ap, ◌∙◌, arith, slice_index_or, append_assoc, true≢false}
 use Rattle.std.proofs.lemmas.List.{at_drop_more}
 use Rattle.tac_reader.specs.Tokens.{Token}
 use Rattle.tac_reader.specs.Forms.{behind_labels}
 use Rattle.tac_reader.specs.Sections.{unless_empty, statements_of}
+use Rattle.tac_reader.specs.code.Ranges.{range_view}
 use Rattle.tac_reader.specs.code.Views.{tokens_view}
-use Rattle.tac_reader.specs.declared.formed.Line.{Line}
+use Rattle.tac_reader.specs.declared.lexed.LineRange.{LineRange}
 use Rattle.tac_reader.specs.declared.token.Token.{Token as Lexed}
 
 module _ (text : List ℕ) where
-  abbrev pub line_views : List Line → List (List Token)
-  line_views lines = map (λ line. tokens_view text line.tokens.now) lines
-
   pub unless_some : (tokens : List Lexed) → (length tokens == 0) ≡ false → unless_empty (tokens_view text tokens) ≡ tokens_view text tokens ∷ []
   unless_some [] h = absurd (true≢false h)
   unless_some (t ∷ tokens) h = refl
@@ -20,7 +18,10 @@ module _ (text : List ℕ) where
   unless_none [] h = refl
   unless_none (t ∷ tokens) h = absurd (let never : ⊥ = grind (arith, h) in never)
 
-  module _ (lines : List Line) (at : ℕ) (d : Line) (tokens : List Lexed) (below : at < length lines) (behind : tokens_view text tokens ≡ behind_labels (tokens_view text (slice_index_or lines at d).tokens.now)) where
+  module _ (all : List Lexed) (lines : List LineRange) (at : ℕ) (d : LineRange) (tokens : List Lexed) (below : at < length lines) (behind : tokens_view text tokens ≡ behind_labels (range_view text all (slice_index_or lines at d))) where
+    abbrev line_views : List LineRange → List (List Token)
+    line_views lines = map (range_view text all) lines
+
     step : statements_of (line_views (drop at lines)) ≡ unless_empty (tokens_view text tokens) ++ statements_of (line_views (drop (at + 1) lines))
     step = at_drop_more (λ rest. statements_of (line_views rest)) lines at d below ∙ ap (λ ts. unless_empty ts ++ statements_of (line_views (drop (at + 1) lines))) (sym behind)
 
@@ -29,16 +30,6 @@ module _ (text : List ℕ) where
 
     with_none : (length tokens == 0) ≡ true → statements_of (line_views (drop at lines)) ≡ statements_of (line_views (drop (at + 1) lines))
     with_none none = step ∙ ap (λ ts. ts ++ statements_of (line_views (drop (at + 1) lines))) (unless_none tokens none)
-
-    pub count_one : (count next total : ℕ) → (length tokens == 0) ≡ false → next ≡ count + 1 → count + length (statements_of (line_views (drop at lines))) ≡ total → next + length (statements_of (line_views (drop (at + 1) lines))) ≡ total
-    count_one count next total some more before =
-        let size : length (statements_of (line_views (drop at lines))) ≡ suc (length (statements_of (line_views (drop (at + 1) lines)))) = ap length (with_one some) in
-        omega (arith, size, more, before)
-
-    pub count_none : (count next total : ℕ) → (length tokens == 0) ≡ true → next ≡ count → count + length (statements_of (line_views (drop at lines))) ≡ total → next + length (statements_of (line_views (drop (at + 1) lines))) ≡ total
-    count_none count next total none same before =
-        let size : length (statements_of (line_views (drop at lines))) ≡ length (statements_of (line_views (drop (at + 1) lines))) = ap length (with_none none) in
-        omega (arith, size, same, before)
 
     module _ {A : Type 0} (make : List Token → A) where
       pub made_one : (made next : List A) (one : A) (whole : List A) → (length tokens == 0) ≡ false → next ≡ made ++ one ∷ [] → one ≡ make (tokens_view text tokens) → made ++ map make (statements_of (line_views (drop at lines))) ≡ whole → next ++ map make (statements_of (line_views (drop (at + 1) lines))) ≡ whole

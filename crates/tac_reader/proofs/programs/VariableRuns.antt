@@ -1,5 +1,5 @@
 -- The names of variables, one section after another.
-use Rattle.std.proofs.Common.{◌≡◌, ℕ, ◌+◌, ◌<◌, List, [], ◌∷◌, ◌++◌, length, map, drop, fold, flat_map, refl, sym, ap, ◌∙◌, slice_index_or}
+use Rattle.std.proofs.Common.{◌≡◌, ℕ, ◌+◌, ◌<◌, List, [], ◌∷◌, ◌++◌, length, drop, fold, flat_map, refl, sym, ap, ◌∙◌, slice_index_or}
 use Rattle.std.proofs.lemmas.Grind.{flat_map-append}
 use Rattle.std.proofs.lemmas.List.{at_drop_more, map-append}
 use Rattle.std.proofs.lemmas.List.Sums.{fold-append}
@@ -7,7 +7,7 @@ use Rattle.tac_reader.specs.Tokens.{Token}
 use Rattle.tac_reader.specs.Forms.{cells_of, in_slot}
 use Rattle.tac_reader.specs.Programs.{names_in, noted}
 use Rattle.tac_reader.specs.Sections.{Section, is_variable, only_name, spelling_of, statements_of, variables_of}
-use Rattle.tac_reader.specs.code.SectionViews.{section_view, sections_view}
+use Rattle.tac_reader.specs.code.SectionViews.{lines_view, section_view, sections_view}
 use Rattle.tac_reader.specs.code.Views.{tokens_view}
 use Rattle.tac_reader.specs.declared.section.Section.{Section as Read}
 use Rattle.tac_reader.specs.declared.token.Token.{Token as Lexed}
@@ -21,7 +21,7 @@ abbrev pub section_names : Section → List Token
 section_names s = flat_map variables_of (statements_of s.body)
 
 -- The names of one section more.
-pub noted_on : (text : List ℕ) (sections : List Read) (at : ℕ) (d : Read) (cleared read found : List Lexed) (table next whole : List (List ℕ)) → at < length sections → cleared ≡ [] → tokens_view text read ≡ tokens_view text cleared ++ flat_map (λ st. in_slot is_variable (cells_of st)) (statements_of (map (λ line. tokens_view text line.tokens.now) (slice_index_or sections at d).lines.now)) → found ≡ read → next ≡ fold noted table (names_in (flat_map only_name (tokens_view text found))) → fold noted table (names_in (flat_map section_names (sections_view text (drop at sections)))) ≡ whole → fold noted next (names_in (flat_map section_names (sections_view text (drop (at + 1) sections)))) ≡ whole
+pub noted_on : (text : List ℕ) (sections : List Read) (at : ℕ) (d : Read) (cleared read found : List Lexed) (table next whole : List (List ℕ)) → at < length sections → cleared ≡ [] → tokens_view text read ≡ tokens_view text cleared ++ flat_map (λ st. in_slot is_variable (cells_of st)) (statements_of (lines_view text (slice_index_or sections at d).lines)) → found ≡ read → next ≡ fold noted table (names_in (flat_map only_name (tokens_view text found))) → fold noted table (names_in (flat_map section_names (sections_view text (drop at sections)))) ≡ whole → fold noted next (names_in (flat_map section_names (sections_view text (drop (at + 1) sections)))) ≡ whole
 noted_on text sections at d cleared read found table next whole below none cells same grown before =
     let s = section_view text (slice_index_or sections at d) in
     let rest = flat_map section_names (sections_view text (drop (at + 1) sections)) in

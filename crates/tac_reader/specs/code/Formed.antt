@@ -1,9 +1,12 @@
 -- What is kept of a statement beside its tokens: its form.
-use Rattle.std.specs.Prelude.{ℕ, Bool, true, false, not, is_some, List, Option, Some, None}
+use Rattle.std.specs.Prelude.{◌≡◌, ◌-◌, ◌*◌, ℕ, Bool, true, false, not, is_some, All, IsTrue, List, length, slice_range, Option, Some, None}
 use Rattle.tac_reader.specs.Tokens.{Token}
-use Rattle.tac_reader.specs.Forms.{has_form, statement_row}
-use Rattle.tac_reader.specs.code.Views.{form_slots}
+use Rattle.tac_reader.specs.Forms.{behind_labels, has_form, labels_of, statement_row}
+use Rattle.tac_reader.specs.code.Ranges.{EndsWithin}
+use Rattle.tac_reader.specs.code.Views.{form_slots, tokens_view}
 use Rattle.tac_reader.specs.declared.form.Form.{Form}
+use Rattle.tac_reader.specs.declared.lexed.LineRange.{LineRange}
+use Rattle.tac_reader.specs.declared.token.Token.{Token as Placed}
 use Rattle.tac_reader.specs.declared.form.Form.TheVariants as form
 use Rattle.tac_reader.specs.declared.statement.Role.{Role}
 use Rattle.tac_reader.specs.declared.statement.Role.TheVariants as role
@@ -12,6 +15,19 @@ use Rattle.tac_reader.specs.declared.statement.Role.TheVariants as role
 abbrev pub is_formed : Option Form → ℕ → List Token → Bool
 is_formed None n ts = not (is_some (statement_row ts))
 is_formed (Some form) n ts = has_form (form_slots form n) ts
+
+-- A line's labels are as many as it says, and its statement has the form that it says.
+abbrev pub IsCountedIn : List Placed → LineRange → Type 0
+IsCountedIn tokens line = (text : List ℕ) → line.labels ≡ length (labels_of (tokens_view text (slice_range tokens line.first line.end)))
+
+abbrev pub IsFormedIn : List Placed → LineRange → Type 0
+IsFormedIn tokens line = (text : List ℕ) → IsTrue (is_formed line.form (length (slice_range tokens line.first line.end) - 2 * line.labels) (behind_labels (tokens_view text (slice_range tokens line.first line.end))))
+
+-- Lines that stand within the tokens, each with its labels and its form.
+pub record AreLines (tokens : List Placed) (lines : List LineRange) : Type 0 where
+  pub within : EndsWithin (length tokens) lines
+  pub counted : All (IsCountedIn tokens) lines
+  pub formed : All (IsFormedIn tokens) lines
 
 -- Whether some place of a form has that role.
 abbrev pub has_role : Role → Form → Bool

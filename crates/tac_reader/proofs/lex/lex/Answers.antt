@@ -2,7 +2,8 @@ use Rattle.std.proofs.Common.{◌∙◌, sym, ap, length, drop, ◌++◌, List}
 use Rattle.std.proofs.lemmas.Result.{err_from_is_err_and}
 use Rattle.tac_reader.specs.declared.token.Token.{Token}
 use Rattle.tac_reader.specs.Faults.{row_faults, line_faults, inside_after}
-use Rattle.tac_reader.specs.code.Lexed.{lexed_view, some_of}
+use Rattle.tac_reader.specs.code.Lexed.{some_of}
+use Rattle.tac_reader.specs.code.Ranges.{range_views}
 use Rattle.tac_reader.specs.Text.{lines}
 use Rattle.tac_reader.specs.Tokens.{Row, rows_from}
 use Rattle.tac_reader.specs.code.Views.{tokens_view}
@@ -34,9 +35,11 @@ loop-at-preserved c =
     let step = rows_step text at stop _ line.line line.after line.within c.in_ok-bad.ensures.row in
     let none = ap (λ ts. row_faults inside (row ts)) (sym c.deref.ensures.value) ∙ none_first _ (sym c.row_fault.ensures ∙ not_some _ c.in_default.not-Some) in
     let after = ap (λ ts. inside_after inside (row ts)) (sym c.deref-in-loop-at.ensures.value) ∙ c.inside_after-inside.ensures text c.in_ok-bad.bad in
-    let pushed = c.in_ok-push_line.ensures ∙ ap (λ ts. lexed_view c.loop-at.lexed ++ some_of ts) c.deref-in-loop-at-2.ensures.value in
+    let before = range_views c.loop-at.tokens.items c.loop-at.lines.items in
+    let pushed = c.in_ok-push_line.ensures.pushed ∙ ap (λ ts. before ++ some_of ts) c.deref-in-loop-at-2.ensures.value in
     record {
       within = line.within;
       faults = c.loop-at.invariant.faults ∙ ap (line_faults inside (length text)) step ∙ no_fault_step inside c.inside_after-inside.result (length text) (row c.read_row.new.row.items) (rows_from stop (lines (drop stop text))) none after;
-      lines = lines_step text (lexed_view c.loop-at.lexed) (lexed_view c.push_line.new.lexed) _ c.in_ok-bad.bad _ _ _ step pushed c.loop-at.invariant.lines;
+      stand = c.in_ok-push_line.ensures.lines;
+      lines = lines_step text before (range_views c.push_line.new.tokens.items c.push_line.new.lines.items) _ c.in_ok-bad.bad _ _ _ step pushed c.loop-at.invariant.lines;
     }

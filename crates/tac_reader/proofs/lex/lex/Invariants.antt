@@ -1,6 +1,8 @@
-use Rattle.std.proofs.Common.{◌≡◌, ◌-◌, ◌≤◌, ◌++◌, false, length, drop}
+use Rattle.std.proofs.Common.{◌≡◌, ◌-◌, ◌≤◌, ◌++◌, false, length, drop, map}
 use Rattle.tac_reader.specs.Faults.{line_faults}
-use Rattle.tac_reader.specs.code.Lexed.{text_lines}
+use Rattle.tac_reader.specs.code.Formed.{AreLines}
+use Rattle.tac_reader.specs.code.Ranges.{range_views}
+use Rattle.tac_reader.specs.code.Views.{tokens_view}
 use Rattle.tac_reader.specs.Sections.{token_lines}
 use Rattle.tac_reader.specs.Text.{lines}
 use Rattle.tac_reader.specs.Tokens.{rows, rows_from}
@@ -11,7 +13,8 @@ abbrev pub invariant-loop-at : goal.invariant-loop-at
 invariant-loop-at l = record {
   within : l.at ≤ length l.text;
   faults : line_faults false (length l.text) (rows l.text) ≡ line_faults l.inside (length l.text) (rows_from l.at (lines (drop l.at l.text)));
-  lines : text_lines l.text l.lexed ++ token_lines (rows_from l.at (lines (drop l.at l.text))) ≡ token_lines (rows l.text);
+  stand : AreLines l.tokens.items l.lines.items;
+  lines : map (tokens_view l.text) (range_views l.tokens.items l.lines.items) ++ token_lines (rows_from l.at (lines (drop l.at l.text))) ≡ token_lines (rows l.text);
 }
 
 abbrev pub decreases-loop-at : goal.decreases-loop-at
