@@ -1,6 +1,6 @@
 // Lines and statements with the form that they have, so that it is looked for once.
 
-ghost use Rattle.std.specs.Prelude.{◌≡◌, ◌-◌, ◌*◌, ◌<◌, ◌≤◌, ℕ, List, [], All, false, IsTrue, IfOk, length, option_map, slice_range, slice_index_or};
+ghost use Rattle.std.specs.Prelude.{◌≡◌, ◌-◌, ◌*◌, ◌<◌, ◌≤◌, ℕ, List, [], All, false, IsTrue, IfOk, is_some, length, option_map, slice_range, slice_index_or};
 ghost use Rattle.tac_reader.specs.code.Formed.{IsCountedIn, IsFormedIn, is_formed};
 ghost use Rattle.tac_reader.specs.Forms.{behind_labels as without_labels, cells_of, in_slot, labels_of, statement_row};
 ghost use Rattle.tac_reader.specs.code.Ranges.{range_view};
@@ -55,6 +55,13 @@ impl<'a> Line<'a> {
             labels,
             form,
         })
+    }
+
+    /// Whether a whole statement stands behind the labels.
+    pub fn is_statement(&self) -> bool
+        ensures { (text : List ℕ) → is_some (statement_row (without_labels (tokens_view text self.now.tokens.now))) ≡ result }
+    {
+        self.form.is_some()
     }
 
     /// The line as a range of all tokens, from the one at the place `first` on.

@@ -15,7 +15,7 @@ use crate::fault::{Fault, Stop};
 use crate::form::{END, PROC, Slot, Walk, fits_at, follow};
 use crate::formed::{Line, counted};
 use crate::lexed::{Lexed, LineRange};
-use crate::line::row_fault;
+use crate::line::line_fault;
 use crate::piece::line_run;
 use crate::refusal::RefusalKind;
 use crate::row::read_row;
@@ -64,18 +64,17 @@ fn inside_after(inside: bool, tokens: &[Token]) -> bool
 fn push_line(
     tokens: &mut Vec<Token>,
     lines: &mut Vec<LineRange>,
-    row: &[Token],
+    line: Line<'_>,
 ) -> Result<(), AllocError>
     requires { AreLines tokens.old.items lines.old.items }
     ensures lines { OnOk result (AreLines tokens.new.items lines.new.items) }
-    ensures pushed { OnOk result (range_views tokens.new.items lines.new.items ≡ range_views tokens.old.items lines.old.items ++ some_of row.now) }
+    ensures pushed { OnOk result (range_views tokens.new.items lines.new.items ≡ range_views tokens.old.items lines.old.items ++ some_of line.entry.tokens.now) }
 {
-    if row.is_empty() {
+    if line.tokens.is_empty() {
         return Ok(());
     }
-    let line = Line::of(row)?;
     let first = counted(tokens.len())?;
-    tokens.extend_from_slice(row)?;
+    tokens.extend_from_slice(line.tokens)?;
     let end = counted(tokens.len())?;
     lines.push(line.range(first, end))?;
     Ok(())
@@ -96,11 +95,12 @@ pub fn lex(alloc: Global, text: &[u8]) -> Result<Lexed, Stop>
     while at < text.len() {
         let stop = line_stop(text, at);
         let bad = read_row(inside, &mut row, text, at, stop)?;
-        if let Some(fault) = row_fault(inside, text, &row, bad) {
+        let line = Line::of(&row)?;
+        if let Some(fault) = line_fault(inside, text, line, bad) {
             return Err(Stop::Fault(fault));
         }
-        inside = inside_after(inside, &row);
-        push_line(&mut tokens, &mut lines, &row)?;
+        inside = inside_after(inside, line.tokens);
+        push_line(&mut tokens, &mut lines, line)?;
         at = stop;
     }
     if inside {

@@ -1,6 +1,6 @@
 // The faults of a line: which stands first.
 
-ghost use Rattle.std.specs.Prelude.{◌≡◌, ℕ, ◌+◌, ◌*◌, ◌<◌, ◌≤◌, List, [], ◌∷◌, Option, length, is_some, drop, nat_lt, true};
+ghost use Rattle.std.specs.Prelude.{◌≡◌, ℕ, ◌+◌, ◌*◌, ◌<◌, ◌≤◌, List, [], ◌∷◌, Option, length, is_some, drop, flat_map, nat_lt, false, true};
 ghost use Rattle.tac_reader.specs.Faults.{first_by_place, form_fault as form_faults, row_faults, word_fault as word_faults};
 ghost use Rattle.tac_reader.specs.Forms.{behind_labels as without_labels, forms_for, labels_of};
 ghost use Rattle.tac_reader.specs.Programs.{stop_of as end_of};
@@ -8,6 +8,7 @@ ghost use Rattle.tac_reader.specs.code.Views.{GoesAsFar, fault_list, line_forms,
 
 use crate::fault::Fault;
 use crate::form::{END, PROC, Slot, Walk, fits_at, follow, form_of, slots_of};
+use crate::formed::Line;
 use crate::piece::number_value;
 use crate::refusal::RefusalKind;
 use crate::token::{Keyword, Token, TokenKind};
@@ -142,6 +143,28 @@ fn earlier(a: Option<Fault>, b: Option<Fault>) -> Option<Fault>
             }
         }
     }
+}
+
+/// Whether some token is a number too large or a name too long.
+fn has_word_fault(text: &[u8], tokens: &[Token]) -> bool
+    ensures { result ≡ false → flat_map word_faults (tokens_view text.now tokens.now) ≡ [] }
+{
+    for token in tokens {
+        if word_fault(text, *token).is_some() {
+            return true;
+        }
+    }
+    false
+}
+
+/// The first fault of a line whose form is known: most lines are whole statements, and have none.
+pub fn line_fault(inside: bool, text: &[u8], line: Line<'_>, bad: Option<u32>) -> Option<Fault>
+    ensures { result ≡ first_by_place (row_faults inside (record { tokens = tokens_view text.now line.entry.tokens.now; bad = bad })) }
+{
+    if inside && bad.is_none() && line.is_statement() && !has_word_fault(text, line.tokens) {
+        return None;
+    }
+    row_fault(inside, text, line.tokens, bad)
 }
 
 /// The first fault of a line.

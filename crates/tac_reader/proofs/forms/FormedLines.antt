@@ -36,6 +36,10 @@ pub form_of_row : (f : Option Form) (n : ℕ) (ts : List Token) → statement_ro
 form_of_row None n ts h = ap (λ o. not (is_some o)) h
 form_of_row (Some f) n ts h = found_row ts statements (row_in n f) h
 
+pub some_row : (f : Option Form) (n : ℕ) (ts : List Token) (some : Bool) → is_formed f n ts ≡ true → some ≡ is_some f → is_some (statement_row ts) ≡ some
+some_row None n ts some h e = ap is_some (row_of_form None n ts h) ∙ sym e
+some_row (Some f) n ts some h e = ap is_some (row_of_form (Some f) n ts h) ∙ sym e
+
 -- What stands behind the labels stands behind twice their number.
 pub behind_is : (ts : List Token) → behind_labels ts ≡ drop (2 * length (labels_of ts)) ts
 behind_is [] = refl

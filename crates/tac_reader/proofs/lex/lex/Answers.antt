@@ -21,8 +21,8 @@ returns-in_err-bad-clause-fault c =
 pub returns-in-Some-clause-fault : goal.returns-in-Some-clause-fault
 returns-in-Some-clause-fault c =
     let line = c.line_stop-stop.ensures in
-    let row = row_is c.args.text.now c.loop-at.at c.line_stop-stop.result c.in_ok-bad.bad _ _ c.in_ok-bad.ensures.row (sym c.deref.ensures.value) in
-    first_of_text c.args.text.now c.loop-at.at c.line_stop-stop.result c.loop-at.inside _ c.in-Some.fault _ line.line line.after line.within row (sym c.row_fault.ensures ∙ c.in-Some.is) c.loop-at.invariant.faults
+    let row = row_is c.args.text.now c.loop-at.at c.line_stop-stop.result c.in_ok-bad.bad _ _ c.in_ok-bad.ensures.row (sym (c.in_ok-line.ensures ∙ c.deref.ensures.value)) in
+    first_of_text c.args.text.now c.loop-at.at c.line_stop-stop.result c.loop-at.inside _ c.in-Some.fault _ line.line line.after line.within row (sym c.line_fault.ensures ∙ c.in-Some.is) c.loop-at.invariant.faults
 
 pub loop-at-preserved : goal.loop-at-preserved
 loop-at-preserved c =
@@ -33,10 +33,11 @@ loop-at-preserved c =
     let line = c.line_stop-stop.ensures in
     let row : List Token → Row = λ ts. record { tokens = tokens_view text ts; bad = c.in_ok-bad.bad } in
     let step = rows_step text at stop _ line.line line.after line.within c.in_ok-bad.ensures.row in
-    let none = ap (λ ts. row_faults inside (row ts)) (sym c.deref.ensures.value) ∙ none_first _ (sym c.row_fault.ensures ∙ not_some _ c.in_default.not-Some) in
-    let after = ap (λ ts. inside_after inside (row ts)) (sym c.deref-in-loop-at.ensures.value) ∙ c.inside_after-inside.ensures text c.in_ok-bad.bad in
+    let same = c.in_ok-line.ensures ∙ c.deref.ensures.value in
+    let none = ap (λ ts. row_faults inside (row ts)) (sym same) ∙ none_first _ (sym c.line_fault.ensures ∙ not_some _ c.in_default.not-Some) in
+    let after = ap (λ ts. inside_after inside (row ts)) (sym same) ∙ c.inside_after-inside.ensures text c.in_ok-bad.bad in
     let before = range_views c.loop-at.tokens.items c.loop-at.lines.items in
-    let pushed = c.in_ok-push_line.ensures.pushed ∙ ap (λ ts. before ++ some_of ts) c.deref-in-loop-at-2.ensures.value in
+    let pushed = c.in_ok-push_line.ensures.pushed ∙ ap (λ ts. before ++ some_of ts) same in
     record {
       within = line.within;
       faults = c.loop-at.invariant.faults ∙ ap (line_faults inside (length text)) step ∙ no_fault_step inside c.inside_after-inside.result (length text) (row c.read_row.new.row.items) (rows_from stop (lines (drop stop text))) none after;

@@ -1,5 +1,5 @@
 use Rattle.std.proofs.Common.{◌≡◌, ◌∙◌, ◌-◌, ◌*◌, ap, sym, length, rules, List}
-use Rattle.tac_reader.specs.Forms.{behind_labels, labels_of}
+use Rattle.tac_reader.specs.Forms.{behind_labels}
 use Rattle.tac_reader.specs.code.Formed.{is_formed}
 use Rattle.tac_reader.specs.code.Views.{tokens_view}
 use Rattle.tac_reader.specs.declared.lexed.LineRange.{LineRange}
@@ -10,18 +10,17 @@ use Rattle.tac_reader.proofs.lex.push_line.Goals as goal
 pub returns-clause-lines : goal.returns-clause-lines
 returns-clause-lines c =
     let tokens = c.args.tokens.now.items in
-    let row : List Token = c.args.row.now in
-    let line = c.in_ok-line.line in
+    let row : List Token = c.args.line.tokens.now in
+    let line = c.args.line in
     let first : c.range.result.first ≡ length tokens = search rules in
     let end : c.range.result.end ≡ length c.extend_from_slice.new.self.items = search rules in
     lines_push tokens row _ c.args.lines.now.items _ c.range.result c.requires c.in_ok-extend_from_slice.ensures.items c.in_ok-push.ensures.items first end
-    (λ text. ap (λ (r : LineRange). r.labels) c.range.ensures ∙ line.counted text ∙ ap (λ ts. length (labels_of (tokens_view text ts))) c.in_ok-line.ensures)
-    (λ text. (λ i. let r : LineRange = c.range.ensures i in is_formed r.form (length row - 2 * r.labels) (behind_labels (tokens_view text row)))
-    ∙ (λ i. is_formed line.form (length (sym c.in_ok-line.ensures i) - 2 * line.labels) (behind_labels (tokens_view text (sym c.in_ok-line.ensures i)))) ∙ line.formed text)
+    (λ text. ap (λ (r : LineRange). r.labels) c.range.ensures ∙ line.counted text)
+    (λ text. (λ i. let r : LineRange = c.range.ensures i in is_formed r.form (length row - 2 * r.labels) (behind_labels (tokens_view text row))) ∙ line.formed text)
 
 pub returns-clause-pushed : goal.returns-clause-pushed
 returns-clause-pushed c =
     let first : c.range.result.first ≡ length c.args.tokens.now.items = search rules in
     let end : c.range.result.end ≡ length c.extend_from_slice.new.self.items = search rules in
-    views_push c.args.tokens.now.items c.args.row.now _ c.args.lines.now.items _ c.range.result c.requires.within c.in_ok-extend_from_slice.ensures.items c.in_ok-push.ensures.items first end
-    (not_empty c.args.row.now (sym c.is_empty.ensures ∙ c.if-is_empty.false))
+    views_push c.args.tokens.now.items c.args.line.tokens.now _ c.args.lines.now.items _ c.range.result c.requires.within c.in_ok-extend_from_slice.ensures.items c.in_ok-push.ensures.items first end
+    (not_empty c.args.line.tokens.now (sym c.is_empty.ensures ∙ c.if-is_empty.false))
