@@ -13,7 +13,8 @@ use Rattle.flow_links.specs.Shapes.{IsNumbered, LinkedProgram, directed_shape}
 use Rattle.gk_solve.specs.Equations.{IsInSolution}
 use Rattle.gk_solve.specs.Solved.{SliceTable, AreSolved, AreMeetWords, HasPathFlags, direction_of, word_at}
 use Rattle.gk_solve.specs.Tables.Flags.{ArePathFlags}
-use Rattle.gk_solve.specs.Tables.Groups.{AreEffectWords, IsGroupFrame, made_word}
+use Rattle.gk_solve.specs.Tables.Groups.{AreEffectWords, IsGroupFrame, group_of, made_word}
+use Rattle.gk_solve.specs.Tables.Solutions.{AreSliceSolutions}
 use Rattle.gk_solve.specs.Tables.Words.{HasBit, place_boundary, place_gens, place_kills, place_transfer, step_statement}
 use Rattle.gk_solve.specs.declared.group_frame.GroupFrame.{GroupFrame}
 use Rattle.gk_solve.specs.declared.summary.Summary.{Summary}
@@ -61,6 +62,17 @@ solved_words form linked same {W = W} width table slice inside words few solutio
             subst (λ n. IsInSolution (directed_shape linked) (place_transfer linked.backward form n) point) (sym place) ((place_is_bit form linked same (64 * word + k) (omega (arith, there.1, inside)) point).1 there.2),
           ),
     )
+
+-- the same of the table that a group's frame was solved with
+pub solved_by_frame : (form : MayForm) (frame : GroupFrame) {W : ℕ} (width points : ℕ) (table : List (Summary W)) (slice : SliceTable) → IsGroupFrame width frame → frame.problem.now ≡ form → frame.first ≡ slice.from
+    → slice.hi ≤ bits_of form.program form.analysis → slice.words ≡ map (λ (s : Summary W). s.made) table → slice.until ≤ slice.from + width → slice.points ≡ points
+    → AreSliceSolutions (group_of frame width) frame.first points slice.lo slice.hi table → AreSolved form slice
+solved_by_frame form frame {W = W} width points table slice is problem first inside words few count solutions =
+    solved_words form frame.links.now (is.direction ∙ ap direction_of problem) width table slice inside words few
+    (λ w x k low within place.
+    subst (λ n. HasBit (made_word table w) x k ↔ ((slice.lo ≤ 64 * (n + w) + k) × (64 * (n + w) + k < slice.hi) × IsInSolution (directed_shape frame.links.now) (place_transfer frame.links.now.backward form (64 * (n + w) + k)) x)) first
+    (subst (λ (f : MayForm). HasBit (made_word table w) x k ↔ ((slice.lo ≤ 64 * (frame.first + w) + k) × (64 * (frame.first + w) + k < slice.hi) × IsInSolution (directed_shape frame.links.now) (place_transfer frame.links.now.backward f (64 * (frame.first + w) + k)) x)) problem
+    (solutions w x k low (omega (arith, within, count)) place)))
 
 -- so they are of the meet over valid paths
 pub meet_words : (form : MayForm) (slice : SliceTable) → IsWellFormed (may_shape form.program form.analysis) → AreSolved form slice → AreMeetWords form slice

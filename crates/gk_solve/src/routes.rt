@@ -85,15 +85,36 @@ fn path_flags(
     Ok(flags)
 }
 
+// The flag of each point, by the points that are reached.
+fn paths_by_reached(
+    alloc: Global,
+    links: &Links<'_, '_>,
+    reached: &[bool],
+) -> Result<Vec<bool>, OutOfMemory>
+    requires count { length reached.now ≡ point_count links.now.program }
+    requires reached { AreExactly (Reached (directed_shape links.now)) reached.now }
+    ensures { IfOk result (λ flags. ArePathFlags (directed_shape links.now) (point_count links.now.program) flags.items) }
+{
+    let entered = entered_procedures(alloc, links, reached)?;
+    path_flags(alloc, links, reached, entered.as_slice())
+}
+
+// The flag of each point, and how many steps were followed to find the points that are reached.
+fn paths_of(alloc: Global, links: &Links<'_, '_>) -> Result<(Vec<bool>, u64), OutOfMemory>
+    ensures { IfOk result (λ found. ArePathFlags (directed_shape links.now) (point_count links.now.program) found.0.items) }
+{
+    let (reached, followed) = reached_points(alloc, links)?;
+    let paths = paths_by_reached(alloc, links, reached.as_slice())?;
+    Ok((paths, followed))
+}
+
 impl<'g, 'p> Routes<'g, 'p> {
     /// The edges and paths of a problem.
     pub fn of(alloc: Global, problem: &Problem<'g, 'p>) -> Result<Self, OutOfMemory>
         ensures { IfOk result (λ routes. routes ≡ record { program = problem.now.program; backward = is_backward problem.now.analysis }) }
     {
         let links = Links::of(alloc, problem)?;
-        let (reached, followed) = reached_points(alloc, &links)?;
-        let entered = entered_procedures(alloc, &links, reached.as_slice())?;
-        let paths = path_flags(alloc, &links, reached.as_slice(), entered.as_slice())?;
+        let (paths, followed) = paths_of(alloc, &links)?;
         Ok(Routes {
             links,
             paths,

@@ -6,7 +6,7 @@ ghost use Rattle.flow_graph.specs.Problems.{MayForm};
 ghost use Rattle.flow_graph.specs.Universes.{bits as bits_of};
 ghost use Rattle.flow_links.specs.Shapes.{LinkedProgram, directed_shape};
 ghost use Rattle.gk_solve.specs.Solved.{AreSolved, IsSliceOf, direction_of, word_at};
-ghost use Rattle.gk_solve.specs.Tables.Groups.{AreEffectWords};
+ghost use Rattle.gk_solve.specs.Tables.Groups.{AreEffectWords, IsGroupFrame};
 
 use crate::OutOfMemory;
 use crate::effects::with_bit;
@@ -15,6 +15,7 @@ use crate::routes::Routes;
 use crate::solution::solve_group;
 use crate::summary::Summary;
 use flow_graph::Problem;
+use flow_links::Links;
 use std::alloc::Global;
 use std::marker::Model;
 use work_list::Marks;
@@ -65,6 +66,63 @@ fn group_mask<const W: usize>(first: u32) -> u64
     mask
 }
 
+// What a group of words from one on is solved by.
+fn group_frame<'a, 'g, 'p, const W: usize>(
+    problem: &'a Problem<'g, 'p>,
+    routes: &'a Routes<'g, 'p>,
+    effects: &'a [u64],
+    word: u32,
+) -> GroupFrame<'a, 'g, 'p>
+    requires narrow { W ≤ 8 }
+    requires routes { routes.now ≡ direction_of problem.now }
+    requires effects { AreEffectWords problem.now effects.now }
+    requires word { 64 * word < bits_of problem.now.program problem.now.analysis }
+    ensures frame { IsGroupFrame W result }
+    ensures problem { result.problem.now ≡ problem.now }
+    ensures links { result.links.now ≡ routes.now }
+    ensures first { result.first ≡ word }
+{
+    // Their contracts tell that there are few bits, and what a shape's edges are.
+    let _ = problem.bits();
+    let links = routes.links();
+    let _ = links.points();
+    GroupFrame {
+        problem,
+        links,
+        paths: routes.paths(),
+        effects,
+        first: word,
+        mask: group_mask::<W>(word),
+    }
+}
+
+// The tables of so many points and procedures.
+fn blank_tables<const W: usize>(
+    alloc: Global,
+    points: usize,
+    procedures: usize,
+) -> Result<(Vec<Summary<W>>, Vec<[u64; W]>), OutOfMemory>
+    requires { W ≤ 8 }
+    ensures { IfOk result (λ tables. (length tables.0.items ≡ points) × (length tables.1.items ≡ procedures)) }
+{
+    let blank = Summary {
+        kept: [0; W],
+        made: [0; W],
+    };
+    let table = vec![in alloc; blank; points]?;
+    let brought = vec![in alloc; [0; W]; procedures]?;
+    Ok((table, brought))
+}
+
+// The marks of points, and those of procedures.
+fn marks(alloc: Global, links: &Links<'_, '_>) -> Result<(Marks, Marks), OutOfMemory>
+    ensures { IfOk result (λ marks. (length marks.0 ≡ point_count links.now.program) × (length marks.1 ≡ (directed_shape links.now).procedures)) }
+{
+    let points = Marks::none(alloc, links.order())?;
+    let procedures = Marks::none(alloc, links.call_order())?;
+    Ok((points, procedures))
+}
+
 // All working memory of a slice.
 pub(crate) fn slice_words(
     alloc: Global,
@@ -81,24 +139,21 @@ pub(crate) fn slice_words(
     let procedures = links.procedures() as usize;
     let wide = lo / 64 + 1 < hi.div_ceil(64);
     let (single, several) = if wide { (0, 1) } else { (1, 0) };
+    let (one, one_brought) = blank_tables(alloc, single * points, single * procedures)?;
+    let (many, many_brought) = blank_tables(alloc, several * points, several * procedures)?;
+    let (dirty, callers) = marks(alloc, links)?;
     Ok(SliceWords {
         lo,
         hi,
         from: lo / 64,
         until: lo / 64,
         wide,
-        one: vec![in alloc; Summary {
-            kept: [0; 1],
-            made: [0; 1]
-        }; single * points]?,
-        one_brought: vec![in alloc; [0; 1]; single * procedures]?,
-        many: vec![in alloc; Summary {
-            kept: [0; WIDTH],
-            made: [0; WIDTH]
-        }; several * points]?,
-        many_brought: vec![in alloc; [0; WIDTH]; several * procedures]?,
-        dirty: Marks::none(alloc, links.order())?,
-        callers: Marks::none(alloc, links.call_order())?,
+        one,
+        one_brought,
+        many,
+        many_brought,
+        dirty,
+        callers,
     })
 }
 
@@ -163,20 +218,9 @@ impl SliceWords {
         ensures whole { self.old.lo / 64 ≤ word → 64 * result < self.old.hi → result ≡ word + 4 }
         ensures solved { AreSolved problem.now self.new }
     {
-        // Their contracts tell that there are few bits, and what a shape's edges are.
-        let _ = problem.bits();
-        let links = routes.links();
-        let _ = links.points();
         let left = self.hi.div_ceil(64) - word;
         if self.wide {
-            let frame = GroupFrame {
-                problem,
-                links,
-                paths: routes.paths(),
-                effects,
-                first: word,
-                mask: group_mask::<WIDTH>(word),
-            };
+            let frame = group_frame::<WIDTH>(problem, routes, effects, word);
             solve_group(
                 &frame,
                 self.many.as_mut_slice(),
@@ -191,14 +235,7 @@ impl SliceWords {
             self.until = word + left.min(WIDTH as u32);
             return self.until;
         }
-        let frame = GroupFrame {
-            problem,
-            links,
-            paths: routes.paths(),
-            effects,
-            first: word,
-            mask: group_mask::<1>(word),
-        };
+        let frame = group_frame::<1>(problem, routes, effects, word);
         solve_group(
             &frame,
             self.one.as_mut_slice(),

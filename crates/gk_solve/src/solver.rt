@@ -112,6 +112,43 @@ fn solve_slice<'a, 'g, 'p>(
     Ok(rows)
 }
 
+// The solution by what was found of the problem once, and how many steps were followed in all.
+fn solve_by<'a, 'g, 'p>(
+    alloc: Global,
+    problem: &'a Problem<'g, 'p>,
+    routes: &'a Routes<'g, 'p>,
+    effects: &'a [u64],
+    lo: u32,
+    hi: u32,
+) -> Result<(Rows, u64), OutOfMemory>
+    requires routes { routes.now ≡ direction_of problem.now }
+    requires effects { lo < hi → AreEffectWords problem.now effects.now }
+    requires ordered { lo ≤ hi }
+    requires within { hi ≤ bits_of problem.now.program problem.now.analysis }
+    ensures { IfOk result (λ solved. IsLeastSolution problem.now lo hi solved.0) }
+{
+    let mut followed = routes.followed();
+    let rows = solve_slice(alloc, problem, routes, effects, lo, hi, &mut followed)?;
+    Ok((rows, followed))
+}
+
+// The same where the words in which each statement does something are still to be found.
+fn solve_along<'a, 'g, 'p>(
+    alloc: Global,
+    problem: &'a Problem<'g, 'p>,
+    routes: &'a Routes<'g, 'p>,
+    lo: u32,
+    hi: u32,
+) -> Result<(Rows, u64), OutOfMemory>
+    requires routes { routes.now ≡ direction_of problem.now }
+    requires ordered { lo ≤ hi }
+    requires within { hi ≤ bits_of problem.now.program problem.now.analysis }
+    ensures { IfOk result (λ solved. IsLeastSolution problem.now lo hi solved.0) }
+{
+    let effects = effects_within(alloc, problem, lo < hi)?;
+    solve_by(alloc, problem, routes, effects.as_slice(), lo, hi)
+}
+
 /// The solution of a problem on its bits `lo..hi`, and how many steps were followed to find what is reached, kept and made.
 ///
 /// The number tells how much work it was: a step counts each time that it is followed. It stops at the largest number that there is.
@@ -129,18 +166,7 @@ pub fn solve_counted(
     // Its contract tells that the problem is well formed.
     let _ = problem.edges();
     let routes = Routes::of(alloc, problem)?;
-    let mut followed = routes.followed();
-    let effects = effects_within(alloc, problem, lo < hi)?;
-    let rows = solve_slice(
-        alloc,
-        problem,
-        &routes,
-        effects.as_slice(),
-        lo,
-        hi,
-        &mut followed,
-    )?;
-    Ok((rows, followed))
+    solve_along(alloc, problem, &routes, lo, hi)
 }
 
 /// The solution of a problem on its bits `lo..hi`: for each point a path flag, and the set of those bits that hold there.
