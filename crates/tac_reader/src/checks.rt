@@ -14,7 +14,7 @@ ghost use Rattle.tac_reader.specs.code.Views.{tokens_view};
 ghost use Rattle.tac_reader.specs.declared.refusal.RefusalKind.TheVariants.{DuplicateCallee, DuplicateLabel, DuplicateProcedure, NoMain, TooManyProcedures, UnknownLabel, UnknownProcedure};
 
 use crate::fault::{Fault, Stop};
-use crate::name_hashers::NameHashers;
+use crate::name_hashers::NameSeeds;
 use crate::names::NameTable;
 use crate::refusal::RefusalKind;
 use crate::section::{Section, labels, line_cells, section_cells};
@@ -29,6 +29,7 @@ const MOST_PROCEDURES: usize = 256;
 /// that is not, at its token; the table then has the names before it too.
 pub fn note_names(
     alloc: Global,
+    seeds: &mut NameSeeds<'_>,
     kind: RefusalKind,
     names: &mut NameTable,
     text: &[u8],
@@ -39,7 +40,7 @@ pub fn note_names(
     ensures fault { IfErr result (IfFault (λ f. head_of (repeated kind names.old (tokens_view text.now tokens.now)) ≡ Some f)) }
 {
     for token in tokens {
-        if !names.insert(alloc, token.spelling(text))? {
+        if !names.insert(alloc, seeds, token.spelling(text))? {
             return Err(Stop::Fault(Fault {
                 kind,
                 place: token.start,
@@ -112,7 +113,7 @@ fn titles(alloc: Global, sections: &[Section<'_>]) -> Result<Vec<Token>, AllocEr
 /// the first name that stands before.
 pub fn check_procedures(
     alloc: Global,
-    hashers: NameHashers,
+    seeds: &mut NameSeeds<'_>,
     text: &[u8],
     sections: &[Section<'_>],
 ) -> Result<NameTable, Stop>
@@ -120,9 +121,10 @@ pub fn check_procedures(
     ensures names { IfOk result (λ names. names ≡ names_in (titles_of (sections_view text.now sections.now))) }
     ensures fault { IfErr result (IfFault (λ f. head_of (repeated DuplicateProcedure [] (titles_of (sections_view text.now sections.now))) ≡ Some f)) }
 {
-    let mut names = NameTable::new(alloc, hashers);
+    let mut names = NameTable::new(alloc);
     note_names(
         alloc,
+        seeds,
         RefusalKind::DuplicateProcedure,
         &mut names,
         text,
@@ -134,7 +136,7 @@ pub fn check_procedures(
 /// The names of a procedure's labels, where no two have one name; `found` is a buffer.
 fn section_labels(
     alloc: Global,
-    hashers: NameHashers,
+    seeds: &mut NameSeeds<'_>,
     found: &mut Vec<Token>,
     text: &[u8],
     section: &Section<'_>,
@@ -145,8 +147,15 @@ fn section_labels(
 {
     found.clear();
     labels(found, section.lines)?;
-    let mut names = NameTable::new(alloc, hashers);
-    note_names(alloc, RefusalKind::DuplicateLabel, &mut names, text, found)?;
+    let mut names = NameTable::new(alloc);
+    note_names(
+        alloc,
+        seeds,
+        RefusalKind::DuplicateLabel,
+        &mut names,
+        text,
+        found,
+    )?;
     Ok(names)
 }
 
@@ -162,7 +171,7 @@ fn push_table(tables: &mut Vec<NameTable>, names: NameTable) -> Result<(), Alloc
 /// Fails with `DuplicateLabel` at the first label that stands before in its procedure.
 pub fn check_labels(
     alloc: Global,
-    hashers: NameHashers,
+    seeds: &mut NameSeeds<'_>,
     text: &[u8],
     sections: &[Section<'_>],
 ) -> Result<Vec<NameTable>, Stop>
@@ -175,7 +184,7 @@ pub fn check_labels(
     for section in sections {
         push_table(
             &mut tables,
-            section_labels(alloc, hashers, &mut found, text, section)?,
+            section_labels(alloc, seeds, &mut found, text, section)?,
         )?;
     }
     Ok(tables)

@@ -1,47 +1,69 @@
-// The hashers of names: which names fall together in a table is not known before the text is whole.
+// The hashers of names: which names fall together in a large table is not known before the text is whole.
 //
 // `FoldHasher` alone has no seed, so that names which all have one hash can be prepared, and a table of
-// them takes time by their square. There is no runtime to draw a seed from. So in a text in which more than
-// some tokens are names each hash begins with the text's own digest. A name more or less is another text, and so
-// another digest: who wants names to fall together has to choose them before he knows how they are
+// them takes time by their square. There is no runtime to draw a seed from. So where the tables of a text
+// have more than a few names each hash begins with the text's own digest. A name more or less is another
+// text, and so another digest: who wants names to fall together has to choose them before he knows how they are
 // hashed, and no digest can be aimed at. `docs/DECISIONS.md` tells why no names fall together for all of them.
 
-use crate::token::{Token, TokenKind};
 use sha1::Sha1;
 use std::hash::{BuildHasher, FoldHasher, Hasher};
 
-/// How many tokens of a text may be names where these are hashed without its digest: so few that the
-/// square of their number takes less than a millisecond.
-const FEW_NAMES: usize = 512;
+/// How many comparisons of names that fall together a text may cost before its names are hashed with
+/// its digest: so few that they take some milliseconds.
+const FEW_COMPARISONS: usize = 1_048_576;
 
-/// Whether more than a few of the tokens are names.
-fn has_many_names(tokens: &[Token]) -> bool {
-    let mut more = FEW_NAMES;
-    for token in tokens {
-        if token.kind == TokenKind::Name {
-            if more == 0 {
-                return true;
-            }
-            more -= 1;
-        }
-    }
-    false
-}
-
-/// What makes the hashers of a text's names.
+/// What makes the hashers of a table's names.
 #[derive(Clone, Copy)]
 pub struct NameHashers {
     begun: FoldHasher,
 }
 
 impl NameHashers {
-    /// The hashers of the names of a text that has these tokens.
-    pub fn of(text: &[u8], tokens: &[Token]) -> Self {
-        let mut begun = FoldHasher::default();
-        if has_many_names(tokens) {
-            begun.write(&Sha1::digest(text));
+    /// The hashers of a few names, without a digest.
+    pub fn plain() -> Self {
+        NameHashers {
+            begun: FoldHasher::default(),
         }
-        NameHashers { begun }
+    }
+}
+
+/// What makes the hashers of many names: a text, whose digest is found when it is first asked for.
+#[derive(Drop)]
+pub struct NameSeeds<'a> {
+    text: &'a [u8],
+    digested: Option<NameHashers>,
+    left: usize,
+}
+
+impl<'a> NameSeeds<'a> {
+    /// The hashers of this text's names.
+    pub fn of(text: &'a [u8]) -> Self {
+        NameSeeds {
+            text,
+            digested: None,
+            left: FEW_COMPARISONS,
+        }
+    }
+
+    /// Whether one more name may be hashed without the digest, beside so many in its table: at worst
+    /// it is compared with all of them.
+    pub fn allows(&mut self, names: usize) -> bool {
+        let is_allowed = names <= self.left;
+        self.left = self.left.saturating_sub(names);
+        is_allowed
+    }
+
+    /// The hashers that begin with the text's digest.
+    pub fn digested(&mut self) -> NameHashers {
+        if let Some(hashers) = self.digested {
+            return hashers;
+        }
+        let mut begun = FoldHasher::default();
+        begun.write(&Sha1::digest(self.text));
+        let hashers = NameHashers { begun };
+        self.digested = Some(hashers);
+        hashers
     }
 }
 

@@ -5,7 +5,7 @@ ghost use Rattle.tac_reader.specs.Tokens.{is_one_of};
 ghost use Rattle.tac_reader.specs.Listings.{name_at};
 ghost use Rattle.tac_reader.specs.Programs.{noted};
 
-use crate::name_hashers::NameHashers;
+use crate::name_hashers::{NameHashers, NameSeeds};
 use crate::name_keys::{NameKey, Spelling};
 use indexmap::IndexSet;
 use std::alloc::{AllocError, Global};
@@ -15,6 +15,7 @@ use std::marker::Model;
 #[derive(Debug, Drop)]
 pub struct NameTable {
     names: IndexSet<NameKey, NameHashers>,
+    is_seeded: bool,
 }
 
 impl Model for NameTable {
@@ -30,11 +31,12 @@ impl Model for NameTable {
 
 impl NameTable {
     /// A table of no names, which takes no memory until the first.
-    pub fn new(alloc: Global, hashers: NameHashers) -> Self
+    pub fn new(alloc: Global) -> Self
         ensures { result ≡ [] }
     {
         NameTable {
-            names: IndexSet::with_hasher(alloc, hashers),
+            names: IndexSet::with_hasher(alloc, NameHashers::plain()),
+            is_seeded: false,
         }
     }
 
@@ -75,8 +77,27 @@ impl NameTable {
         }
     }
 
+    /// Hashes the names anew, with the text's digest, where they are more than a few.
+    fn seed(&mut self, alloc: Global, seeds: &mut NameSeeds<'_>) -> Result<(), AllocError>
+        ensures { OnOk result (self.new ≡ self.old) }
+    {
+        if self.is_seeded || seeds.allows(self.names.len()) {
+            return Ok(());
+        }
+        let mut seeded = IndexSet::with_hasher(alloc, seeds.digested());
+        seeded.append(&mut self.names)?;
+        self.names = seeded;
+        self.is_seeded = true;
+        Ok(())
+    }
+
     /// Puts a name last, unless it is there already; answers whether it was new.
-    pub fn insert(&mut self, alloc: Global, name: &[u8]) -> Result<bool, AllocError>
+    pub fn insert(
+        &mut self,
+        alloc: Global,
+        seeds: &mut NameSeeds<'_>,
+        name: &[u8],
+    ) -> Result<bool, AllocError>
         ensures noted { OnOk result (self.new ≡ noted self.old name.now) }
         ensures new { IfOk result (λ new. new ≡ not (is_one_of name.now self.old)) }
     {
@@ -86,6 +107,7 @@ impl NameTable {
         if self.len() == u32::MAX {
             return Err(AllocError);
         }
+        self.seed(alloc, seeds)?;
         let bytes = Vec::from_slice(alloc, name)?;
         let _ = self.names.insert_full(NameKey { bytes })?;
         Ok(true)

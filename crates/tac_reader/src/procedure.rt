@@ -13,7 +13,7 @@ use crate::build::{Names, kind};
 use crate::cursor::LineCursor;
 use crate::formed::{Lines, Statement, counted};
 use crate::line::stop_of;
-use crate::name_hashers::NameHashers;
+use crate::name_hashers::NameSeeds;
 use crate::names::NameTable;
 use crate::program::{Label, Proc, Program, Span, Stmt};
 use crate::section::{Section, section_cells};
@@ -190,6 +190,7 @@ pub fn program(
 /// Adds the names among the tokens.
 fn note_names(
     alloc: Global,
+    seeds: &mut NameSeeds<'_>,
     table: &mut NameTable,
     text: &[u8],
     tokens: &[Token],
@@ -198,7 +199,7 @@ fn note_names(
 {
     for token in tokens {
         if token.kind == TokenKind::Name {
-            let _ = table.insert(alloc, token.bytes(text))?;
+            let _ = table.insert(alloc, seeds, token.bytes(text))?;
         }
     }
     Ok(())
@@ -207,18 +208,18 @@ fn note_names(
 /// The variables of the sections' statements, by first occurrence. Fails where memory does.
 pub fn variables(
     alloc: Global,
-    hashers: NameHashers,
+    seeds: &mut NameSeeds<'_>,
     text: &[u8],
     sections: &[Section<'_>],
 ) -> Result<NameTable, AllocError>
     ensures { IfOk result (λ table. table ≡ variables_in (sections_view text.now sections.now)) }
 {
-    let mut table = NameTable::new(alloc, hashers);
+    let mut table = NameTable::new(alloc);
     let mut found = Vec::new(alloc);
     for section in sections {
         found.clear();
         section_cells(&mut found, Role::Variable, section.lines)?;
-        note_names(alloc, &mut table, text, &found)?;
+        note_names(alloc, seeds, &mut table, text, &found)?;
     }
     Ok(table)
 }

@@ -16,7 +16,7 @@ use crate::checks::{
 use crate::fault::{Fault, Stop};
 use crate::formed::Lines;
 use crate::lex::lex;
-use crate::name_hashers::NameHashers;
+use crate::name_hashers::NameSeeds;
 use crate::names::NameTable;
 use crate::procedure::{program, variables};
 use crate::program::Program;
@@ -75,7 +75,7 @@ fn refuse(found: Option<Fault>) -> Result<(), Stop>
 /// The names of the procedures, and those of each procedure's labels; or the first fault of names.
 fn check_names(
     alloc: Global,
-    hashers: NameHashers,
+    seeds: &mut NameSeeds<'_>,
     text: &[u8],
     sections: &[Section<'_>],
 ) -> Result<(NameTable, Vec<NameTable>), Stop>
@@ -84,8 +84,8 @@ fn check_names(
     ensures labels { IfOk result (λ names. (names.1).items ≡ map (λ s. names_in (labels_in s)) (sections_view text.now sections.now)) }
     ensures fault { IfErr result (IfFault (λ f. head_of (name_faults (sections_view text.now sections.now)) ≡ Some f)) }
 {
-    let procedures = check_procedures(alloc, hashers, text, sections)?;
-    let labels = check_labels(alloc, hashers, text, sections)?;
+    let procedures = check_procedures(alloc, seeds, text, sections)?;
+    let labels = check_labels(alloc, seeds, text, sections)?;
     check_jumps(alloc, text, sections, &labels)?;
     check_callees(alloc, text, sections, &procedures)?;
     check_repeated_callees(alloc, text, sections)?;
@@ -102,10 +102,10 @@ fn read_checked(alloc: Global, text: &[u8]) -> Result<Program, Stop>
     ensures fault { IfErr result (IfFault (λ f. fault_of text.now ≡ Some f)) }
 {
     let lexed = lex(alloc, text)?;
-    let hashers = NameHashers::of(text, lexed.tokens.as_slice());
+    let mut seeds = NameSeeds::of(text);
     let sections = sections(alloc, Lines::of(&lexed))?;
-    let (procedures, labels) = check_names(alloc, hashers, text, &sections)?;
-    let variables = variables(alloc, hashers, text, &sections)?;
+    let (procedures, labels) = check_names(alloc, &mut seeds, text, &sections)?;
+    let variables = variables(alloc, &mut seeds, text, &sections)?;
     Ok(program(alloc, text, &sections, procedures, labels, variables)?)
 }
 

@@ -1,9 +1,10 @@
 -- Names in a table, and what its keys say of them.
 use Prim.Native.Nat.compare
-use Rattle.std.proofs.Common.{◌≡◌, ℕ, suc, ◌+◌, Bool, true, false, not, ◌||◌, List, [], ◌∷◌, ◌++◌, refl, sym, ap, ◌∙◌, Option, Some, None, bytes_eq, if◌then◌else◌, position, is_some, length, cond, nat_lt, one-add}
+use Rattle.std.proofs.Common.{◌≡◌, ℕ, suc, ◌+◌, Bool, true, false, not, ◌||◌, List, [], ◌∷◌, ◌++◌, refl, sym, ap, ◌∙◌, Option, Some, None, bytes_eq, if◌then◌else◌, position, is_some, length, cond, nat_lt, one-add, fold, subst, append-nil, append_assoc}
 use Rattle.std.proofs.Common.{arith}
 use Rattle.std.proofs.lemmas.Bool.{lt-ltb}
-use Rattle.std.specs.List.{list_any, prefix_len}
+use Rattle.std.proofs.lemmas.Map.Keys.{IsDistinct-head, IsDistinct-tail}
+use Rattle.std.specs.List.{AllByRecursion, IsDistinct, list_any, prefix_len}
 use Rattle.indexmap.specs.IndexSet.{insert_key}
 use Rattle.tac_reader.specs.Tokens.{is_one_of}
 use Rattle.tac_reader.specs.Programs.{noted}
@@ -24,6 +25,25 @@ texts-choice false ks v = texts-push ks v
 
 pub texts-insert : (ks : List NameKey) (v : NameKey) → texts (insert_key (λ x y. bytes_eq x.bytes.items y.bytes.items) ks v) ≡ noted (texts ks) v.bytes.items
 texts-insert ks v = texts-choice (list_any (λ k. bytes_eq v.bytes.items k.bytes.items) ks) ks v ∙ ap (λ b. if b then texts ks else texts ks ++ v.bytes.items ∷ []) (among v.bytes.items ks)
+
+-- Keys that differ, put one by one into a set without any, are that set's.
+module _ (same : NameKey → NameKey → Bool) (flip : (x y : NameKey) → same x y ≡ same y x) where
+  none_before : (done : List NameKey) (k : NameKey) (rest : List NameKey) → IsDistinct same (done ++ k ∷ rest) → list_any (same k) done ≡ false
+  none_before [] k rest h = refl
+  none_before (x ∷ xs) k rest h =
+      let apart : same x k ≡ false = last xs (IsDistinct-head same x (xs ++ k ∷ rest) h) in
+      λ i. (flip k x ∙ apart) i || none_before xs k rest (IsDistinct-tail same x (xs ++ k ∷ rest) h) i
+    where
+      last : (ys : List NameKey) → AllByRecursion (λ y. same x y ≡ false) (ys ++ k ∷ rest) → same x k ≡ false
+      last [] a = a.0
+      last (y ∷ ys) a = last ys a.1
+
+  pub put_anew : (done rest : List NameKey) → IsDistinct same (done ++ rest) → fold (insert_key same) done rest ≡ done ++ rest
+  put_anew done [] h = sym (append-nil done)
+  put_anew done (k ∷ rest) h =
+      ap (λ b. fold (insert_key same) (if b then done else done ++ k ∷ []) rest) (none_before done k rest h)
+      ∙ put_anew (done ++ k ∷ []) rest (subst (IsDistinct same) (sym (append_assoc done (k ∷ []) rest)) h)
+      ∙ append_assoc done (k ∷ []) rest
 
 run-texts : (name : List ℕ) (ks : List NameKey) → prefix_len (λ k. not (bytes_eq name k.bytes.items)) ks ≡ prefix_len (λ s. not (bytes_eq name s)) (texts ks)
 run-texts name [] = refl

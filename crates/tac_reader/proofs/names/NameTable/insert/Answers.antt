@@ -22,7 +22,7 @@ returns-then-is_some-clause-new c =
 
 pub returns-clause-noted : goal.returns-clause-noted
 returns-clause-noted c =
-    ap texts c.in_ok-insert_full.ensures.keys ∙ texts-insert c.self.inside.names.keys (record { bytes = c.in_ok-bytes.bytes }) ∙ ap (noted (texts c.self.inside.names.keys)) c.in_ok-bytes.ensures.items ∙ ap (λ ns. noted ns c.args.name.now) c.self.view_is
+    ap texts c.in_ok-insert_full.ensures.keys ∙ texts-insert c.self.inside.names.keys (record { bytes = c.in_ok-bytes.bytes }) ∙ ap (noted (texts c.self.inside.names.keys)) c.in_ok-bytes.ensures.items ∙ ap (λ ns. noted ns c.args.name.now) (c.self.view_is ∙ c.in_ok-seed.ensures)
 
 pub returns-clause-new : goal.returns-clause-new
 returns-clause-new c =
