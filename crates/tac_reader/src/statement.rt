@@ -23,6 +23,9 @@ pub enum Role {
 pub fn statement_form(tokens: &[Token]) -> Option<Form>
     ensures { (text : List ℕ) → statement_row (tokens_view text tokens.now) ≡ option_map (λ form. (form, form_slots form (length tokens.now))) result }
 {
+    if tokens.is_empty() {
+        return None;
+    }
     let form = form_of(tokens);
     match follow(slots_of(form, tokens.len()), tokens) {
         Walk::Whole => Some(form),
