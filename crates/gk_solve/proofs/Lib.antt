@@ -1,5 +1,6 @@
 pub mod Backward
 pub mod Beginning
+pub mod Blank
 pub mod BroughtVisits
 pub mod Complete
 pub mod Decided
