@@ -1,17 +1,13 @@
 // The hashers of names: which names fall together in a large table is not known before the text is whole.
 //
 // `FoldHasher` alone has no seed, so that names which all have one hash can be prepared, and a table of
-// them takes time by their square. There is no runtime to draw a seed from. So where the tables of a text
-// have more than a few names each hash begins with the text's own digest. A name more or less is another
+// them takes time by their square. There is no runtime to draw a seed from. So in a table of more than a
+// few names each hash begins with the text's own digest. A name more or less is another
 // text, and so another digest: who wants names to fall together has to choose them before he knows how they are
 // hashed, and no digest can be aimed at. `docs/DECISIONS.md` tells why no names fall together for all of them.
 
 use sha1::Sha1;
 use std::hash::{BuildHasher, FoldHasher, Hasher};
-
-/// How many comparisons of names that fall together a text may cost before its names are hashed with
-/// its digest: so few that they take some milliseconds.
-const FEW_COMPARISONS: usize = 1_048_576;
 
 /// What makes the hashers of a table's names.
 #[derive(Clone, Copy)]
@@ -33,7 +29,6 @@ impl NameHashers {
 pub struct NameSeeds<'a> {
     text: &'a [u8],
     digested: Option<NameHashers>,
-    left: usize,
 }
 
 impl<'a> NameSeeds<'a> {
@@ -42,16 +37,7 @@ impl<'a> NameSeeds<'a> {
         NameSeeds {
             text,
             digested: None,
-            left: FEW_COMPARISONS,
         }
-    }
-
-    /// Whether one more name may be hashed without the digest, beside so many in its table: at worst
-    /// it is compared with all of them.
-    pub fn allows(&mut self, names: usize) -> bool {
-        let is_allowed = names <= self.left;
-        self.left = self.left.saturating_sub(names);
-        is_allowed
     }
 
     /// The hashers that begin with the text's digest.

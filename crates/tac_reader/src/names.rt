@@ -11,6 +11,10 @@ use indexmap::IndexSet;
 use std::alloc::{AllocError, Global};
 use std::marker::Model;
 
+/// How many names of a table are hashed without the text's digest. Where they all fall together, a name that is looked up
+/// is compared with no more than these.
+const FEW_NAMES: usize = 64;
+
 /// Names, each once, by number from 0. A table has at most `u32::MAX` of them.
 #[derive(Debug, Drop)]
 pub struct NameTable {
@@ -81,7 +85,7 @@ impl NameTable {
     fn seed(&mut self, alloc: Global, seeds: &mut NameSeeds<'_>) -> Result<(), AllocError>
         ensures { OnOk result (self.new ≡ self.old) }
     {
-        if self.is_seeded || seeds.allows(self.names.len()) {
+        if self.is_seeded || self.names.len() < FEW_NAMES {
             return Ok(());
         }
         let mut seeded = IndexSet::with_hasher(alloc, seeds.digested());
