@@ -1,3 +1,4 @@
+use Rattle.std.proofs.lemmas.Grind.{common_steps}
 use Rattle.std.proofs.Common.{◌≤◌, length, ap, arith}
 use Rattle.tac_reader.specs.Programs.{Program}
 use Rattle.flow_graph.specs.Universes.{Live}
@@ -7,3 +8,6 @@ pub blank-requires-clause-rows : goal.blank-requires-clause-rows
 blank-requires-clause-rows c =
     let few : length c.args.graph.now.variable_names ≤ 4096 = c.bits-bits.ensures.few Live in
     omega (arith, few, c.variables-rows.ensures, ap (λ (p : Program). length p.variable_names) c.program.ensures)
+
+pub loop-bit-preserved : goal.loop-bit-preserved
+loop-bit-preserved c = grind (arith, common_steps)

@@ -1,0 +1,9 @@
+use Rattle.std.proofs.Common.{arith}
+use Rattle.std.proofs.lemmas.Grind.{common_steps}
+use Rattle.flow_graph.proofs.points.first_points.Goals as goal
+
+pub loop-procedure-preserved : goal.loop-procedure-preserved
+loop-procedure-preserved c = grind (arith, common_steps)
+
+pub returns : goal.returns
+returns c = grind (arith, common_steps)
