@@ -30,7 +30,7 @@ abbrev pub edges_of : Program → ℕ → StmtKind → List Edge
 edges_of program point (kind.Goto label) = Step point (label_point program (procedure_at program point) label) ∷ []
 edges_of program point (kind.If y label) = two_steps point (label_point program (procedure_at program point) label)
 edges_of program point (kind.IfFalse y label) = two_steps point (label_point program (procedure_at program point) label)
-edges_of program point (kind.IfCompare y op z label) = two_steps point (label_point program (procedure_at program point) label)
+edges_of program point (kind.IfCompare op label y z) = two_steps point (label_point program (procedure_at program point) label)
 edges_of program point (kind.Call callees) = map (λ callee. Call point point (entry_point program callee)) callees
 edges_of program point kind.Return = Step point (end_point program (procedure_at program point)) ∷ []
 edges_of program point _ = next_step point

@@ -18,10 +18,10 @@ names_variable x (Number n) = false
 abbrev pub operands_of : StmtKind → List Operand
 operands_of (kind.Copy x y) = y ∷ []
 operands_of (kind.Unary x op y) = y ∷ []
-operands_of (kind.Binary x y op z) = y ∷ z ∷ []
+operands_of (kind.Binary op x y z) = y ∷ z ∷ []
 operands_of (kind.If y label) = y ∷ []
 operands_of (kind.IfFalse y label) = y ∷ []
-operands_of (kind.IfCompare y op z label) = y ∷ z ∷ []
+operands_of (kind.IfCompare op label y z) = y ∷ z ∷ []
 operands_of (kind.Print y) = y ∷ []
 operands_of _ = []
 

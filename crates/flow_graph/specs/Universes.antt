@@ -18,7 +18,7 @@ use Rattle.flow_graph.specs.Points.{points, point_count, kind_at}
 abbrev pub defined_variable : StmtKind → Option ℕ
 defined_variable (kind.Copy x y) = Some x
 defined_variable (kind.Unary x op y) = Some x
-defined_variable (kind.Binary x y op z) = Some x
+defined_variable (kind.Binary op x y z) = Some x
 defined_variable (kind.Read x) = Some x
 defined_variable _ = None
 
@@ -48,7 +48,7 @@ pub record IsDefinitionIn (program : Program) (definition : Definition) : Type 0
 -- the expression that a statement evaluates: the right side of a unary or binary assignment
 abbrev pub expression_of : StmtKind → Option Expr
 expression_of (kind.Unary x op y) = Some (Unary op y)
-expression_of (kind.Binary x y op z) = Some (Binary y op z)
+expression_of (kind.Binary op x y z) = Some (Binary y op z)
 expression_of _ = None
 
 abbrev pub expression_at : Program → ℕ → Option Expr

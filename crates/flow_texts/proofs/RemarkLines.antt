@@ -103,11 +103,11 @@ two_there variables x y z left right reading = by_test (names_variable x y) refl
 read_there : (program : Program) (point x : ℕ) (k : StmtKind) → Stands program point k → list_any (names_variable x) (operands_of k) ≡ true → x < length program.variable_names
 read_there program point x (kind.Copy t y) stand reading = one_there (length program.variable_names) x y stand.sound.1 reading
 read_there program point x (kind.Unary t o y) stand reading = one_there (length program.variable_names) x y stand.sound.operand reading
-read_there program point x (kind.Binary t y o z) stand reading = two_there (length program.variable_names) x y z stand.sound.left stand.sound.right reading
+read_there program point x (kind.Binary o t y z) stand reading = two_there (length program.variable_names) x y z stand.sound.left stand.sound.right reading
 read_there program point x (kind.Goto l) stand reading = absurd (cc reading)
 read_there program point x (kind.If y l) stand reading = one_there (length program.variable_names) x y stand.sound.0 reading
 read_there program point x (kind.IfFalse y l) stand reading = one_there (length program.variable_names) x y stand.sound.0 reading
-read_there program point x (kind.IfCompare y o z l) stand reading = two_there (length program.variable_names) x y z stand.sound.left stand.sound.right reading
+read_there program point x (kind.IfCompare o l y z) stand reading = two_there (length program.variable_names) x y z stand.sound.left stand.sound.right reading
 read_there program point x (kind.Call ps) stand reading = absurd (cc reading)
 read_there program point x kind.Return stand reading = absurd (cc reading)
 read_there program point x (kind.Read t) stand reading = absurd (cc reading)
@@ -194,11 +194,11 @@ busy_is program known point k told at is = ap (λ o. expressions_if (unwrap_or (
 pub assigned_there : (program : Program) (point x : ℕ) (k : StmtKind) → Stands program point k → assigned k ≡ Some x → x < length program.variable_names
 assigned_there program point x (kind.Copy t y) stand sets = let same : t ≡ x = cc in omega (arith, stand.sound.0, same)
 assigned_there program point x (kind.Unary t o y) stand sets = let same : t ≡ x = cc in omega (arith, stand.sound.target, same)
-assigned_there program point x (kind.Binary t y o z) stand sets = let same : t ≡ x = cc in omega (arith, stand.sound.target, same)
+assigned_there program point x (kind.Binary o t y z) stand sets = let same : t ≡ x = cc in omega (arith, stand.sound.target, same)
 assigned_there program point x (kind.Goto l) stand sets = absurd (cc sets)
 assigned_there program point x (kind.If y l) stand sets = absurd (cc sets)
 assigned_there program point x (kind.IfFalse y l) stand sets = absurd (cc sets)
-assigned_there program point x (kind.IfCompare y o z l) stand sets = absurd (cc sets)
+assigned_there program point x (kind.IfCompare o l y z) stand sets = absurd (cc sets)
 assigned_there program point x (kind.Call ps) stand sets = absurd (cc sets)
 assigned_there program point x kind.Return stand sets = absurd (cc sets)
 assigned_there program point x (kind.Read t) stand sets = absurd (cc sets)

@@ -70,7 +70,7 @@ computed_at program known point =
 abbrev pub is_test : StmtKind → Bool
 is_test (kind.If y label) = true
 is_test (kind.IfFalse y label) = true
-is_test (kind.IfCompare y op z label) = true
+is_test (kind.IfCompare op label y z) = true
 is_test _ = false
 
 -- the expressions that are very busy at a test that is not doubtful
@@ -83,7 +83,7 @@ busy_at program known point =
 abbrev pub assigned : StmtKind → Option ℕ
 assigned (kind.Copy x y) = Some x
 assigned (kind.Unary x op y) = Some x
-assigned (kind.Binary x y op z) = Some x
+assigned (kind.Binary op x y z) = Some x
 assigned _ = None
 
 abbrev pub assigned_at : Program → ℕ → Option ℕ

@@ -36,7 +36,7 @@ numbered_example = record {
         statements =
             record { kind = kind.Read 2; span = record { line = 6; start = 38; end = 44 } }
             ∷ record { kind = kind.Unary 0 Minus (Number 7); span = record { line = 7; start = 45; end = 51 } }
-            ∷ record { kind = kind.IfCompare (Variable 1) Greater (Variable 2) 0; span = record { line = 8; start = 55; end = 70 } }
+            ∷ record { kind = kind.IfCompare Greater 0 (Variable 1) (Variable 2); span = record { line = 8; start = 55; end = 70 } }
             ∷ record { kind = kind.Call (1 ∷ 0 ∷ []); span = record { line = 9; start = 71; end = 84 } }
             ∷ [];
       }

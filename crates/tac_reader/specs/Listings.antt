@@ -34,11 +34,11 @@ callees_text names (p ∷ q ∷ ps) = name_at names.procedures p ++ codes " | " 
 abbrev pub statement_text : Names → StmtKind → List ℕ
 statement_text names (kind.Copy x y) = name_at names.variables x ++ codes " = " ++ operand_text names y
 statement_text names (kind.Unary x op y) = name_at names.variables x ++ codes " = " ++ unary_text names op y
-statement_text names (kind.Binary x y op z) = name_at names.variables x ++ codes " = " ++ binary_text names y op z
+statement_text names (kind.Binary op x y z) = name_at names.variables x ++ codes " = " ++ binary_text names y op z
 statement_text names (kind.Goto l) = goto_text names l
 statement_text names (kind.If y l) = codes "if " ++ operand_text names y ++ codes " " ++ goto_text names l
 statement_text names (kind.IfFalse y l) = codes "ifFalse " ++ operand_text names y ++ codes " " ++ goto_text names l
-statement_text names (kind.IfCompare y op z l) = codes "if " ++ binary_text names y op z ++ codes " " ++ goto_text names l
+statement_text names (kind.IfCompare op l y z) = codes "if " ++ binary_text names y op z ++ codes " " ++ goto_text names l
 statement_text names (kind.Call ps) = codes "call " ++ callees_text names ps
 statement_text names kind.Return = codes "return"
 statement_text names (kind.Read x) = codes "read " ++ name_at names.variables x

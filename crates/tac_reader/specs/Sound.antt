@@ -83,11 +83,11 @@ pub record IsSoundCall (procedures : ℕ) (callees : List ℕ) : Type 0 where
 abbrev pub IsSoundStatement : (variables labels procedures : ℕ) → StmtKind → Type 0
 IsSoundStatement variables labels procedures (kind.Copy x y) = (x < variables) × IsSoundOperand variables y
 IsSoundStatement variables labels procedures (kind.Unary x o y) = IsSoundUnary variables x o y
-IsSoundStatement variables labels procedures (kind.Binary x y o z) = IsSoundBinary variables x y o z
+IsSoundStatement variables labels procedures (kind.Binary o x y z) = IsSoundBinary variables x y o z
 IsSoundStatement variables labels procedures (kind.Goto l) = l < labels
 IsSoundStatement variables labels procedures (kind.If y l) = IsSoundOperand variables y × (l < labels)
 IsSoundStatement variables labels procedures (kind.IfFalse y l) = IsSoundOperand variables y × (l < labels)
-IsSoundStatement variables labels procedures (kind.IfCompare y o z l) = IsSoundComparison variables labels y o z l
+IsSoundStatement variables labels procedures (kind.IfCompare o l y z) = IsSoundComparison variables labels y o z l
 IsSoundStatement variables labels procedures (kind.Call ps) = IsSoundCall procedures ps
 IsSoundStatement variables labels procedures kind.Return = Unit {0}
 IsSoundStatement variables labels procedures (kind.Read x) = x < variables

@@ -71,25 +71,25 @@ fn operator_at(tokens: &[Token], at: usize) -> Op
 
 /// What the tokens of a binary assignment say.
 fn binary(names: Names<'_>, text: &[u8], tokens: &[Token]) -> StmtKind
-    ensures { result ≡ Binary (number_of names.entry.variables.now (bytes_of (word_nth (tokens_view text.now tokens.now) 0))) (operand_of (names_view names.entry) (word_nth (tokens_view text.now tokens.now) 2)) (operator_of (word_nth (tokens_view text.now tokens.now) 3)) (operand_of (names_view names.entry) (word_nth (tokens_view text.now tokens.now) 4)) }
+    ensures { result ≡ Binary (operator_of (word_nth (tokens_view text.now tokens.now) 3)) (number_of names.entry.variables.now (bytes_of (word_nth (tokens_view text.now tokens.now) 0))) (operand_of (names_view names.entry) (word_nth (tokens_view text.now tokens.now) 2)) (operand_of (names_view names.entry) (word_nth (tokens_view text.now tokens.now) 4)) }
 {
     StmtKind::Binary {
+        op: operator_at(tokens, 3),
         target: number_at(names.variables, text, tokens, 0),
         left: operand_at(names, text, tokens, 2),
-        op: operator_at(tokens, 3),
         right: operand_at(names, text, tokens, 4),
     }
 }
 
 /// What the tokens of a comparison say.
 fn comparison(names: Names<'_>, text: &[u8], tokens: &[Token]) -> StmtKind
-    ensures { result ≡ IfCompare (operand_of (names_view names.entry) (word_nth (tokens_view text.now tokens.now) 1)) (operator_of (word_nth (tokens_view text.now tokens.now) 2)) (operand_of (names_view names.entry) (word_nth (tokens_view text.now tokens.now) 3)) (number_of names.entry.labels.now (bytes_of (word_nth (tokens_view text.now tokens.now) 5))) }
+    ensures { result ≡ IfCompare (operator_of (word_nth (tokens_view text.now tokens.now) 2)) (number_of names.entry.labels.now (bytes_of (word_nth (tokens_view text.now tokens.now) 5))) (operand_of (names_view names.entry) (word_nth (tokens_view text.now tokens.now) 1)) (operand_of (names_view names.entry) (word_nth (tokens_view text.now tokens.now) 3)) }
 {
     StmtKind::IfCompare {
-        left: operand_at(names, text, tokens, 1),
         op: operator_at(tokens, 2),
-        right: operand_at(names, text, tokens, 3),
         label: number_at(names.labels, text, tokens, 5),
+        left: operand_at(names, text, tokens, 1),
+        right: operand_at(names, text, tokens, 3),
     }
 }
 

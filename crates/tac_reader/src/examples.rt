@@ -143,11 +143,11 @@ pub fn sound_statements()
     ensures number_too_large { ¬ IsSoundStatement 1 0 1 (Copy 0 (Number 9223372036854775808)) }
     ensures unary { IsSoundStatement 1 0 1 (Unary 0 Tilde (Number 9223372036854775807)) }
     ensures no_unary { ¬ IsSoundStatement 1 0 1 (Unary 0 Plus (Number 1)) }
-    ensures no_binary { ¬ IsSoundStatement 1 0 1 (Binary 0 (Number 1) Tilde (Number 1)) }
+    ensures no_binary { ¬ IsSoundStatement 1 0 1 (Binary Tilde 0 (Number 1) (Number 1)) }
     ensures label { IsSoundStatement 0 1 1 (Goto 0) }
     ensures label_missing { ¬ IsSoundStatement 0 1 1 (Goto 1) }
-    ensures comparison { IsSoundStatement 1 1 1 (IfCompare (Variable 0) Less (Number 3) 0) }
-    ensures no_comparison { ¬ IsSoundStatement 1 1 1 (IfCompare (Variable 0) Plus (Number 3) 0) }
+    ensures comparison { IsSoundStatement 1 1 1 (IfCompare Less 0 (Variable 0) (Number 3)) }
+    ensures no_comparison { ¬ IsSoundStatement 1 1 1 (IfCompare Plus 0 (Variable 0) (Number 3)) }
     ensures callees { IsSoundStatement 0 0 2 (Call (1 ∷ 0 ∷ [])) }
     ensures callee_missing { ¬ IsSoundStatement 0 0 1 (Call (1 ∷ [])) }
     ensures callee_twice { ¬ IsSoundStatement 0 0 2 (Call (1 ∷ 1 ∷ [])) }

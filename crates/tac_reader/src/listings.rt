@@ -180,9 +180,9 @@ fn write_statement(text: &mut Vec<u8>, names: &Names<'_>, kind: &StmtKind) -> Re
             operand,
         } => write_unary(text, names, *target, *op, *operand),
         StmtKind::Binary {
+            op,
             target,
             left,
-            op,
             right,
         } => write_binary(text, names, *target, *left, *op, *right),
         StmtKind::Goto { label } => write_goto(text, names, *label),
@@ -195,10 +195,10 @@ fn write_statement(text: &mut Vec<u8>, names: &Names<'_>, kind: &StmtKind) -> Re
             *label,
         ),
         StmtKind::IfCompare {
-            left,
             op,
-            right,
             label,
+            left,
+            right,
         } => write_comparison(text, names, *left, *op, *right, *label),
         StmtKind::Call { callees } => write_call(text, names, callees.as_slice()),
         StmtKind::Return => text.extend_from_slice(b"return"),
@@ -246,7 +246,7 @@ fn write_binary(
 ) -> Result<(), AllocError>
     ensures { OnOk result
         (text.new.items ≡ text.old.items
-        ++ statement_text names.now (StmtKind.Binary target left op right)) }
+        ++ statement_text names.now (StmtKind.Binary op target left right)) }
 {
     write_target(text, names, target)?;
     write_operation(text, names, left, op, right)
@@ -262,7 +262,7 @@ fn write_comparison(
 ) -> Result<(), AllocError>
     ensures { OnOk result
         (text.new.items ≡ text.old.items
-        ++ statement_text names.now (StmtKind.IfCompare left op right label)) }
+        ++ statement_text names.now (StmtKind.IfCompare op label left right)) }
 {
     text.extend_from_slice(b"if ")?;
     write_operation(text, names, left, op, right)?;

@@ -4,7 +4,6 @@ ghost use Rattle.tac_reader.specs.Programs.{LabelsRise, sign_of};
 ghost use Rattle.tac_reader.specs.Sound.{IsSound};
 
 use crate::names::NameTable;
-use arrayvec::ArrayVec;
 use std::marker::Model;
 
 /// An operator, by its sign. Unary are `-`, `~` and `!`; comparisons are `<`, `<=`, `>`, `>=`, `==`
@@ -88,15 +87,18 @@ pub struct Label {
 /// The procedures that a call lists, by number: one to eight, in the order of the text.
 #[derive(Debug, Drop)]
 pub struct Callees {
-    procedures: ArrayVec<u32, 8>,
+    count: u32,
+    procedures: [u32; 8],
 }
 
 impl Model for Callees {
-    ghost use Rattle.std.specs.Prelude.{List, ℕ};
+    ghost use Rattle.std.specs.Prelude.{◌≡◌, ◌≤◌, List, ℕ, length, take};
 
     ghost Value = { List ℕ };
 
-    ghost view = { λ callees. callees.procedures.items };
+    ghost view = { λ callees. take callees.count callees.procedures };
+
+    ghost invariant = { λ callees. (callees.count ≤ 8) × (length callees.procedures ≡ 8) };
 }
 
 impl Callees {
@@ -105,7 +107,8 @@ impl Callees {
         ensures { result ≡ [] }
     {
         Callees {
-            procedures: ArrayVec::new(),
+            count: 0,
+            procedures: [0; 8],
         }
     }
 
@@ -114,7 +117,8 @@ impl Callees {
         requires { length self.old < 8 }
         ensures { self.new ≡ self.old ++ procedure ∷ [] }
     {
-        self.procedures.push(procedure);
+        self.procedures[self.count as usize] = procedure;
+        self.count += 1;
     }
 
     /// The procedures by number, in the order of the text.
@@ -122,12 +126,13 @@ impl Callees {
         ensures procedures { result.now ≡ self.now }
         ensures few { length result.now ≤ 8 }
     {
-        self.procedures.as_slice()
+        &self.procedures[..self.count as usize]
     }
 }
 
 /// What a statement does: three-address code as in Aho, Lam, Sethi, Ullman, Compilers, 6.2, over
 /// global variables. A variable, a label and a procedure are held by number.
+// Fields lie in the order of the source: what is small stands first, which makes a statement 56 bytes.
 #[derive(Debug, Drop)]
 pub enum StmtKind {
     /// `target = value`
@@ -143,9 +148,9 @@ pub enum StmtKind {
     },
     /// `target = left op right`
     Binary {
+        op: Op,
         target: u32,
         left: Operand,
-        op: Op,
         right: Operand,
     },
     /// `goto label`
@@ -164,10 +169,10 @@ pub enum StmtKind {
     },
     /// `if left op right goto label`
     IfCompare {
-        left: Operand,
         op: Op,
-        right: Operand,
         label: u32,
+        left: Operand,
+        right: Operand,
     },
     /// `call procedure | procedure ..`: any one of them may be called.
     Call {

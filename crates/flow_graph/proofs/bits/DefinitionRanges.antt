@@ -20,7 +20,7 @@ slice_get_contains (y ∷ xs) (suc i) x at = Contains-later y xs x (slice_get_co
 target_there : (variables labels procedures : ℕ) (k : StmtKind) (x : ℕ) → IsSoundStatement variables labels procedures k → defined_variable k ≡ Some x → x < variables
 target_there variables labels procedures (kind.Copy y z) x sound is = subst (λ v. v < variables) (cc is) sound.0
 target_there variables labels procedures (kind.Unary y o z) x sound is = subst (λ v. v < variables) (cc is) sound.target
-target_there variables labels procedures (kind.Binary y l o r) x sound is = subst (λ v. v < variables) (cc is) sound.target
+target_there variables labels procedures (kind.Binary o y l r) x sound is = subst (λ v. v < variables) (cc is) sound.target
 target_there variables labels procedures (kind.Read y) x sound is = subst (λ v. v < variables) (cc is) sound
 target_there variables labels procedures _ x sound is = absurd (cc is)
 

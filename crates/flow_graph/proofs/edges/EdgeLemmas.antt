@@ -93,13 +93,13 @@ calls_are program point callees edge is there at =
 pub edges_of_are : (program : Program) (point : ℕ) (k : StmtKind) (edge : Edge) → kind_at program point ≡ Some k → Stands program point k → Contains (edges_of program point k) edge → IsFrom program point edge
 edges_of_are program point (kind.Copy x y) edge is stand at = step_is program point (suc point) edge (next_in program point _ stand) at
 edges_of_are program point (kind.Unary x o y) edge is stand at = step_is program point (suc point) edge (next_in program point _ stand) at
-edges_of_are program point (kind.Binary x y o z) edge is stand at = step_is program point (suc point) edge (next_in program point _ stand) at
+edges_of_are program point (kind.Binary o x y z) edge is stand at = step_is program point (suc point) edge (next_in program point _ stand) at
 edges_of_are program point (kind.Goto l) edge is stand at = step_is program point (label_point program (procedure_at program point) l) edge (label_in program point l _ stand stand.sound) at
 edges_of_are program point (kind.If y l) edge is stand at =
     two_steps_are program point (label_point program (procedure_at program point) l) edge (next_in program point _ stand) (label_in program point l _ stand stand.sound.1) at
 edges_of_are program point (kind.IfFalse y l) edge is stand at =
     two_steps_are program point (label_point program (procedure_at program point) l) edge (next_in program point _ stand) (label_in program point l _ stand stand.sound.1) at
-edges_of_are program point (kind.IfCompare y o z l) edge is stand at =
+edges_of_are program point (kind.IfCompare o l y z) edge is stand at =
     two_steps_are program point (label_point program (procedure_at program point) l) edge (next_in program point _ stand) (label_in program point l _ stand stand.sound.label) at
 edges_of_are program point (kind.Call callees) edge is stand at = calls_are program point callees edge is stand.sound.there at
 edges_of_are program point kind.Return edge is stand at =

@@ -27,11 +27,11 @@ callees_are program point sound below = by_kind (kind_at program point) refl
     by_kind (Some (kind.Call callees)) is = let stand = stands program sound point (kind.Call callees) below is in record { there = stand.sound.there; differ = stand.sound.differ }
     by_kind (Some (kind.Copy x y)) is = no_callees program
     by_kind (Some (kind.Unary x o y)) is = no_callees program
-    by_kind (Some (kind.Binary x y o z)) is = no_callees program
+    by_kind (Some (kind.Binary o x y z)) is = no_callees program
     by_kind (Some (kind.Goto l)) is = no_callees program
     by_kind (Some (kind.If y l)) is = no_callees program
     by_kind (Some (kind.IfFalse y l)) is = no_callees program
-    by_kind (Some (kind.IfCompare y o z l)) is = no_callees program
+    by_kind (Some (kind.IfCompare o l y z)) is = no_callees program
     by_kind (Some kind.Return) is = no_callees program
     by_kind (Some (kind.Read x)) is = no_callees program
     by_kind (Some (kind.Print y)) is = no_callees program

@@ -20,11 +20,11 @@ evaluates_defines : (point : ℕ) (k : Option StmtKind) → length (some_express
 evaluates_defines point None = omega arith
 evaluates_defines point (Some (kind.Copy x y)) = omega arith
 evaluates_defines point (Some (kind.Unary x o y)) = omega arith
-evaluates_defines point (Some (kind.Binary x y o z)) = omega arith
+evaluates_defines point (Some (kind.Binary o x y z)) = omega arith
 evaluates_defines point (Some (kind.Goto l)) = omega arith
 evaluates_defines point (Some (kind.If y l)) = omega arith
 evaluates_defines point (Some (kind.IfFalse y l)) = omega arith
-evaluates_defines point (Some (kind.IfCompare y o z l)) = omega arith
+evaluates_defines point (Some (kind.IfCompare o l y z)) = omega arith
 evaluates_defines point (Some (kind.Call ps)) = omega arith
 evaluates_defines point (Some (kind.Read x)) = omega arith
 evaluates_defines point (Some (kind.Print y)) = omega arith

@@ -76,7 +76,7 @@ module _ (names : Names) (cs : List ℕ) where
   unary_words (a ∷ b ∷ c ∷ []) h = absurd (omega (arith, h))
   unary_words (a ∷ b ∷ c ∷ d ∷ ds) h = refl
 
-  pub binary_words : (ts : List Token) → length ts ≡ 5 → kind.Binary (variable_of names (word_nth ts 0)) (operand_of names (word_nth ts 2)) (operator_of (word_nth ts 3)) (operand_of names (word_nth ts 4)) ≡ kind_of names cs form.Binary (map (λ t. t.word) ts)
+  pub binary_words : (ts : List Token) → length ts ≡ 5 → kind.Binary (operator_of (word_nth ts 3)) (variable_of names (word_nth ts 0)) (operand_of names (word_nth ts 2)) (operand_of names (word_nth ts 4)) ≡ kind_of names cs form.Binary (map (λ t. t.word) ts)
   binary_words [] h = absurd (omega (arith, h))
   binary_words (a ∷ []) h = absurd (omega (arith, h))
   binary_words (a ∷ b ∷ []) h = absurd (omega (arith, h))
@@ -84,7 +84,7 @@ module _ (names : Names) (cs : List ℕ) where
   binary_words (a ∷ b ∷ c ∷ d ∷ []) h = absurd (omega (arith, h))
   binary_words (a ∷ b ∷ c ∷ d ∷ e ∷ es) h = refl
 
-  pub comparison_words : (ts : List Token) → length ts ≡ 6 → kind.IfCompare (operand_of names (word_nth ts 1)) (operator_of (word_nth ts 2)) (operand_of names (word_nth ts 3)) (label_of names (word_nth ts 5)) ≡ kind_of names cs form.Comparison (map (λ t. t.word) ts)
+  pub comparison_words : (ts : List Token) → length ts ≡ 6 → kind.IfCompare (operator_of (word_nth ts 2)) (label_of names (word_nth ts 5)) (operand_of names (word_nth ts 1)) (operand_of names (word_nth ts 3)) ≡ kind_of names cs form.Comparison (map (λ t. t.word) ts)
   comparison_words [] h = absurd (omega (arith, h))
   comparison_words (a ∷ []) h = absurd (omega (arith, h))
   comparison_words (a ∷ b ∷ []) h = absurd (omega (arith, h))
