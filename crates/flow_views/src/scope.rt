@@ -131,7 +131,7 @@ impl Scope<'_> {
         requires left { IsSoundOperand (length self.now.program.now.variable_names) left }
         requires right { IsSoundOperand (length self.now.program.now.variable_names) right }
         ensures same_reference { out.new.sink.ghost_name ≡ out.old.sink.ghost_name }
-        ensures takes { Takes (outlet K.contents K.faults out.old) (outlet K.contents K.faults out.new) (escaped (statement_text (names_in self.now.program.now self.now.procedure) (kind_of.Binary target left op right))) }
+        ensures takes { Takes (outlet K.contents K.faults out.old) (outlet K.contents K.faults out.new) (escaped (statement_text (names_in self.now.program.now self.now.procedure) (kind_of.Binary op target left right))) }
     {
         self.write_target(out, target);
         self.write_binary(out, left, op, right);
@@ -179,7 +179,7 @@ impl Scope<'_> {
         requires label { label < length (names_in self.now.program.now self.now.procedure).labels }
         requires procedure { self.now.procedure < length self.now.program.now.procedures }
         ensures same_reference { out.new.sink.ghost_name ≡ out.old.sink.ghost_name }
-        ensures takes { Takes (outlet K.contents K.faults out.old) (outlet K.contents K.faults out.new) (escaped (statement_text (names_in self.now.program.now self.now.procedure) (kind_of.IfCompare left op right label))) }
+        ensures takes { Takes (outlet K.contents K.faults out.old) (outlet K.contents K.faults out.new) (escaped (statement_text (names_in self.now.program.now self.now.procedure) (kind_of.IfCompare op label left right))) }
     {
         out.write(b"if ");
         self.write_binary(out, left, op, right);
