@@ -9,6 +9,8 @@ use Rattle.flow_links.specs.contracts.links.Links as Links
 use Rattle.gk_solve.specs.contracts.routes.Routes as Routes
 use Rattle.gk_solve.specs.contracts.solver.Solver as Solver
 use Rattle.work_list.specs.contracts.order.Order as Order
+use Rattle.flow_team.specs.contracts.sets.GraphSets as GraphSets
+use Rattle.flow_team.specs.contracts.first_bits.FirstBits as FirstBits
 
 program_sync : IsSync Program.the_row
 program_sync = search (crosses, sendable) depth 60 fits 5000
@@ -47,3 +49,17 @@ pub solver_sync : (g p : NamedLft) → IsSync (Solver.the_row g p)
 solver_sync g p = search (problem_sync, routes_sync, crosses, sendable) depth 60
 
 pub ruleset solver_crosses = (solver_send, solver_sync, crosses, sendable)
+
+sets_send : (g p : NamedLft) → IsSend (GraphSets.the_row g p)
+sets_send g p = search (solver_send, crosses, sendable) depth 60
+
+sets_sync : (g p : NamedLft) → IsSync (GraphSets.the_row g p)
+sets_sync g p = search (solver_sync, crosses, sendable) depth 60
+
+pub first_send : (g p : NamedLft) → IsSend (FirstBits.the_row g p)
+first_send g p = search (sets_send, crosses, sendable) depth 60
+
+pub first_sync : (g p : NamedLft) → IsSync (FirstBits.the_row g p)
+first_sync g p = search (sets_sync, crosses, sendable) depth 60
+
+pub ruleset first_crosses = (first_send, first_sync, crosses, sendable)

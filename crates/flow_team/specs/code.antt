@@ -1,5 +1,6 @@
 pub mod Blocks
 pub mod FactWords
+pub mod FirstSets
 pub mod Jobs
 pub mod Kept
 pub mod Posting

@@ -1,7 +1,6 @@
 // The job of an analysis of a graph.
-ghost use Rattle.std.specs.Prelude.{◌≡◌, ℕ, ◌<◌, IfOk, IfErr, IfSome, IsOk, IsErr, IsSome};
+ghost use Rattle.std.specs.Prelude.{◌≡◌, ℕ, ◌<◌, IfOk, IfErr, IsOk, IsErr, IsSome};
 ghost use Rattle.flow_graph.specs.Universes.{bits as bits_of};
-ghost use Rattle.gk_solve.specs.Solved.{direction_of};
 ghost use Rattle.slice_board.specs.Boards.{IsOf, CountsOnce, fresh_pass, slice_count};
 ghost use Rattle.slice_board.specs.Passes.{times};
 ghost use Rattle.flow_team.specs.Tables.{IsTableOf};
@@ -12,7 +11,6 @@ use crate::sets::GraphSets;
 use crate::table::Table;
 use bit_rows::Cut;
 use flow_graph::{Analysis, Graph};
-use gk_solve::Routes;
 use slice_board::{Pass, Unfinished};
 use std::alloc::Global;
 
@@ -34,23 +32,6 @@ impl<'g, 'p> Job<GraphSets<'g, 'p>> {
         Job::of_sets(alloc, sets, cut)
     }
 
-    /// The job of an analysis of a graph, over edges and path flags that were found for another of the same direction.
-    pub(crate) fn open_over(
-        alloc: Global,
-        graph: &'g Graph<'p>,
-        analysis: Analysis,
-        cut: Cut,
-        routes: Routes<'g, 'p>,
-    ) -> Result<(Self, Pass<GraphSets<'g, 'p>>), OutOfMemory>
-        requires cut { cut.bits ≡ bits_of graph.now analysis }
-        requires routes { routes ≡ direction_of (record { program = graph.now; analysis = analysis }) }
-        ensures wanted { IfOk result (λ r. r.0.wanted ≡ record { program = graph.now; analysis = analysis }) }
-        ensures pass { IfOk result (λ r. r.1 ≡ fresh_pass r.0) }
-    {
-        let sets = GraphSets::over(alloc, graph, analysis, routes)?;
-        Job::of_sets(alloc, sets, cut)
-    }
-
     // The job of these sets.
     fn of_sets(
         alloc: Global,
@@ -64,22 +45,6 @@ impl<'g, 'p> Job<GraphSets<'g, 'p>> {
     {
         let flags = sets.flags(alloc)?;
         Job::on_board(alloc, sets, flags, cut)
-    }
-
-    // The table, and what another analysis of the same direction can use, where every slice is finished.
-    pub(crate) fn close_with_routes(
-        self,
-        pass: Pass<GraphSets<'g, 'p>>,
-    ) -> Option<(Table, Routes<'g, 'p>)>
-        requires { IsOf self pass }
-        ensures analysis { IfSome result (λ r. r.0.analysis ≡ self.entry.wanted.analysis) }
-        ensures table { IfSome result (λ r. IsTableOf self.entry.wanted.program r.0) }
-        ensures routes { IfSome result (λ r. r.1 ≡ direction_of self.entry.wanted) }
-    {
-        match self.close_words(pass) {
-            Ok((sets, posted)) => Some((sets.table(posted), sets.into_routes())),
-            Err(_) => None,
-        }
     }
 
     /// The table of the analysis, where every slice is finished. Else all is handed back, with how many slices are finished.

@@ -4,6 +4,8 @@
 #![tactic(auto)]
 
 mod fault;
+mod first_bits;
+mod first_job;
 mod gate;
 mod graph_job;
 mod job;
@@ -23,4 +25,4 @@ pub use sets::GraphSets;
 pub use solve::Solve;
 pub use std::alloc::AllocError as OutOfMemory;
 pub use table::Table;
-pub use team::{analyse, analyse_alone, analyse_both, analyse_both_alone};
+pub use team::{analyse, analyse_alone, analyse_both, analyse_both_alone, analyse_both_first};

@@ -5,7 +5,6 @@ ghost use Rattle.flow_graph.specs.Universes.{bits as bits_of};
 ghost use Rattle.gk_solve.specs.Solved.{HasPathFlags, IsMeetOverPaths, IsSliceOf, direction_of};
 ghost use Rattle.flow_team.specs.Sets.{HasMayPath, IsInMaySet};
 ghost use Rattle.flow_team.specs.Beginnings.{IsBeginningOf};
-ghost use Rattle.flow_team.specs.Tables.{IsTableOf};
 
 use crate::OutOfMemory;
 use crate::solve::Solve;
@@ -77,11 +76,13 @@ impl<'g, 'p> GraphSets<'g, 'p> {
         self.solver.flags(alloc)
     }
 
-    /// The analysis's table, of the words of its may form: complemented where the analysis is over every path.
+    /// The first bits of the analysis's table, of the words of its may form: complemented where the analysis is over every path.
     pub(crate) fn table(&self, posted: PostedWords) -> Table
-        requires { IsMeetOverPaths self.now 0 (bits_of self.now.program self.now.analysis) posted }
+        requires within { posted.hi ≤ bits_of self.now.program self.now.analysis }
+        requires meet { IsMeetOverPaths self.now 0 posted.hi posted }
         ensures analysis { result.analysis ≡ self.now.analysis }
-        ensures table { IsTableOf self.now.program result }
+        ensures bits { result.rows.hi ≡ posted.hi }
+        ensures beginning { IsBeginningOf self.now.program result }
     {
         let problem = self.solver.problem();
         let words = TurnedWords::of(posted, problem.complements());
@@ -149,34 +150,6 @@ impl<'g, 'p> GraphSets<'g, 'p> {
     {
         let sets = GraphSets::over(alloc, graph, analysis, routes)?;
         sets.first_with_routes(alloc, bits)
-    }
-
-    /// The table of an analysis of a graph, solved at once, and what another of the same direction can use.
-    pub(crate) fn solved(
-        alloc: Global,
-        graph: &'g Graph<'p>,
-        analysis: Analysis,
-    ) -> Result<(Table, Routes<'g, 'p>), OutOfMemory>
-        ensures analysis { IfOk result (λ r. r.0.analysis ≡ analysis) }
-        ensures table { IfOk result (λ r. IsTableOf graph.now r.0) }
-        ensures routes { IfOk result (λ r. r.1 ≡ direction_of (record { program = graph.now; analysis = analysis })) }
-    {
-        GraphSets::solved_first(alloc, graph, analysis, graph.bits(analysis))
-    }
-
-    /// The same, over edges and path flags that were found for another analysis of the same direction.
-    pub(crate) fn solved_over(
-        alloc: Global,
-        graph: &'g Graph<'p>,
-        analysis: Analysis,
-        routes: Routes<'g, 'p>,
-    ) -> Result<(Table, Routes<'g, 'p>), OutOfMemory>
-        requires { routes ≡ direction_of (record { program = graph.now; analysis = analysis }) }
-        ensures analysis { IfOk result (λ r. r.0.analysis ≡ analysis) }
-        ensures table { IfOk result (λ r. IsTableOf graph.now r.0) }
-        ensures routes { IfOk result (λ r. r.1 ≡ direction_of (record { program = graph.now; analysis = analysis })) }
-    {
-        GraphSets::solved_first_over(alloc, graph, analysis, graph.bits(analysis), routes)
     }
 }
 

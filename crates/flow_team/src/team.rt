@@ -9,6 +9,7 @@ ghost use Rattle.flow_team.specs.Tables.{IsTableOf};
 
 use crate::OutOfMemory;
 use crate::fault::TeamFault;
+use crate::first_bits::FirstBits;
 use crate::gate::Gate;
 use crate::job::Job;
 use crate::sets::GraphSets;
@@ -21,23 +22,27 @@ use slice_board::Pass;
 use std::alloc::Global;
 use std::thread::Threads;
 
-// What a job was closed with. Where a worker's slice was lost with its pass, all is solved here.
+// What a job was closed with. Where a worker's slice was lost with its pass, all its bits are solved here.
 fn closed_or_solved<'g, 'p>(
     alloc: Global,
     graph: &'g Graph<'p>,
     analysis: Analysis,
+    bits: u32,
     closed: Option<(Table, Routes<'g, 'p>)>,
 ) -> Result<(Table, Routes<'g, 'p>), OutOfMemory>
+    requires within { bits ≤ bits_of graph.now analysis }
     requires analysis { IfSome closed (λ r. r.0.analysis ≡ analysis) }
-    requires table { IfSome closed (λ r. IsTableOf graph.now r.0) }
+    requires bits { IfSome closed (λ r. r.0.rows.hi ≡ bits) }
+    requires beginning { IfSome closed (λ r. IsBeginningOf graph.now r.0) }
     requires routes { IfSome closed (λ r. r.1 ≡ direction_of (record { program = graph.now; analysis = analysis })) }
     ensures analysis { IfOk result (λ r. r.0.analysis ≡ analysis) }
-    ensures table { IfOk result (λ r. IsTableOf graph.now r.0) }
+    ensures bits { IfOk result (λ r. r.0.rows.hi ≡ bits) }
+    ensures beginning { IfOk result (λ r. IsBeginningOf graph.now r.0) }
     ensures routes { IfOk result (λ r. r.1 ≡ direction_of (record { program = graph.now; analysis = analysis })) }
 {
     match closed {
         Some(closed) => Ok(closed),
-        None => GraphSets::solved(alloc, graph, analysis),
+        None => GraphSets::solved_first(alloc, graph, analysis, bits),
     }
 }
 
@@ -46,22 +51,25 @@ fn worked<'g, 'p, R: Threads + Sync, G: Gate>(
     rt: &R,
     alloc: Global,
     graph: &'g Graph<'p>,
-    analysis: Analysis,
-    job: Job<GraphSets<'g, 'p>>,
-    pass: Pass<GraphSets<'g, 'p>>,
+    asked: (Analysis, u32),
+    job: Job<FirstBits<'g, 'p>>,
+    pass: Pass<FirstBits<'g, 'p>>,
     workers: u32,
     gate: &G,
 ) -> Result<(Table, Routes<'g, 'p>), OutOfMemory>
     requires some { 0 < workers }
     requires few { workers ≤ 64 }
-    requires wanted { job.wanted ≡ record { program = graph.now; analysis = analysis } }
+    requires within { asked.1 ≤ bits_of graph.now asked.0 }
+    requires wanted { job.wanted ≡ record { form = record { program = graph.now; analysis = asked.0 }; bits = asked.1 } }
     requires pass { IsOf job pass }
-    ensures analysis { IfOk result (λ r. r.0.analysis ≡ analysis) }
-    ensures table { IfOk result (λ r. IsTableOf graph.now r.0) }
-    ensures routes { IfOk result (λ r. r.1 ≡ direction_of (record { program = graph.now; analysis = analysis })) }
+    ensures analysis { IfOk result (λ r. r.0.analysis ≡ asked.0) }
+    ensures bits { IfOk result (λ r. r.0.rows.hi ≡ asked.1) }
+    ensures beginning { IfOk result (λ r. IsBeginningOf graph.now r.0) }
+    ensures routes { IfOk result (λ r. r.1 ≡ direction_of (record { program = graph.now; analysis = asked.0 })) }
 {
+    let (analysis, bits) = asked;
     let pass = run_workers(rt, alloc, &job, gate, 0, workers, pass)?;
-    closed_or_solved(alloc, graph, analysis, job.close_with_routes(pass))
+    closed_or_solved(alloc, graph, analysis, bits, job.close_with_routes(pass))
 }
 
 // Whether there is nobody to share slices with, and nobody to tell of them: then they are all solved at once, with no board.
@@ -69,7 +77,7 @@ fn is_alone<G: Gate>(workers: u32, gate: &G) -> bool {
     workers == 1 && !gate.listens()
 }
 
-// The table of an analysis, and what another of the same direction can use.
+// The beginning of an analysis's table, of as many bits as the cut is of, and what another of the same direction can use.
 fn first_table<'g, 'p, R: Threads + Sync, G: Gate>(
     rt: &R,
     alloc: Global,
@@ -81,19 +89,22 @@ fn first_table<'g, 'p, R: Threads + Sync, G: Gate>(
 ) -> Result<(Table, Routes<'g, 'p>), OutOfMemory>
     requires some { 0 < workers }
     requires few { workers ≤ 64 }
-    requires cut { cut.bits ≡ bits_of graph.now analysis }
+    requires cut { cut.bits ≤ bits_of graph.now analysis }
     ensures analysis { IfOk result (λ r. r.0.analysis ≡ analysis) }
-    ensures table { IfOk result (λ r. IsTableOf graph.now r.0) }
+    ensures bits { IfOk result (λ r. r.0.rows.hi ≡ cut.bits) }
+    ensures beginning { IfOk result (λ r. IsBeginningOf graph.now r.0) }
     ensures routes { IfOk result (λ r. r.1 ≡ direction_of (record { program = graph.now; analysis = analysis })) }
 {
+    let bits = cut.bits();
     if is_alone(workers, gate) {
-        return GraphSets::solved(alloc, graph, analysis);
+        return GraphSets::solved_first(alloc, graph, analysis, bits);
     }
-    let (job, pass) = Job::open(alloc, graph, analysis, cut)?;
-    worked(rt, alloc, graph, analysis, job, pass, workers, gate)
+    let sets = GraphSets::of(alloc, graph, analysis)?;
+    let (job, pass) = Job::open_first(alloc, sets, cut)?;
+    worked(rt, alloc, graph, (analysis, bits), job, pass, workers, gate)
 }
 
-// The table of another analysis of the same direction.
+// The same of another analysis of the same direction.
 fn second_table<'g, 'p, R: Threads + Sync, G: Gate>(
     rt: &R,
     alloc: Global,
@@ -106,17 +117,20 @@ fn second_table<'g, 'p, R: Threads + Sync, G: Gate>(
 ) -> Result<(Table, Routes<'g, 'p>), OutOfMemory>
     requires some { 0 < workers }
     requires few { workers ≤ 64 }
-    requires cut { cut.bits ≡ bits_of graph.now analysis }
+    requires cut { cut.bits ≤ bits_of graph.now analysis }
     requires routes { routes ≡ direction_of (record { program = graph.now; analysis = analysis }) }
     ensures analysis { IfOk result (λ r. r.0.analysis ≡ analysis) }
-    ensures table { IfOk result (λ r. IsTableOf graph.now r.0) }
+    ensures bits { IfOk result (λ r. r.0.rows.hi ≡ cut.bits) }
+    ensures beginning { IfOk result (λ r. IsBeginningOf graph.now r.0) }
     ensures routes { IfOk result (λ r. r.1 ≡ direction_of (record { program = graph.now; analysis = analysis })) }
 {
+    let bits = cut.bits();
     if is_alone(workers, gate) {
-        return GraphSets::solved_over(alloc, graph, analysis, routes);
+        return GraphSets::solved_first_over(alloc, graph, analysis, bits, routes);
     }
-    let (job, pass) = Job::open_over(alloc, graph, analysis, cut, routes)?;
-    worked(rt, alloc, graph, analysis, job, pass, workers, gate)
+    let sets = GraphSets::over(alloc, graph, analysis, routes)?;
+    let (job, pass) = Job::open_first(alloc, sets, cut)?;
+    worked(rt, alloc, graph, (analysis, bits), job, pass, workers, gate)
 }
 
 // The table of an analysis alone.
@@ -140,7 +154,7 @@ fn one_table<R: Threads + Sync, G: Gate>(
     Ok(table)
 }
 
-// The first table, and the one of another analysis of its direction.
+// The first beginning, and the one of another analysis of its direction.
 fn with_second<'g, 'p, R: Threads + Sync, G: Gate>(
     rt: &R,
     alloc: Global,
@@ -152,10 +166,10 @@ fn with_second<'g, 'p, R: Threads + Sync, G: Gate>(
 ) -> Result<(Table, Table), OutOfMemory>
     requires some { 0 < workers }
     requires few { workers ≤ 64 }
-    requires cut { second.1.bits ≡ bits_of graph.now second.0 }
+    requires cut { second.1.bits ≤ bits_of graph.now second.0 }
     requires routes { first.1 ≡ direction_of (record { program = graph.now; analysis = second.0 }) }
     ensures first { IfOk result (λ r. r.0 ≡ first.entry.0) }
-    ensures second { IfOk result (λ r. (r.1.analysis ≡ second.0) × IsTableOf graph.now r.1) }
+    ensures second { IfOk result (λ r. (r.1.analysis ≡ second.0) × (r.1.rows.hi ≡ second.1.bits) × IsBeginningOf graph.now r.1) }
 {
     let (table, routes) = first;
     let (analysis, cut) = second;
@@ -163,7 +177,7 @@ fn with_second<'g, 'p, R: Threads + Sync, G: Gate>(
     Ok((table, other))
 }
 
-// The tables of two analyses of one direction.
+// The beginnings of the tables of two analyses of one direction.
 fn two_tables<R: Threads + Sync, G: Gate>(
     rt: &R,
     alloc: Global,
@@ -175,11 +189,11 @@ fn two_tables<R: Threads + Sync, G: Gate>(
 ) -> Result<(Table, Table), TeamFault>
     requires some { 0 < workers }
     requires few { workers ≤ 64 }
-    requires first_cut { first.1.bits ≡ bits_of graph.now first.0 }
-    requires second_cut { second.1.bits ≡ bits_of graph.now second.0 }
+    requires first_bits { first.1.bits ≤ bits_of graph.now first.0 }
+    requires second_bits { second.1.bits ≤ bits_of graph.now second.0 }
     requires direction { is_backward first.0 ≡ is_backward second.0 }
-    ensures first { IfOk result (λ r. (r.0.analysis ≡ first.0) × IsTableOf graph.now r.0) }
-    ensures second { IfOk result (λ r. (r.1.analysis ≡ second.0) × IsTableOf graph.now r.1) }
+    ensures first { IfOk result (λ r. (r.0.analysis ≡ first.0) × (r.0.rows.hi ≡ first.1.bits) × IsBeginningOf graph.now r.0) }
+    ensures second { IfOk result (λ r. (r.1.analysis ≡ second.0) × (r.1.rows.hi ≡ second.1.bits) × IsBeginningOf graph.now r.1) }
     ensures fault { result ≡ Err TeamFault.BadWorkers → ⊥ }
 {
     let (analysis, cut) = first;
@@ -234,7 +248,7 @@ pub fn analyse_alone(
     ensures analysis { IfOk result (λ table. table.analysis ≡ analysis) }
     ensures table { IfOk result (IsTableOf graph.now) }
 {
-    let (table, _) = GraphSets::solved(alloc, graph, analysis)?;
+    let (table, _) = GraphSets::solved_first(alloc, graph, analysis, graph.bits(analysis))?;
     Ok(table)
 }
 
@@ -278,6 +292,36 @@ pub fn analyse_both_alone(
     with_second_alone(alloc, graph, found, other, others)
 }
 
+/// The beginnings of the tables of two analyses of one direction, by so many workers: of each as many of its first bits as its cut is
+/// of, with 0 its path flags alone. No slice past them is drawn or solved. The edges, their order and the flags are found once. The
+/// workers are those of [`analyse`].
+///
+/// The conditions: each analysis has so many bits, and both are forward, or both backward.
+///
+/// - `BadWorkers`: the number of workers is not one of 1 to 64. This is checked first.
+/// - `OutOfMemory`: memory was refused, here or to a worker; all workers have ended.
+pub fn analyse_both_first<R: Threads + Sync, G: Gate>(
+    rt: &R,
+    alloc: Global,
+    graph: &Graph<'_>,
+    first: (Analysis, Cut),
+    second: (Analysis, Cut),
+    workers: u32,
+    gate: &G,
+) -> Result<(Table, Table), TeamFault>
+    requires first_bits { first.1.bits ≤ bits_of graph.now first.0 }
+    requires second_bits { second.1.bits ≤ bits_of graph.now second.0 }
+    requires direction { is_backward first.0 ≡ is_backward second.0 }
+    ensures first { IfOk result (λ r. (r.0.analysis ≡ first.0) × (r.0.rows.hi ≡ first.1.bits) × IsBeginningOf graph.now r.0) }
+    ensures second { IfOk result (λ r. (r.1.analysis ≡ second.0) × (r.1.rows.hi ≡ second.1.bits) × IsBeginningOf graph.now r.1) }
+    ensures bad_workers { (result ≡ Err TeamFault.BadWorkers) ↔ ((workers ≡ 0) ⊎ (64 < workers)) }
+{
+    if is_bad_number(workers) {
+        return Err(TeamFault::BadWorkers);
+    }
+    two_tables(rt, alloc, graph, first, second, workers, gate)
+}
+
 /// The tables of two analyses of one direction, each as [`analyse`] has it: the edges, their order and the path flags are found
 /// once. The conditions: each cut is of as many bits as its analysis has, and both analyses are forward, or both backward.
 ///
@@ -299,8 +343,5 @@ pub fn analyse_both<R: Threads + Sync, G: Gate>(
     ensures second { IfOk result (λ r. (r.1.analysis ≡ second.0) × IsTableOf graph.now r.1) }
     ensures bad_workers { (result ≡ Err TeamFault.BadWorkers) ↔ ((workers ≡ 0) ⊎ (64 < workers)) }
 {
-    if is_bad_number(workers) {
-        return Err(TeamFault::BadWorkers);
-    }
-    two_tables(rt, alloc, graph, first, second, workers, gate)
+    analyse_both_first(rt, alloc, graph, first, second, workers, gate)
 }
