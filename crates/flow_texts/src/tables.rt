@@ -1,12 +1,15 @@
-ghost use Rattle.std.specs.Prelude.{◌≡◌, IfOk};
+ghost use Rattle.std.specs.Prelude.{◌≡◌, ◌≤◌, IfOk};
 ghost use Rattle.flow_graph.specs.Analyses.{is_backward};
+ghost use Rattle.flow_graph.specs.Universes.{bits as bits_of};
+ghost use Rattle.flow_graph.specs.declared.analysis.Analysis.TheVariants.{Live, Busy};
+ghost use Rattle.flow_team.specs.Beginnings.{IsBeginningOf};
 ghost use Rattle.flow_team.specs.Tables.{IsTableOf};
 ghost use Rattle.flow_texts.specs.Ranges.{AreInRange};
 ghost use Rattle.flow_texts.specs.Reports.{AreTablesOf, TellReport};
 
 use bit_rows::Cut;
 use flow_graph::{Analysis, Graph, OutOfMemory};
-use flow_team::{OpenGate, Table, analyse, analyse_alone, analyse_both, analyse_both_alone};
+use flow_team::{OpenGate, Table, analyse, analyse_alone, analyse_both_alone, analyse_both_first};
 use std::alloc::{AllocError, Global};
 use std::thread::Threads;
 
@@ -34,7 +37,46 @@ pub fn table_of<R: Threads + Sync>(
     }
 }
 
-// The tables of two analyses of one direction, which share its edges and path flags.
+// The beginnings of the tables of two analyses of one direction, of so many bits each. They share its edges and path flags.
+fn both_beginnings_of<R: Threads + Sync>(
+    rt: &R,
+    alloc: Global,
+    graph: &Graph<'_>,
+    first: (Analysis, u32),
+    second: (Analysis, u32),
+    workers: u32,
+    cut: u32,
+) -> Result<(Table, Table), OutOfMemory>
+    requires first_bits { first.1 ≤ bits_of graph.now first.0 }
+    requires second_bits { second.1 ≤ bits_of graph.now second.0 }
+    requires direction { is_backward first.0 ≡ is_backward second.0 }
+    ensures first { IfOk result (λ r. (r.0.analysis ≡ first.0) × (r.0.rows.hi ≡ first.1) × IsBeginningOf graph.now r.0) }
+    ensures second { IfOk result (λ r. (r.1.analysis ≡ second.0) × (r.1.rows.hi ≡ second.1) × IsBeginningOf graph.now r.1) }
+{
+    let (analysis, bits) = first;
+    let (other, others) = second;
+    let Ok(first_cut) = Cut::even(alloc, bits, cut) else {
+        return Err(AllocError);
+    };
+    let Ok(second_cut) = Cut::even(alloc, others, cut) else {
+        return Err(AllocError);
+    };
+    let found = analyse_both_first(
+        rt,
+        alloc,
+        graph,
+        (analysis, first_cut),
+        (other, second_cut),
+        workers,
+        &OpenGate,
+    );
+    match found {
+        Ok(tables) => Ok(tables),
+        Err(_) => Err(AllocError),
+    }
+}
+
+// The tables of two analyses of one direction.
 fn both_tables_of<R: Threads + Sync>(
     rt: &R,
     alloc: Global,
@@ -48,25 +90,31 @@ fn both_tables_of<R: Threads + Sync>(
     ensures first { IfOk result (λ tables. (tables.0.analysis ≡ first) × IsTableOf graph.now tables.0) }
     ensures second { IfOk result (λ tables. (tables.1.analysis ≡ second) × IsTableOf graph.now tables.1) }
 {
-    let Ok(first_cut) = Cut::even(alloc, graph.bits(first), cut) else {
-        return Err(AllocError);
-    };
-    let Ok(second_cut) = Cut::even(alloc, graph.bits(second), cut) else {
-        return Err(AllocError);
-    };
-    let found = analyse_both(
+    let first = (first, graph.bits(first));
+    let second = (second, graph.bits(second));
+    both_beginnings_of(rt, alloc, graph, first, second, workers, cut)
+}
+
+// Those of live variables and very busy expressions.
+fn backward_tables_of<R: Threads + Sync>(
+    rt: &R,
+    alloc: Global,
+    graph: &Graph<'_>,
+    workers: u32,
+    cut: u32,
+) -> Result<(Table, Table), OutOfMemory>
+    ensures live { IfOk result (λ tables. (tables.0.analysis ≡ Live) × IsTableOf graph.now tables.0) }
+    ensures busy { IfOk result (λ tables. (tables.1.analysis ≡ Busy) × IsTableOf graph.now tables.1) }
+{
+    both_tables_of(
         rt,
         alloc,
         graph,
-        (first, first_cut),
-        (second, second_cut),
+        Analysis::Live,
+        Analysis::Busy,
         workers,
-        &OpenGate,
-    );
-    match found {
-        Ok(tables) => Ok(tables),
-        Err(_) => Err(AllocError),
-    }
+        cut,
+    )
 }
 
 /// The tables of the four analyses of one program.
@@ -121,7 +169,38 @@ impl Tables {
         })
     }
 
-    /// What a report asks of the four tables, by so many workers, in slices of so many bits. Several workers find them whole.
+    // What a report asks of the four tables, by a team.
+    fn team_for_report<R: Threads + Sync>(
+        rt: &R,
+        alloc: Global,
+        graph: &Graph<'_>,
+        workers: u32,
+        cut: u32,
+    ) -> Result<Tables, OutOfMemory>
+        ensures { IfOk result (TellReport graph.now) }
+    {
+        let dummies = graph.bits(Analysis::Live);
+        let expressions = graph.bits(Analysis::Avail);
+        let (reach, avail) = both_beginnings_of(
+            rt,
+            alloc,
+            graph,
+            (Analysis::Reach, dummies),
+            (Analysis::Avail, expressions),
+            workers,
+            cut,
+        )?;
+        let (live, busy) = backward_tables_of(rt, alloc, graph, workers, cut)?;
+        Ok(Tables {
+            reach,
+            live,
+            avail,
+            busy,
+        })
+    }
+
+    /// What a report asks of the four tables, by so many workers, in slices of so many bits: of reaching definitions only the dummies, as
+    /// [`Tables::alone_for_report`] has them, which a single worker calls.
     ///
     /// The condition: 1 to 64 workers, and 1 to 4,096 bits. Fails only where memory runs out.
     pub fn for_report<R: Threads + Sync>(
@@ -137,7 +216,7 @@ impl Tables {
         if workers == 1 {
             return Tables::alone_for_report(alloc, graph);
         }
-        Tables::of(rt, alloc, graph, workers, cut)
+        Tables::team_for_report(rt, alloc, graph, workers, cut)
     }
 
     /// The four tables of a graph's program, by so many workers, in slices of so many bits.
@@ -163,15 +242,7 @@ impl Tables {
             workers,
             cut,
         )?;
-        let (live, busy) = both_tables_of(
-            rt,
-            alloc,
-            graph,
-            Analysis::Live,
-            Analysis::Busy,
-            workers,
-            cut,
-        )?;
+        let (live, busy) = backward_tables_of(rt, alloc, graph, workers, cut)?;
         Ok(Tables {
             reach,
             live,
