@@ -1,17 +1,21 @@
 // Tables by teams of workers: the same for all numbers of workers and all cuts.
 
-ghost use Rattle.std.specs.Prelude.{◌≡◌, IfOk};
+ghost use Rattle.std.specs.Prelude.{◌≡◌, ◌≤◌, IfOk};
 ghost use Rattle.flow_graph.specs.Universes.{bits as bits_of};
+ghost use Rattle.flow_graph.specs.declared.analysis.Analysis.TheVariants.{Avail, Reach};
+ghost use Rattle.flow_team.specs.Beginnings.{IsBeginningOf};
 ghost use Rattle.flow_team.specs.Tables.{IsTableOf};
 
 use crate::gates::Recorder;
 use crate::texts::{
     Ask, RECURSIVE, RECURSIVE_REACH, asked, beginning, lines, printed, prints, slices, slices_at,
-    summed, sums, words,
+    slices_of, summed, sums, words,
 };
 use bit_rows::Cut;
 use flow_graph::{Analysis, Graph};
-use flow_team::{Gate, OpenGate, Table, TeamFault, analyse, analyse_both, analyse_both_alone};
+use flow_team::{
+    Gate, OpenGate, Table, TeamFault, analyse, analyse_both, analyse_both_alone, analyse_both_first,
+};
 use std::alloc::Global;
 use std::process::Abort;
 use std::test::Fail;
@@ -354,6 +358,82 @@ fn beginnings_of_two_tables(rt: HostRuntime) -> Result<(), Fail> {
         let want = format!(in rt.alloc(); "{first}{second}")?;
         let told = asked(&rt, rt.alloc(), CALLEE_LOOPS, &Beginnings { reach, avail })?;
         assert_eq!(rt; told.as_str(), want.as_str(), "{reach} and {avail} bits");
+    }
+    Ok(())
+}
+
+// The first bits of both, by so many workers in slices of one bit.
+fn both_beginnings<R: Threads + Sync>(
+    rt: &R,
+    alloc: Global,
+    graph: &Graph<'_>,
+    reach: u32,
+    avail: u32,
+    workers: u32,
+) -> Result<(Table, Table), Fail>
+    requires reach { reach ≤ bits_of graph.now Reach }
+    requires avail { avail ≤ bits_of graph.now Avail }
+    ensures reach { IfOk result (λ r. IsBeginningOf graph.now r.0 × (r.0.rows.hi ≡ reach)) }
+    ensures avail { IfOk result (λ r. IsBeginningOf graph.now r.1 × (r.1.rows.hi ≡ avail)) }
+{
+    let first = (Analysis::Reach, slices_of(alloc, reach, 1)?);
+    let second = (Analysis::Avail, slices_of(alloc, avail, 1)?);
+    match analyse_both_first(rt, alloc, graph, first, second, workers, &OpenGate) {
+        Ok(tables) => Ok(tables),
+        Err(_) => Err(Fail::new("refused")),
+    }
+}
+
+// Their lines.
+#[derive(Clone, Copy)]
+struct BeginningsBy {
+    reach: u32,
+    avail: u32,
+    workers: u32,
+}
+
+impl Ask for BeginningsBy {
+    fn answer<R: Threads + Sync + Abort>(
+        &self,
+        rt: &R,
+        alloc: Global,
+        graph: &Graph<'_>,
+    ) -> Result<String, Fail> {
+        let (bits, others) = (self.reach, self.avail);
+        if graph.bits(Analysis::Reach) < bits || graph.bits(Analysis::Avail) < others {
+            return Err(Fail::new("there are fewer bits"));
+        }
+        let (reach, avail) = both_beginnings(rt, alloc, graph, bits, others, self.workers)?;
+        let mut text = beginning(alloc, graph, &reach, bits)?;
+        text.push_str(beginning(alloc, graph, &avail, others)?.as_str())?;
+        Ok(text)
+    }
+}
+
+#[test]
+fn beginnings_of_two_tables_by_teams(rt: HostRuntime) -> Result<(), Fail> {
+    let two_of_reach = "0: 0 1\n1 (no path):\n2 (no path):\n3: 0 1\n4 (no path):\n";
+    let rows = [
+        (0, 0, NO_BITS, NO_BITS),
+        (2, 0, two_of_reach, NO_BITS),
+        (2, 1, two_of_reach, CALLEE_LOOPS_AVAIL),
+        (3, 1, CALLEE_LOOPS_REACH, CALLEE_LOOPS_AVAIL),
+    ];
+    for workers in WORKERS {
+        for (reach, avail, first, second) in rows {
+            let want = format!(in rt.alloc(); "{first}{second}")?;
+            let how = BeginningsBy {
+                reach,
+                avail,
+                workers,
+            };
+            let told = asked(&rt, rt.alloc(), CALLEE_LOOPS, &how)?;
+            assert_eq!(rt;
+                told.as_str(),
+                want.as_str(),
+                "{reach} and {avail} bits, {workers} workers"
+            );
+        }
     }
     Ok(())
 }

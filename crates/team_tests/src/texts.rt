@@ -194,7 +194,14 @@ pub fn words(
 pub fn slices(alloc: Global, graph: &Graph<'_>, analysis: Analysis, width: u32) -> Result<Cut, Fail>
     ensures { IfOk result (λ cut. cut.bits ≡ bits_of graph.now analysis) }
 {
-    match Cut::even(alloc, graph.bits(analysis), width) {
+    slices_of(alloc, graph.bits(analysis), width)
+}
+
+/// So many bits in slices of this width.
+pub fn slices_of(alloc: Global, bits: u32, width: u32) -> Result<Cut, Fail>
+    ensures { IfOk result (λ cut. cut.bits ≡ bits) }
+{
+    match Cut::even(alloc, bits, width) {
         Ok(cut) => Ok(cut),
         Err(_) => Err(Fail::new("no cut")),
     }
