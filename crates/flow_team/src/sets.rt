@@ -89,67 +89,53 @@ impl<'g, 'p> GraphSets<'g, 'p> {
         Table::with_posted(problem.analysis(), words)
     }
 
-    // The first bits of the analysis's table, solved at once.
-    fn solve_first(&self, alloc: Global, bits: u32) -> Result<Table, OutOfMemory>
-        requires { bits ≤ bits_of self.now.program self.now.analysis }
-        ensures analysis { IfOk result (λ table. table.analysis ≡ self.now.analysis) }
-        ensures bits { IfOk result (λ table. table.rows.hi ≡ bits) }
-        ensures beginning { IfOk result (IsBeginningOf self.now.program) }
-    {
-        let words = WordBlock::solved(alloc, &self.solver, bits)?;
-        Ok(Table::with_words(self.solver.problem().analysis(), words))
-    }
-
-    // The first bits of the analysis's table, and what another of the same direction can use.
-    fn first_with_routes(
+    // The words of the first bits of the analysis's table, solved at once, and what another of the same direction can use.
+    fn words_with_routes(
         self,
         alloc: Global,
         bits: u32,
-    ) -> Result<(Table, Routes<'g, 'p>), OutOfMemory>
+    ) -> Result<(WordBlock, Routes<'g, 'p>), OutOfMemory>
         requires { bits ≤ bits_of self.program self.analysis }
-        ensures analysis { IfOk result (λ r. r.0.analysis ≡ self.entry.analysis) }
-        ensures bits { IfOk result (λ r. r.0.rows.hi ≡ bits) }
-        ensures beginning { IfOk result (λ r. IsBeginningOf self.entry.program r.0) }
+        ensures bits { IfOk result (λ r. r.0.hi ≡ bits) }
+        ensures beginning { IfOk result (λ r. IsBeginningOf self.entry.program (record { analysis = self.entry.analysis; rows = r.0 })) }
         ensures routes { IfOk result (λ r. r.1 ≡ direction_of self.entry) }
     {
-        let table = self.solve_first(alloc, bits)?;
-        Ok((table, self.into_routes()))
+        let words = WordBlock::solved(alloc, &self.solver, bits)?;
+        Ok((words, self.into_routes()))
     }
 
-    /// The first bits of the table of an analysis of a graph, solved at once, and what another of the same direction can use.
-    pub(crate) fn solved_first(
+    /// The words of the first bits of the table of an analysis of a graph, solved at once, and what another of the same direction can use.
+    pub(crate) fn first_words(
         alloc: Global,
         graph: &'g Graph<'p>,
         analysis: Analysis,
         bits: u32,
-    ) -> Result<(Table, Routes<'g, 'p>), OutOfMemory>
+    ) -> Result<(WordBlock, Routes<'g, 'p>), OutOfMemory>
         requires { bits ≤ bits_of graph.now analysis }
-        ensures analysis { IfOk result (λ r. r.0.analysis ≡ analysis) }
-        ensures bits { IfOk result (λ r. r.0.rows.hi ≡ bits) }
-        ensures beginning { IfOk result (λ r. IsBeginningOf graph.now r.0) }
+        ensures bits { IfOk result (λ r. r.0.hi ≡ bits) }
+        ensures beginning { IfOk result (λ r. IsBeginningOf graph.now (record { analysis = analysis; rows = r.0 })) }
         ensures routes { IfOk result (λ r. r.1 ≡ direction_of (record { program = graph.now; analysis = analysis })) }
     {
         let sets = GraphSets::of(alloc, graph, analysis)?;
-        sets.first_with_routes(alloc, bits)
+        sets.words_with_routes(alloc, bits)
     }
 
     /// The same, over edges and path flags that were found for another analysis of the same direction.
-    pub(crate) fn solved_first_over(
+    pub(crate) fn first_words_over(
         alloc: Global,
         graph: &'g Graph<'p>,
         analysis: Analysis,
         bits: u32,
         routes: Routes<'g, 'p>,
-    ) -> Result<(Table, Routes<'g, 'p>), OutOfMemory>
+    ) -> Result<(WordBlock, Routes<'g, 'p>), OutOfMemory>
         requires bits { bits ≤ bits_of graph.now analysis }
         requires routes { routes ≡ direction_of (record { program = graph.now; analysis = analysis }) }
-        ensures analysis { IfOk result (λ r. r.0.analysis ≡ analysis) }
-        ensures bits { IfOk result (λ r. r.0.rows.hi ≡ bits) }
-        ensures beginning { IfOk result (λ r. IsBeginningOf graph.now r.0) }
+        ensures bits { IfOk result (λ r. r.0.hi ≡ bits) }
+        ensures beginning { IfOk result (λ r. IsBeginningOf graph.now (record { analysis = analysis; rows = r.0 })) }
         ensures routes { IfOk result (λ r. r.1 ≡ direction_of (record { program = graph.now; analysis = analysis })) }
     {
         let sets = GraphSets::over(alloc, graph, analysis, routes)?;
-        sets.first_with_routes(alloc, bits)
+        sets.words_with_routes(alloc, bits)
     }
 }
 

@@ -22,6 +22,42 @@ use slice_board::Pass;
 use std::alloc::Global;
 use std::thread::Threads;
 
+// The beginning of an analysis's table, found on the calling thread, and what another of the same direction can use.
+fn alone_table<'g, 'p>(
+    alloc: Global,
+    graph: &'g Graph<'p>,
+    analysis: Analysis,
+    bits: u32,
+) -> Result<(Table, Routes<'g, 'p>), OutOfMemory>
+    requires { bits ≤ bits_of graph.now analysis }
+    ensures analysis { IfOk result (λ r. r.0.analysis ≡ analysis) }
+    ensures bits { IfOk result (λ r. r.0.rows.hi ≡ bits) }
+    ensures beginning { IfOk result (λ r. IsBeginningOf graph.now r.0) }
+    ensures routes { IfOk result (λ r. r.1 ≡ direction_of (record { program = graph.now; analysis = analysis })) }
+{
+    let (words, routes) = GraphSets::first_words(alloc, graph, analysis, bits)?;
+    Ok((Table::with_words(analysis, words), routes))
+}
+
+// The same, over what was found of another analysis of the same direction.
+fn alone_table_over<'g, 'p>(
+    alloc: Global,
+    graph: &'g Graph<'p>,
+    analysis: Analysis,
+    bits: u32,
+    routes: Routes<'g, 'p>,
+) -> Result<(Table, Routes<'g, 'p>), OutOfMemory>
+    requires bits { bits ≤ bits_of graph.now analysis }
+    requires routes { routes ≡ direction_of (record { program = graph.now; analysis = analysis }) }
+    ensures analysis { IfOk result (λ r. r.0.analysis ≡ analysis) }
+    ensures bits { IfOk result (λ r. r.0.rows.hi ≡ bits) }
+    ensures beginning { IfOk result (λ r. IsBeginningOf graph.now r.0) }
+    ensures routes { IfOk result (λ r. r.1 ≡ direction_of (record { program = graph.now; analysis = analysis })) }
+{
+    let (words, routes) = GraphSets::first_words_over(alloc, graph, analysis, bits, routes)?;
+    Ok((Table::with_words(analysis, words), routes))
+}
+
 // What a job was closed with. Where a worker's slice was lost with its pass, all its bits are solved here.
 fn closed_or_solved<'g, 'p>(
     alloc: Global,
@@ -42,7 +78,7 @@ fn closed_or_solved<'g, 'p>(
 {
     match closed {
         Some(closed) => Ok(closed),
-        None => GraphSets::solved_first(alloc, graph, analysis, bits),
+        None => alone_table(alloc, graph, analysis, bits),
     }
 }
 
@@ -72,9 +108,18 @@ fn worked<'g, 'p, R: Threads + Sync, G: Gate>(
     closed_or_solved(alloc, graph, analysis, bits, job.close_with_routes(pass))
 }
 
-// Whether there is nobody to share slices with, and nobody to tell of them: then they are all solved at once, with no board.
-fn is_alone<G: Gate>(workers: u32, gate: &G) -> bool {
-    workers == 1 && !gate.listens()
+// Whether there is nothing to share, or nobody to share it with, and nobody to tell of it: then all bits are solved at once, with no board.
+fn is_alone<G: Gate>(workers: u32, slices: u32, gate: &G) -> bool {
+    (workers == 1 || slices <= 1) && !gate.listens()
+}
+
+// How many of the workers have a slice to draw: the others are not started.
+fn workers_at_work(workers: u32, slices: u32) -> u32
+    requires { 0 < workers }
+    ensures some { 0 < result }
+    ensures few { result ≤ workers }
+{
+    workers.min(slices).max(1)
 }
 
 // The beginning of an analysis's table, of as many bits as the cut is of, and what another of the same direction can use.
@@ -95,13 +140,14 @@ fn first_table<'g, 'p, R: Threads + Sync, G: Gate>(
     ensures beginning { IfOk result (λ r. IsBeginningOf graph.now r.0) }
     ensures routes { IfOk result (λ r. r.1 ≡ direction_of (record { program = graph.now; analysis = analysis })) }
 {
-    let bits = cut.bits();
-    if is_alone(workers, gate) {
-        return GraphSets::solved_first(alloc, graph, analysis, bits);
+    let (bits, slices) = (cut.bits(), cut.slices());
+    if is_alone(workers, slices, gate) {
+        return alone_table(alloc, graph, analysis, bits);
     }
     let sets = GraphSets::of(alloc, graph, analysis)?;
     let (job, pass) = Job::open_first(alloc, sets, cut)?;
-    worked(rt, alloc, graph, (analysis, bits), job, pass, workers, gate)
+    let count = workers_at_work(workers, slices);
+    worked(rt, alloc, graph, (analysis, bits), job, pass, count, gate)
 }
 
 // The same of another analysis of the same direction.
@@ -124,13 +170,14 @@ fn second_table<'g, 'p, R: Threads + Sync, G: Gate>(
     ensures beginning { IfOk result (λ r. IsBeginningOf graph.now r.0) }
     ensures routes { IfOk result (λ r. r.1 ≡ direction_of (record { program = graph.now; analysis = analysis })) }
 {
-    let bits = cut.bits();
-    if is_alone(workers, gate) {
-        return GraphSets::solved_first_over(alloc, graph, analysis, bits, routes);
+    let (bits, slices) = (cut.bits(), cut.slices());
+    if is_alone(workers, slices, gate) {
+        return alone_table_over(alloc, graph, analysis, bits, routes);
     }
     let sets = GraphSets::over(alloc, graph, analysis, routes)?;
     let (job, pass) = Job::open_first(alloc, sets, cut)?;
-    worked(rt, alloc, graph, (analysis, bits), job, pass, workers, gate)
+    let count = workers_at_work(workers, slices);
+    worked(rt, alloc, graph, (analysis, bits), job, pass, count, gate)
 }
 
 // The table of an analysis alone.
@@ -177,8 +224,9 @@ fn with_second<'g, 'p, R: Threads + Sync, G: Gate>(
     Ok((table, other))
 }
 
-// The beginnings of the tables of two analyses of one direction.
-fn two_tables<R: Threads + Sync, G: Gate>(
+/// The beginnings of the tables of two analyses of one direction, by so many workers, in slices: the edges, their order and the path flags
+/// are found once.
+pub(crate) fn two_tables<R: Threads + Sync, G: Gate>(
     rt: &R,
     alloc: Global,
     graph: &Graph<'_>,
@@ -186,7 +234,7 @@ fn two_tables<R: Threads + Sync, G: Gate>(
     second: (Analysis, Cut),
     workers: u32,
     gate: &G,
-) -> Result<(Table, Table), TeamFault>
+) -> Result<(Table, Table), OutOfMemory>
     requires some { 0 < workers }
     requires few { workers ≤ 64 }
     requires first_bits { first.1.bits ≤ bits_of graph.now first.0 }
@@ -194,15 +242,14 @@ fn two_tables<R: Threads + Sync, G: Gate>(
     requires direction { is_backward first.0 ≡ is_backward second.0 }
     ensures first { IfOk result (λ r. (r.0.analysis ≡ first.0) × (r.0.rows.hi ≡ first.1.bits) × IsBeginningOf graph.now r.0) }
     ensures second { IfOk result (λ r. (r.1.analysis ≡ second.0) × (r.1.rows.hi ≡ second.1.bits) × IsBeginningOf graph.now r.1) }
-    ensures fault { result ≡ Err TeamFault.BadWorkers → ⊥ }
 {
     let (analysis, cut) = first;
     let first = first_table(rt, alloc, graph, analysis, cut, workers, gate)?;
-    Ok(with_second(rt, alloc, graph, first, second, workers, gate)?)
+    with_second(rt, alloc, graph, first, second, workers, gate)
 }
 
-// Whether a team cannot be of so many workers.
-fn is_bad_number(workers: u32) -> bool
+/// Whether a team cannot be of so many workers.
+pub(crate) fn is_bad_number(workers: u32) -> bool
     ensures bad { result ≡ true → (workers ≡ 0) ⊎ (64 < workers) }
     ensures good { result ≡ false → (0 < workers) × (workers ≤ 64) }
 {
@@ -212,9 +259,9 @@ fn is_bad_number(workers: u32) -> bool
 /// The table of an analysis of a graph, by so many workers, in slices of its bits: at each point exactly the union (may) or
 /// intersection (must) over all interprocedurally valid paths, whatever the workers, the cut, and the order of their steps.
 ///
-/// The workers are threads, numbered from 0, each with a pass of its own. Each draws slices, solves them and publishes them until none
-/// is left, and tells the gate of it. A single worker starts no thread; where its gate does not listen, it draws no slices and solves all
-/// bits at once. The condition: the cut is of as many bits as the analysis has.
+/// The workers are threads, numbered from 0, each with a pass of its own; no more are started than there are slices. Each draws slices,
+/// solves them and publishes them until none is left, and tells the gate of it. A single worker starts no thread; where its gate does not
+/// listen, it draws no slices and solves all bits at once, and so is a single slice solved. The condition: the cut is of as many bits as the analysis has.
 ///
 /// - `BadWorkers`: the number of workers is not one of 1 to 64. This is checked first.
 /// - `OutOfMemory`: memory was refused, here or to a worker; all workers have ended.
@@ -248,7 +295,7 @@ pub fn analyse_alone(
     ensures analysis { IfOk result (λ table. table.analysis ≡ analysis) }
     ensures table { IfOk result (IsTableOf graph.now) }
 {
-    let (table, _) = GraphSets::solved_first(alloc, graph, analysis, graph.bits(analysis))?;
+    let (table, _) = alone_table(alloc, graph, analysis, graph.bits(analysis))?;
     Ok(table)
 }
 
@@ -266,7 +313,7 @@ fn with_second_alone<'g, 'p>(
     ensures second { IfOk result (λ r. (r.1.analysis ≡ analysis) × (r.1.rows.hi ≡ bits) × IsBeginningOf graph.now r.1) }
 {
     let (table, routes) = first;
-    let (other, _) = GraphSets::solved_first_over(alloc, graph, analysis, bits, routes)?;
+    let (other, _) = alone_table_over(alloc, graph, analysis, bits, routes)?;
     Ok((table, other))
 }
 
@@ -288,60 +335,6 @@ pub fn analyse_both_alone(
 {
     let (analysis, bits) = first;
     let (other, others) = second;
-    let found = GraphSets::solved_first(alloc, graph, analysis, bits)?;
+    let found = alone_table(alloc, graph, analysis, bits)?;
     with_second_alone(alloc, graph, found, other, others)
-}
-
-/// The beginnings of the tables of two analyses of one direction, by so many workers: of each as many of its first bits as its cut is
-/// of, with 0 its path flags alone. No slice past them is drawn or solved. The edges, their order and the flags are found once. The
-/// workers are those of [`analyse`].
-///
-/// The conditions: each analysis has so many bits, and both are forward, or both backward.
-///
-/// - `BadWorkers`: the number of workers is not one of 1 to 64. This is checked first.
-/// - `OutOfMemory`: memory was refused, here or to a worker; all workers have ended.
-pub fn analyse_both_first<R: Threads + Sync, G: Gate>(
-    rt: &R,
-    alloc: Global,
-    graph: &Graph<'_>,
-    first: (Analysis, Cut),
-    second: (Analysis, Cut),
-    workers: u32,
-    gate: &G,
-) -> Result<(Table, Table), TeamFault>
-    requires first_bits { first.1.bits ≤ bits_of graph.now first.0 }
-    requires second_bits { second.1.bits ≤ bits_of graph.now second.0 }
-    requires direction { is_backward first.0 ≡ is_backward second.0 }
-    ensures first { IfOk result (λ r. (r.0.analysis ≡ first.0) × (r.0.rows.hi ≡ first.1.bits) × IsBeginningOf graph.now r.0) }
-    ensures second { IfOk result (λ r. (r.1.analysis ≡ second.0) × (r.1.rows.hi ≡ second.1.bits) × IsBeginningOf graph.now r.1) }
-    ensures bad_workers { (result ≡ Err TeamFault.BadWorkers) ↔ ((workers ≡ 0) ⊎ (64 < workers)) }
-{
-    if is_bad_number(workers) {
-        return Err(TeamFault::BadWorkers);
-    }
-    two_tables(rt, alloc, graph, first, second, workers, gate)
-}
-
-/// The tables of two analyses of one direction, each as [`analyse`] has it: the edges, their order and the path flags are found
-/// once. The conditions: each cut is of as many bits as its analysis has, and both analyses are forward, or both backward.
-///
-/// - `BadWorkers`: the number of workers is not one of 1 to 64. This is checked first.
-/// - `OutOfMemory`: memory was refused, here or to a worker; all workers have ended.
-pub fn analyse_both<R: Threads + Sync, G: Gate>(
-    rt: &R,
-    alloc: Global,
-    graph: &Graph<'_>,
-    first: (Analysis, Cut),
-    second: (Analysis, Cut),
-    workers: u32,
-    gate: &G,
-) -> Result<(Table, Table), TeamFault>
-    requires first_cut { first.1.bits ≡ bits_of graph.now first.0 }
-    requires second_cut { second.1.bits ≡ bits_of graph.now second.0 }
-    requires direction { is_backward first.0 ≡ is_backward second.0 }
-    ensures first { IfOk result (λ r. (r.0.analysis ≡ first.0) × IsTableOf graph.now r.0) }
-    ensures second { IfOk result (λ r. (r.1.analysis ≡ second.0) × IsTableOf graph.now r.1) }
-    ensures bad_workers { (result ≡ Err TeamFault.BadWorkers) ↔ ((workers ≡ 0) ⊎ (64 < workers)) }
-{
-    analyse_both_first(rt, alloc, graph, first, second, workers, gate)
 }

@@ -1,7 +1,6 @@
 ghost use Rattle.std.specs.Prelude.{◌≡◌, ◌≤◌, IfOk};
-ghost use Rattle.flow_graph.specs.Analyses.{is_backward};
 ghost use Rattle.flow_graph.specs.Universes.{bits as bits_of};
-ghost use Rattle.flow_graph.specs.declared.analysis.Analysis.TheVariants.{Live, Busy};
+ghost use Rattle.flow_graph.specs.declared.analysis.Analysis.TheVariants.{Reach, Live, Avail, Busy};
 ghost use Rattle.flow_team.specs.Beginnings.{IsBeginningOf};
 ghost use Rattle.flow_team.specs.Tables.{IsTableOf};
 ghost use Rattle.flow_texts.specs.Ranges.{AreInRange};
@@ -9,7 +8,7 @@ ghost use Rattle.flow_texts.specs.Reports.{AreTablesOf, TellReport};
 
 use bit_rows::Cut;
 use flow_graph::{Analysis, Graph, OutOfMemory};
-use flow_team::{OpenGate, Table, analyse, analyse_alone, analyse_both_alone, analyse_both_first};
+use flow_team::{OpenGate, Table, analyse, analyse_alone, analyse_both_alone, analyse_pairs};
 use std::alloc::{AllocError, Global};
 use std::thread::Threads;
 
@@ -37,84 +36,36 @@ pub fn table_of<R: Threads + Sync>(
     }
 }
 
-// The beginnings of the tables of two analyses of one direction, of so many bits each. They share its edges and path flags.
-fn both_beginnings_of<R: Threads + Sync>(
+// The tables of reaching definitions, so many of them, and of available expressions, and those of live variables and very busy expressions.
+fn pairs_of<R: Threads + Sync>(
     rt: &R,
     alloc: Global,
     graph: &Graph<'_>,
-    first: (Analysis, u32),
-    second: (Analysis, u32),
+    definitions: u32,
     workers: u32,
     cut: u32,
-) -> Result<(Table, Table), OutOfMemory>
-    requires first_bits { first.1 ≤ bits_of graph.now first.0 }
-    requires second_bits { second.1 ≤ bits_of graph.now second.0 }
-    requires direction { is_backward first.0 ≡ is_backward second.0 }
-    ensures first { IfOk result (λ r. (r.0.analysis ≡ first.0) × (r.0.rows.hi ≡ first.1) × IsBeginningOf graph.now r.0) }
-    ensures second { IfOk result (λ r. (r.1.analysis ≡ second.0) × (r.1.rows.hi ≡ second.1) × IsBeginningOf graph.now r.1) }
+) -> Result<((Table, Table), (Table, Table)), OutOfMemory>
+    requires { definitions ≤ bits_of graph.now Reach }
+    ensures reach { IfOk result (λ r. (r.0.0.analysis ≡ Reach) × (r.0.0.rows.hi ≡ definitions) × IsBeginningOf graph.now r.0.0) }
+    ensures avail { IfOk result (λ r. (r.0.1.analysis ≡ Avail) × IsTableOf graph.now r.0.1) }
+    ensures live { IfOk result (λ r. (r.1.0.analysis ≡ Live) × IsTableOf graph.now r.1.0) }
+    ensures busy { IfOk result (λ r. (r.1.1.analysis ≡ Busy) × IsTableOf graph.now r.1.1) }
 {
-    let (analysis, bits) = first;
-    let (other, others) = second;
-    let Ok(first_cut) = Cut::even(alloc, bits, cut) else {
-        return Err(AllocError);
-    };
-    let Ok(second_cut) = Cut::even(alloc, others, cut) else {
-        return Err(AllocError);
-    };
-    let found = analyse_both_first(
-        rt,
-        alloc,
-        graph,
-        (analysis, first_cut),
-        (other, second_cut),
-        workers,
-        &OpenGate,
+    let forward = (
+        (Analysis::Reach, definitions),
+        (Analysis::Avail, graph.bits(Analysis::Avail)),
     );
-    match found {
+    let Ok(live) = Cut::even(alloc, graph.bits(Analysis::Live), cut) else {
+        return Err(AllocError);
+    };
+    let Ok(busy) = Cut::even(alloc, graph.bits(Analysis::Busy), cut) else {
+        return Err(AllocError);
+    };
+    let backward = ((Analysis::Live, live), (Analysis::Busy, busy));
+    match analyse_pairs(rt, alloc, graph, forward, backward, workers) {
         Ok(tables) => Ok(tables),
         Err(_) => Err(AllocError),
     }
-}
-
-// The tables of two analyses of one direction.
-fn both_tables_of<R: Threads + Sync>(
-    rt: &R,
-    alloc: Global,
-    graph: &Graph<'_>,
-    first: Analysis,
-    second: Analysis,
-    workers: u32,
-    cut: u32,
-) -> Result<(Table, Table), OutOfMemory>
-    requires { is_backward first ≡ is_backward second }
-    ensures first { IfOk result (λ tables. (tables.0.analysis ≡ first) × IsTableOf graph.now tables.0) }
-    ensures second { IfOk result (λ tables. (tables.1.analysis ≡ second) × IsTableOf graph.now tables.1) }
-{
-    let first = (first, graph.bits(first));
-    let second = (second, graph.bits(second));
-    both_beginnings_of(rt, alloc, graph, first, second, workers, cut)
-}
-
-// Those of live variables and very busy expressions.
-fn backward_tables_of<R: Threads + Sync>(
-    rt: &R,
-    alloc: Global,
-    graph: &Graph<'_>,
-    workers: u32,
-    cut: u32,
-) -> Result<(Table, Table), OutOfMemory>
-    ensures live { IfOk result (λ tables. (tables.0.analysis ≡ Live) × IsTableOf graph.now tables.0) }
-    ensures busy { IfOk result (λ tables. (tables.1.analysis ≡ Busy) × IsTableOf graph.now tables.1) }
-{
-    both_tables_of(
-        rt,
-        alloc,
-        graph,
-        Analysis::Live,
-        Analysis::Busy,
-        workers,
-        cut,
-    )
 }
 
 /// The tables of the four analyses of one program.
@@ -169,28 +120,21 @@ impl Tables {
         })
     }
 
-    // What a report asks of the four tables, by a team.
-    fn team_for_report<R: Threads + Sync>(
+    // The tables, of reaching definitions so many of them.
+    fn with_definitions<R: Threads + Sync>(
         rt: &R,
         alloc: Global,
         graph: &Graph<'_>,
+        definitions: u32,
         workers: u32,
         cut: u32,
     ) -> Result<Tables, OutOfMemory>
-        ensures { IfOk result (TellReport graph.now) }
+        requires all_dummies { bits_of graph.now Live ≤ definitions }
+        requires definitions { definitions ≤ bits_of graph.now Reach }
+        ensures tables { definitions ≡ bits_of graph.now Reach → IfOk result (AreTablesOf graph.now) }
+        ensures report { IfOk result (TellReport graph.now) }
     {
-        let dummies = graph.bits(Analysis::Live);
-        let expressions = graph.bits(Analysis::Avail);
-        let (reach, avail) = both_beginnings_of(
-            rt,
-            alloc,
-            graph,
-            (Analysis::Reach, dummies),
-            (Analysis::Avail, expressions),
-            workers,
-            cut,
-        )?;
-        let (live, busy) = backward_tables_of(rt, alloc, graph, workers, cut)?;
+        let ((reach, avail), (live, busy)) = pairs_of(rt, alloc, graph, definitions, workers, cut)?;
         Ok(Tables {
             reach,
             live,
@@ -199,8 +143,9 @@ impl Tables {
         })
     }
 
-    /// What a report asks of the four tables, by so many workers, in slices of so many bits: of reaching definitions only the dummies, as
-    /// [`Tables::alone_for_report`] has them, which a single worker calls.
+    /// What a report asks of the four tables, by so many workers: of reaching definitions only the dummies, which tell what may be used
+    /// before it is set. One worker finds the facts of the forward analyses, and the others, in slices of so many bits, those of the backward
+    /// ones at the same time; a single worker starts no thread.
     ///
     /// The condition: 1 to 64 workers, and 1 to 4,096 bits. Fails only where memory runs out.
     pub fn for_report<R: Threads + Sync>(
@@ -213,13 +158,11 @@ impl Tables {
         requires { AreInRange workers cut }
         ensures { IfOk result (TellReport graph.now) }
     {
-        if workers == 1 {
-            return Tables::alone_for_report(alloc, graph);
-        }
-        Tables::team_for_report(rt, alloc, graph, workers, cut)
+        let dummies = graph.bits(Analysis::Live);
+        Tables::with_definitions(rt, alloc, graph, dummies, workers, cut)
     }
 
-    /// The four tables of a graph's program, by so many workers, in slices of so many bits.
+    /// The four tables of a graph's program, by so many workers, as [`Tables::for_report`] finds what it asks.
     ///
     /// The condition: 1 to 64 workers, and 1 to 4,096 bits. Fails only where memory runs out.
     pub fn of<R: Threads + Sync>(
@@ -233,21 +176,7 @@ impl Tables {
         ensures tables { IfOk result (AreTablesOf graph.now) }
         ensures report { IfOk result (TellReport graph.now) }
     {
-        let (reach, avail) = both_tables_of(
-            rt,
-            alloc,
-            graph,
-            Analysis::Reach,
-            Analysis::Avail,
-            workers,
-            cut,
-        )?;
-        let (live, busy) = backward_tables_of(rt, alloc, graph, workers, cut)?;
-        Ok(Tables {
-            reach,
-            live,
-            avail,
-            busy,
-        })
+        let definitions = graph.bits(Analysis::Reach);
+        Tables::with_definitions(rt, alloc, graph, definitions, workers, cut)
     }
 }

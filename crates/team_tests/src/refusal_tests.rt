@@ -10,7 +10,7 @@ use crate::job_tests::{closed, opened};
 use crate::texts::{Ask, RECURSIVE, RECURSIVE_REACH, asked, lines, slices};
 use flow_graph::{Analysis, Graph};
 use flow_team::{
-    GraphSets, Job, OpenGate, OutOfMemory, Solve, Table, analyse, analyse_alone, analyse_both,
+    GraphSets, Job, OpenGate, OutOfMemory, Solve, Table, analyse, analyse_alone, analyse_pairs,
 };
 use slice_board::Pass;
 use std::alloc::Global;
@@ -163,7 +163,7 @@ fn a_refused_call_goes_on(rt: HostRuntime) -> Result<(), Fail> {
 enum Whole {
     Alone,
     Team(u32),
-    Both(u32),
+    Pairs(u32),
 }
 
 // By so many workers; none where the call was refused.
@@ -182,8 +182,8 @@ fn table_of_team<R: Threads + Sync>(
     }
 }
 
-// The first of two tables of one direction.
-fn first_of_both<R: Threads + Sync>(
+// The first of the tables that several workers share, beside a pair that one finds alone.
+fn first_of_pairs<R: Threads + Sync>(
     rt: &R,
     alloc: Global,
     graph: &Graph<'_>,
@@ -191,12 +191,16 @@ fn first_of_both<R: Threads + Sync>(
 ) -> Result<Option<Table>, Fail>
     ensures { IfOk result (λ table. IfSome table (IsTableOf graph.now)) }
 {
+    let live = (Analysis::Live, graph.bits(Analysis::Live));
+    let busy = (Analysis::Busy, graph.bits(Analysis::Busy));
     let reach = slices(alloc, graph, Analysis::Reach, 1)?;
     let avail = slices(alloc, graph, Analysis::Avail, 1)?;
-    let first = (Analysis::Reach, reach);
-    let second = (Analysis::Avail, avail);
-    match analyse_both(rt, alloc, graph, first, second, workers, &OpenGate) {
-        Ok((table, _)) => Ok(Some(table)),
+    let shared = ((Analysis::Reach, reach), (Analysis::Avail, avail));
+    match analyse_pairs(rt, alloc, graph, (live, busy), shared, workers) {
+        Ok((_, forward)) => {
+            let (table, _) = forward;
+            Ok(Some(table))
+        }
         Err(_) => Ok(None),
     }
 }
@@ -250,7 +254,7 @@ fn table_of_call<R: Threads + Sync>(
     match call {
         Whole::Alone => Ok(table_alone(alloc, graph)),
         Whole::Team(workers) => table_of_team(rt, alloc, graph, workers),
-        Whole::Both(workers) => first_of_both(rt, alloc, graph, workers),
+        Whole::Pairs(workers) => first_of_pairs(rt, alloc, graph, workers),
     }
 }
 
@@ -314,7 +318,7 @@ impl Ask for Whole {
                 match self {
                     Whole::Alone => "analyse_alone",
                     Whole::Team(_) => "analyse",
-                    Whole::Both(_) => "analyse_both",
+                    Whole::Pairs(_) => "analyse_pairs",
                 },
             ),
         }
@@ -364,8 +368,13 @@ fn a_team_of_two_is_refused(rt: HostRuntime) -> Result<(), Fail> {
 }
 
 #[test]
-fn two_tables_are_refused(rt: HostRuntime) -> Result<(), Fail> {
-    check_told(&rt, &Whole::Both(1))
+fn pairs_by_one_are_refused(rt: HostRuntime) -> Result<(), Fail> {
+    check_told(&rt, &Whole::Pairs(1))
+}
+
+#[test]
+fn pairs_by_three_are_refused(rt: HostRuntime) -> Result<(), Fail> {
+    check_told(&rt, &Whole::Pairs(3))
 }
 
 #[test]

@@ -14,7 +14,7 @@ use crate::texts::{
 use bit_rows::Cut;
 use flow_graph::{Analysis, Graph};
 use flow_team::{
-    Gate, OpenGate, Table, TeamFault, analyse, analyse_both, analyse_both_alone, analyse_both_first,
+    Gate, OpenGate, OutOfMemory, Table, TeamFault, analyse, analyse_both_alone, analyse_pairs,
 };
 use std::alloc::Global;
 use std::process::Abort;
@@ -29,6 +29,10 @@ const CALLEE_LOOPS_REACH: &str = "0: 0 1 2\n1 (no path):\n2 (no path):\n3: 0 1 2
 
 const CALLEE_LOOPS_AVAIL: &str = "0:\n1 (no path): 0\n2 (no path): 0\n3:\n4 (no path): 0\n";
 
+const CALLEE_LOOPS_LIVE: &str = "0 (no path):\n1: 1 2\n2:\n3 (no path):\n4: 1 2\n";
+
+const CALLEE_LOOPS_BUSY: &str = "0 (no path): 0\n1: 0\n2:\n3 (no path): 0\n4: 0\n";
+
 /// The paths alone, with no bits.
 const NO_BITS: &str = "0:\n1 (no path):\n2 (no path):\n3:\n4 (no path):\n";
 
@@ -41,11 +45,7 @@ const TABLES: [(&str, Analysis, &str); 7] = [
     (RECURSIVE, Analysis::Reach, RECURSIVE_REACH),
     (CALLEE_LOOPS, Analysis::Reach, CALLEE_LOOPS_REACH),
     (CALLEE_LOOPS, Analysis::Avail, CALLEE_LOOPS_AVAIL),
-    (
-        CALLEE_LOOPS,
-        Analysis::Busy,
-        "0 (no path): 0\n1: 0\n2:\n3 (no path): 0\n4: 0\n",
-    ),
+    (CALLEE_LOOPS, Analysis::Busy, CALLEE_LOOPS_BUSY),
     (
         ON_BOTH_BRANCHES,
         Analysis::Busy,
@@ -267,54 +267,7 @@ fn many_workers_on_many_slices(rt: HostRuntime) -> Result<(), Fail> {
     check_prints(&rt, rt.alloc(), 1)
 }
 
-// The two forward tables of a graph, by so many workers.
-fn both_tables<R: Threads + Sync>(
-    rt: &R,
-    alloc: Global,
-    graph: &Graph<'_>,
-    workers: u32,
-) -> Result<(Table, Table), Fail>
-    ensures { IfOk result (λ tables. IsTableOf graph.now tables.0 × IsTableOf graph.now tables.1) }
-{
-    let reach = (Analysis::Reach, slices(alloc, graph, Analysis::Reach, 1)?);
-    let avail = (Analysis::Avail, slices(alloc, graph, Analysis::Avail, 1)?);
-    match analyse_both(rt, alloc, graph, reach, avail, workers, &OpenGate) {
-        Ok(tables) => Ok(tables),
-        Err(_) => Err(Fail::new("refused")),
-    }
-}
-
-// Their lines, the one table's behind the other's.
-#[derive(Clone, Copy)]
-struct Both {
-    workers: u32,
-}
-
-impl Ask for Both {
-    fn answer<R: Threads + Sync + Abort>(
-        &self,
-        rt: &R,
-        alloc: Global,
-        graph: &Graph<'_>,
-    ) -> Result<String, Fail> {
-        let (reach, avail) = both_tables(rt, alloc, graph, self.workers)?;
-        let mut text = lines(alloc, graph, &reach)?;
-        text.push_str(lines(alloc, graph, &avail)?.as_str())?;
-        Ok(text)
-    }
-}
-
-#[test]
-fn two_tables_of_one_direction(rt: HostRuntime) -> Result<(), Fail> {
-    let want = format!(in rt.alloc(); "{CALLEE_LOOPS_REACH}{CALLEE_LOOPS_AVAIL}")?;
-    for workers in WORKERS {
-        let told = asked(&rt, rt.alloc(), CALLEE_LOOPS, &Both { workers })?;
-        assert_eq!(rt; told.as_str(), want.as_str(), "{workers} workers");
-    }
-    Ok(())
-}
-
-// The first bits of both, found on one thread: so many of reaching definitions, and so many of available expressions.
+// The first bits of the two forward tables, found on one thread: so many of reaching definitions, and so many of available expressions.
 #[derive(Clone, Copy)]
 struct Beginnings {
     reach: u32,
@@ -362,37 +315,73 @@ fn beginnings_of_two_tables(rt: HostRuntime) -> Result<(), Fail> {
     Ok(())
 }
 
-// The first bits of both, by so many workers in slices of one bit.
-fn both_beginnings<R: Threads + Sync>(
+// The backward tables by one worker, and the first bits of the forward ones by the others, in slices of one bit.
+fn pairs_of<R: Threads + Sync>(
     rt: &R,
     alloc: Global,
     graph: &Graph<'_>,
     reach: u32,
     avail: u32,
     workers: u32,
-) -> Result<(Table, Table), Fail>
+) -> Result<((Table, Table), (Table, Table)), Fail>
     requires reach { reach ≤ bits_of graph.now Reach }
     requires avail { avail ≤ bits_of graph.now Avail }
-    ensures reach { IfOk result (λ r. IsBeginningOf graph.now r.0 × (r.0.rows.hi ≡ reach)) }
-    ensures avail { IfOk result (λ r. IsBeginningOf graph.now r.1 × (r.1.rows.hi ≡ avail)) }
+    ensures live { IfOk result (λ r. IsTableOf graph.now r.0.0) }
+    ensures busy { IfOk result (λ r. IsTableOf graph.now r.0.1) }
+    ensures reach { IfOk result (λ r. IsBeginningOf graph.now r.1.0 × (r.1.0.rows.hi ≡ reach)) }
+    ensures avail { IfOk result (λ r. IsBeginningOf graph.now r.1.1 × (r.1.1.rows.hi ≡ avail)) }
 {
+    let live = (Analysis::Live, graph.bits(Analysis::Live));
+    let busy = (Analysis::Busy, graph.bits(Analysis::Busy));
     let first = (Analysis::Reach, slices_of(alloc, reach, 1)?);
     let second = (Analysis::Avail, slices_of(alloc, avail, 1)?);
-    match analyse_both_first(rt, alloc, graph, first, second, workers, &OpenGate) {
+    match analyse_pairs(rt, alloc, graph, (live, busy), (first, second), workers) {
         Ok(tables) => Ok(tables),
         Err(_) => Err(Fail::new("refused")),
     }
 }
 
-// Their lines.
+// The lines of two tables of all bits, one table's behind the other's.
+fn both_lines(
+    alloc: Global,
+    graph: &Graph<'_>,
+    tables: (Table, Table),
+) -> Result<String, OutOfMemory>
+    requires first { IsTableOf graph.now tables.0 }
+    requires second { IsTableOf graph.now tables.1 }
+{
+    let (first, second) = tables;
+    let mut text = lines(alloc, graph, &first)?;
+    text.push_str(lines(alloc, graph, &second)?.as_str())?;
+    Ok(text)
+}
+
+// Those of the first bits of two tables.
+fn both_beginnings(
+    alloc: Global,
+    graph: &Graph<'_>,
+    tables: (Table, Table),
+    bits: u32,
+    others: u32,
+) -> Result<String, OutOfMemory>
+    requires first { IsBeginningOf graph.now tables.0 × (tables.0.rows.hi ≡ bits) }
+    requires second { IsBeginningOf graph.now tables.1 × (tables.1.rows.hi ≡ others) }
+{
+    let (first, second) = tables;
+    let mut text = beginning(alloc, graph, &first, bits)?;
+    text.push_str(beginning(alloc, graph, &second, others)?.as_str())?;
+    Ok(text)
+}
+
+// The lines of all four.
 #[derive(Clone, Copy)]
-struct BeginningsBy {
+struct Pairs {
     reach: u32,
     avail: u32,
     workers: u32,
 }
 
-impl Ask for BeginningsBy {
+impl Ask for Pairs {
     fn answer<R: Threads + Sync + Abort>(
         &self,
         rt: &R,
@@ -403,15 +392,15 @@ impl Ask for BeginningsBy {
         if graph.bits(Analysis::Reach) < bits || graph.bits(Analysis::Avail) < others {
             return Err(Fail::new("there are fewer bits"));
         }
-        let (reach, avail) = both_beginnings(rt, alloc, graph, bits, others, self.workers)?;
-        let mut text = beginning(alloc, graph, &reach, bits)?;
-        text.push_str(beginning(alloc, graph, &avail, others)?.as_str())?;
+        let (backward, forward) = pairs_of(rt, alloc, graph, bits, others, self.workers)?;
+        let mut text = both_lines(alloc, graph, backward)?;
+        text.push_str(both_beginnings(alloc, graph, forward, bits, others)?.as_str())?;
         Ok(text)
     }
 }
 
 #[test]
-fn beginnings_of_two_tables_by_teams(rt: HostRuntime) -> Result<(), Fail> {
+fn two_pairs_of_tables(rt: HostRuntime) -> Result<(), Fail> {
     let two_of_reach = "0: 0 1\n1 (no path):\n2 (no path):\n3: 0 1\n4 (no path):\n";
     let rows = [
         (0, 0, NO_BITS, NO_BITS),
@@ -421,8 +410,10 @@ fn beginnings_of_two_tables_by_teams(rt: HostRuntime) -> Result<(), Fail> {
     ];
     for workers in WORKERS {
         for (reach, avail, first, second) in rows {
-            let want = format!(in rt.alloc(); "{first}{second}")?;
-            let how = BeginningsBy {
+            let want = format!(in rt.alloc();
+                "{CALLEE_LOOPS_LIVE}{CALLEE_LOOPS_BUSY}{first}{second}"
+            )?;
+            let how = Pairs {
                 reach,
                 avail,
                 workers,

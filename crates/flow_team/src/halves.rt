@@ -1,0 +1,48 @@
+// Two halves of a work side by side.
+ghost use Rattle.std.specs.Prelude.{IfOk};
+ghost use Rattle.std.specs.Thread.{IsSync};
+
+use crate::OutOfMemory;
+use std::alloc::Global;
+use std::thread::{Threads, join};
+
+/// A half of a work, whatever it is of: a closure that goes to a thread cannot name the two lifetimes of a graph.
+pub(crate) trait Half<T> {
+    // what it asks for
+    ghost is_ready: { Self → Type 0 };
+
+    // what it finds
+    ghost gives: { Self → T → Type 0 };
+
+    /// Finds it. Fails only where memory runs out.
+    fn find<R: Threads + Sync>(self, rt: &R, alloc: Global) -> Result<T, OutOfMemory>
+        requires sync { IsSync R.row }
+        requires ready { is_ready self }
+        ensures { IfOk result (gives self) };
+}
+
+/// Both halves: the first on a new thread, the second on this one.
+pub(crate) fn side_by_side<
+    R: Threads + Sync,
+    T: Send,
+    U,
+    F: Half<T> + Send + Drop,
+    S: Half<U> + Drop,
+>(rt: &R, alloc: Global, first: F, second: S) -> (Result<T, OutOfMemory>, Result<U, OutOfMemory>)
+    requires first { F.is_ready first }
+    requires second { S.is_ready second }
+    ensures first { IfOk result.0 (F.gives first) }
+    ensures second { IfOk result.1 (S.gives second) }
+{
+    join(
+        rt,
+        move || -> Result<T, OutOfMemory>
+            requires { IsSync R.row × F.is_ready first }
+            ensures { IfOk result (F.gives first) }
+        { first.find(rt, alloc) },
+        move || -> Result<U, OutOfMemory>
+            requires { IsSync R.row × S.is_ready second }
+            ensures { IfOk result (S.gives second) }
+        { second.find(rt, alloc) },
+    )
+}
