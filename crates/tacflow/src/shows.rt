@@ -37,6 +37,26 @@ fn push_table<K: Sink>(
     push_text(alloc, &text, sink)
 }
 
+// Writes the table of an analysis of a graph. The graph is not owned here, and the table where it is made.
+fn table_of_graph<R: Threads + Sync, K: Sink>(
+    rt: &R,
+    alloc: Global,
+    graph: &Graph<'_>,
+    analysis: Analysis,
+    options: Options,
+    sink: &mut K,
+) -> Result<(), Fault>
+    requires threads { IsSync R.row }
+    requires below { K.faults sink.old < 2 ^ 32 - 1 }
+    ensures delivers { Delivers (IsTableText graph.now analysis) (K.contents sink.old) (K.contents sink.new) result }
+    ensures flushed { OnOk result (K.flushed sink.new ≡ true) }
+    ensures fault { IfErr result (OfProgram (λ _. ⊥) ⊥) }
+    ensures faults { K.faults sink.new ≡ K.faults sink.old + write_faults_in result }
+{
+    let table = table_of(rt, alloc, graph, analysis, options.workers, options.cut)?;
+    push_table(alloc, graph, &table, sink)
+}
+
 // Writes the table of an analysis.
 fn show_table<R: Threads + Sync, K: Sink>(
     rt: &R,
@@ -54,8 +74,7 @@ fn show_table<R: Threads + Sync, K: Sink>(
     ensures faults { K.faults sink.new ≡ K.faults sink.old + write_faults_in result }
 {
     let graph = graph_of(alloc, program)?;
-    let table = table_of(rt, alloc, &graph, analysis, options.workers, options.cut)?;
-    push_table(alloc, &graph, &table, sink)
+    table_of_graph(rt, alloc, &graph, analysis, options, sink)
 }
 
 // Writes the report of a graph with its tables. They are not owned here, so that no way out drops them.
@@ -76,6 +95,25 @@ fn push_report<K: Sink>(
     push_text(alloc, &text, sink)
 }
 
+// Writes the report of a graph. The graph is not owned here, and the tables where they are made.
+fn report_of_graph<R: Threads + Sync, K: Sink>(
+    rt: &R,
+    alloc: Global,
+    graph: &Graph<'_>,
+    options: Options,
+    sink: &mut K,
+) -> Result<(), Fault>
+    requires threads { IsSync R.row }
+    requires below { K.faults sink.old < 2 ^ 32 - 1 }
+    ensures delivers { Delivers (λ out. IsReport graph.now out × ListsSafely graph.now out) (K.contents sink.old) (K.contents sink.new) result }
+    ensures flushed { OnOk result (K.flushed sink.new ≡ true) }
+    ensures fault { IfErr result (OfProgram (λ _. ⊥) ⊥) }
+    ensures faults { K.faults sink.new ≡ K.faults sink.old + write_faults_in result }
+{
+    let tables = Tables::for_report(rt, alloc, graph, options.workers, options.cut)?;
+    push_report(alloc, graph, &tables, sink)
+}
+
 // Writes the report.
 fn show_report<R: Threads + Sync, K: Sink>(
     rt: &R,
@@ -92,8 +130,7 @@ fn show_report<R: Threads + Sync, K: Sink>(
     ensures faults { K.faults sink.new ≡ K.faults sink.old + write_faults_in result }
 {
     let graph = graph_of(alloc, program)?;
-    let tables = Tables::for_report(rt, alloc, &graph, options.workers, options.cut)?;
-    push_report(alloc, &graph, &tables, sink)
+    report_of_graph(rt, alloc, &graph, options, sink)
 }
 
 impl Shown for Options {

@@ -118,6 +118,27 @@ fn push_view<K: Sink>(
     }
 }
 
+// Writes what the options ask for of a graph. The graph is not owned here, and the tables where they are made.
+fn view_of_graph<R: Threads + Sync, K: Sink>(
+    rt: &R,
+    alloc: Global,
+    graph: &Graph<'_>,
+    view: View,
+    options: &Options,
+    sink: &mut K,
+) -> Result<(), Fault>
+    requires threads { IsSync R.row }
+    requires below { K.faults sink.old < 2 ^ 32 - 1 }
+    requires there { IfSome view.procedure (λ number. number < length graph.now.procedure_names) }
+    ensures delivers { Delivers (IsText options.now.format graph.now view) (K.contents sink.old) (K.contents sink.new) result }
+    ensures flushed { OnOk result (K.flushed sink.new ≡ true) }
+    ensures fault { IfErr result (OfProgram (λ _. ⊥) ⊥) }
+    ensures faults { K.faults sink.new ≡ K.faults sink.old + write_faults_in result }
+{
+    let tables = Tables::of(rt, alloc, graph, options.workers, options.cut)?;
+    push_view(alloc, graph, &tables, options.format, view, sink)
+}
+
 // Writes what the options ask for of this program, but for the procedure, which is found.
 fn show_view<R: Threads + Sync, K: Sink>(
     rt: &R,
@@ -136,8 +157,7 @@ fn show_view<R: Threads + Sync, K: Sink>(
     ensures faults { K.faults sink.new ≡ K.faults sink.old + write_faults_in result }
 {
     let graph = graph_of(alloc, program)?;
-    let tables = Tables::of(rt, alloc, &graph, options.workers, options.cut)?;
-    push_view(alloc, &graph, &tables, options.format, view, sink)
+    view_of_graph(rt, alloc, &graph, view, options, sink)
 }
 
 impl Shown for Options {

@@ -8,14 +8,14 @@ use Rattle.tacflow.proofs.shows.show_report.Goals as goal
 pub returns-clause-delivers : goal.returns-clause-delivers
 returns-clause-delivers g c =
     let made = c.in_ok-graph.ensures in
-    delivers_as _ _ _ _ c.push_report.result
+    delivers_as _ _ _ _ c.report_of_graph.result
     (λ out is. (
       made.few_points,
       made.few_bits,
       subst (λ (p : Program). IsReport p out) made.graph is.0,
       subst (λ (p : Program). ListsSafely p out) made.graph is.1,
     ))
-    c.push_report.ensures.delivers
+    c.report_of_graph.ensures.delivers
 
 pub returns-clause-fault : goal.returns-clause-fault
-returns-clause-fault g c = no_graph_fault (IsOverLimit c.args.program.now) ⊥ c.push_report.result c.push_report.ensures.fault
+returns-clause-fault g c = no_graph_fault (IsOverLimit c.args.program.now) ⊥ c.report_of_graph.result c.report_of_graph.ensures.fault
