@@ -1,6 +1,9 @@
+ghost use Rattle.std.specs.Prelude.{◌≡◌};
+ghost use Rattle.tac_reader.specs.Programs.{program_of};
+
 use std::alloc::{AllocError, Global};
-use std::test::Fail;
-use tac_reader::{Operand, ReadFault, Span, StmtKind, listing, read};
+use std::process::Abort;
+use tac_reader::{Label, Program, ReadFault, Span, Stmt, listing, read};
 
 /// Every statement form.
 const FORMS: &[u8] =
@@ -20,135 +23,177 @@ const NAME_64: &str = "nnnnnnnnnnnnnnnnnnnnnnnnnnnnnnnnnnnnnnnnnnnnnnnnnnnnnnnnn
 const FALLING_TOGETHER: &[u8] =
     b"aaclN:aacou:aacSa:aadzl:aafLs:aakj_:aaoeZ:aarFo:aav8S:aayiC:aazv0:aazAO:aaBPd:aaBRe:aaC2C:aaEaq:aaHT1:aaINk:aaJOU:aaMcN:aaMjO:aaNld:aaNrZ:aaQlw:aaQs8:aaQIY:aaRgy:aaV7v:aaWwp:aaXJU:aaXZI:aa_nh:aa2h1:aa4c4:aa4A7:aa6xw:aa7eC:aa7Kj:aa9r0:abaf5:abbLs:abb4Y:abnFo:abpGz:abqmd:abtIc:abtL4:abvJz:abvKK:abw5e:abxCt:abAjS:abCRb:abJau:abJsG:abM6T:abNag:abOWD:abO09:abQij:abR0J:abTRa:abVk_:ab2oP:ab3Tg:ab4tY:ab5BR:ab5C6:ab6Of:acdDn:acfuG:acipF:acixh:aclKQ:acmB_:acpOk:actrU:acv6B:aczVi:acC7e:acGAz:acMHI:acOwA:acQbZ:acQlZ:acRjW:acVNu:acW20:ac_sN:ac4mh:ac8FA:ac9Dh:adcSr:adeMo:adgAk:adlL_:adl6g:adm0Z:adnE5:adnVX:adroh:advvv:adx9H:adzv7:adBYY:adCWp:adKm8:adKOO:adLms:adMEh:adNs1:adOuW:adQX2:adQ6I:adRF3:adTkd:adT5B:adYHF:ad_dG:ad0nf:ad0AR:ad1He:ad7us:aeaVa:aefIg:aejra:aekOb:aeuxL:aeuRG:aexkG:aeybL:aezqe:aeAuQ:aeC0E:aeDxO:aeEvk:aeEwM:aeE2m:aeFtJ:aeF6n:aeGrQ:aeHte:aeHBI:aeJdK:aeJFt:aeKEm:aePfa:aeReA:aeVyE:aeYA8:ae_dS:ae4_U:ae5bg:ae5JT:ae61v:afb3a:afcZW:affnT:afhmY:afjzd:afpOy:afrbP:afrdF:afrsX:afu4m:afABo:afE7L:afHkb:afIK0:afKvq:afL3e:afOpp:afO8X:afQEL:afRuC:afWBu:afYFD:af04D:af3Zr:af6YB:af7oy:af9uS:af9vP:agbzk:agdX0:aggAm:aggEK:agg7Y:agi8_:agjIR:agj_F:agj8O:agmgy:agoJg:agph9:agtB_:ague3:agA6G:agCd0:agCvk:agCRT:agK5F:agPji:agRnc:agVsZ:agX0t:ag0OX:ag6QF:ag6_w:ag8Y3:ahaXp:ahbpK:ahdEc:ahdJN:ahmR0:ahnM1:ahp9u:ahrbG:ahtDb:ahtM8:ahudO:ahuzw:ahyGe:ahCze:ahCOb:ahDkg:ahElb:ahGFN:ahHgD:ahHAK:ahIDI:ahK2R:ahL5H:ahQpa:ahQAu:ahR9R:ahSZK:ahUbF:ahVOv:ahWIH:ahXOz:ah2BR:ah2Ce:ah6h1:ah6Tg:ah7Bw:ah9wF:aidM5:aifir:aihfg:aij3a:aikQV:aioZy:aiqAS:ait4h:aiuLu:aivzZ:aiv2R:aiwW2:aiyKH:aiAuc:aiBi5:aiBCC:aiCqe:aiC01:aiDLW:aiFu1:aiKhy:aiKzr:aiLUz:";
 
+/// The listing of a program that is lent, so that its owner below makes one call and leaves in one way.
+fn listed_program(alloc: Global, program: &Program) -> Result<Vec<u8>, ReadFault> {
+    match listing(alloc, program) {
+        Ok(listed) => Ok(listed),
+        Err(_) => Err(ReadFault::OutOfMemory),
+    }
+}
+
+/// The listing of a text's program.
+fn listed(alloc: Global, text: &[u8]) -> Result<Vec<u8>, ReadFault> {
+    match read(alloc, text) {
+        Ok(program) => listed_program(alloc, &program),
+        Err(fault) => Err(fault),
+    }
+}
+
 /// The listing of a program, or the message of why the text is none.
 fn answer(alloc: Global, text: &[u8]) -> Result<String, AllocError> {
-    match read(alloc, text) {
-        Ok(program) => Ok(String::from_utf8_lossy(alloc, listing(alloc, &program)?.as_slice())?),
+    match listed(alloc, text) {
+        Ok(listed) => String::from_utf8_lossy(alloc, listed.as_slice()),
         Err(ReadFault::OutOfMemory) => Err(AllocError),
         Err(fault) => fault.to_string(alloc),
     }
 }
 
-#[test]
-fn refuses_lines(rt: HostRuntime) -> Result<(), Fail> {
-    let alloc = rt.alloc();
-    let table: [(&[u8], &str); 10] = [
-        (b"proc main\nx = 12ab\nend\n", "2:7: refusal 4: Syntax"),
-        (b"9223372036854775808\n", "1:1: refusal 2: NumberTooLarge"),
-        (b"proc proc\nend\n", "1:6: refusal 4: Syntax"),
-        (b"proc main\nx = 1\n", "3:1: refusal 5: Unclosed"),
-        (b"proc main\nx = 1", "2:6: refusal 5: Unclosed"),
-        (
-            b"proc main\nx = 9223372036854775808\nend\n",
-            "2:5: refusal 2: NumberTooLarge",
-        ),
-        (b"proc main\nx =\nend\n", "2:4: refusal 4: Syntax"),
-        (
-            b"proc main\ncall a|b|c|d|e|f|g|h|i\nend\n",
-            "2:21: refusal 4: Syntax",
-        ),
-        (b"proc main\ncall main |\nend\n", "2:12: refusal 4: Syntax"),
-        (b"proc main\nend\nx = 1\n", "3:1: refusal 4: Syntax"),
-    ];
-    for (text, want) in table {
-        assert_eq!(rt; answer(alloc, text)?.as_str(), want);
+/// The one comparison of texts, since each that is written out is proved again. It tells what was tried, and its row.
+fn same(rt: &impl Abort, tried: &str, row: usize, got: &str, want: &str) {
+    assert_eq!(rt; got, want, "{tried}, row {row}");
+}
+
+/// Each text has the answer beside it.
+fn check_answers(rt: &impl Abort, alloc: Global, rows: &[(&[u8], &str)]) -> Result<(), AllocError> {
+    for (row, (text, want)) in rows.iter().enumerate() {
+        same(rt, "texts", row, answer(alloc, text)?.as_str(), want);
     }
     Ok(())
+}
+
+/// The text is the listing of its own program.
+fn check_listing(rt: &impl Abort, alloc: Global, text: &str) -> Result<(), AllocError> {
+    same(
+        rt,
+        "a listing",
+        0,
+        answer(alloc, text.as_bytes())?.as_str(),
+        text,
+    );
+    Ok(())
+}
+
+const BAD_LINES: [(&[u8], &str); 10] = [
+    (b"proc main\nx = 12ab\nend\n", "2:7: refusal 4: Syntax"),
+    (b"9223372036854775808\n", "1:1: refusal 2: NumberTooLarge"),
+    (b"proc proc\nend\n", "1:6: refusal 4: Syntax"),
+    (b"proc main\nx = 1\n", "3:1: refusal 5: Unclosed"),
+    (b"proc main\nx = 1", "2:6: refusal 5: Unclosed"),
+    (
+        b"proc main\nx = 9223372036854775808\nend\n",
+        "2:5: refusal 2: NumberTooLarge",
+    ),
+    (b"proc main\nx =\nend\n", "2:4: refusal 4: Syntax"),
+    (
+        b"proc main\ncall a|b|c|d|e|f|g|h|i\nend\n",
+        "2:21: refusal 4: Syntax",
+    ),
+    (b"proc main\ncall main |\nend\n", "2:12: refusal 4: Syntax"),
+    (b"proc main\nend\nx = 1\n", "3:1: refusal 4: Syntax"),
+];
+
+#[test]
+fn refuses_lines(rt: HostRuntime) -> Result<(), AllocError> {
+    check_answers(&rt, rt.alloc(), &BAD_LINES)
 }
 
 /// Lines of more than 32 tokens, which are judged before they are read whole. The first 16 labels have 32 tokens and 32 bytes.
-#[test]
-fn judges_long_lines(rt: HostRuntime) -> Result<(), Fail> {
-    let alloc = rt.alloc();
-    let table: [(&[u8], &str); 8] = [
-        (
-            b"proc main\nx x x x x x x x x x x x x x x x x x x x x x x x x x x x x x x x x x x x x x x x \nend\n",
-            "2:3: refusal 4: Syntax",
-        ),
-        (
-            b"proc main\nx x x x x x x x x x x x x x x x x x x x x x x x x x x x x x x x x x x x x x x x $\nend\n",
-            "2:3: refusal 4: Syntax",
-        ),
-        (
-            b"proc main\nx $x x x x x x x x x x x x x x x x x x x x x x x x x x x x x x x x x x x x x x x x \nend\n",
-            "2:3: refusal 1: BadByte",
-        ),
-        (
-            b"proc main\nx = 9223372036854775808 x x x x x x x x x x x x x x x x x x x x x x x x x x x x x x x x x x x x x x x x \nend\n",
-            "2:5: refusal 2: NumberTooLarge",
-        ),
-        (
-            b"proc main\na:b:c:d:e:f:g:h:i:j:k:l:m:n:o:p:x x = 1\nend\n",
-            "2:35: refusal 4: Syntax",
-        ),
-        (
-            b"proc main\na:b:c:d:e:f:g:h:i:j:k:l:m:n:o:p:7 x = 1\nend\n",
-            "2:33: refusal 4: Syntax",
-        ),
-        (
-            b"proc main\na:b:c:d:e:f:g:h:i:j:k:l:m:n:o:x x = 1\nend\n",
-            "2:33: refusal 4: Syntax",
-        ),
-        (
-            b"proc main\na:b:c:d:e:f:g:h:i:j:k:l:m:n:o:p:q:x = 1\nend\n",
-            "proc main\na:\nb:\nc:\nd:\ne:\nf:\ng:\nh:\ni:\nj:\nk:\nl:\nm:\nn:\no:\np:\nq:\n  x = 1\nend\n",
-        ),
-    ];
-    for (text, want) in table {
-        assert_eq!(rt; answer(alloc, text)?.as_str(), want);
-    }
-    Ok(())
-}
+const LONG_LINES: [(&[u8], &str); 8] = [
+    (
+        b"proc main\nx x x x x x x x x x x x x x x x x x x x x x x x x x x x x x x x x x x x x x x x \nend\n",
+        "2:3: refusal 4: Syntax",
+    ),
+    (
+        b"proc main\nx x x x x x x x x x x x x x x x x x x x x x x x x x x x x x x x x x x x x x x x $\nend\n",
+        "2:3: refusal 4: Syntax",
+    ),
+    (
+        b"proc main\nx $x x x x x x x x x x x x x x x x x x x x x x x x x x x x x x x x x x x x x x x x \nend\n",
+        "2:3: refusal 1: BadByte",
+    ),
+    (
+        b"proc main\nx = 9223372036854775808 x x x x x x x x x x x x x x x x x x x x x x x x x x x x x x x x x x x x x x x x \nend\n",
+        "2:5: refusal 2: NumberTooLarge",
+    ),
+    (
+        b"proc main\na:b:c:d:e:f:g:h:i:j:k:l:m:n:o:p:x x = 1\nend\n",
+        "2:35: refusal 4: Syntax",
+    ),
+    (
+        b"proc main\na:b:c:d:e:f:g:h:i:j:k:l:m:n:o:p:7 x = 1\nend\n",
+        "2:33: refusal 4: Syntax",
+    ),
+    (
+        b"proc main\na:b:c:d:e:f:g:h:i:j:k:l:m:n:o:x x = 1\nend\n",
+        "2:33: refusal 4: Syntax",
+    ),
+    (
+        b"proc main\na:b:c:d:e:f:g:h:i:j:k:l:m:n:o:p:q:x = 1\nend\n",
+        "proc main\na:\nb:\nc:\nd:\ne:\nf:\ng:\nh:\ni:\nj:\nk:\nl:\nm:\nn:\no:\np:\nq:\n  x = 1\nend\n",
+    ),
+];
 
 #[test]
-fn refuses_names(rt: HostRuntime) -> Result<(), Fail> {
-    let alloc = rt.alloc();
-    let table: [(&[u8], &str); 8] = [
-        (b"", "1:1: refusal 6: NoMain"),
-        (
-            b"proc main\nA: A: skip\nend\n",
-            "2:4: refusal 8: DuplicateLabel",
-        ),
-        (
-            b"proc q\nend\nproc q\nend\n",
-            "3:6: refusal 7: DuplicateProcedure",
-        ),
-        (
-            b"proc main\ngoto A\ncall z\nA: A: skip\nend\n",
-            "4:4: refusal 8: DuplicateLabel",
-        ),
-        (b"proc main\ngoto M\nend\n", "2:6: refusal 9: UnknownLabel"),
-        (
-            b"proc main\ncall z\nend\n",
-            "2:6: refusal 10: UnknownProcedure",
-        ),
-        (
-            b"proc main\ncall main | main\nend\n",
-            "2:13: refusal 13: DuplicateCallee",
-        ),
-        (b"proc q\nend\n", "1:1: refusal 6: NoMain"),
-    ];
-    for (text, want) in table {
-        assert_eq!(rt; answer(alloc, text)?.as_str(), want);
-    }
-    Ok(())
+fn judges_long_lines(rt: HostRuntime) -> Result<(), AllocError> {
+    check_answers(&rt, rt.alloc(), &LONG_LINES)
 }
 
+const BAD_NAMES: [(&[u8], &str); 8] = [
+    (b"", "1:1: refusal 6: NoMain"),
+    (
+        b"proc main\nA: A: skip\nend\n",
+        "2:4: refusal 8: DuplicateLabel",
+    ),
+    (
+        b"proc q\nend\nproc q\nend\n",
+        "3:6: refusal 7: DuplicateProcedure",
+    ),
+    (
+        b"proc main\ngoto A\ncall z\nA: A: skip\nend\n",
+        "4:4: refusal 8: DuplicateLabel",
+    ),
+    (b"proc main\ngoto M\nend\n", "2:6: refusal 9: UnknownLabel"),
+    (
+        b"proc main\ncall z\nend\n",
+        "2:6: refusal 10: UnknownProcedure",
+    ),
+    (
+        b"proc main\ncall main | main\nend\n",
+        "2:13: refusal 13: DuplicateCallee",
+    ),
+    (b"proc q\nend\n", "1:1: refusal 6: NoMain"),
+];
+
 #[test]
-fn refuses_bytes(rt: HostRuntime) -> Result<(), Fail> {
-    let alloc = rt.alloc();
-    let table: [(&[u8], &str); 6] = [
-        (b"proc main\nx = \0", "2:5: refusal 1: BadByte"),
-        (b"proc main\nx = \0\nend\n", "2:5: refusal 1: BadByte"),
-        (b"\r", "1:1: refusal 1: BadByte"),
-        (b"proc main\nend\r", "2:4: refusal 1: BadByte"),
-        (b"proc main\nx =\r", "2:4: refusal 1: BadByte"),
-        (b"proc main\nx = 1\rend\n", "2:6: refusal 1: BadByte"),
-    ];
-    for (text, want) in table {
-        assert_eq!(rt; answer(alloc, text)?.as_str(), want);
-    }
-    Ok(())
+fn refuses_names(rt: HostRuntime) -> Result<(), AllocError> {
+    check_answers(&rt, rt.alloc(), &BAD_NAMES)
+}
+
+const BAD_BYTES: [(&[u8], &str); 6] = [
+    (b"proc main\nx = \0", "2:5: refusal 1: BadByte"),
+    (b"proc main\nx = \0\nend\n", "2:5: refusal 1: BadByte"),
+    (b"\r", "1:1: refusal 1: BadByte"),
+    (b"proc main\nend\r", "2:4: refusal 1: BadByte"),
+    (b"proc main\nx =\r", "2:4: refusal 1: BadByte"),
+    (b"proc main\nx = 1\rend\n", "2:6: refusal 1: BadByte"),
+];
+
+#[test]
+fn refuses_bytes(rt: HostRuntime) -> Result<(), AllocError> {
+    check_answers(&rt, rt.alloc(), &BAD_BYTES)
+}
+
+/// The answer of a text in three parts.
+fn answer_of_parts(
+    alloc: Global,
+    before: &[u8],
+    middle: &[u8],
+    after: &[u8],
+) -> Result<String, AllocError> {
+    let mut text = before.to_vec(alloc)?;
+    text.extend_from_slice(middle)?;
+    text.extend_from_slice(after)?;
+    answer(alloc, text.as_slice())
 }
 
 /// What stands before a byte and behind it, and the answer, which is the same for each of the bytes 0, 13 and 255: out of a comment
@@ -172,170 +217,194 @@ const AROUND_A_BYTE: [(&[u8], &[u8], &str); 8] = [
     (b"proc main\nend\n#", b"", "proc main\nend\n"),
 ];
 
-#[test]
-fn bytes_in_and_out_of_comments(rt: HostRuntime) -> Result<(), Fail> {
-    let alloc = rt.alloc();
-    for byte in [0, 13, 255] {
-        for (before, after, want) in AROUND_A_BYTE {
-            let mut text = before.to_vec(alloc)?;
-            text.push(byte)?;
-            text.extend_from_slice(after)?;
-            assert_eq!(rt; answer(alloc, &text)?.as_str(), want, "byte {byte}");
+/// Around each middle, by its name, each row has its answer.
+fn check_around(
+    rt: &impl Abort,
+    alloc: Global,
+    rows: &[(&[u8], &[u8], &str)],
+    middles: &[(&str, &[u8])],
+) -> Result<(), AllocError> {
+    for (tried, middle) in middles {
+        for (row, (before, after, want)) in rows.iter().enumerate() {
+            let answer = answer_of_parts(alloc, before, middle, after)?;
+            same(rt, tried, row, answer.as_str(), want);
         }
     }
     Ok(())
 }
 
+const BYTES: [(&str, &[u8]); 3] = [("byte 0", &[0]), ("byte 13", &[13]), ("byte 255", &[255])];
+
 #[test]
-fn refuses_every_beginning_of_the_smallest(rt: HostRuntime) -> Result<(), Fail> {
-    let alloc = rt.alloc();
-    let table: [(usize, &str); 15] = [
-        (0, "1:1: refusal 6: NoMain"),
-        (1, "1:1: refusal 4: Syntax"),
-        (2, "1:1: refusal 4: Syntax"),
-        (3, "1:1: refusal 4: Syntax"),
-        (4, "1:5: refusal 4: Syntax"),
-        (5, "1:5: refusal 4: Syntax"),
-        (6, "1:7: refusal 5: Unclosed"),
-        (7, "1:8: refusal 5: Unclosed"),
-        (8, "1:9: refusal 5: Unclosed"),
-        (9, "1:10: refusal 5: Unclosed"),
-        (10, "2:1: refusal 5: Unclosed"),
-        (11, "2:2: refusal 4: Syntax"),
-        (12, "2:3: refusal 4: Syntax"),
-        (13, "proc main\nend\n"),
-        (14, "proc main\nend\n"),
-    ];
-    for (length, want) in table {
-        assert_eq!(rt;
-            answer(alloc, &b"proc main\nend\n"[..length.min(14)])?.as_str(),
-            want,
-            "at {length}"
-        );
-    }
-    Ok(())
+fn bytes_in_and_out_of_comments(rt: HostRuntime) -> Result<(), AllocError> {
+    check_around(&rt, rt.alloc(), &AROUND_A_BYTE, &BYTES)
+}
+
+/// The first bytes of `proc main\nend\n`, from none of them to all.
+const BEGINNINGS: [(&[u8], &str); 15] = [
+    (b"", "1:1: refusal 6: NoMain"),
+    (b"p", "1:1: refusal 4: Syntax"),
+    (b"pr", "1:1: refusal 4: Syntax"),
+    (b"pro", "1:1: refusal 4: Syntax"),
+    (b"proc", "1:5: refusal 4: Syntax"),
+    (b"proc ", "1:5: refusal 4: Syntax"),
+    (b"proc m", "1:7: refusal 5: Unclosed"),
+    (b"proc ma", "1:8: refusal 5: Unclosed"),
+    (b"proc mai", "1:9: refusal 5: Unclosed"),
+    (b"proc main", "1:10: refusal 5: Unclosed"),
+    (b"proc main\n", "2:1: refusal 5: Unclosed"),
+    (b"proc main\ne", "2:2: refusal 4: Syntax"),
+    (b"proc main\nen", "2:3: refusal 4: Syntax"),
+    (b"proc main\nend", "proc main\nend\n"),
+    (b"proc main\nend\n", "proc main\nend\n"),
+];
+
+#[test]
+fn refuses_every_beginning_of_the_smallest(rt: HostRuntime) -> Result<(), AllocError> {
+    check_answers(&rt, rt.alloc(), &BEGINNINGS)
+}
+
+/// What stands before a name of 65 bytes, the first of them, and behind it, and the answer.
+const AROUND_A_LONG_NAME: [(&[u8], &[u8], &str); 4] = [
+    (b"n", b"\n", "1:1: refusal 3: NameTooLong"),
+    (
+        b"proc main\nx = n",
+        b"\nend\n",
+        "2:5: refusal 3: NameTooLong",
+    ),
+    (
+        b"proc main\nend\nproc n",
+        b"\nend\n",
+        "3:6: refusal 3: NameTooLong",
+    ),
+    (
+        b"proc main\nn",
+        b" = 1\nend\n",
+        "2:1: refusal 3: NameTooLong",
+    ),
+];
+
+/// A program with names of 64 bytes.
+fn longest_names(alloc: Global) -> Result<String, AllocError> {
+    format!(in alloc; "proc main\n{NAME_64}:\n  {NAME_64} = 1\nend\nproc {NAME_64}\nend\n")
+}
+
+fn check_longest_names(rt: &impl Abort, alloc: Global) -> Result<(), AllocError> {
+    check_listing(rt, alloc, longest_names(alloc)?.as_str())
 }
 
 #[test]
-fn refuses_long_names(rt: HostRuntime) -> Result<(), Fail> {
-    let alloc = rt.alloc();
-    let table = [
-        (
-            format!(in alloc; "n{NAME_64}\n")?,
-            "1:1: refusal 3: NameTooLong",
-        ),
-        (
-            format!(in alloc; "proc main\nx = n{NAME_64}\nend\n")?,
-            "2:5: refusal 3: NameTooLong",
-        ),
-        (
-            format!(in alloc; "proc main\nend\nproc n{NAME_64}\nend\n")?,
-            "3:6: refusal 3: NameTooLong",
-        ),
-        (
-            format!(in alloc; "proc main\nn{NAME_64} = 1\nend\n")?,
-            "2:1: refusal 3: NameTooLong",
-        ),
-    ];
-    for (text, want) in table {
-        assert_eq!(rt; answer(alloc, text.as_bytes())?.as_str(), want);
-    }
-    let text = format!(in alloc;
-        "proc main\n{NAME_64}:\n  {NAME_64} = 1\nend\nproc {NAME_64}\nend\n"
-    )?;
-    assert_eq!(rt; answer(alloc, text.as_bytes())?, text);
-    Ok(())
+fn refuses_long_names(rt: HostRuntime) -> Result<(), AllocError> {
+    let middles = [("long names", NAME_64.as_bytes())];
+    check_around(&rt, rt.alloc(), &AROUND_A_LONG_NAME, &middles)?;
+    check_longest_names(&rt, rt.alloc())
 }
 
-/// The procedure `main`, this many others, and the text behind them.
-fn procedures(alloc: Global, others: u32, last: &str) -> Result<String, AllocError> {
+/// The procedure `main`, and this many others.
+fn procedures(alloc: Global, others: u32) -> Result<String, AllocError> {
     let mut text = format!(in alloc; "proc main\nend\n")?;
     for p in 0..others {
         write!(text, "proc p{p}\nend\n")?;
     }
-    text.push_str(last)?;
     Ok(text)
 }
 
-#[test]
-fn counts_procedures_and_bytes(rt: HostRuntime) -> Result<(), Fail> {
-    let alloc = rt.alloc();
-    let most = procedures(alloc, 255, "")?;
-    assert_eq!(rt; answer(alloc, most.as_bytes())?, most);
-    let over = procedures(alloc, 256, "")?;
-    assert_eq!(rt;
-        answer(alloc, over.as_bytes())?.as_str(),
-        "513:6: refusal 12: TooManyProcedures"
-    );
-    let mut text = procedures(alloc, 0, "")?;
-    for _ in 0..1_048_562 {
+/// The answer of this many procedures beside `main`.
+fn answer_of_procedures(alloc: Global, others: u32) -> Result<String, AllocError> {
+    answer(alloc, procedures(alloc, others)?.as_bytes())
+}
+
+/// The procedure `main`, and this many line feeds.
+fn lines_behind(alloc: Global, lines: u32) -> Result<String, AllocError> {
+    let mut text = procedures(alloc, 0)?;
+    for _ in 0..lines {
         text.push('\n')?;
     }
-    assert_eq!(rt;
+    Ok(text)
+}
+
+/// The procedure `main` and this many line feeds have this answer.
+fn check_lines(rt: &impl Abort, alloc: Global, lines: u32, want: &str) -> Result<(), AllocError> {
+    let text = lines_behind(alloc, lines)?;
+    same(
+        rt,
+        "lines",
+        lines as usize,
         answer(alloc, text.as_bytes())?.as_str(),
-        "proc main\nend\n"
-    );
-    text.push('\n')?;
-    assert_eq!(rt;
-        answer(alloc, text.as_bytes())?.as_str(),
-        "1:1: refusal 11: TextTooLong"
+        want,
     );
     Ok(())
 }
 
 #[test]
-fn lists(rt: HostRuntime) -> Result<(), Fail> {
+fn counts_procedures_and_bytes(rt: HostRuntime) -> Result<(), AllocError> {
     let alloc = rt.alloc();
-    let table: [(&[u8], &str); 7] = [
-        (FORMS, FORMS_LISTING),
-        (
-            b"proc main # start\nL:M: x=007\nend\n",
-            "proc main\nL:\nM:\n  x = 7\nend\n",
-        ),
-        (
-            SPACING,
-            "proc main\nL:\nM:\n  x = y + 7\n  z = -x\n  if x < 3 goto L\nend\n",
-        ),
-        (
-            b"proc main # \0 \r \xff\nend#\0\r\xff\n",
-            "proc main\nend\n",
-        ),
-        (
-            b"proc main # \xc3\xa9\xff\x80\nx = 1 #\xe2\x82\xac\n#\xfe\nend\n",
-            "proc main\n  x = 1\nend\n",
-        ),
-        (
-            b"proc main\r\nx = 1\r\n\r\nend\r\n",
-            "proc main\n  x = 1\nend\n",
-        ),
-        (
-            b"proc main\nx = 9223372036854775807\nend\n",
-            "proc main\n  x = 9223372036854775807\nend\n",
-        ),
-    ];
-    for (text, want) in table {
-        assert_eq!(rt; answer(alloc, text)?.as_str(), want);
+    check_listing(&rt, alloc, procedures(alloc, 255)?.as_str())?;
+    let over = answer_of_procedures(alloc, 256)?;
+    same(
+        &rt,
+        "procedures",
+        256,
+        over.as_str(),
+        "513:6: refusal 12: TooManyProcedures",
+    );
+    check_lines(&rt, alloc, 1_048_562, "proc main\nend\n")?;
+    check_lines(&rt, alloc, 1_048_563, "1:1: refusal 11: TextTooLong")
+}
+
+const LISTED: [(&[u8], &str); 7] = [
+    (FORMS, FORMS_LISTING),
+    (
+        b"proc main # start\nL:M: x=007\nend\n",
+        "proc main\nL:\nM:\n  x = 7\nend\n",
+    ),
+    (
+        SPACING,
+        "proc main\nL:\nM:\n  x = y + 7\n  z = -x\n  if x < 3 goto L\nend\n",
+    ),
+    (
+        b"proc main # \0 \r \xff\nend#\0\r\xff\n",
+        "proc main\nend\n",
+    ),
+    (
+        b"proc main # \xc3\xa9\xff\x80\nx = 1 #\xe2\x82\xac\n#\xfe\nend\n",
+        "proc main\n  x = 1\nend\n",
+    ),
+    (
+        b"proc main\r\nx = 1\r\n\r\nend\r\n",
+        "proc main\n  x = 1\nend\n",
+    ),
+    (
+        b"proc main\nx = 9223372036854775807\nend\n",
+        "proc main\n  x = 9223372036854775807\nend\n",
+    ),
+];
+
+#[test]
+fn lists(rt: HostRuntime) -> Result<(), AllocError> {
+    check_answers(&rt, rt.alloc(), &LISTED)
+}
+
+/// Whether the text is the listing of its own program.
+fn is_listing(alloc: Global, text: &[u8]) -> Result<bool, AllocError> {
+    match listed(alloc, text) {
+        Ok(again) => Ok(again.as_slice() == text),
+        Err(ReadFault::OutOfMemory) => Err(AllocError),
+        Err(ReadFault::Refused(_)) => Ok(false),
     }
-    Ok(())
 }
 
 /// Whether a text that is a program lists to a text that lists to itself.
 fn lists_to_itself(alloc: Global, text: &[u8]) -> Result<bool, AllocError> {
-    match read(alloc, text) {
-        Ok(program) => {
-            let first = listing(alloc, &program)?;
-            match read(alloc, first.as_slice()) {
-                Ok(program) => Ok(listing(alloc, &program)?.as_slice() == first.as_slice()),
-                Err(_) => Ok(false),
-            }
-        }
+    match listed(alloc, text) {
+        Ok(first) => is_listing(alloc, first.as_slice()),
         Err(ReadFault::OutOfMemory) => Err(AllocError),
         Err(ReadFault::Refused(_)) => Ok(true),
     }
 }
 
 #[test]
-fn reads_its_own_listings(rt: HostRuntime) -> Result<(), Fail> {
+fn reads_its_own_listings(rt: HostRuntime) -> Result<(), AllocError> {
     let alloc = rt.alloc();
     for text in [FORMS, RECURSION, SPACING] {
         for stop in 0..text.len() + 1 {
@@ -348,54 +417,74 @@ fn reads_its_own_listings(rt: HostRuntime) -> Result<(), Fail> {
     Ok(())
 }
 
-#[test]
-fn names_by_number(rt: HostRuntime) -> Result<(), Fail> {
-    let alloc = rt.alloc();
-    let Ok(program) = read(alloc, SPACING) else {
-        return Err(Fail::from("it was refused"));
-    };
+fn same_name(rt: &impl Abort, name: &[u8], want: &str) {
+    assert_eq!(rt; name, want.as_bytes(), "{want}");
+}
+
+fn check_names(rt: &impl Abort, program: &Program)
+    requires { program.now ≡ program_of SPACING.now }
+{
     assert_eq!(rt; program.main(), 0);
-    assert_eq!(rt; program.procedure(0), b"main".as_slice());
-    assert_eq!(rt; program.variable(0), b"x".as_slice());
-    assert_eq!(rt; program.variable(2), b"z".as_slice());
-    assert_eq!(rt; program.label(0, 1), b"M".as_slice());
-    Ok(())
+    same_name(rt, program.procedure(0), "main");
+    same_name(rt, program.variable(0), "x");
+    same_name(rt, program.variable(2), "z");
+    same_name(rt, program.label(0, 1), "M");
 }
 
 #[test]
-fn numbers_and_spans(rt: HostRuntime) -> Result<(), Fail> {
-    let alloc = rt.alloc();
-    let Ok(program) = read(alloc, SPACING) else {
-        return Err(Fail::from("it was refused"));
-    };
+fn names_by_number(rt: HostRuntime) -> Result<(), ReadFault> {
+    match read(rt.alloc(), SPACING) {
+        Ok(program) => check_names(&rt, &program),
+        Err(fault) => return Err(fault),
+    }
+    Ok(())
+}
+
+fn check_labels(rt: &impl Abort, labels: &[Label]) {
+    for (place, label) in labels.iter().enumerate() {
+        assert_eq!(rt; (label.name as usize, label.place), (place, 0));
+    }
+}
+
+const SPANS: [Span; 3] = [
+    Span {
+        line: 2,
+        start: 23,
+        end: 30,
+    },
+    Span {
+        line: 3,
+        start: 31,
+        end: 36,
+    },
+    Span {
+        line: 4,
+        start: 37,
+        end: 50,
+    },
+];
+
+fn check_spans(rt: &impl Abort, stmts: &[Stmt]) {
+    assert_eq!(rt; stmts.len(), SPANS.len());
+    for (place, want) in SPANS.iter().enumerate() {
+        assert_eq!(rt; stmts[place].span, *want);
+    }
+}
+
+fn check_procedures(rt: &impl Abort, program: &Program) {
     assert_eq!(rt; program.variables(), 3);
     for proc in program.procs() {
         assert_eq!(rt; proc.name(), 0);
-        for (place, label) in proc.labels().iter().enumerate() {
-            assert_eq!(rt; (label.name as usize, label.place), (place, 0));
-        }
-        let spans: Vec<Span> = proc.stmts().iter().map(|stmt| stmt.span).collect(alloc)?;
-        assert_eq!(rt;
-            spans.as_slice(),
-            [
-                Span {
-                    line: 2,
-                    start: 23,
-                    end: 30
-                },
-                Span {
-                    line: 3,
-                    start: 31,
-                    end: 36
-                },
-                Span {
-                    line: 4,
-                    start: 37,
-                    end: 50
-                }
-            ]
-            .as_slice()
-        );
+        check_labels(rt, proc.labels());
+        check_spans(rt, proc.stmts());
+    }
+}
+
+#[test]
+fn numbers_and_spans(rt: HostRuntime) -> Result<(), ReadFault> {
+    match read(rt.alloc(), SPACING) {
+        Ok(program) => check_procedures(&rt, &program),
+        Err(fault) => return Err(fault),
     }
     Ok(())
 }
@@ -410,25 +499,28 @@ fn labelled(alloc: Global, labels: &[u8], last: &[u8]) -> Result<Vec<u8>, AllocE
     Ok(text)
 }
 
-#[test]
-fn names_that_fall_together(rt: HostRuntime) -> Result<(), Fail> {
-    let alloc = rt.alloc();
-    let text = labelled(alloc, FALLING_TOGETHER, b"")?;
-    let listed = answer(alloc, &text)?;
-    // 270 labels of five bytes, each on a line of its own, between `proc main` and `end`.
-    assert_eq!(rt; listed.len(), 10 + 270 * 7 + 4);
-    let again = answer(alloc, listed.as_bytes())?;
-    assert_eq!(rt; again.as_str(), listed.as_str());
-    Ok(())
+/// The answer of the labels that fall together, and this one behind them.
+fn answer_of_labelled(alloc: Global, last: &[u8]) -> Result<String, AllocError> {
+    answer(alloc, labelled(alloc, FALLING_TOGETHER, last)?.as_slice())
 }
 
 #[test]
-fn a_name_twice_among_them(rt: HostRuntime) -> Result<(), Fail> {
-    let alloc = rt.alloc();
-    let text = labelled(alloc, FALLING_TOGETHER, b"aaclN:")?;
-    assert_eq!(rt;
-        answer(alloc, &text)?.as_str(),
-        "2:1621: refusal 8: DuplicateLabel"
+fn names_that_fall_together(rt: HostRuntime) -> Result<(), AllocError> {
+    let listed = answer_of_labelled(rt.alloc(), b"")?;
+    // 270 labels of five bytes, each on a line of its own, between `proc main` and `end`.
+    assert_eq!(rt; listed.len(), 10 + 270 * 7 + 4);
+    check_listing(&rt, rt.alloc(), listed.as_str())
+}
+
+#[test]
+fn a_name_twice_among_them(rt: HostRuntime) -> Result<(), AllocError> {
+    let answer = answer_of_labelled(rt.alloc(), b"aaclN:")?;
+    same(
+        &rt,
+        "a name twice",
+        0,
+        answer.as_str(),
+        "2:1621: refusal 8: DuplicateLabel",
     );
     Ok(())
 }
