@@ -1,11 +1,10 @@
 ghost use Rattle.std.specs.Prelude.{◌≡◌, ℕ, ◌^◌, ◌<◌, IfOk, IfSome, All};
 ghost use Rattle.slice_board.specs.Boards.{IsOf, fresh_pass};
 
-use bit_rows::{Cut, Rows};
-use slice_board::{Board, OutOfMemory, Pass, Wanted, WordBoard};
+use bit_rows::{Cut, CutFault, Rows};
+use slice_board::{Board, OutOfMemory, Pass, PostedWords, Wanted, WordBoard};
 use std::alloc::Global;
 use std::process::Abort;
-use std::test::Fail;
 use std::thread::{Threads, join};
 
 /// No bit at all, so that each slice is finished as soon as it is drawn.
@@ -16,16 +15,30 @@ impl Wanted for Nothing {
     ghost wants = { λ _ _ _. ⊥ };
 }
 
-fn open(
+fn open_cut(
     alloc: Global,
     points: usize,
     cut: Cut,
 ) -> Result<(Board<Nothing>, Pass<Nothing>), OutOfMemory>
     requires { points < 2 ^ 32 }
-    ensures { IfOk result (λ r. r.1 ≡ fresh_pass r.0) }
+    ensures { IfOk result (λ r. IsOf r.0 r.1) }
 {
     let blank = Rows::blank(alloc, vec![in alloc; true; points]?, 0, cut.bits())?;
     Board::open(alloc, &Nothing, blank, cut)
+}
+
+// A board of so many bits in slices of a width, and its first pass.
+fn open(
+    alloc: Global,
+    points: usize,
+    bits: u32,
+    width: u32,
+) -> Result<(Board<Nothing>, Pass<Nothing>), CutFault>
+    requires { points < 2 ^ 32 }
+    ensures { IfOk result (λ r. IsOf r.0 r.1) }
+{
+    let cut = Cut::even(alloc, bits, width)?;
+    Ok(open_cut(alloc, points, cut)?)
 }
 
 // Finishes what the pass holds, and draws the next slice.
@@ -50,59 +63,143 @@ fn drain(board: &Board<Nothing>, mut pass: Pass<Nothing>) -> Pass<Nothing>
     pass
 }
 
-#[test]
-fn no_slices_close_at_once(rt: HostRuntime) -> Result<(), Fail> {
-    let Ok(cut) = Cut::even(rt.alloc(), 0, 1) else {
-        panic!(rt; "no cut")
-    };
-    let (board, pass) = open(rt.alloc(), 3, cut)?;
-    let Ok(rows) = board.close(pass) else {
-        panic!(rt; "not closed")
-    };
-    assert_eq!(rt; (rows.points(), rows.lo(), rows.hi()), (3, 0, 0));
-    Ok(())
+// The points and the range of the rows that a board closes into.
+fn closed(board: Board<Nothing>, pass: Pass<Nothing>) -> Option<(u32, u32, u32)>
+    requires { IsOf board pass }
+{
+    match board.close(pass) {
+        Ok(rows) => Some((rows.points(), rows.lo(), rows.hi())),
+        Err(_) => None,
+    }
+}
+
+fn closes(board: Board<Nothing>, pass: Pass<Nothing>) -> bool
+    requires { IsOf board pass }
+{
+    board.close(pass).is_ok()
 }
 
 #[test]
-fn no_slices_close_into_words(rt: HostRuntime) -> Result<(), Fail> {
-    let Ok(cut) = Cut::even(rt.alloc(), 0, 1) else {
-        panic!(rt; "no cut")
-    };
-    let flags = vec![in rt.alloc(); true; 3]?;
-    let (board, pass) = WordBoard::open(rt.alloc(), &Nothing, flags, cut)?;
-    let Ok(words) = board.close(pass) else {
-        panic!(rt; "not closed")
-    };
+fn no_slices_close_at_once(rt: HostRuntime) -> Result<(), CutFault> {
+    let (board, pass) = open(rt.alloc(), 3, 0, 1)?;
+    assert_eq!(rt; closed(board, pass), Some((3, 0, 0)));
+    Ok(())
+}
+
+fn open_words(alloc: Global, cut: Cut) -> Result<(WordBoard<Nothing>, Pass<Nothing>), OutOfMemory>
+    ensures { IfOk result (λ r. IsOf r.0 r.1) }
+{
+    let flags = vec![in alloc; true; 3]?;
+    WordBoard::open(alloc, &Nothing, flags, cut)
+}
+
+fn check_words(rt: &impl Abort, words: &PostedWords) {
     assert_eq!(rt; (words.points(), words.bits()), (3, 0));
     assert!(rt; words.points() == 3 && words.flag(2) && words.word(2, 0) == 0);
-    Ok(())
 }
 
 #[test]
-fn passes_that_both_hold_are_not_joined(rt: HostRuntime) -> Result<(), Fail> {
-    let Ok(cut) = Cut::even(rt.alloc(), 3, 1) else {
-        panic!(rt; "no cut")
-    };
-    let (board, mut first) = open(rt.alloc(), 1, cut)?;
+fn no_slices_close_into_words(rt: HostRuntime) -> Result<(), CutFault> {
+    let (board, pass) = open_words(rt.alloc(), Cut::even(rt.alloc(), 0, 1)?)?;
+    match board.close(pass) {
+        Ok(words) => check_words(&rt, &words),
+        Err(_) => panic!(rt; "not closed"),
+    }
+    Ok(())
+}
+
+// One turn of a pass draws this.
+fn draws(rt: &impl Abort, board: &Board<Nothing>, pass: &mut Pass<Nothing>, want: Option<u32>)
+    requires { IsOf board.now pass.old }
+    ensures { IsOf board.now pass.new }
+{
+    assert_eq!(rt; turn(board, pass), want);
+}
+
+// Two passes, each with a slice.
+fn two_that_hold(
+    rt: &impl Abort,
+    board: &Board<Nothing>,
+    mut first: Pass<Nothing>,
+) -> (Pass<Nothing>, Pass<Nothing>)
+    requires { IsOf board.now first }
+    ensures first { IsOf board.now result.0 }
+    ensures second { IsOf board.now result.1 }
+{
     let mut second = board.split(&mut first);
-    assert_eq!(rt; turn(&board, &mut first), Some(0));
-    assert_eq!(rt; turn(&board, &mut second), Some(1));
-    let Err((mut first, mut second)) = board.join(first, second) else {
-        panic!(rt; "joined")
-    };
-    assert_eq!(rt; (first.held(), second.held()), (Some(0), Some(1)));
-    assert_eq!(rt; turn(&board, &mut first), Some(2));
-    assert_eq!(rt; turn(&board, &mut second), None);
-    let Ok(both) = board.join(first, second) else {
-        panic!(rt; "not joined")
-    };
+    draws(rt, board, &mut first, Some(0));
+    draws(rt, board, &mut second, Some(1));
+    (first, second)
+}
+
+// They are refused, and come back as they were.
+fn not_joined(
+    rt: &impl Abort,
+    board: &Board<Nothing>,
+    first: Pass<Nothing>,
+    second: Pass<Nothing>,
+) -> (Pass<Nothing>, Pass<Nothing>)
+    requires first { IsOf board.now first }
+    requires second { IsOf board.now second }
+    ensures first { IsOf board.now result.0 }
+    ensures second { IsOf board.now result.1 }
+{
+    match board.join(first, second) {
+        Ok(_) => panic!(rt; "joined"),
+        Err((first, second)) => {
+            assert_eq!(rt; (first.held(), second.held()), (Some(0), Some(1)));
+            (first, second)
+        }
+    }
+}
+
+// The first draws the last slice, and the second none, so they are joined.
+fn joined_at_last(
+    rt: &impl Abort,
+    board: &Board<Nothing>,
+    mut first: Pass<Nothing>,
+    mut second: Pass<Nothing>,
+) -> Pass<Nothing>
+    requires first { IsOf board.now first }
+    requires second { IsOf board.now second }
+    ensures { IsOf board.now result }
+{
+    draws(rt, board, &mut first, Some(2));
+    draws(rt, board, &mut second, None);
+    match board.join(first, second) {
+        Ok(both) => both,
+        Err(_) => panic!(rt; "not joined"),
+    }
+}
+
+// The board is given back while the pass holds a slice.
+fn not_closed(
+    rt: &impl Abort,
+    board: Board<Nothing>,
+    both: Pass<Nothing>,
+) -> (Board<Nothing>, Pass<Nothing>)
+    requires { IsOf board both }
+    ensures { IsOf result.0 result.1 }
+{
+    match board.close(both) {
+        Ok(_) => panic!(rt; "closed too early"),
+        Err((unfinished, board, both)) => {
+            assert_eq!(rt; (unfinished.done, unfinished.of), (2, 3));
+            (board, both)
+        }
+    }
+}
+
+#[test]
+fn passes_that_both_hold_are_not_joined(rt: HostRuntime) -> Result<(), CutFault> {
+    let (board, pass) = open(rt.alloc(), 1, 3, 1)?;
+    let (first, second) = two_that_hold(&rt, &board, pass);
+    let (first, second) = not_joined(&rt, &board, first, second);
+    let both = joined_at_last(&rt, &board, first, second);
     assert_eq!(rt; both.held(), Some(2));
-    let Err((unfinished, board, mut both)) = board.close(both) else {
-        panic!(rt; "closed too early")
-    };
-    assert_eq!(rt; (unfinished.done, unfinished.of), (2, 3));
-    assert_eq!(rt; turn(&board, &mut both), None);
-    assert!(rt; board.close(both).is_ok());
+    let (board, mut both) = not_closed(&rt, board, both);
+    assert!(rt; turn(&board, &mut both).is_none());
+    assert!(rt; closes(board, both));
     Ok(())
 }
 
@@ -169,16 +266,26 @@ fn joined(
     all
 }
 
+// 64 passes by turns, and all of them as one.
+fn by_turns(
+    rt: &impl Abort,
+    alloc: Global,
+    board: &Board<Nothing>,
+    mut pass: Pass<Nothing>,
+) -> Result<Pass<Nothing>, OutOfMemory>
+    requires { IsOf board.now pass }
+    ensures { IfOk result (IsOf board.now) }
+{
+    let mut passes = split_off(alloc, board, &mut pass, 64)?;
+    rounds(rt, board, &mut passes);
+    Ok(joined(rt, board, pass, passes))
+}
+
 #[test]
-fn passes_by_turns(rt: HostRuntime) -> Result<(), Fail> {
-    let Ok(cut) = Cut::even(rt.alloc(), 4_096, 1) else {
-        panic!(rt; "no cut")
-    };
-    let (board, mut pass) = open(rt.alloc(), 1, cut)?;
-    let mut passes = split_off(rt.alloc(), &board, &mut pass, 64)?;
-    rounds(&rt, &board, &mut passes);
-    let all = joined(&rt, &board, pass, passes);
-    assert!(rt; board.close(all).is_ok());
+fn passes_by_turns(rt: HostRuntime) -> Result<(), CutFault> {
+    let (board, pass) = open(rt.alloc(), 1, 4_096, 1)?;
+    let all = by_turns(&rt, rt.alloc(), &board, pass)?;
+    assert!(rt; closes(board, all));
     Ok(())
 }
 
@@ -206,37 +313,43 @@ fn drain_both<R: Threads>(
     board.join(first, second).ok()
 }
 
+// Whether a board of so many slices closes behind two threads. None where both hold a slice.
+fn closes_behind_two<R: Threads>(
+    rt: &R,
+    alloc: Global,
+    slices: u32,
+) -> Result<Option<bool>, CutFault> {
+    let (board, pass) = open(alloc, 1, slices, 1)?;
+    match drain_both(rt, &board, pass) {
+        Some(both) => Ok(Some(closes(board, both))),
+        None => Ok(None),
+    }
+}
+
 #[test]
-fn two_threads(rt: HostRuntime) -> Result<(), Fail> {
+fn two_threads(rt: HostRuntime) -> Result<(), CutFault> {
     for slices in [0, 1, 70, 4_096] {
-        let Ok(cut) = Cut::even(rt.alloc(), slices, 1) else {
-            panic!(rt; "no cut")
-        };
-        let (board, pass) = open(rt.alloc(), 1, cut)?;
-        let Some(both) = drain_both(&rt, &board, pass) else {
-            panic!(rt; "both hold a slice")
-        };
-        assert!(rt; board.close(both).is_ok());
+        assert_eq!(rt;
+            closes_behind_two(&rt, rt.alloc(), slices)?,
+            Some(true),
+            "{slices} slices"
+        );
     }
     Ok(())
 }
 
 // A board, where there is memory for one; it draws its slices and closes.
-fn opens_or_refuses(rt: &impl Abort, alloc: Global) -> Result<(), OutOfMemory> {
-    let Ok(cut) = Cut::even(alloc, 130, 64) else {
-        return Err(OutOfMemory);
-    };
-    let (board, pass) = open(alloc, 3, cut)?;
+fn opens_or_refuses(rt: &impl Abort, alloc: Global) -> Result<(), CutFault> {
+    let (board, pass) = open(alloc, 3, 130, 64)?;
     let pass = drain(&board, pass);
-    assert!(rt; board.close(pass).is_ok());
+    assert!(rt; closes(board, pass));
     Ok(())
 }
 
 // Tried with each request for memory refused in turn: it opens, or answers that there is no memory.
 #[test]
-fn requests_refused(rt: HostRuntime) -> Result<(), Fail> {
-    if let Err(no_memory) = opens_or_refuses(&rt, rt.alloc()) {
-        assert!(rt; no_memory == OutOfMemory);
+fn requests_refused(rt: HostRuntime) {
+    if let Err(fault) = opens_or_refuses(&rt, rt.alloc()) {
+        assert!(rt; fault == CutFault::OutOfMemory);
     }
-    Ok(())
 }

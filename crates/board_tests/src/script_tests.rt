@@ -1,7 +1,7 @@
 use crate::scripts::Step::{Claim, Finish, Look, Post};
 use crate::scripts::Who::{First, Second};
 use crate::scripts::{Case, run};
-use std::test::Fail;
+use slice_board::OutOfMemory;
 
 // Bits 0 and 1, a slice each.
 const BOTH: Case = Case {
@@ -154,40 +154,41 @@ const POSTS_IN_TURN: Case = Case {
     last: &[],
 };
 
+const CASES: [(&Case, &str); 7] = [
+    (
+        &BOTH,
+        "claims 0\nclaims 1\nsees 3\nfinishes 1\n1 of 2 finished\nfinishes 0\n0 true: 0 1\n",
+    ),
+    (
+        &DROPPED,
+        "claims 0\nclaims 1\nfinishes 0\nclaims none\n1 of 2 finished\n1 of 2 finished\n",
+    ),
+    (
+        &DROPPED_BEHIND_ALL,
+        "claims 0\nclaims 1\nsees 3\nfinishes 0\nclaims none\n1 of 2 finished\n1 of 2 finished\n",
+    ),
+    (
+        &TOO_EARLY,
+        "claims 0\nfinishes none\nmay not post\nsees nothing\nfinishes 0\nclaims 1\nclaims none\n1 of 2 finished\nfinishes 1\n0 true: 0 1\n",
+    ),
+    (
+        &FIRST_POSTS_FIRST,
+        "claims 0\nclaims 1\nsees 1\nsees 9223372036854775817\nfinishes 1\nclaims 2\nfinishes 0\nclaims none\nsees 1\nfinishes 2\n0 true: 0 3 63 64\n",
+    ),
+    (
+        &SECOND_POSTS_FIRST,
+        "claims 0\nclaims 1\nsees 9223372036854775816\nsees 9223372036854775817\nfinishes 1\nclaims 2\nfinishes 0\nclaims none\nsees 1\nfinishes 2\n0 true: 0 3 63 64\n",
+    ),
+    (
+        &POSTS_IN_TURN,
+        "claims 0\nclaims 1\nsees 8\nsees 9\nsees 9223372036854775817\nfinishes 1\nclaims 2\nfinishes 0\nclaims none\nsees 1\nfinishes 2\n0 true: 0 3 63 64\n",
+    ),
+];
+
 #[test]
-fn what_two_workers_are_told(rt: HostRuntime) -> Result<(), Fail> {
-    let cases = [
-        (
-            BOTH,
-            "claims 0\nclaims 1\nsees 3\nfinishes 1\n1 of 2 finished\nfinishes 0\n0 true: 0 1\n",
-        ),
-        (
-            DROPPED,
-            "claims 0\nclaims 1\nfinishes 0\nclaims none\n1 of 2 finished\n1 of 2 finished\n",
-        ),
-        (
-            DROPPED_BEHIND_ALL,
-            "claims 0\nclaims 1\nsees 3\nfinishes 0\nclaims none\n1 of 2 finished\n1 of 2 finished\n",
-        ),
-        (
-            TOO_EARLY,
-            "claims 0\nfinishes none\nmay not post\nsees nothing\nfinishes 0\nclaims 1\nclaims none\n1 of 2 finished\nfinishes 1\n0 true: 0 1\n",
-        ),
-        (
-            FIRST_POSTS_FIRST,
-            "claims 0\nclaims 1\nsees 1\nsees 9223372036854775817\nfinishes 1\nclaims 2\nfinishes 0\nclaims none\nsees 1\nfinishes 2\n0 true: 0 3 63 64\n",
-        ),
-        (
-            SECOND_POSTS_FIRST,
-            "claims 0\nclaims 1\nsees 9223372036854775816\nsees 9223372036854775817\nfinishes 1\nclaims 2\nfinishes 0\nclaims none\nsees 1\nfinishes 2\n0 true: 0 3 63 64\n",
-        ),
-        (
-            POSTS_IN_TURN,
-            "claims 0\nclaims 1\nsees 8\nsees 9\nsees 9223372036854775817\nfinishes 1\nclaims 2\nfinishes 0\nclaims none\nsees 1\nfinishes 2\n0 true: 0 3 63 64\n",
-        ),
-    ];
-    for (case, told) in cases {
-        assert_eq!(rt; run(rt.alloc(), &case)?.as_str(), told);
+fn what_two_workers_are_told(rt: HostRuntime) -> Result<(), OutOfMemory> {
+    for (row, (case, told)) in CASES.iter().enumerate() {
+        assert_eq!(rt; run(rt.alloc(), case)?.as_str(), *told, "case {row}");
     }
     Ok(())
 }

@@ -6,7 +6,7 @@ ghost use Rattle.board_tests.specs.Benches.{IsFor, AreNoted};
 
 use crate::bench::{Sets, Worker, open, wanted_sets};
 use bit_rows::{Cut, Row, Rows};
-use slice_board::{Board, OutOfMemory};
+use slice_board::{Board, OutOfMemory, Pass};
 use std::alloc::Global;
 
 /// What a worker does.
@@ -41,6 +41,27 @@ pub(crate) struct Case {
     pub(crate) last: &'static [Step],
 }
 
+fn tell_slice(log: &mut String, what: &str, slice: Option<u32>) -> Result<(), OutOfMemory> {
+    match slice {
+        Some(slice) => writeln!(log, "{what} {slice}"),
+        None => writeln!(log, "{what} none"),
+    }
+}
+
+fn tell_word(log: &mut String, word: Option<u64>) -> Result<(), OutOfMemory> {
+    match word {
+        Some(word) => writeln!(log, "sees {word}"),
+        None => log.push_str("sees nothing\n"),
+    }
+}
+
+fn tell_post(log: &mut String, posted: bool) -> Result<(), OutOfMemory> {
+    if posted {
+        return Ok(());
+    }
+    log.push_str("may not post\n")
+}
+
 fn take(
     log: &mut String,
     board: &Board<Sets>,
@@ -56,25 +77,13 @@ fn take(
     ensures noted { AreNoted worker.new.mine worker.new.pass.posted }
 {
     match step {
-        Step::Claim => match worker.claim(board) {
-            Some(slice) => writeln!(log, "claims {slice}")?,
-            None => log.push_str("claims none\n")?,
-        },
+        Step::Claim => tell_slice(log, "claims", worker.claim(board)),
         Step::Post(point, word, mask) => {
-            if !worker.post(board, sets, *point, *word, *mask) {
-                log.push_str("may not post\n")?;
-            }
+            tell_post(log, worker.post(board, sets, *point, *word, *mask))
         }
-        Step::Look(point, word) => match worker.look(board, sets, *point, *word) {
-            Some(value) => writeln!(log, "sees {value}")?,
-            None => log.push_str("sees nothing\n")?,
-        },
-        Step::Finish => match worker.finish(board, sets) {
-            Some(slice) => writeln!(log, "finishes {slice}")?,
-            None => log.push_str("finishes none\n")?,
-        },
+        Step::Look(point, word) => tell_word(log, worker.look(board, sets, *point, *word)),
+        Step::Finish => tell_slice(log, "finishes", worker.finish(board, sets)),
     }
-    Ok(())
 }
 
 fn take_all(
@@ -183,24 +192,115 @@ fn meet(board: &Board<Sets>, first: Worker, second: Worker, joins: bool) -> Opti
     }
 }
 
+// Two workers, of whom neither has posted.
+fn workers(
+    alloc: Global,
+    sets: &Sets,
+    first: Pass<Sets>,
+    second: Pass<Sets>,
+) -> Result<(Worker, Worker), OutOfMemory>
+    ensures first { IfOk result (λ r. r.0.pass ≡ first) }
+    ensures first_noted { IfOk result (λ r. AreNoted r.0.mine r.0.pass.posted) }
+    ensures second { IfOk result (λ r. r.1.pass ≡ second) }
+    ensures second_noted { IfOk result (λ r. AreNoted r.1.mine r.1.pass.posted) }
+{
+    let first = Worker::new(alloc, sets, first)?;
+    let second = Worker::new(alloc, sets, second)?;
+    Ok((first, second))
+}
+
+// The steps of two workers, and the one that is left. None where both hold a slice.
+fn work(
+    alloc: Global,
+    log: &mut String,
+    case: &Case,
+    sets: &Sets,
+    board: &Board<Sets>,
+    mut pass: Pass<Sets>,
+) -> Result<Option<Worker>, OutOfMemory>
+    requires pass { IsOf board.now pass }
+    requires wanted { board.now.wanted ≡ sets.now }
+    requires board { IsFor board.now sets.now.rows }
+    ensures of { IfOk result (λ r. IfSome r (λ worker. IsOf board.now worker.pass)) }
+    ensures noted { IfOk result (λ r. IfSome r (λ worker. AreNoted worker.mine worker.pass.posted)) }
+{
+    let other = board.split(&mut pass);
+    let (mut first, mut second) = workers(alloc, sets, pass, other)?;
+    take_both(log, board, sets, &mut first, &mut second, case.steps)?;
+    Ok(meet(board, first, second, case.joins))
+}
+
+// Closes the board a second time.
+fn close_again(log: &mut String, board: Board<Sets>, worker: Worker) -> Result<(), OutOfMemory>
+    requires of { IsOf board worker.pass }
+    requires noted { AreNoted worker.mine worker.pass.posted }
+{
+    match close(log, board, worker) {
+        Ok(_) => Ok(()),
+        Err(no_memory) => Err(no_memory),
+    }
+}
+
+// The last steps, where the first `close` gave the board back.
+fn work_on(
+    log: &mut String,
+    case: &Case,
+    sets: &Sets,
+    board: Board<Sets>,
+    mut worker: Worker,
+) -> Result<(), OutOfMemory>
+    requires of { IsOf board worker.pass }
+    requires noted { AreNoted worker.mine worker.pass.posted }
+    requires wanted { board.wanted ≡ sets.now }
+    requires board { IsFor board sets.now.rows }
+{
+    take_all(log, &board, sets, &mut worker, case.last)?;
+    close_again(log, board, worker)
+}
+
+// Closes the board, and where it is given back, once more behind the last steps.
+fn close_at_last(
+    log: &mut String,
+    case: &Case,
+    sets: &Sets,
+    board: Board<Sets>,
+    worker: Worker,
+) -> Result<(), OutOfMemory>
+    requires of { IsOf board worker.pass }
+    requires noted { AreNoted worker.mine worker.pass.posted }
+    requires wanted { board.wanted ≡ sets.now }
+    requires board { IsFor board sets.now.rows }
+{
+    match close(log, board, worker)? {
+        Some((board, worker)) => work_on(log, case, sets, board, worker),
+        None => Ok(()),
+    }
+}
+
+// What is done with a board of these sets.
+fn run_with(
+    alloc: Global,
+    log: &mut String,
+    case: &Case,
+    sets: &Sets,
+    cut: Cut,
+) -> Result<(), OutOfMemory>
+    requires low { sets.now.rows.lo ≡ 0 }
+    requires bits { sets.now.rows.hi ≡ cut.bits }
+{
+    let (board, pass) = open(alloc, sets, cut)?;
+    match work(alloc, log, case, sets, &board, pass)? {
+        Some(worker) => close_at_last(log, case, sets, board, worker),
+        None => log.push_str("both hold a slice\n"),
+    }
+}
+
 // What is done with a board of this cut.
 fn run_on(alloc: Global, log: &mut String, case: &Case, cut: Cut) -> Result<(), OutOfMemory>
     requires { cut.bits ≡ case.now.bits }
 {
     let sets = wanted_sets(alloc, case.points, case.bits, case.wanted)?;
-    let (board, mut pass) = open(alloc, &sets, cut)?;
-    let other = board.split(&mut pass);
-    let mut first = Worker::new(alloc, &sets, pass)?;
-    let mut second = Worker::new(alloc, &sets, other)?;
-    take_both(log, &board, &sets, &mut first, &mut second, case.steps)?;
-    let Some(worker) = meet(&board, first, second, case.joins) else {
-        return log.push_str("both hold a slice\n");
-    };
-    if let Some((board, mut worker)) = close(log, board, worker)? {
-        take_all(log, &board, &sets, &mut worker, case.last)?;
-        close(log, board, worker)?;
-    }
-    Ok(())
+    run_with(alloc, log, case, &sets, cut)
 }
 
 /// What the workers of a case are told, line by line.
