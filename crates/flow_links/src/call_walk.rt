@@ -18,6 +18,66 @@ struct OpenProcedure {
     calls: usize,
 }
 
+// Goes on with a procedure that was entered: over its next call, or it is left and gets the next place.
+fn visit(
+    links: &Links<'_, '_>,
+    open: &mut Vec<OpenProcedure>,
+    latest: OpenProcedure,
+    entered: &mut [bool],
+    places: &mut [u16],
+    left: u32,
+) -> Result<u32, OutOfMemory>
+    requires entered { length entered.now ≡ (directed_shape links.now).procedures }
+    requires count { length places.now ≡ (directed_shape links.now).procedures }
+    requires some { 0 < (directed_shape links.now).procedures }
+    requires low { (p : ℕ) → p < length places.now → slice_index places.now p < (directed_shape links.now).procedures }
+    ensures { (p : ℕ) → p < length places.new → slice_index places.new p < (directed_shape links.now).procedures }
+{
+    let last = links.procedures() - 1;
+    let procedure = latest.procedure.min(last);
+    let sites = links.sites_in(procedure);
+    if latest.calls < sites.len() {
+        open.push(OpenProcedure {
+            procedure,
+            calls: latest.calls + 1,
+        })?;
+        let callee = sites[latest.calls].callee as u32;
+        if !entered[callee as usize] {
+            entered[callee as usize] = true;
+            open.push(OpenProcedure {
+                procedure: callee,
+                calls: 0,
+            })?;
+        }
+        return Ok(left);
+    }
+    places[procedure as usize] = left.min(last) as u16;
+    Ok(left.saturating_add(1))
+}
+
+// Goes over the call graph while procedures are open, and gives each that it leaves the next place.
+fn visit_open(
+    links: &Links<'_, '_>,
+    open: &mut Vec<OpenProcedure>,
+    entered: &mut [bool],
+    places: &mut [u16],
+    mut left: u32,
+) -> Result<u32, OutOfMemory>
+    requires entered { length entered.now ≡ (directed_shape links.now).procedures }
+    requires count { length places.now ≡ (directed_shape links.now).procedures }
+    requires some { 0 < (directed_shape links.now).procedures }
+    requires low { (p : ℕ) → p < length places.now → slice_index places.now p < (directed_shape links.now).procedures }
+    ensures { (p : ℕ) → p < length places.new → slice_index places.new p < (directed_shape links.now).procedures }
+{
+    'steps: for _ in 0..MOST_STEPS {
+        let Some(latest) = open.pop() else {
+            break;
+        };
+        left = visit(links, open, latest, entered, places, left)?;
+    }
+    Ok(left)
+}
+
 // Goes over the call graph from a procedure on, and gives each procedure that it leaves the next place.
 fn walk_from(
     alloc: Global,
@@ -25,7 +85,7 @@ fn walk_from(
     first: u32,
     entered: &mut [bool],
     places: &mut [u16],
-    mut left: u32,
+    left: u32,
 ) -> Result<u32, OutOfMemory>
     requires entered { length entered.now ≡ (directed_shape links.now).procedures }
     requires count { length places.now ≡ (directed_shape links.now).procedures }
@@ -37,37 +97,43 @@ fn walk_from(
         return Ok(left);
     }
     entered[first as usize] = true;
-    let last = links.procedures() - 1;
     let mut open = Vec::new(alloc);
     open.push(OpenProcedure {
         procedure: first,
         calls: 0,
     })?;
-    'steps: for _ in 0..MOST_STEPS {
-        let Some(latest) = open.pop() else {
-            break;
-        };
-        let procedure = latest.procedure.min(last);
-        let sites = links.sites_in(procedure);
-        if latest.calls < sites.len() {
-            open.push(OpenProcedure {
-                procedure,
-                calls: latest.calls + 1,
-            })?;
-            let callee = sites[latest.calls].callee as u32;
-            if !entered[callee as usize] {
-                entered[callee as usize] = true;
-                open.push(OpenProcedure {
-                    procedure: callee,
-                    calls: 0,
-                })?;
-            }
-        } else {
-            places[procedure as usize] = left.min(last) as u16;
-            left = left.saturating_add(1);
-        }
+    visit_open(links, &mut open, entered, places, left)
+}
+
+// Walks from the root on, and then from each procedure that is not entered.
+fn place_all(
+    alloc: Global,
+    links: &Links<'_, '_>,
+    entered: &mut [bool],
+    places: &mut [u16],
+) -> Result<(), OutOfMemory>
+    requires entered { length entered.now ≡ (directed_shape links.now).procedures }
+    requires count { length places.now ≡ (directed_shape links.now).procedures }
+    requires root { (directed_shape links.now).root_procedure < (directed_shape links.now).procedures }
+    requires low { (p : ℕ) → p < length places.now → slice_index places.now p < (directed_shape links.now).procedures }
+    ensures { (p : ℕ) → p < length places.new → slice_index places.new p < (directed_shape links.now).procedures }
+{
+    let mut left = walk_from(alloc, links, links.root(), entered, places, 0)?;
+    for procedure in 0..links.procedures() {
+        left = walk_from(alloc, links, procedure, entered, places, left)?;
     }
-    Ok(left)
+    Ok(())
+}
+
+// Gives each procedure its place, where none is entered before.
+fn place_anew(alloc: Global, links: &Links<'_, '_>, places: &mut [u16]) -> Result<(), OutOfMemory>
+    requires count { length places.now ≡ (directed_shape links.now).procedures }
+    requires root { (directed_shape links.now).root_procedure < (directed_shape links.now).procedures }
+    requires low { (p : ℕ) → p < length places.now → slice_index places.now p < (directed_shape links.now).procedures }
+    ensures { (p : ℕ) → p < length places.new → slice_index places.new p < (directed_shape links.now).procedures }
+{
+    let mut entered = vec![in alloc; false; links.procedures() as usize]?;
+    place_all(alloc, links, entered.as_mut_slice(), places)
 }
 
 /// The turn of each procedure: its place in the order in which a walk over the call graph leaves them.
@@ -77,26 +143,7 @@ pub(crate) fn walk_turns(alloc: Global, links: &Links<'_, '_>) -> Result<Vec<u16
 {
     // Its contract tells that the root is there.
     let _ = links.points();
-    let count = links.procedures();
-    let mut entered = vec![in alloc; false; count as usize]?;
-    let mut places = vec![in alloc; 0u16; count as usize]?;
-    let mut left = walk_from(
-        alloc,
-        links,
-        links.root(),
-        entered.as_mut_slice(),
-        places.as_mut_slice(),
-        0,
-    )?;
-    for procedure in 0..count {
-        left = walk_from(
-            alloc,
-            links,
-            procedure,
-            entered.as_mut_slice(),
-            places.as_mut_slice(),
-            left,
-        )?;
-    }
+    let mut places = vec![in alloc; 0u16; links.procedures() as usize]?;
+    place_anew(alloc, links, places.as_mut_slice())?;
     Ok(places)
 }

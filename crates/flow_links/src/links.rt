@@ -8,11 +8,8 @@ ghost use Rattle.flow_links.specs.Tables.LinkTables.{AreEach};
 
 use crate::OutOfMemory;
 use crate::link::{CallLink, SiteLink};
-use crate::lists::{
-    CallLists, PointLists, SiteLists, call_lists, caller_lists, site_lists, step_lists,
-};
-use crate::orders::{number_order, point_order, procedure_order};
-use crate::turns::call_turns;
+use crate::lists::{CallLists, PointLists, SiteLists, edge_lists};
+use crate::orders::{Orders, number_orders, orders_of};
 use flow_graph::Problem;
 use std::alloc::Global;
 use std::marker::Model;
@@ -92,30 +89,51 @@ fn procedures_of(alloc: Global, problem: &Problem<'_, '_>) -> Result<Vec<u16>, O
     Ok(procedures)
 }
 
+// The procedures' entries and exits, and the procedure of each point.
+#[derive(Drop)]
+struct PlaceTables {
+    entries: Vec<u16>,
+    exits: Vec<u16>,
+    procedures: Vec<u16>,
+}
+
+// The tables of a problem's procedures and points.
+fn place_tables(alloc: Global, problem: &Problem<'_, '_>) -> Result<PlaceTables, OutOfMemory>
+    ensures entries { IfOk result (λ tables. AreEach tables.entries.items (may_shape problem.now.program problem.now.analysis).procedures (may_shape problem.now.program problem.now.analysis).entry) }
+    ensures exits { IfOk result (λ tables. AreEach tables.exits.items (may_shape problem.now.program problem.now.analysis).procedures (may_shape problem.now.program problem.now.analysis).exit) }
+    ensures procedures { IfOk result (λ tables. AreEach tables.procedures.items (point_count problem.now.program) (may_shape problem.now.program problem.now.analysis).procedure_of) }
+{
+    let entries = entries(alloc, problem)?;
+    let exits = exits(alloc, problem)?;
+    let procedures = procedures_of(alloc, problem)?;
+    Ok(PlaceTables {
+        entries,
+        exits,
+        procedures,
+    })
+}
+
 impl<'g, 'p> Links<'g, 'p> {
     // The links of a problem, in the order of the numbers.
     fn unordered(alloc: Global, problem: &Problem<'g, 'p>) -> Result<Self, OutOfMemory>
         ensures { IfOk result (λ links. links ≡ record { program = problem.now.program; backward = is_backward_of problem.now.analysis }) }
     {
-        let steps = step_lists(alloc, problem)?;
-        let calls = call_lists(alloc, problem)?;
-        let callers = caller_lists(alloc, problem)?;
-        let sites = site_lists(alloc, problem)?;
-        let order = number_order(alloc, problem.points())?;
-        let call_order = number_order(alloc, problem.procedures())?;
+        let tables = place_tables(alloc, problem)?;
+        let orders = number_orders(alloc, problem.points(), problem.procedures())?;
+        let lists = edge_lists(alloc, problem)?;
         Ok(Links {
             problem: Snapshot::of(problem),
             backward: problem.reverses(),
             root: problem.root(),
-            entries: entries(alloc, problem)?,
-            exits: exits(alloc, problem)?,
-            procedures: procedures_of(alloc, problem)?,
-            steps,
-            calls,
-            callers,
-            sites,
-            order,
-            call_order,
+            entries: tables.entries,
+            exits: tables.exits,
+            procedures: tables.procedures,
+            steps: lists.steps,
+            calls: lists.calls,
+            callers: lists.callers,
+            sites: lists.sites,
+            order: orders.points,
+            call_order: orders.procedures,
         })
     }
 
@@ -136,10 +154,8 @@ impl<'g, 'p> Links<'g, 'p> {
         ensures { IfOk result (λ links. links ≡ record { program = problem.now.program; backward = is_backward_of problem.now.analysis }) }
     {
         let links = Links::unordered(alloc, problem)?;
-        let turns = call_turns(alloc, &links)?;
-        let order = point_order(alloc, &links, turns.as_slice())?;
-        let call_order = procedure_order(alloc, &links, turns.as_slice())?;
-        Ok(links.with_orders(order, call_order))
+        let Orders { points, procedures } = orders_of(alloc, &links)?;
+        Ok(links.with_orders(points, procedures))
     }
 
     /// How many points there are: at most 16,384.

@@ -34,11 +34,8 @@ pub(crate) struct SiteLists {
     pub items: Vec<SiteLink>,
 }
 
-/// The steps from each point.
-pub(crate) fn step_lists(
-    alloc: Global,
-    problem: &Problem<'_, '_>,
-) -> Result<PointLists, OutOfMemory>
+// The steps from each point.
+fn step_lists(alloc: Global, problem: &Problem<'_, '_>) -> Result<PointLists, OutOfMemory>
     ensures { IfOk result (λ lists. AreListed (may_shape problem.now.program problem.now.analysis).edges
         (key_of ListKind.Steps (may_shape problem.now.program problem.now.analysis) (point_count problem.now.program)) step_target
         (point_count problem.now.program) lists.starts.items lists.items.items) }
@@ -50,8 +47,8 @@ pub(crate) fn step_lists(
     Ok(PointLists { starts, items })
 }
 
-/// The calls from each point.
-pub(crate) fn call_lists(alloc: Global, problem: &Problem<'_, '_>) -> Result<CallLists, OutOfMemory>
+// The calls from each point.
+fn call_lists(alloc: Global, problem: &Problem<'_, '_>) -> Result<CallLists, OutOfMemory>
     ensures { IfOk result (λ lists. AreListed (may_shape problem.now.program problem.now.analysis).edges
         (key_of ListKind.Calls (may_shape problem.now.program problem.now.analysis) (point_count problem.now.program)) (call_link (may_shape problem.now.program problem.now.analysis) (is_backward_of problem.now.analysis))
         (point_count problem.now.program) lists.starts.items lists.items.items) }
@@ -63,11 +60,8 @@ pub(crate) fn call_lists(alloc: Global, problem: &Problem<'_, '_>) -> Result<Cal
     Ok(CallLists { starts, items })
 }
 
-/// The callers of each exit.
-pub(crate) fn caller_lists(
-    alloc: Global,
-    problem: &Problem<'_, '_>,
-) -> Result<PointLists, OutOfMemory>
+// The callers of each exit.
+fn caller_lists(alloc: Global, problem: &Problem<'_, '_>) -> Result<PointLists, OutOfMemory>
     ensures { IfOk result (λ lists. AreListed (may_shape problem.now.program problem.now.analysis).edges
         (key_of ListKind.Callers (may_shape problem.now.program problem.now.analysis) (point_count problem.now.program)) call_source
         (point_count problem.now.program) lists.starts.items lists.items.items) }
@@ -79,8 +73,8 @@ pub(crate) fn caller_lists(
     Ok(PointLists { starts, items })
 }
 
-/// The calls in each procedure.
-pub(crate) fn site_lists(alloc: Global, problem: &Problem<'_, '_>) -> Result<SiteLists, OutOfMemory>
+// The calls in each procedure.
+fn site_lists(alloc: Global, problem: &Problem<'_, '_>) -> Result<SiteLists, OutOfMemory>
     ensures { IfOk result (λ lists. AreListed (may_shape problem.now.program problem.now.analysis).edges
         (key_of ListKind.Sites (may_shape problem.now.program problem.now.analysis) (point_count problem.now.program)) (site_link (may_shape problem.now.program problem.now.analysis))
         (may_shape problem.now.program problem.now.analysis).procedures lists.starts.items lists.items.items) }
@@ -90,4 +84,72 @@ pub(crate) fn site_lists(alloc: Global, problem: &Problem<'_, '_>) -> Result<Sit
     let places = places.as_slice();
     let items = sites(alloc, problem, &places[..end])?;
     Ok(SiteLists { starts, items })
+}
+
+/// The lists of all kinds.
+#[derive(Drop)]
+pub(crate) struct EdgeLists {
+    pub steps: PointLists,
+    pub calls: CallLists,
+    pub callers: PointLists,
+    pub sites: SiteLists,
+}
+
+// Two lists of points: the steps, and the callers.
+fn point_lists(
+    alloc: Global,
+    problem: &Problem<'_, '_>,
+) -> Result<(PointLists, PointLists), OutOfMemory>
+    ensures steps { IfOk result (λ lists. AreListed (may_shape problem.now.program problem.now.analysis).edges
+        (key_of ListKind.Steps (may_shape problem.now.program problem.now.analysis) (point_count problem.now.program)) step_target
+        (point_count problem.now.program) lists.0.starts.items lists.0.items.items) }
+    ensures callers { IfOk result (λ lists. AreListed (may_shape problem.now.program problem.now.analysis).edges
+        (key_of ListKind.Callers (may_shape problem.now.program problem.now.analysis) (point_count problem.now.program)) call_source
+        (point_count problem.now.program) lists.1.starts.items lists.1.items.items) }
+{
+    let steps = step_lists(alloc, problem)?;
+    let callers = caller_lists(alloc, problem)?;
+    Ok((steps, callers))
+}
+
+// Two lists of links: the calls by point, and by procedure.
+fn link_lists(
+    alloc: Global,
+    problem: &Problem<'_, '_>,
+) -> Result<(CallLists, SiteLists), OutOfMemory>
+    ensures calls { IfOk result (λ lists. AreListed (may_shape problem.now.program problem.now.analysis).edges
+        (key_of ListKind.Calls (may_shape problem.now.program problem.now.analysis) (point_count problem.now.program)) (call_link (may_shape problem.now.program problem.now.analysis) (is_backward_of problem.now.analysis))
+        (point_count problem.now.program) lists.0.starts.items lists.0.items.items) }
+    ensures sites { IfOk result (λ lists. AreListed (may_shape problem.now.program problem.now.analysis).edges
+        (key_of ListKind.Sites (may_shape problem.now.program problem.now.analysis) (point_count problem.now.program)) (site_link (may_shape problem.now.program problem.now.analysis))
+        (may_shape problem.now.program problem.now.analysis).procedures lists.1.starts.items lists.1.items.items) }
+{
+    let calls = call_lists(alloc, problem)?;
+    let sites = site_lists(alloc, problem)?;
+    Ok((calls, sites))
+}
+
+/// The lists of all kinds of a problem's edges.
+pub(crate) fn edge_lists(alloc: Global, problem: &Problem<'_, '_>) -> Result<EdgeLists, OutOfMemory>
+    ensures steps { IfOk result (λ lists. AreListed (may_shape problem.now.program problem.now.analysis).edges
+        (key_of ListKind.Steps (may_shape problem.now.program problem.now.analysis) (point_count problem.now.program)) step_target
+        (point_count problem.now.program) lists.steps.starts.items lists.steps.items.items) }
+    ensures calls { IfOk result (λ lists. AreListed (may_shape problem.now.program problem.now.analysis).edges
+        (key_of ListKind.Calls (may_shape problem.now.program problem.now.analysis) (point_count problem.now.program)) (call_link (may_shape problem.now.program problem.now.analysis) (is_backward_of problem.now.analysis))
+        (point_count problem.now.program) lists.calls.starts.items lists.calls.items.items) }
+    ensures callers { IfOk result (λ lists. AreListed (may_shape problem.now.program problem.now.analysis).edges
+        (key_of ListKind.Callers (may_shape problem.now.program problem.now.analysis) (point_count problem.now.program)) call_source
+        (point_count problem.now.program) lists.callers.starts.items lists.callers.items.items) }
+    ensures sites { IfOk result (λ lists. AreListed (may_shape problem.now.program problem.now.analysis).edges
+        (key_of ListKind.Sites (may_shape problem.now.program problem.now.analysis) (point_count problem.now.program)) (site_link (may_shape problem.now.program problem.now.analysis))
+        (may_shape problem.now.program problem.now.analysis).procedures lists.sites.starts.items lists.sites.items.items) }
+{
+    let (steps, callers) = point_lists(alloc, problem)?;
+    let (calls, sites) = link_lists(alloc, problem)?;
+    Ok(EdgeLists {
+        steps,
+        calls,
+        callers,
+        sites,
+    })
 }

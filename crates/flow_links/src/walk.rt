@@ -70,25 +70,43 @@ fn walk_from(
     Ok(())
 }
 
-// The points in the order in which they are left: from each procedure's entry on, and then from those not seen.
-fn points_left(alloc: Global, links: &Links<'_, '_>) -> Result<Vec<u16>, OutOfMemory> {
+// Walks from each procedure's entry on, and then from the points that were not seen.
+fn walk_all(links: &Links<'_, '_>, walk: &mut Walk, seen: &mut [bool]) -> Result<(), OutOfMemory>
+    requires { length seen.old ≡ point_count links.now.program }
+{
     let points = links.points();
-    let mut seen = vec![in alloc; false; points as usize]?;
-    let mut walk = Walk {
-        stack: Vec::new(alloc),
-        left: Vec::with_capacity(alloc, points as usize)?,
-    };
     // Each point is left once, and entered by its steps and its calls: no walk has as many visits.
     let most = 32 * u64::from(points);
     for procedure in 0..links.procedures() {
         let entry = links.entry(procedure) as u16;
-        walk_from(links, &mut walk, seen.as_mut_slice(), entry, most)?;
+        walk_from(links, walk, seen, entry, most)?;
     }
     for point in 0..points {
-        walk_from(links, &mut walk, seen.as_mut_slice(), point as u16, most)?;
+        walk_from(links, walk, seen, point as u16, most)?;
     }
+    Ok(())
+}
+
+// A walk over all points, none of which was seen before.
+fn whole_walk(
+    alloc: Global,
+    links: &Links<'_, '_>,
+    seen: &mut [bool],
+) -> Result<Vec<u16>, OutOfMemory>
+    requires { length seen.old ≡ point_count links.now.program }
+{
+    let left = Vec::with_capacity(alloc, links.points() as usize)?;
+    let stack = Vec::new(alloc);
+    let mut walk = Walk { stack, left };
+    walk_all(links, &mut walk, seen)?;
     let Walk { stack: _, left } = walk;
     Ok(left)
+}
+
+// The points in the order in which they are left.
+fn points_left(alloc: Global, links: &Links<'_, '_>) -> Result<Vec<u16>, OutOfMemory> {
+    let mut seen = vec![in alloc; false; links.points() as usize]?;
+    whole_walk(alloc, links, seen.as_mut_slice())
 }
 
 /// For each point its place from behind in reverse post-order: how many points are left before it.
