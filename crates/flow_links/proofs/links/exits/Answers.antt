@@ -1,4 +1,5 @@
 use Rattle.std.proofs.Common.{arith}
+use Rattle.std.proofs.lemmas.Grind.{common_steps}
 use Rattle.flow_links.proofs.ShapeLemmas.{in_range}
 use Rattle.flow_links.proofs.links.exits.Goals as goal
 
@@ -12,3 +13,6 @@ overflow_cast-exit c =
     let few = range.few in
     let is = c.exit.ensures in
     omega (arith, low, few, is)
+
+pub loop-procedure-preserved : goal.loop-procedure-preserved
+loop-procedure-preserved c = grind (arith, common_steps)

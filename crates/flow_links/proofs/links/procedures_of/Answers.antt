@@ -1,4 +1,5 @@
 use Rattle.std.proofs.Common.{arith}
+use Rattle.std.proofs.lemmas.Grind.{common_steps}
 use Rattle.flow_links.proofs.ShapeLemmas.{in_range, procedure_fits}
 use Rattle.flow_links.proofs.links.procedures_of.Goals as goal
 
@@ -10,3 +11,6 @@ overflow_cast-procedure c =
     let fits = procedure_fits range c.loop-point.point (omega (arith, count, below)) in
     let is = c.procedure.ensures in
     omega (arith, fits, is)
+
+pub loop-point-preserved : goal.loop-point-preserved
+loop-point-preserved c = grind (arith, common_steps)

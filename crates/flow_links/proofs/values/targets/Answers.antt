@@ -1,4 +1,5 @@
 use Rattle.std.proofs.Common.{get_or, arith, length, ap}
+use Rattle.std.proofs.lemmas.Grind.{common_steps}
 use Rattle.flow_links.proofs.ShapeLemmas.{element_of}
 use Rattle.flow_links.proofs.values.targets.Goals as goal
 
@@ -7,3 +8,6 @@ target-requires c =
     let low = c.requires c.loop-place.place-index (omega arith) in
     let same = ap length c.edges-edges.ensures.edges in
     element_of c.edges-edges.result.now _ c.edges-edges.ensures.edges (get_or c.args.places.now c.loop-place.place-index 0) _ (omega (arith, low, same))
+
+pub loop-place-preserved : goal.loop-place-preserved
+loop-place-preserved c = grind (arith, common_steps)
