@@ -1,2 +1,3 @@
 pub mod ListLemmas
 pub mod ShapeLemmas
+pub mod Written

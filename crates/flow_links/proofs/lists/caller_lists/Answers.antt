@@ -4,6 +4,7 @@ use Rattle.flow_graph.specs.Points.{point_count}
 use Rattle.flow_links.specs.Tables.EdgeLists.{edge_at, key_of, call_source}
 use Rattle.flow_links.specs.declared.list_kind.ListKind.TheVariants.{Callers}
 use Rattle.flow_links.proofs.ListLemmas.{values_are_listed, read_at, same_values}
+use Rattle.flow_links.proofs.Written.{places_low}
 use Rattle.flow_links.proofs.lists.caller_lists.Goals as goal
 
 pub returns : goal.returns
@@ -14,3 +15,13 @@ returns c =
     let end = read_at starts c.key_count.result (point_count c.args.problem.now.program) c.index.result.now c.key_count.ensures (omega (arith, long)) c.index.ensures in
     values_are_listed (may_shape c.args.problem.now.program c.args.problem.now.analysis).edges (key_of Callers (may_shape c.args.problem.now.program c.args.problem.now.analysis) (point_count c.args.problem.now.program)) call_source (point_count c.args.problem.now.program) starts places c.in_ok-items.items.items c.in_ok-starts.ensures
     (same_values (λ place. call_source (edge_at (may_shape c.args.problem.now.program c.args.problem.now.analysis).edges place)) c.in_ok-items.items.items c.index.result.now (get_or starts (point_count c.args.problem.now.program) 0) c.as_slice-places.result.now places c.in_ok-items.ensures end c.as_slice-places.ensures.value)
+
+pub index-requires : goal.index-requires
+index-requires c =
+    let long = c.in_ok-starts.ensures.start_count in
+    let same = c.key_count.ensures in
+    let len = c.in_ok-starts.field-0.starts.ok.0 in
+    omega (arith, long, same, len)
+
+pub sources-requires : goal.sources-requires
+sources-requires c j within = places_low (may_shape c.args.problem.now.program c.args.problem.now.analysis).edges (key_of Callers (may_shape c.args.problem.now.program c.args.problem.now.analysis) (point_count c.args.problem.now.program)) _ c.in_ok-starts.field-0.starts.items c.in_ok-starts.field-0.places.items c.in_ok-starts.ensures c.index.result.now c.as_slice-places.result.now c.as_slice-places.ensures.value j within

@@ -1,4 +1,4 @@
-use Rattle.std.proofs.Common.{◌<◌}
+use Rattle.std.proofs.Common.{◌<◌, arith}
 use Rattle.std.specs.List.{slice_range}
 use Rattle.flow_graph.specs.Points.{point_count}
 use Rattle.flow_links.specs.LinkLists.{AreCallersOf}
@@ -15,3 +15,19 @@ returns c =
     seen form c.self.inside.backward c.args.self.now tables.same_direction c.self.view_is
     (λ (l : LinkedProgram). AreCallersOf (directed_shape l) (point_count l.program) c.args.point (slice_range c.deref.result.now c.index-from.result.now c.index-to.result.now))
     (callers_are tables.numbered c.args.point low (slice_range c.deref.result.now c.index-from.result.now c.index-to.result.now) part)
+
+pub index-from-requires : goal.index-from-requires
+index-from-requires c =
+    let tables = c.self.invariant in
+    let low = unseen c.self.inside.problem.value c.self.inside.backward c.args.self.now tables.same_direction c.self.view_is (λ (l : LinkedProgram). c.args.point < point_count l.program) c.requires in
+    let long = tables.callers_are.start_count in
+    let len = c.self.inside.callers.starts.ok.0 in
+    omega (arith, low, long, len)
+
+pub index-to-requires : goal.index-to-requires
+index-to-requires c =
+    let tables = c.self.invariant in
+    let low = unseen c.self.inside.problem.value c.self.inside.backward c.args.self.now tables.same_direction c.self.view_is (λ (l : LinkedProgram). c.args.point < point_count l.program) c.requires in
+    let long = tables.callers_are.start_count in
+    let len = c.self.inside.callers.starts.ok.0 in
+    omega (arith, low, long, len)

@@ -1,4 +1,4 @@
-use Rattle.std.proofs.Common.{◌<◌}
+use Rattle.std.proofs.Common.{◌<◌, arith}
 use Rattle.std.specs.List.{slice_range}
 use Rattle.flow_graph.specs.Points.{point_count}
 use Rattle.flow_links.specs.LinkLists.{AreSitesIn}
@@ -15,3 +15,19 @@ returns c =
     seen form c.self.inside.backward c.args.self.now tables.same_direction c.self.view_is
     (λ (l : LinkedProgram). AreSitesIn (directed_shape l) (point_count l.program) c.args.procedure (slice_range c.deref.result.now c.index-from.result.now c.index-to.result.now))
     (sites_are tables.numbered c.args.procedure low (slice_range c.deref.result.now c.index-from.result.now c.index-to.result.now) part)
+
+pub index-from-requires : goal.index-from-requires
+index-from-requires c =
+    let tables = c.self.invariant in
+    let low = unseen c.self.inside.problem.value c.self.inside.backward c.args.self.now tables.same_direction c.self.view_is (λ (l : LinkedProgram). c.args.procedure < (directed_shape l).procedures) c.requires in
+    let long = tables.sites_are.start_count in
+    let len = c.self.inside.sites.starts.ok.0 in
+    omega (arith, low, long, len)
+
+pub index-to-requires : goal.index-to-requires
+index-to-requires c =
+    let tables = c.self.invariant in
+    let low = unseen c.self.inside.problem.value c.self.inside.backward c.args.self.now tables.same_direction c.self.view_is (λ (l : LinkedProgram). c.args.procedure < (directed_shape l).procedures) c.requires in
+    let long = tables.sites_are.start_count in
+    let len = c.self.inside.sites.starts.ok.0 in
+    omega (arith, low, long, len)
