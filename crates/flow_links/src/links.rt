@@ -21,7 +21,6 @@ use work_list::Order;
 /// the same links.
 ///
 /// The lists lie side by side in a handful of blocks, made in time that goes with the number of edges.
-#[derive(Drop)]
 pub struct Links<'g, 'p> {
     problem: Snapshot<Problem<'g, 'p>>,
     backward: bool,
@@ -48,6 +47,26 @@ impl<'g, 'p> Model for Links<'g, 'p> {
     ghost invariant = { λ links. AreTables links.problem.value links.backward links.root links.entries.items links.exits.items links.procedures.items
         links.steps.starts.items links.steps.items.items links.calls.starts.items links.calls.items.items
         links.callers.starts.items links.callers.items.items links.sites.starts.items links.sites.items.items links.order links.call_order };
+}
+
+impl Drop for Links<'_, '_> {
+    // By hand: a caller that gives links up then makes one call, and not one for each list.
+    fn drop(self) {
+        let Links {
+            problem: _,
+            backward: _,
+            root: _,
+            entries: _,
+            exits: _,
+            procedures: _,
+            steps: _,
+            calls: _,
+            callers: _,
+            sites: _,
+            order: _,
+            call_order: _,
+        } = self;
+    }
 }
 
 // The entry of each procedure.
