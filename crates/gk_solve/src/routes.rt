@@ -18,7 +18,6 @@ use work_list::Marks;
 /// The edges of a problem by point, and for each point whether some valid path leads to it.
 ///
 /// It rests on the program and the direction alone, so that two analyses of one direction can share it.
-#[derive(Drop)]
 pub struct Routes<'g, 'p> {
     links: Links<'g, 'p>,
     paths: Vec<bool>,
@@ -35,6 +34,17 @@ impl<'g, 'p> Model for Routes<'g, 'p> {
     ghost view = { λ routes. routes.links };
 
     ghost invariant = { λ routes. ArePathFlags (directed_shape routes.links) (point_count routes.links.program) routes.paths.items };
+}
+
+impl Drop for Routes<'_, '_> {
+    // By hand: a caller that gives routes up then makes one call.
+    fn drop(self) {
+        let Routes {
+            links: _,
+            paths: _,
+            followed: _,
+        } = self;
+    }
 }
 
 // The points that are reached, and how many steps were followed to find them.

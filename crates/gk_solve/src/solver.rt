@@ -22,7 +22,6 @@ use std::alloc::Global;
 use std::marker::Model;
 
 /// A problem, its edges and paths, and which words each statement does something in: what all slices of its bits share.
-#[derive(Drop)]
 pub struct Solver<'g, 'p> {
     problem: Problem<'g, 'p>,
     routes: Routes<'g, 'p>,
@@ -40,6 +39,17 @@ impl<'g, 'p> Model for Solver<'g, 'p> {
     ghost view = { λ solver. solver.problem };
 
     ghost invariant = { λ solver. (solver.routes ≡ direction_of solver.problem) × AreEffectWords solver.problem solver.effects.items };
+}
+
+impl Drop for Solver<'_, '_> {
+    // By hand: a caller that gives a solver up then makes one call.
+    fn drop(self) {
+        let Solver {
+            problem: _,
+            routes: _,
+            effects: _,
+        } = self;
+    }
 }
 
 // Puts the words of a slice that were solved last into rows.
@@ -79,6 +89,52 @@ fn effects_within(
     Ok(Vec::new(alloc))
 }
 
+// The rows of a slice before any word is solved: all flags, and no bit.
+fn blank_rows(
+    alloc: Global,
+    problem: &Problem<'_, '_>,
+    routes: &Routes<'_, '_>,
+    lo: u32,
+    hi: u32,
+) -> Result<Rows, OutOfMemory>
+    requires routes { routes.now ≡ direction_of problem.now }
+    requires ordered { lo ≤ hi }
+    ensures { IfOk result (λ rows. TellsBelow problem.now (64 * (lo / 64)) lo hi rows) }
+{
+    // Its contract tells that there are few points.
+    let _ = problem.points();
+    let paths = copied(alloc, routes.paths())?;
+    Rows::blank(alloc, paths, lo, hi)
+}
+
+// Solves the words of a slice, and puts them into its rows. Counts the steps that are followed.
+fn solve_words<'a, 'g, 'p>(
+    alloc: Global,
+    problem: &'a Problem<'g, 'p>,
+    routes: &'a Routes<'g, 'p>,
+    effects: &'a [u64],
+    rows: &mut Rows,
+    lo: u32,
+    hi: u32,
+    followed: &mut u64,
+) -> Result<(), OutOfMemory>
+    requires routes { routes.now ≡ direction_of problem.now }
+    requires effects { AreEffectWords problem.now effects.now }
+    requires ordered { lo < hi }
+    requires within { hi ≤ bits_of problem.now.program problem.now.analysis }
+    requires tells { TellsBelow problem.now (64 * (lo / 64)) lo hi rows.now }
+    ensures { IfOk result (λ _. IsLeastSolution problem.now lo hi rows.new) }
+{
+    let mut slice = slice_words(alloc, routes, lo, hi)?;
+    let end = hi.div_ceil(64);
+    let mut word = lo / 64;
+    'words: while word < end {
+        word = slice.solve_from(problem, routes, effects, word, followed);
+        put_words(&slice, rows);
+    }
+    Ok(())
+}
+
 // The solution of a slice of a problem's bits, by what was found of it once. Counts the steps that are followed.
 fn solve_slice<'a, 'g, 'p>(
     alloc: Global,
@@ -95,20 +151,11 @@ fn solve_slice<'a, 'g, 'p>(
     requires within { hi ≤ bits_of problem.now.program problem.now.analysis }
     ensures { IfOk result (λ rows. IsLeastSolution problem.now lo hi rows) }
 {
-    // Its contract tells that there are few points.
-    let _ = problem.points();
-    let paths = copied(alloc, routes.paths())?;
-    let mut rows = Rows::blank(alloc, paths, lo, hi)?;
+    let mut rows = blank_rows(alloc, problem, routes, lo, hi)?;
     if lo == hi {
         return Ok(rows);
     }
-    let mut slice = slice_words(alloc, routes, lo, hi)?;
-    let end = hi.div_ceil(64);
-    let mut word = lo / 64;
-    'words: while word < end {
-        word = slice.solve_from(problem, routes, effects, word, followed);
-        put_words(&slice, &mut rows);
-    }
+    solve_words(alloc, problem, routes, effects, &mut rows, lo, hi, followed)?;
     Ok(rows)
 }
 
@@ -232,7 +279,12 @@ impl<'g, 'p> Solver<'g, 'p> {
     pub fn into_routes(self) -> Routes<'g, 'p>
         ensures { result ≡ direction_of self.entry }
     {
-        self.routes
+        let Solver {
+            problem: _,
+            routes,
+            effects: _,
+        } = self;
+        routes
     }
 
     /// The path flag of each point: whether some valid path leads to it.

@@ -1,4 +1,5 @@
-use Rattle.std.proofs.Common.{ap, length, false, ◌∙◌}
+use Rattle.std.proofs.lemmas.List.{get_or-replicate, length-replicate}
+use Rattle.std.proofs.Common.{ap, length, false, ◌∙◌, Bool, List, true, get_or, inr, arith}
 use Rattle.std.proofs.Math.ListN.{length-set}
 use Rattle.flow_links.specs.Shapes.{directed_shape}
 use Rattle.gk_solve.specs.Tables.Brought.{IsBroughtClosedAt, brought_word}
@@ -30,3 +31,14 @@ returns-clause-exact g c w p k inside low =
           (λ x k low flag. (c.requires.complete w x k inside low flag).0) (λ x k low flag. (c.requires.complete w x k inside low flag).1)
           (λ edge there. closed edge there w inside) k low (λ has. c.visits.invariant.root w k inside low has) p,
     )
+
+pub visits-init : goal.visits-init
+visits-init g c = record {
+  count = ap length c.mark_all.ensures ∙ (length-replicate (length c.args.dirty.now) true ∙ c.requires.dirty_count);
+  settled = λ edge there.
+      let from = source_procedure (directed_shape c.args.frame.now.links.now) edge in
+      let low = c.requires.frame.numbered.procedure_in_range _ (c.requires.frame.numbered.edge_in_range edge there).0 in
+      inr (ap (λ (d : List Bool). get_or d from false) c.mark_all.ensures ∙ get_or-replicate (length c.args.dirty.now) from true false (omega (arith, low, c.requires.dirty_count)));
+  root = c.begin.ensures.root;
+  sound = c.begin.ensures.sound;
+}

@@ -1,4 +1,5 @@
-use Rattle.std.proofs.Common.{ap, length, false, ◌∙◌}
+use Rattle.std.proofs.lemmas.List.{get_or-replicate, length-replicate}
+use Rattle.std.proofs.Common.{ap, length, false, ◌∙◌, Bool, List, true, get_or, inr, arith}
 use Rattle.std.proofs.Math.ListN.{length-set}
 use Rattle.flow_graph.specs.Paths.{source_of}
 use Rattle.flow_links.specs.Shapes.{directed_shape}
@@ -28,3 +29,13 @@ returns-clause-complete g c w x k inside low flag =
       all_made is.numbered (group.transfer w) c.args.frame.now.paths.now is.paths (kept_word c.visits.table w) (made_word c.visits.table w) (λ edge there. (closed edge there w inside).0) (λ edge there. (closed edge there w inside).1) k low
           (λ p within. c.visits.invariant.entries p w k within inside low) x flag,
     )
+
+pub visits-init : goal.visits-init
+visits-init g c = record {
+  count = ap length c.mark_all.ensures ∙ (length-replicate (length c.args.dirty.now) true ∙ c.requires.dirty_count);
+  settled = λ edge there.
+      let low = (c.requires.frame.numbered.edge_in_range edge there).0 in
+      inr (ap (λ (d : List Bool). get_or d (source_of edge) false) c.mark_all.ensures ∙ get_or-replicate (length c.args.dirty.now) (source_of edge) true false (omega (arith, low, c.requires.dirty_count)));
+  entries = c.begin.ensures.entries;
+  sound = c.begin.ensures.sound;
+}

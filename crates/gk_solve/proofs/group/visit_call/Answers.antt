@@ -1,8 +1,11 @@
-use Rattle.std.proofs.Common.{◌<◌, length, arith, subst, sym}
+use Rattle.gk_solve.proofs.Visits.{same_spreads}
+use Rattle.gk_solve.specs.Tables.Flags.{IsFlagged}
+use Rattle.gk_solve.specs.Tables.Groups.{group_of}
+use Rattle.std.proofs.Common.{◌<◌, length, arith, subst, sym, ◌≡◌, false, true, get_or}
 use Rattle.flow_graph.specs.Points.{point_count}
 use Rattle.gk_solve.proofs.FlagVisits.{return_low, exit_low}
 use Rattle.gk_solve.proofs.GroupLemmas.{call_keeps_of, call_makes_of, call_settled_of}
-use Rattle.gk_solve.proofs.SummaryVisits.{has_size}
+use Rattle.gk_solve.proofs.SummaryVisits.{has_size, call_blocked, still_summaries}
 use Rattle.gk_solve.proofs.group.visit_call.Goals as goal
 
 pub bounds-frame-call : goal.bounds-frame-call
@@ -47,3 +50,15 @@ returns-clause-settled g c =
     let exit_within : c.args.call.exit < length c.args.table.now = omega (arith, low, c.requires.count) in
     call_settled_of g.row.W c.args.frame.now is c.args.table.now c.requires.sound c.args.at c.args.call there c.requires.path c.if-not-frame-call.false within exit_within c.index-table-at.result c.index-table-call.result c.index-table-at.is c.index-table-call.is
     c.both.result c.new_or_kept.result c.both.ensures c.new_or_kept.ensures c.put.new.table c.put.new.dirty c.put.ensures.same c.put.ensures.kept_added c.put.ensures.made_added
+
+pub returns-clause-spreads : goal.returns-clause-spreads
+returns-clause-spreads g c = c.put.ensures.spreads
+
+pub returns-then-not-frame-call-clause-spreads : goal.returns-then-not-frame-call-clause-spreads
+returns-then-not-frame-call-clause-spreads g c = same_spreads (still_summaries g.row.W) c.args.table.now c.args.dirty.now
+
+pub returns-then-not-frame-call-clause-settled : goal.returns-then-not-frame-call-clause-settled
+returns-then-not-frame-call-clause-settled g c = record {
+  settled = λ site y there exit after. call_blocked (group_of c.args.frame.now g.row.W) c.args.frame.now.paths.now site c.args.at y c.args.table.now c.args.dirty.now
+      (λ flagged. let set : get_or c.args.frame.now.paths.now c.args.call.exit false ≡ true = subst (IsFlagged c.args.frame.now.paths.now) (sym exit) flagged in let clear = c.if-not-frame-call.true in absurd (cc));
+}

@@ -1,15 +1,13 @@
-use Rattle.std.proofs.Common.{◌*◌, ◌/◌, Bool, List, arith, ap, subst, sym, ◌∙◌}
+use Rattle.std.proofs.Common.{◌*◌, ap, subst, sym, arith, ◌∙◌}
 use Rattle.flow_graph.specs.Points.{point_count}
 use Rattle.flow_links.specs.Shapes.{LinkedProgram, directed_shape}
-use Rattle.gk_solve.specs.Tables.Flags.{ArePathFlags}
 use Rattle.gk_solve.specs.Tables.Rows.{TellsBelow}
-use Rattle.gk_solve.proofs.RowWords.{blank_tells, tells_more}
-use Rattle.gk_solve.proofs.solver.solve_slice.Goals as goal
+use Rattle.gk_solve.proofs.RowWords.{tells_all, tells_more}
+use Rattle.gk_solve.proofs.solver.solve_words.Goals as goal
 
 pub words-init : goal.words-init
 words-init c =
     let made = c.in_ok-slice.ensures in
-    let form = c.args.problem.now in
     record {
       slice = record {
         points = made.0 ∙ ap (λ (l : LinkedProgram). point_count l.program) c.requires.routes;
@@ -18,8 +16,7 @@ words-init c =
         within = omega (arith, made.3, c.requires.within);
       };
       range = (made.2, made.3);
-      tells = blank_tells form c.args.routes.now c.requires.routes (64 * (c.args.lo / 64)) c.args.lo c.args.hi c.in_ok-paths.paths.items c.in_ok-rows.rows (omega arith)
-          (subst (λ (flags : List Bool). ArePathFlags (directed_shape c.args.routes.now) (point_count c.args.routes.now.program) flags) (sym c.in_ok-paths.ensures) c.paths.ensures) c.in_ok-rows.ensures;
+      tells = c.requires.tells;
     }
 
 pub words-preserved : goal.words-preserved
@@ -35,3 +32,6 @@ words-preserved c =
           (tells_more form slice c.words.rows c.put_words.new.rows (64 * c.words.word) c.args.lo c.args.hi after.solved after.slice.points (after.range.0 ∙ before.range.0) (after.range.1 ∙ before.range.1)
           (ap (λ n. 64 * n) (sym after.from)) (omega (arith, after.from, after.until, after.more)) c.put_words.ensures before.tells);
     }
+
+pub returns : goal.returns
+returns c = tells_all c.args.problem.now (64 * c.words.word) c.args.lo c.args.hi c.words.rows (λ _. omega (arith, c.words-test.false, c.div_ceil-end.ensures)) c.words.invariant.tells

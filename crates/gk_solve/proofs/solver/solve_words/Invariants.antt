@@ -1,7 +1,7 @@
 use Rattle.std.proofs.Common.{◌≡◌, ◌*◌, ◌-◌}
 use Rattle.gk_solve.specs.Solved.{IsSliceOf}
 use Rattle.gk_solve.specs.Tables.Rows.{TellsBelow}
-use Rattle.gk_solve.proofs.solver.solve_slice.Given as goal
+use Rattle.gk_solve.proofs.solver.solve_words.Given as goal
 
 abbrev pub invariant-words : goal.invariant-words
 invariant-words l = record {
