@@ -16,3 +16,6 @@ overflow_cast-exit c =
 
 pub loop-procedure-preserved : goal.loop-procedure-preserved
 loop-procedure-preserved c = grind (arith, common_steps)
+
+pub returns : goal.returns
+returns c = grind (arith, common_steps)
