@@ -9,7 +9,6 @@ use std::marker::Model;
 
 /// The table of an analysis: for each point of a program whether it has a valid path, and the set of the bits that hold
 /// there (Aho, Lam, Sethi, Ullman, 2nd edition, 9.2 and 9.5; over valid paths as in Reps, Horwitz, Sagiv 1995).
-#[derive(Drop)]
 pub struct Table {
     analysis: Analysis,
     sets: Sets,
@@ -29,6 +28,16 @@ impl Model for Table {
     ghost Value = { TableRows };
 
     ghost view = { λ table. record { analysis = table.analysis; rows = rows_of table.sets } };
+}
+
+impl Drop for Table {
+    // By hand: who gives a table up then makes one call, whatever it is kept as.
+    fn drop(self) {
+        let Table {
+            analysis: _,
+            sets: _,
+        } = self;
+    }
 }
 
 impl Table {

@@ -69,7 +69,6 @@ fn pairs_of<R: Threads + Sync>(
 }
 
 /// The tables of the four analyses of one program.
-#[derive(Drop)]
 pub struct Tables {
     /// Reaching definitions.
     pub reach: Table,
@@ -79,6 +78,18 @@ pub struct Tables {
     pub avail: Table,
     /// Very busy expressions.
     pub busy: Table,
+}
+
+impl Drop for Tables {
+    // By hand: who gives the tables up then makes one call.
+    fn drop(self) {
+        let Tables {
+            reach: _,
+            live: _,
+            avail: _,
+            busy: _,
+        } = self;
+    }
 }
 
 impl Tables {
