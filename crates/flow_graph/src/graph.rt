@@ -27,7 +27,6 @@ const MOST_BITS: usize = 4_096;
 ///
 /// Points are numbered from 0: procedures in text order, in each a point before each statement and one at its end. A bit of
 /// `Reach` is a definition, one of `Live` a variable, one of `Avail` and `Busy` an expression.
-#[derive(Drop)]
 pub struct Graph<'p> {
     pub(crate) points: Points<'p>,
     definitions: Vec<(u32, Option<u32>)>,
@@ -54,6 +53,19 @@ impl<'p> Model for Graph<'p> {
         × (graph.expressions.keys ≡ expressions_of graph.points)
         × AreEvaluated graph.points graph.evaluated.items
         × AreSites graph.points (contents graph.sites.items) };
+}
+
+impl Drop for Graph<'_> {
+    // By hand: who gives a graph up then makes one call.
+    fn drop(self) {
+        let Graph {
+            points: _,
+            definitions: _,
+            expressions: _,
+            evaluated: _,
+            sites: _,
+        } = self;
+    }
 }
 
 impl<'p> Graph<'p> {

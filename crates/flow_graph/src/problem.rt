@@ -23,7 +23,6 @@ use std::marker::Model;
 
 /// The may form of an analysis: the forward problem, in which a path has a bit where some edge has put it in, by which the
 /// analysis is solved. A backward analysis has its edges turned round, and an analysis over every path its sets complemented.
-#[derive(Drop)]
 pub struct Problem<'g, 'p> {
     graph: &'g Graph<'p>,
     analysis: Analysis,
@@ -49,6 +48,20 @@ impl<'g, 'p> Model for Problem<'g, 'p> {
         × AreDependenceWords problem.graph.now problem.analysis problem.dependence_words.words.items problem.dependence_words.width
         × (problem.edges.items ≡ (may_shape problem.graph.now problem.analysis).edges)
         × IsWellFormed (may_shape problem.graph.now problem.analysis) };
+}
+
+impl Drop for Problem<'_, '_> {
+    // By hand: who gives a problem up then makes one call.
+    fn drop(self) {
+        let Problem {
+            graph: _,
+            analysis: _,
+            edges: _,
+            effects: _,
+            dependence: _,
+            dependence_words: _,
+        } = self;
+    }
 }
 
 impl<'g, 'p> Problem<'g, 'p> {

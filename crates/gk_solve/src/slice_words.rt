@@ -24,7 +24,6 @@ use work_list::Marks;
 const WIDTH: usize = 4;
 
 /// All working memory in which the words of a slice are solved, and the words that were solved last.
-#[derive(Drop)]
 pub struct SliceWords {
     lo: u32,
     hi: u32,
@@ -48,6 +47,25 @@ impl Model for SliceWords {
     ghost view = { view_of };
 
     ghost invariant = { IsSliceWords };
+}
+
+impl Drop for SliceWords {
+    // By hand: who gives the words of a slice up then makes one call.
+    fn drop(self) {
+        let SliceWords {
+            lo: _,
+            hi: _,
+            from: _,
+            until: _,
+            wide: _,
+            one: _,
+            one_brought: _,
+            many: _,
+            many_brought: _,
+            dirty: _,
+            callers: _,
+        } = self;
+    }
 }
 
 // The words of a group, a bit each.

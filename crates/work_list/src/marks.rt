@@ -11,7 +11,6 @@ use std::marker::Model;
 /// A set of points, from which one is taken at a time. It is seen as a list that tells for each point whether it is marked.
 ///
 /// It has a copy of the order by which they are taken.
-#[derive(Drop)]
 pub struct Marks {
     order: Order,
     words: Vec<u64>,
@@ -29,6 +28,18 @@ impl Model for Marks {
 
     ghost invariant = { λ marks. AreMarkWords (length marks.order) marks.words.items
         × IsClearBefore marks.words.items marks.next marks.behind };
+}
+
+impl Drop for Marks {
+    // By hand: who gives marks up then makes one call.
+    fn drop(self) {
+        let Marks {
+            order: _,
+            words: _,
+            next: _,
+            behind: _,
+        } = self;
+    }
 }
 
 // The first word from a place on that is not 0.
