@@ -34,7 +34,7 @@ pub fn cut_option<'a>(alloc: Global) -> Arg<'a>
         .value_parser(value_parser!(u32).range(1..=4096))
         .default_value("64")
         .help(
-            "How many bits each of several workers solves at a time, 1 to 4096; what is written is the same for each",
+            "How many bits each of several workers that share an analysis solves at a time, 1 to 4096; what is written is the same for each",
         )
 }
 

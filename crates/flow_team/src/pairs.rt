@@ -17,12 +17,81 @@ use flow_graph::{Analysis, Graph};
 use std::alloc::Global;
 use std::thread::Threads;
 
-// Two analyses of one direction, of each so many first bits, which one worker solves at once.
+// An analysis, of which one worker solves so many first bits at once.
+#[derive(Clone, Copy)]
+struct Alone<'g, 'p> {
+    graph: &'g Graph<'p>,
+    analysis: Analysis,
+    bits: u32,
+}
+
+impl<'g, 'p> Half<WordBlock> for Alone<'g, 'p> {
+    ghost is_ready = { λ alone. alone.bits ≤ bits_of alone.graph.now alone.analysis };
+
+    ghost gives = { λ alone words. (words.hi ≡ alone.bits) × IsBeginningOf alone.graph.now (record { analysis = alone.analysis; rows = words }) };
+
+    fn find<R: Threads + Sync>(self, _rt: &R, alloc: Global) -> Result<WordBlock, OutOfMemory> {
+        let (words, _) = GraphSets::first_words(alloc, self.graph, self.analysis, self.bits)?;
+        Ok(words)
+    }
+}
+
+// So many first bits of two analyses of one direction, one after the other; the edges of the direction are found once.
+fn words_in_turn(
+    alloc: Global,
+    graph: &Graph<'_>,
+    first: (Analysis, u32),
+    second: (Analysis, u32),
+) -> Result<(WordBlock, WordBlock), OutOfMemory>
+    requires first { first.1 ≤ bits_of graph.now first.0 }
+    requires second { second.1 ≤ bits_of graph.now second.0 }
+    requires direction { is_backward first.0 ≡ is_backward second.0 }
+    ensures first { IfOk result (λ words. (words.0.hi ≡ first.1) × IsBeginningOf graph.now (record { analysis = first.0; rows = words.0 })) }
+    ensures second { IfOk result (λ words. (words.1.hi ≡ second.1) × IsBeginningOf graph.now (record { analysis = second.0; rows = words.1 })) }
+{
+    let (analysis, bits) = first;
+    let (other, others) = second;
+    let (words, routes) = GraphSets::first_words(alloc, graph, analysis, bits)?;
+    let (more, _) = GraphSets::first_words_over(alloc, graph, other, others, routes)?;
+    Ok((words, more))
+}
+
+// The same, each analysis on a thread of its own, which finds the edges for itself.
+fn words_apart<R: Threads + Sync>(
+    rt: &R,
+    alloc: Global,
+    graph: &Graph<'_>,
+    first: (Analysis, u32),
+    second: (Analysis, u32),
+) -> Result<(WordBlock, WordBlock), OutOfMemory>
+    requires first { first.1 ≤ bits_of graph.now first.0 }
+    requires second { second.1 ≤ bits_of graph.now second.0 }
+    ensures first { IfOk result (λ words. (words.0.hi ≡ first.1) × IsBeginningOf graph.now (record { analysis = first.0; rows = words.0 })) }
+    ensures second { IfOk result (λ words. (words.1.hi ≡ second.1) × IsBeginningOf graph.now (record { analysis = second.0; rows = words.1 })) }
+{
+    let (analysis, bits) = first;
+    let first = Alone {
+        graph,
+        analysis,
+        bits,
+    };
+    let (analysis, bits) = second;
+    let second = Alone {
+        graph,
+        analysis,
+        bits,
+    };
+    let (words, more) = side_by_side(rt, alloc, first, second);
+    Ok((words?, more?))
+}
+
+// Two analyses of one direction, of each so many first bits, which one worker or two solve at once.
 #[derive(Clone, Copy)]
 struct AlonePair<'g, 'p> {
     graph: &'g Graph<'p>,
     first: (Analysis, u32),
     second: (Analysis, u32),
+    workers: u32,
 }
 
 impl<'g, 'p> Half<(WordBlock, WordBlock)> for AlonePair<'g, 'p> {
@@ -34,18 +103,37 @@ impl<'g, 'p> Half<(WordBlock, WordBlock)> for AlonePair<'g, 'p> {
 
     fn find<R: Threads + Sync>(
         self,
-        _rt: &R,
+        rt: &R,
         alloc: Global,
     ) -> Result<(WordBlock, WordBlock), OutOfMemory> {
-        let (analysis, bits) = self.first;
-        let (other, others) = self.second;
-        let (words, routes) = GraphSets::first_words(alloc, self.graph, analysis, bits)?;
-        let (more, _) = GraphSets::first_words_over(alloc, self.graph, other, others, routes)?;
-        Ok((words, more))
+        if self.workers < 2 {
+            return words_in_turn(alloc, self.graph, self.first, self.second);
+        }
+        words_apart(rt, alloc, self.graph, self.first, self.second)
     }
 }
 
-// Two analyses of one direction, of each as many first bits as its cut is of, which so many workers solve in slices.
+// The beginnings of the tables of two analyses, each found by a worker of its own.
+fn tables_apart<R: Threads + Sync>(
+    rt: &R,
+    alloc: Global,
+    graph: &Graph<'_>,
+    first: (Analysis, u32),
+    second: (Analysis, u32),
+) -> Result<(Table, Table), OutOfMemory>
+    requires first { first.1 ≤ bits_of graph.now first.0 }
+    requires second { second.1 ≤ bits_of graph.now second.0 }
+    ensures first { IfOk result (λ r. (r.0.analysis ≡ first.0) × (r.0.rows.hi ≡ first.1) × IsBeginningOf graph.now r.0) }
+    ensures second { IfOk result (λ r. (r.1.analysis ≡ second.0) × (r.1.rows.hi ≡ second.1) × IsBeginningOf graph.now r.1) }
+{
+    let (words, more) = words_apart(rt, alloc, graph, first, second)?;
+    Ok((
+        Table::with_words(first.0, words),
+        Table::with_words(second.0, more),
+    ))
+}
+
+// Two analyses of one direction, of each as many first bits as its cut is of. One worker or two solve them at once, more in slices.
 #[derive(Drop)]
 struct SharedPair<'g, 'p> {
     graph: &'g Graph<'p>,
@@ -68,11 +156,15 @@ impl<'g, 'p> Half<(Table, Table)> for SharedPair<'g, 'p> {
             second,
             workers,
         } = self;
+        if workers == 2 {
+            let (first, second) = ((first.0, first.1.bits()), (second.0, second.1.bits()));
+            return tables_apart(rt, alloc, graph, first, second);
+        }
         two_tables(rt, alloc, graph, first, second, workers, &OpenGate)
     }
 }
 
-// What one worker finds of a pair and the others of another, each pair on its own thread where there are several workers.
+// What one worker or two find of a pair and the others of another, each pair on its own thread where there are several workers.
 fn found<R: Threads + Sync>(
     rt: &R,
     alloc: Global,
@@ -97,18 +189,20 @@ fn found<R: Threads + Sync>(
     ensures shared_first { IfOk result.1 (λ r. (r.0.analysis ≡ shared.0.0) × (r.0.rows.hi ≡ shared.0.1.bits) × IsBeginningOf graph.now r.0) }
     ensures shared_second { IfOk result.1 (λ r. (r.1.analysis ≡ shared.1.0) × (r.1.rows.hi ≡ shared.1.1.bits) × IsBeginningOf graph.now r.1) }
 {
+    let by_alone = if workers < 4 { 1 } else { 2 };
     let (first, second) = alone;
     let single = AlonePair {
         graph,
         first,
         second,
+        workers: by_alone,
     };
     let (first, second) = shared;
     let others = SharedPair {
         graph,
         first,
         second,
-        workers: (workers - 1).max(1),
+        workers: (workers - by_alone).max(1),
     };
     if workers == 1 {
         let words = single.find(rt, alloc);
@@ -141,8 +235,9 @@ fn told(
 /// The beginnings of the tables of two pairs of analyses, the two of a pair of one direction: of each as many of its first bits as are
 /// asked, or as its cut is of, with 0 its path flags alone. The edges of a direction, their order and the path flags are found once.
 ///
-/// One worker finds the pair `alone`, on a new thread and all bits at once, while the others find the pair `shared`, in slices of its
-/// cuts, as the workers of [`crate::analyse`] do. A single worker starts no thread, and finds one pair after the other.
+/// Of two workers or three one finds the pair `alone`, on a new thread and all bits at once; of more two do, an analysis each. The others find
+/// the pair `shared`: one finds both analyses, two one each, and more work in slices of its cuts, as the workers of [`crate::analyse`] do.
+/// A single worker starts no thread, and finds one pair after the other.
 ///
 /// The conditions: each analysis has so many bits, and the two of a pair are both forward, or both backward.
 ///

@@ -1,5 +1,5 @@
 -- Texts of the numbers of a range that pass a test, piece by piece
-use Rattle.std.proofs.Common.{◌≡◌, ℕ, zero, suc, ◌+◌, ◌-◌, ◌*◌, ◌<◌, ◌≤◌, Bool, false, List, [], ◌∷◌, ◌++◌, min, cond, flat_map, refl, sym, ap, ◌∙◌, arith}
+use Rattle.std.proofs.Common.{◌≡◌, ℕ, zero, suc, ◌+◌, ◌-◌, ◌*◌, ◌<◌, ◌≤◌, Bool, true, false, List, [], ◌∷◌, ◌++◌, min, cond, flat_map, append-nil, refl, sym, ap, ◌∙◌, arith}
 use Rattle.std.specs.List.{filter, range_with_len}
 use Rattle.std.proofs.lemmas.Grind.{flat_map-append}
 use Rattle.std.proofs.lemmas.List.Elements.{filter-append}
@@ -8,6 +8,7 @@ use Rattle.bit_rows.specs.Words.{has_bit}
 use Rattle.bit_rows.proofs.WordBits.{has_bit-zero}
 use Rattle.flow_texts.specs.code.Findings.{texts_where}
 use Rattle.flow_texts.specs.Pieces.{Outlet, Takes}
+use Rattle.flow_texts.proofs.RemarkLines.{one_text}
 use Rattle.flow_texts.proofs.Taking.{takes_as, takes_then}
 
 -- a range in two
@@ -30,19 +31,6 @@ pub texts_split : (text_of : ℕ → List ℕ) (test : ℕ → Bool) (a m k : �
 texts_split text_of test a m k =
     ap (flat_map text_of) (ap (filter test) (range_split a m k) ∙ filter-append test (range_with_len a m) (range_with_len (a + m) k))
     ∙ flat_map-append text_of (filter test (range_with_len a m)) (filter test (range_with_len (a + m) k))
-
--- a number more
-pub next_text : (text_of : ℕ → List ℕ) (test : ℕ → Bool) (a n : ℕ) (old one two : Outlet) → a ≤ n
-    → Takes old one (texts_between text_of test a (n - a))
-    → Takes one two (texts_where text_of test (n ∷ []))
-    → Takes old two (texts_between text_of test a (n + 1 - a))
-next_text text_of test a n old one two above before done =
-    let here : a + (n - a) ≡ n = omega arith in
-    let longer : n - a + 1 ≡ n + 1 - a = omega arith in
-    takes_as old two _ _ (takes_then old one two _ _ before done)
-    (ap (λ b. texts_between text_of test a (n - a) ++ texts_where text_of test (b ∷ [])) (sym here)
-    ∙ sym (texts_split text_of test a (n - a) 1)
-    ∙ ap (λ k. texts_between text_of test a k) longer)
 
 -- a word more
 pub next_word : (text_of : ℕ → List ℕ) (test : ℕ → Bool) (n w : ℕ) (old one two : Outlet) → 64 * w < n
@@ -67,6 +55,33 @@ none_pass test a (suc k) fails =
     let first : a + 0 ≡ a = omega arith in
     ap (λ t. cond t (a ∷ filter test (range_with_len (a + 1) k)) (filter test (range_with_len (a + 1) k))) (ap test (sym first) ∙ fails 0 (omega arith))
     ∙ none_pass test (a + 1) k (λ i below. let e : a + 1 + i ≡ a + suc i = omega arith in ap test e ∙ fails (suc i) (omega arith))
+
+-- no texts where none passes
+pub none_texts : (text_of : ℕ → List ℕ) (test : ℕ → Bool) (a k : ℕ) → ((i : ℕ) → i < k → test (a + i) ≡ false) → texts_between text_of test a k ≡ []
+none_texts text_of test a k fails = ap (flat_map text_of) (none_pass test a k fails)
+
+-- a number more that passes, and none behind it as far as another place
+pub next_member : (text_of : ℕ → List ℕ) (test : ℕ → Bool) (a place next width : ℕ) (old one two : Outlet) → place < width → place + 1 ≤ next
+    → test (a + place) ≡ true
+    → ((k : ℕ) → place + 1 ≤ k → k < min width next → test (a + k) ≡ false)
+    → Takes old one (texts_between text_of test a (min width place))
+    → Takes one two (text_of (a + place))
+    → Takes old two (texts_between text_of test a (min width next))
+next_member text_of test a place next width old one two inside further passes none before done =
+    let r : ℕ = min width next - (place + 1) in
+    let here : min width place ≡ place = omega (arith, inside) in
+    let all : place + (1 + r) ≡ min width next = omega (arith, inside, further) in
+    let none_behind : texts_between text_of test (a + place + 1) r ≡ [] = none_texts text_of test (a + place + 1) r
+    (λ i below. let e : a + place + 1 + i ≡ a + (place + 1 + i) = omega arith in ap test e ∙ none (place + 1 + i) (omega arith) (omega (arith, below))) in
+    takes_as old two _ _ (takes_then old one two _ _ before done)
+    (ap (λ m. texts_between text_of test a m ++ text_of (a + place)) here
+    ∙ ap (λ t. texts_between text_of test a place ++ t)
+    (sym (one_text text_of test (a + place) passes)
+    ∙ sym (append-nil (texts_between text_of test (a + place) 1))
+    ∙ ap (λ t. texts_between text_of test (a + place) 1 ++ t) (sym none_behind)
+    ∙ sym (texts_split text_of test (a + place) 1 r))
+    ∙ sym (texts_split text_of test a place (1 + r))
+    ∙ ap (texts_between text_of test a) all)
 
 -- a word that is 0 gives no texts
 pub no_texts : (text_of : ℕ → List ℕ) (row : RowSet) (n w value : ℕ) → IsWordOf row w value → value ≡ 0

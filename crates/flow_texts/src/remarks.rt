@@ -1,7 +1,8 @@
 // What is said of the statement at a point.
 
-ghost use Rattle.std.specs.Prelude.{◌≡◌, ◌+◌, ◌-◌, ◌&&◌, ◌<◌, ◌≤◌, ◌∷◌, [], Some, flat_map, length, not};
+ghost use Rattle.std.specs.Prelude.{◌≡◌, ℕ, ◌+◌, ◌-◌, ◌&&◌, ◌<◌, ◌≤◌, ◌∷◌, [], Some, flat_map, length, not};
 ghost use Rattle.std.specs.List.{range_with_len};
+ghost use Rattle.bit_rows.specs.Words.{has_bit};
 ghost use Rattle.flow_graph.specs.Points.{kind_at, point_count};
 ghost use Rattle.flow_graph.specs.Universes.{bits as bits_of};
 ghost use Rattle.flow_graph.specs.declared.analysis.Analysis.TheVariants.{Busy};
@@ -13,6 +14,7 @@ ghost use Rattle.flow_texts.specs.declared.remark.Remark.TheVariants.{Computed, 
 
 use crate::device::Sink;
 use crate::findings::Findings;
+use crate::members::next_one;
 use crate::operands::{VariablesRead, assigned, is_test, variables_read};
 use crate::pieces::Pieces;
 use crate::remark::Remark;
@@ -155,46 +157,32 @@ impl Findings<'_> {
         form.write_remark(out, self, point, Remark::Computed { expression: bit });
     }
 
-    // Writes that an expression is very busy, where that is so.
-    fn write_busy_expression<F: RemarkForm, K: Sink>(
+    // Writes which expressions of a word are very busy: those of its ones that stand for the expressions from `first` on and before `end`.
+    fn write_busy_word<F: RemarkForm, K: Sink>(
         &self,
         form: &F,
         out: &mut Pieces<'_, K>,
         point: u32,
-        bit: u32,
-    )
-        requires ready { IsOpen (outlet K.contents K.faults out.old) }
-        requires found { AreFindings self.now }
-        requires point { point < point_count self.now.graph.now }
-        requires bit { bit < bits_of self.now.graph.now Busy }
-        ensures same_reference { out.new.sink.ghost_name ≡ out.old.sink.ghost_name }
-        ensures takes { Takes (outlet K.contents K.faults out.old) (outlet K.contents K.faults out.new) (texts_where (λ e. F.text form.now self.now.graph.now point (VeryBusy e)) ((knowledge_of self.now).busy.contains point) (bit ∷ [])) }
-    {
-        if !self.tables.busy.contains(point, bit) {
-            return;
-        }
-        form.write_remark(out, self, point, Remark::VeryBusy { expression: bit });
-    }
-
-    // Writes which of some expressions are very busy: those from `from` on and before `end`.
-    fn write_busy_between<F: RemarkForm, K: Sink>(
-        &self,
-        form: &F,
-        out: &mut Pieces<'_, K>,
-        point: u32,
-        from: u32,
+        ones: u64,
+        first: u32,
         end: u32,
     )
         requires ready { IsOpen (outlet K.contents K.faults out.old) }
         requires found { AreFindings self.now }
         requires point { point < point_count self.now.graph.now }
-        requires ordered { from ≤ end }
+        requires word { (k : ℕ) → k < 64 → has_bit ones k ≡ (knowledge_of self.now).busy.contains point (first + k) }
+        requires ordered { first ≤ end }
+        requires width { end ≤ first + 64 }
         requires end { end ≤ bits_of self.now.graph.now Busy }
         ensures same_reference { out.new.sink.ghost_name ≡ out.old.sink.ghost_name }
-        ensures takes { Takes (outlet K.contents K.faults out.old) (outlet K.contents K.faults out.new) (texts_where (λ e. F.text form.now self.now.graph.now point (VeryBusy e)) ((knowledge_of self.now).busy.contains point) (range_with_len from (end - from))) }
+        ensures takes { Takes (outlet K.contents K.faults out.old) (outlet K.contents K.faults out.new) (texts_where (λ e. F.text form.now self.now.graph.now point (VeryBusy e)) ((knowledge_of self.now).busy.contains point) (range_with_len first (end - first))) }
     {
-        for bit in from..end {
-            self.write_busy_expression(form, out, point, bit);
+        let width = end - first;
+        let mut place = next_one(ones, 0);
+        while place < width {
+            let expression = first + place;
+            form.write_remark(out, self, point, Remark::VeryBusy { expression });
+            place = next_one(ones, place + 1);
         }
     }
 
@@ -213,8 +201,10 @@ impl Findings<'_> {
     {
         let bits = self.graph.bits(Analysis::Busy);
         for word in 0..(bits + 63) / 64 {
-            if self.tables.busy.word(point, word) != 0 {
-                self.write_busy_between(form, out, point, 64 * word, bits.min(64 * word + 64));
+            let ones = self.tables.busy.word(point, word);
+            if ones != 0 {
+                let (first, end) = (64 * word, bits.min(64 * word + 64));
+                self.write_busy_word(form, out, point, ones, first, end);
             }
         }
     }

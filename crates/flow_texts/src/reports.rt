@@ -1,9 +1,10 @@
 // The report on a program.
 
-ghost use Rattle.std.specs.Prelude.{◌≡◌, ◌++◌, IfOk, decimal};
-ghost use Rattle.flow_texts.specs.code.Findings.{AreFindings, knowledge_of};
+ghost use Rattle.std.specs.Prelude.{◌≡◌, ◌++◌, ◌<◌, IfOk, codes, decimal};
+ghost use Rattle.flow_graph.specs.Points.{point_count};
+ghost use Rattle.flow_texts.specs.code.Findings.{AreFindings, knowledge_of, numbered_line, words_before, words_behind};
 ghost use Rattle.flow_texts.specs.Pieces.{IsOpen, Takes, outlet};
-ghost use Rattle.flow_texts.specs.Reports.{IsReport, ListsSafely, TellReport, count_line, remark_line, report_of};
+ghost use Rattle.flow_texts.specs.Reports.{IsReport, ListsSafely, TellReport, count_line, lines_at, report_of};
 
 use crate::bit_texts::{line, write_number};
 use crate::device::Sink;
@@ -11,11 +12,11 @@ use crate::findings::Findings;
 use crate::pieces::Pieces;
 use crate::remark::Remark;
 use crate::remark_form::RemarkForm;
-use crate::remarks::{words_before_name, words_behind_name};
 use crate::tables::Tables;
 use crate::text::Text;
 use crate::whole::whole_text;
 use flow_graph::{Analysis, Graph, OutOfMemory};
+use itoa::Buffer;
 use std::alloc::Global;
 use std::marker::Model;
 
@@ -42,30 +43,69 @@ fn write_counts<K: Sink>(out: &mut Pieces<'_, K>, graph: &Graph<'_>)
     out.write(b"\n");
 }
 
-// A remark as a line of the report.
-#[derive(Clone, Copy)]
-struct ReportLine;
+// What a line says between its number and what the remark names.
+fn words_behind_number(remark: Remark) -> &'static [u8]
+    ensures { result.now ≡ codes ": " ++ words_before remark }
+{
+    match remark {
+        Remark::NeverReached => b": never reached",
+        Remark::Unset { .. } => b": ",
+        Remark::Computed { .. } => b": ",
+        Remark::VeryBusy { .. } => b": ",
+        Remark::Dead { .. } => b": assignment to ",
+    }
+}
 
-impl RemarkForm for ReportLine {
-    ghost text = { λ _ program point remark. remark_line program point remark };
+// What a line says behind what the remark names, up to its end.
+fn words_to_end(remark: Remark) -> &'static [u8]
+    ensures { result.now ≡ words_behind remark ++ codes "\n" }
+{
+    match remark {
+        Remark::NeverReached => b"\n",
+        Remark::Unset { .. } => b" may be used before it is set\n",
+        Remark::Computed { .. } => b" is already computed\n",
+        Remark::VeryBusy { .. } => b" is very busy\n",
+        Remark::Dead { .. } => b" is dead\n",
+    }
+}
+
+// A remark as a line of the report that begins with this number, in as few pieces as it has: some programs have half a million.
+#[derive(Clone, Copy)]
+struct ReportLine<'a> {
+    number: &'a [u8],
+}
+
+impl RemarkForm for ReportLine<'_> {
+    ghost text = { λ line program _ remark. numbered_line line.number.now program remark };
 
     fn write_remark<K: Sink>(
         &self,
         out: &mut Pieces<'_, K>,
         found: &Findings<'_>,
-        point: u32,
+        _point: u32,
         remark: Remark,
     ) {
-        write_number(out, line(found.graph, point));
-        out.write(b": ");
-        out.write(words_before_name(remark));
+        out.write(self.number);
+        out.write(words_behind_number(remark));
         out.write(found.name(remark));
-        out.write(words_behind_name(remark));
-        out.write(b"\n");
+        out.write(words_to_end(remark));
     }
 }
 
 impl Findings<'_> {
+    // Writes the lines of a point. Its number is made once for all of them.
+    fn write_point<K: Sink>(&self, out: &mut Pieces<'_, K>, point: u32)
+        requires ready { IsOpen (outlet K.contents K.faults out.old) }
+        requires found { AreFindings self.now }
+        requires point { point < point_count self.now.graph.now }
+        ensures same_reference { out.new.sink.ghost_name ≡ out.old.sink.ghost_name }
+        ensures takes { Takes (outlet K.contents K.faults out.old) (outlet K.contents K.faults out.new) (lines_at self.now.graph.now (knowledge_of self.now) point) }
+    {
+        let mut digits = Buffer::new();
+        let number = digits.format(line(self.graph, point)).as_bytes();
+        self.write_remarks(&ReportLine { number }, out, point);
+    }
+
     // Writes the report.
     fn write<K: Sink>(&self, out: &mut Pieces<'_, K>)
         requires ready { IsOpen (outlet K.contents K.faults out.old) }
@@ -75,7 +115,7 @@ impl Findings<'_> {
     {
         write_counts(out, self.graph);
         for point in 0..self.graph.points() {
-            self.write_remarks(&ReportLine, out, point);
+            self.write_point(out, point);
         }
     }
 }

@@ -373,8 +373,13 @@ fn pairs_by_one_are_refused(rt: HostRuntime) -> Result<(), Fail> {
 }
 
 #[test]
-fn pairs_by_three_are_refused(rt: HostRuntime) -> Result<(), Fail> {
-    check_told(&rt, &Whole::Pairs(3))
+fn pairs_by_four_are_refused(rt: HostRuntime) -> Result<(), Fail> {
+    check_told(&rt, &Whole::Pairs(4))
+}
+
+#[test]
+fn pairs_by_five_are_refused(rt: HostRuntime) -> Result<(), Fail> {
+    check_told(&rt, &Whole::Pairs(5))
 }
 
 #[test]

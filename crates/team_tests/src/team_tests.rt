@@ -408,7 +408,8 @@ fn two_pairs_of_tables(rt: HostRuntime) -> Result<(), Fail> {
         (2, 1, two_of_reach, CALLEE_LOOPS_AVAIL),
         (3, 1, CALLEE_LOOPS_REACH, CALLEE_LOOPS_AVAIL),
     ];
-    for workers in WORKERS {
+    // four share out the analyses, and five leave three to work in slices
+    for workers in [1, 2, 3, 4, 5, 64] {
         for (reach, avail, first, second) in rows {
             let want = format!(in rt.alloc();
                 "{CALLEE_LOOPS_LIVE}{CALLEE_LOOPS_BUSY}{first}{second}"
@@ -458,15 +459,50 @@ impl Ask for Refused {
     }
 }
 
+// The same of two pairs of analyses, of none of their bits.
+#[derive(Clone, Copy)]
+struct RefusedPairs {
+    workers: u32,
+}
+
+impl Ask for RefusedPairs {
+    fn answer<R: Threads + Sync + Abort>(
+        &self,
+        rt: &R,
+        alloc: Global,
+        graph: &Graph<'_>,
+    ) -> Result<String, Fail> {
+        let alone = ((Analysis::Live, 0), (Analysis::Busy, 0));
+        let first = (Analysis::Reach, slices_of(alloc, 0, 1)?);
+        let second = (Analysis::Avail, slices_of(alloc, 0, 1)?);
+        match analyse_pairs(rt, alloc, graph, alone, (first, second), self.workers) {
+            Ok(_) => Err(Fail::new("taken")),
+            Err(fault) => Ok(fault.to_string(alloc)?),
+        }
+    }
+}
+
+// What is told where there are so many workers.
+fn check_refused<R: Threads + Sync + Abort, A: Ask>(
+    rt: &R,
+    alloc: Global,
+    ask: &A,
+    workers: u32,
+) -> Result<(), Fail> {
+    let told = asked(rt, alloc, RECURSIVE, ask)?;
+    assert_eq!(rt;
+        told.as_str(),
+        "33: the number of workers is not one of 1 to 64",
+        "{workers} workers"
+    );
+    Ok(())
+}
+
 #[test]
 fn numbers_of_workers(rt: HostRuntime) -> Result<(), Fail> {
     for workers in [0, 65, u32::MAX] {
-        let told = asked(&rt, rt.alloc(), RECURSIVE, &Refused { workers })?;
-        assert_eq!(rt;
-            told.as_str(),
-            "33: the number of workers is not one of 1 to 64",
-            "{workers} workers"
-        );
+        check_refused(&rt, rt.alloc(), &Refused { workers }, workers)?;
+        check_refused(&rt, rt.alloc(), &RefusedPairs { workers }, workers)?;
     }
     let shown = format!(in rt.alloc(); "{}; {}", TeamFault::BadWorkers, TeamFault::OutOfMemory)?;
     assert_eq!(rt;

@@ -1,5 +1,5 @@
 -- What was found of a program, and the remarks that are made of it.
-use Rattle.std.specs.Prelude.{◌≡◌, ◌↔◌, ℕ, ◌<◌, Bool, true, false, List, [], filter, flat_map, length, get_or, codes}
+use Rattle.std.specs.Prelude.{◌≡◌, ◌↔◌, ℕ, ◌<◌, ◌++◌, Bool, true, false, List, [], filter, flat_map, length, get_or, codes}
 use Rattle.flow_graph.specs.Analyses.{shape_of}
 use Rattle.flow_graph.specs.Limits.{HasFewPoints}
 use Rattle.flow_graph.specs.Points.{point_count}
@@ -9,7 +9,7 @@ use Rattle.flow_graph.specs.declared.analysis.Analysis.TheVariants.{Avail, Busy}
 use Rattle.tac_reader.specs.Programs.{Program}
 use Rattle.tac_reader.specs.Sound.{IsSound}
 use Rattle.flow_texts.specs.code.Lists.{AreTexts}
-use Rattle.flow_texts.specs.Reports.{Knowledge, TellReport}
+use Rattle.flow_texts.specs.Reports.{Knowledge, TellReport, remark_text}
 use Rattle.flow_team.specs.Tables.{facts_of}
 use Rattle.flow_texts.specs.Tables.{bit_text, variable_text}
 use Rattle.flow_texts.specs.declared.findings.Findings.{Findings}
@@ -67,6 +67,10 @@ words_behind (Unset variable) = codes " may be used before it is set"
 words_behind (Computed bit) = codes " is already computed"
 words_behind (VeryBusy bit) = codes " is very busy"
 words_behind (Dead variable) = codes " is dead"
+
+-- a remark's line that begins with these digits
+abbrev pub numbered_line : List ℕ → Program → Remark → List ℕ
+numbered_line number program remark = number ++ codes ": " ++ remark_text program remark ++ codes "\n"
 
 -- the texts that the numbers have which pass a test
 abbrev pub texts_where : (ℕ → List ℕ) → (ℕ → Bool) → List ℕ → List ℕ

@@ -11,7 +11,7 @@ use Rattle.flow_texts.specs.declared.remark.Remark.TheVariants.{VeryBusy}
 use Rattle.flow_texts.proofs.RangeLines.{next_word, no_texts, texts_between}
 use Rattle.flow_texts.proofs.Taking.{takes_as, takes_nothing}
 use Rattle.flow_texts.proofs.findings.Findings.write_busy_words.Goals as goal
-use Rattle.flow_texts.proofs.findings.Findings.write_busy_words.Goals.{then-word-ne0, else-word-ne0}
+use Rattle.flow_texts.proofs.findings.Findings.write_busy_words.Goals.{then-ones-ne0, else-ones-ne0}
 
 pub loop-word-preserved : goal.loop-word-preserved
 loop-word-preserved g c =
@@ -25,19 +25,19 @@ loop-word-preserved g c =
     let at : Pieces _ → Outlet = outlet g.K.Sink.contents g.K.Sink.faults in
     let more : List ℕ = texts_between text test (64 * word) (min bits (64 * word + 64) - 64 * word) in
     let below : 64 * word < bits = omega (arith, c.bits-bits.ensures.count, c.loop-word-test.true) in
-    let step = next_word text test bits word (at c.args.out.now) (at c.loop-word.out) (at c.if-word-ne0.out) below c.loop-word.invariant.takes in
-    elim c.if-word-ne0.branch [
-      | then-word-ne0 w ↦ (
-          let end : w.min.result ≡ min bits (64 * word + 64) = omega (arith, w.min.ensures, c.bits-bits.ensures.count) in
+    let step = next_word text test bits word (at c.args.out.now) (at c.loop-word.out) (at c.if-ones-ne0.out) below c.loop-word.invariant.takes in
+    elim c.if-ones-ne0.branch [
+      | then-ones-ne0 w ↦ (
+          let end : w.min-end.result ≡ min bits (64 * word + 64) = omega (arith, w.min-end.ensures, c.bits-bits.ensures.count) in
           record {
-            reference = ap (λ p. p.sink.ghost_name) w.out-is ∙ w.write_busy_between.ensures.same_reference ∙ c.loop-word.invariant.reference;
+            reference = ap (λ p. p.sink.ghost_name) w.out-is ∙ w.write_busy_word.ensures.same_reference ∙ c.loop-word.invariant.reference;
             takes = step (subst (λ p. Takes (at c.loop-word.out) (at p) more) (sym w.out-is)
-                (takes_as _ _ _ _ w.write_busy_between.ensures.takes (ap (λ e. texts_between text test (64 * word) (e - 64 * word)) end)));
+                (takes_as _ _ _ _ w.write_busy_word.ensures.takes (ap (λ e. texts_between text test (64 * word) (e - 64 * word)) end)));
           })
-      | else-word-ne0 w ↦ record {
+      | else-ones-ne0 w ↦ record {
         reference = ap (λ p. p.sink.ghost_name) w.out-is ∙ c.loop-word.invariant.reference;
         takes = step (subst (λ p. Takes (at c.loop-word.out) (at p) more) (sym w.out-is)
-            (takes_as _ _ _ _ (takes_nothing (at c.loop-word.out)) (sym (no_texts text row bits word c.word.result c.word.ensures w.if-word-ne0.false))));
+            (takes_as _ _ _ _ (takes_nothing (at c.loop-word.out)) (sym (no_texts text row bits word c.word-ones.result c.word-ones.ensures w.if-ones-ne0.false))));
       }
     ]
 
