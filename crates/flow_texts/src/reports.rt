@@ -1,10 +1,11 @@
 // The report on a program.
 
-ghost use Rattle.std.specs.Prelude.{◌≡◌, ◌++◌, ◌<◌, IfOk, codes, decimal};
+ghost use Rattle.std.specs.Prelude.{◌≡◌, ◌+◌, ◌<◌, ◌≤◌, ◌++◌, IfOk, codes, decimal, length, take};
 ghost use Rattle.flow_graph.specs.Points.{point_count};
-ghost use Rattle.flow_texts.specs.code.Findings.{AreFindings, knowledge_of, numbered_line, words_before, words_behind};
+ghost use Rattle.flow_texts.specs.code.Findings.{AreFindings, knowledge_of, line_behind, words_before, words_behind};
 ghost use Rattle.flow_texts.specs.Pieces.{IsOpen, Takes, outlet};
 ghost use Rattle.flow_texts.specs.Reports.{IsReport, ListsSafely, TellReport, count_line, lines_at, report_of};
+ghost use Rattle.flow_texts.specs.Tables.{line_at};
 
 use crate::bit_texts::{line, write_number};
 use crate::device::Sink;
@@ -12,6 +13,7 @@ use crate::findings::Findings;
 use crate::pieces::Pieces;
 use crate::remark::Remark;
 use crate::remark_form::RemarkForm;
+use crate::remarks::words_before_name;
 use crate::tables::Tables;
 use crate::text::Text;
 use crate::whole::whole_text;
@@ -43,19 +45,6 @@ fn write_counts<K: Sink>(out: &mut Pieces<'_, K>, graph: &Graph<'_>)
     out.write(b"\n");
 }
 
-// What a line says between its number and what the remark names.
-fn words_behind_number(remark: Remark) -> &'static [u8]
-    ensures { result.now ≡ codes ": " ++ words_before remark }
-{
-    match remark {
-        Remark::NeverReached => b": never reached",
-        Remark::Unset { .. } => b": ",
-        Remark::Computed { .. } => b": ",
-        Remark::VeryBusy { .. } => b": ",
-        Remark::Dead { .. } => b": assignment to ",
-    }
-}
-
 // What a line says behind what the remark names, up to its end.
 fn words_to_end(remark: Remark) -> &'static [u8]
     ensures { result.now ≡ words_behind remark ++ codes "\n" }
@@ -69,14 +58,27 @@ fn words_to_end(remark: Remark) -> &'static [u8]
     }
 }
 
-// A remark as a line of the report that begins with this number, in as few pieces as it has: some programs have half a million.
+// Writes what a remark says before what it names; most say nothing there.
+fn write_before_name<K: Sink>(out: &mut Pieces<'_, K>, remark: Remark)
+    requires { IsOpen (outlet K.contents K.faults out.old) }
+    ensures same_reference { out.new.sink.ghost_name ≡ out.old.sink.ghost_name }
+    ensures takes { Takes (outlet K.contents K.faults out.old) (outlet K.contents K.faults out.new) (words_before remark) }
+{
+    let words = words_before_name(remark);
+    if words.is_empty() {
+        return;
+    }
+    out.write(words);
+}
+
+// A remark as a line of the report that begins with these bytes, in as few pieces as it has: some programs have half a million.
 #[derive(Clone, Copy)]
 struct ReportLine<'a> {
-    number: &'a [u8],
+    head: &'a [u8],
 }
 
 impl RemarkForm for ReportLine<'_> {
-    ghost text = { λ line program _ remark. numbered_line line.number.now program remark };
+    ghost text = { λ line program _ remark. line_behind line.head.now program remark };
 
     fn write_remark<K: Sink>(
         &self,
@@ -85,15 +87,39 @@ impl RemarkForm for ReportLine<'_> {
         _point: u32,
         remark: Remark,
     ) {
-        out.write(self.number);
-        out.write(words_behind_number(remark));
+        out.write(self.head);
+        write_before_name(out, remark);
         out.write(found.name(remark));
         out.write(words_to_end(remark));
     }
 }
 
+// Puts bytes into a buffer behind those that are there, and tells where they end.
+fn put_behind(buffer: &mut [u8], filled: usize, bytes: &[u8]) -> usize
+    requires { filled + length bytes.now ≤ length buffer.old }
+    ensures room { length buffer.new ≡ length buffer.old }
+    ensures end { result ≡ filled + length bytes.now }
+    ensures bytes { take result buffer.new ≡ take filled buffer.old ++ bytes.now }
+{
+    let end = filled + bytes.len();
+    buffer[filled..end].copy_from_slice(bytes);
+    end
+}
+
 impl Findings<'_> {
-    // Writes the lines of a point. Its number is made once for all of them.
+    // Writes the lines of a point behind what each of them begins with.
+    fn write_lines<K: Sink>(&self, out: &mut Pieces<'_, K>, point: u32, head: &[u8])
+        requires ready { IsOpen (outlet K.contents K.faults out.old) }
+        requires found { AreFindings self.now }
+        requires point { point < point_count self.now.graph.now }
+        requires head { head.now ≡ decimal (line_at self.now.graph.now point) ++ codes ": " }
+        ensures same_reference { out.new.sink.ghost_name ≡ out.old.sink.ghost_name }
+        ensures takes { Takes (outlet K.contents K.faults out.old) (outlet K.contents K.faults out.new) (lines_at self.now.graph.now (knowledge_of self.now) point) }
+    {
+        self.write_remarks(&ReportLine { head }, out, point);
+    }
+
+    // Writes the lines of a point. What they begin with is made once for all of them.
     fn write_point<K: Sink>(&self, out: &mut Pieces<'_, K>, point: u32)
         requires ready { IsOpen (outlet K.contents K.faults out.old) }
         requires found { AreFindings self.now }
@@ -102,8 +128,11 @@ impl Findings<'_> {
         ensures takes { Takes (outlet K.contents K.faults out.old) (outlet K.contents K.faults out.new) (lines_at self.now.graph.now (knowledge_of self.now) point) }
     {
         let mut digits = Buffer::new();
+        let mut room = [0; 42];
         let number = digits.format(line(self.graph, point)).as_bytes();
-        self.write_remarks(&ReportLine { number }, out, point);
+        let end = put_behind(&mut room, 0, number);
+        let end = put_behind(&mut room, end, b": ");
+        self.write_lines(out, point, &room[..end]);
     }
 
     // Writes the report.

@@ -68,9 +68,9 @@ words_behind (Computed bit) = codes " is already computed"
 words_behind (VeryBusy bit) = codes " is very busy"
 words_behind (Dead variable) = codes " is dead"
 
--- a remark's line that begins with these digits
-abbrev pub numbered_line : List ℕ → Program → Remark → List ℕ
-numbered_line number program remark = number ++ codes ": " ++ remark_text program remark ++ codes "\n"
+-- a remark's line behind what it begins with
+abbrev pub line_behind : List ℕ → Program → Remark → List ℕ
+line_behind head program remark = head ++ remark_text program remark ++ codes "\n"
 
 -- the texts that the numbers have which pass a test
 abbrev pub texts_where : (ℕ → List ℕ) → (ℕ → Bool) → List ℕ → List ℕ
