@@ -1,5 +1,5 @@
 -- Solved words and a block of them tell an analysis's table.
-use Rattle.std.proofs.Common.{◌≡◌, ◌↔◌, ℕ, ◌+◌, ◌*◌, ◌<◌, ◌≤◌, min, inl, inr, Bool, true, ◌&&◌, nat_lt, List, refl, sym, subst, arith}
+use Rattle.std.proofs.Common.{◌≡◌, ◌↔◌, ℕ, ◌+◌, ◌*◌, ◌<◌, ◌≤◌, min, inl, inr, Bool, true, ◌&&◌, nat_lt, List, ◌++◌, length, refl, sym, subst, arith}
 use Rattle.std.specs.Prelude.{bit_xor}
 use Rattle.std.proofs.lemmas.Bool.{cases_lt}
 use Rattle.bit_rows.specs.Words.{has_bit}
@@ -11,9 +11,11 @@ use Rattle.flow_graph.specs.Universes.{bits as bits_of}
 use Rattle.flow_graph.proofs.graphs.MayForms.{flags_are_may_forms, may_tables_are_may_forms, must_tables_are_may_forms}
 use Rattle.gk_solve.specs.Solved.{AreMeetWords, HasPathFlags, SliceTable, word_at}
 use Rattle.flow_team.specs.Beginnings.{IsBeginningOf}
-use Rattle.flow_team.specs.code.Blocks.{AreLaid, block_table, words_for}
-use Rattle.flow_team.specs.code.FactWords.{IsFactWord}
-use Rattle.flow_team.proofs.Blocks.{laid_set}
+use Rattle.flow_graph.specs.declared.analysis.Analysis.{Analysis}
+use Rattle.tac_reader.specs.Programs.{Program}
+use Rattle.flow_team.specs.code.Blocks.{IsBlock, IsParting, block_table, words_for}
+use Rattle.flow_team.specs.code.FactWords.{AreFactWords, IsFactWord}
+use Rattle.flow_team.proofs.Blocks.{laid_block, laid_set, parts_laid}
 use Rattle.flow_team.proofs.Turns.{has_bit-xor, turned_place}
 
 -- a solved word, turned where the analysis is over every path
@@ -43,7 +45,7 @@ group_end bits end word until end_is there most last whole = elim (cases_lt (64 
 
 -- a block of such words is the beginning of the table
 pub block_is_beginning : (form : MayForm) (limit : ℕ) (flags : List Bool) (words : List ℕ) → limit ≤ bits_of form.program form.analysis → HasPathFlags form flags
-    → AreLaid (IsFactWord form.program form.analysis limit) (point_count form.program) (words_for limit) (words_for limit) words
+    → AreFactWords form.program form.analysis limit 0 (words_for limit) words
     → IsBeginningOf form.program (record { analysis = form.analysis; rows = block_table limit flags words })
 block_is_beginning form limit flags words within paths laid = record {
   from_first = refl;
@@ -56,3 +58,17 @@ block_is_beginning form limit flags words within paths laid = record {
   sets = λ point bit there below.
       laid_set (point_count form.program) limit (IsInTable form.program form.analysis) words laid flags paths.count point bit there below;
 }
+
+-- two blocks of such words, the second behind the first, are one
+module _ (program : Program) (analysis : Analysis) (limit parting : ℕ) (flags : List Bool) (words more : List ℕ)
+    (parts : IsParting limit parting) (paths : HasPathFlags (record { program = program; analysis = analysis }) flags)
+    (before : AreFactWords program analysis limit 0 parting words) (behind : AreFactWords program analysis limit parting (words_for limit) more) where
+  all : AreFactWords program analysis limit 0 (words_for limit) (words ++ more)
+  all = parts_laid (IsFactWord program analysis limit) (point_count program) limit parting words more parts before behind
+
+  pub two_are_block : IsBlock (length flags) limit (words ++ more)
+  two_are_block =
+      subst (λ n. IsBlock n limit (words ++ more)) (sym paths.count) (laid_block (point_count program) limit (IsInTable program analysis) (words ++ more) all)
+
+  pub two_are_beginning : limit ≤ bits_of program analysis → IsBeginningOf program (record { analysis = analysis; rows = block_table limit flags (words ++ more) })
+  two_are_beginning within = block_is_beginning (record { program = program; analysis = analysis }) limit flags (words ++ more) within paths all

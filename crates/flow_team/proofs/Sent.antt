@@ -53,8 +53,10 @@ pub ruleset solver_crosses = (solver_send, solver_sync, crosses, sendable)
 sets_send : (g p : NamedLft) → IsSend (GraphSets.the_row g p)
 sets_send g p = search (solver_send, crosses, sendable) depth 60
 
-sets_sync : (g p : NamedLft) → IsSync (GraphSets.the_row g p)
+pub sets_sync : (g p : NamedLft) → IsSync (GraphSets.the_row g p)
 sets_sync g p = search (solver_sync, crosses, sendable) depth 60
+
+pub ruleset sets_cross = (sets_sync, crosses, sendable)
 
 pub first_send : (g p : NamedLft) → IsSend (FirstBits.the_row g p)
 first_send g p = search (sets_send, crosses, sendable) depth 60

@@ -3,6 +3,7 @@
 //! What is proved of tables stands in `laws`: there is nothing in it to run.
 #![tactic(auto)]
 
+mod apart;
 mod fault;
 mod first_bits;
 mod first_job;

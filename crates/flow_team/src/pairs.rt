@@ -5,6 +5,7 @@ ghost use Rattle.flow_graph.specs.Universes.{bits as bits_of};
 ghost use Rattle.flow_team.specs.Beginnings.{IsBeginningOf};
 
 use crate::OutOfMemory;
+use crate::apart::words_apart;
 use crate::fault::TeamFault;
 use crate::gate::OpenGate;
 use crate::halves::{Half, side_by_side};
@@ -16,25 +17,6 @@ use bit_rows::Cut;
 use flow_graph::{Analysis, Graph};
 use std::alloc::Global;
 use std::thread::Threads;
-
-// An analysis, of which one worker solves so many first bits at once.
-#[derive(Clone, Copy)]
-struct Alone<'g, 'p> {
-    graph: &'g Graph<'p>,
-    analysis: Analysis,
-    bits: u32,
-}
-
-impl<'g, 'p> Half<WordBlock> for Alone<'g, 'p> {
-    ghost is_ready = { λ alone. alone.bits ≤ bits_of alone.graph.now alone.analysis };
-
-    ghost gives = { λ alone words. (words.hi ≡ alone.bits) × IsBeginningOf alone.graph.now (record { analysis = alone.analysis; rows = words }) };
-
-    fn find<R: Threads + Sync>(self, _rt: &R, alloc: Global) -> Result<WordBlock, OutOfMemory> {
-        let (words, _) = GraphSets::first_words(alloc, self.graph, self.analysis, self.bits)?;
-        Ok(words)
-    }
-}
 
 // So many first bits of two analyses of one direction, one after the other; the edges of the direction are found once.
 fn words_in_turn(
@@ -54,35 +36,6 @@ fn words_in_turn(
     let (words, routes) = GraphSets::first_words(alloc, graph, analysis, bits)?;
     let (more, _) = GraphSets::first_words_over(alloc, graph, other, others, routes)?;
     Ok((words, more))
-}
-
-// The same, each analysis on a thread of its own, which finds the edges for itself.
-fn words_apart<R: Threads + Sync>(
-    rt: &R,
-    alloc: Global,
-    graph: &Graph<'_>,
-    first: (Analysis, u32),
-    second: (Analysis, u32),
-) -> Result<(WordBlock, WordBlock), OutOfMemory>
-    requires first { first.1 ≤ bits_of graph.now first.0 }
-    requires second { second.1 ≤ bits_of graph.now second.0 }
-    ensures first { IfOk result (λ words. (words.0.hi ≡ first.1) × IsBeginningOf graph.now (record { analysis = first.0; rows = words.0 })) }
-    ensures second { IfOk result (λ words. (words.1.hi ≡ second.1) × IsBeginningOf graph.now (record { analysis = second.0; rows = words.1 })) }
-{
-    let (analysis, bits) = first;
-    let first = Alone {
-        graph,
-        analysis,
-        bits,
-    };
-    let (analysis, bits) = second;
-    let second = Alone {
-        graph,
-        analysis,
-        bits,
-    };
-    let (words, more) = side_by_side(rt, alloc, first, second);
-    Ok((words?, more?))
 }
 
 // Two analyses of one direction, of each so many first bits, which one worker or two solve at once.
@@ -113,7 +66,7 @@ impl<'g, 'p> Half<(WordBlock, WordBlock)> for AlonePair<'g, 'p> {
     }
 }
 
-// The beginnings of the tables of two analyses, each found by a worker of its own.
+// The beginnings of the tables of two analyses of one direction, found by two workers.
 fn tables_apart<R: Threads + Sync>(
     rt: &R,
     alloc: Global,
@@ -123,6 +76,7 @@ fn tables_apart<R: Threads + Sync>(
 ) -> Result<(Table, Table), OutOfMemory>
     requires first { first.1 ≤ bits_of graph.now first.0 }
     requires second { second.1 ≤ bits_of graph.now second.0 }
+    requires direction { is_backward first.0 ≡ is_backward second.0 }
     ensures first { IfOk result (λ r. (r.0.analysis ≡ first.0) × (r.0.rows.hi ≡ first.1) × IsBeginningOf graph.now r.0) }
     ensures second { IfOk result (λ r. (r.1.analysis ≡ second.0) × (r.1.rows.hi ≡ second.1) × IsBeginningOf graph.now r.1) }
 {
@@ -235,8 +189,8 @@ fn told(
 /// The beginnings of the tables of two pairs of analyses, the two of a pair of one direction: of each as many of its first bits as are
 /// asked, or as its cut is of, with 0 its path flags alone. The edges of a direction, their order and the path flags are found once.
 ///
-/// Of two workers or three one finds the pair `alone`, on a new thread and all bits at once; of more two do, an analysis each. The others find
-/// the pair `shared`: one finds both analyses, two one each, and more work in slices of its cuts, as the workers of [`crate::analyse`] do.
+/// Of two workers or three one finds the pair `alone`, on a new thread and all bits at once; of more two do, half of the words each. The others find
+/// the pair `shared`: one finds all bits at once, two half of the words each, and more work in slices of its cuts, as the workers of [`crate::analyse`] do.
 /// A single worker starts no thread, and finds one pair after the other.
 ///
 /// The conditions: each analysis has so many bits, and the two of a pair are both forward, or both backward.

@@ -5,12 +5,14 @@ ghost use Rattle.flow_graph.specs.Universes.{bits as bits_of};
 ghost use Rattle.gk_solve.specs.Solved.{HasPathFlags, IsMeetOverPaths, IsSliceOf, direction_of};
 ghost use Rattle.flow_team.specs.Sets.{HasMayPath, IsInMaySet};
 ghost use Rattle.flow_team.specs.Beginnings.{IsBeginningOf};
+ghost use Rattle.flow_team.specs.code.Blocks.{IsParting};
+ghost use Rattle.flow_team.specs.code.FactWords.{AreFactWords};
 
 use crate::OutOfMemory;
 use crate::solve::Solve;
 use crate::table::Table;
 use crate::turned_words::TurnedWords;
-use crate::word_block::WordBlock;
+use crate::word_block::{WordBlock, solved_words};
 use flow_graph::{Analysis, Graph, Problem};
 use gk_solve::{Routes, SliceWords, Solver};
 use slice_board::{PostedWords, Wanted};
@@ -136,6 +138,23 @@ impl<'g, 'p> GraphSets<'g, 'p> {
     {
         let sets = GraphSets::over(alloc, graph, analysis, routes)?;
         sets.words_with_routes(alloc, bits)
+    }
+
+    /// The words of the first bits of the analysis's table from one on up to another.
+    pub(crate) fn words(
+        &self,
+        alloc: Global,
+        bits: u32,
+        from: u32,
+        until: u32,
+    ) -> Result<Vec<u64>, OutOfMemory>
+        requires bits { bits ≤ bits_of self.now.program self.now.analysis }
+        requires from { IsParting bits from }
+        requires until { IsParting bits until }
+        requires ordered { from ≤ until }
+        ensures { IfOk result (λ words. AreFactWords self.now.program self.now.analysis bits from until words.items) }
+    {
+        solved_words(alloc, &self.solver, bits, from, until)
     }
 }
 

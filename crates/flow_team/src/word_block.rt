@@ -1,14 +1,13 @@
 // The sets of all points as words in one block.
-ghost use Rattle.std.specs.Prelude.{◌≡◌, ℕ, ◌+◌, ◌-◌, ◌*◌, ◌/◌, ◌^◌, ◌<◌, ◌≤◌, ◌&&◌, nat_lt, bit_xor, length, slice_index, vec_len, vec_capacity, IfOk};
+ghost use Rattle.std.specs.Prelude.{◌≡◌, ℕ, ◌+◌, ◌-◌, ◌*◌, ◌/◌, ◌^◌, ◌<◌, ◌≤◌, ◌&&◌, ◌++◌, nat_lt, bit_xor, length, slice_index, vec_len, vec_capacity, IfOk};
 ghost use Rattle.bit_rows.specs.RowSet.{IsWordOf};
 ghost use Rattle.bit_rows.specs.RowTable.{flag_at, set_at};
 ghost use Rattle.bit_rows.specs.Words.{has_bit};
-ghost use Rattle.flow_graph.specs.Points.{point_count};
 ghost use Rattle.flow_graph.specs.Universes.{bits as bits_of};
 ghost use Rattle.gk_solve.specs.Solved.{word_at};
 ghost use Rattle.flow_team.specs.Beginnings.{IsBeginningOf};
-ghost use Rattle.flow_team.specs.code.Blocks.{Appends, AppendsRows, AreLaid, words_for};
-ghost use Rattle.flow_team.specs.code.FactWords.{IsFactWord};
+ghost use Rattle.flow_team.specs.code.Blocks.{Appends, AppendsRows, IsBlock, IsParting, block_table};
+ghost use Rattle.flow_team.specs.code.FactWords.{AreFactWords};
 
 use crate::OutOfMemory;
 use crate::turned_words::turned_word;
@@ -19,25 +18,38 @@ use std::marker::Model;
 // How many words of a point stand side by side: as many as are solved at once.
 const WIDTH: u32 = 4;
 
-/// A flag and a set of the bits `0..bits` for each point. The sets' words stand in one block: group by group of 4 words, and in each
-/// group point by point, so that each group is put behind the last as soon as it is solved.
-#[derive(Drop)]
+/// A flag and a set of the bits `0..bits` for each point. The sets' words stand one behind the other: group by group of 4 words, and in
+/// each group point by point, so that each group is put behind the last as soon as it is solved. They stand in one block, or in two where
+/// two workers found them.
 pub(crate) struct WordBlock {
     bits: u32,
     flags: Vec<bool>,
     words: Vec<u64>,
+    more: Vec<u64>,
 }
 
 impl Model for WordBlock {
-    ghost use Rattle.std.specs.Prelude.{length};
+    ghost use Rattle.std.specs.Prelude.{length, ◌++◌};
     ghost use Rattle.bit_rows.specs.RowTable.{RowTable};
     ghost use Rattle.flow_team.specs.code.Blocks.{IsBlock, block_table};
 
     ghost Value = { RowTable };
 
-    ghost view = { λ t. block_table t.bits t.flags.items t.words.items };
+    ghost view = { λ t. block_table t.bits t.flags.items (t.words.items ++ t.more.items) };
 
-    ghost invariant = { λ t. IsBlock (length t.flags.items) t.bits t.words.items };
+    ghost invariant = { λ t. IsBlock (length t.flags.items) t.bits (t.words.items ++ t.more.items) };
+}
+
+impl Drop for WordBlock {
+    // By hand: who gives a block up then makes one call.
+    fn drop(self) {
+        let WordBlock {
+            bits: _,
+            flags: _,
+            words: _,
+            more: _,
+        } = self;
+    }
 }
 
 // By what the words of a group are turned.
@@ -81,27 +93,48 @@ fn put_group(slice: &SliceWords, turned: &[u64], words: &mut Vec<u64>)
     }
 }
 
-// The words of the bits `0..bits`, group by group as they are solved.
-fn solved_words(alloc: Global, solver: &Solver<'_, '_>, bits: u32) -> Result<Vec<u64>, OutOfMemory>
-    requires { bits ≤ bits_of solver.now.program solver.now.analysis }
-    ensures { IfOk result (λ words. AreLaid (IsFactWord solver.now.program solver.now.analysis bits) (point_count solver.now.program)
-        (words_for bits) (words_for bits) words.items) }
+/// What a solver finds of the words from one on up to another, of the bits `0..bits`: group by group as they are solved, turned where
+/// the analysis is over every path.
+pub(crate) fn solved_words(
+    alloc: Global,
+    solver: &Solver<'_, '_>,
+    bits: u32,
+    from: u32,
+    until: u32,
+) -> Result<Vec<u64>, OutOfMemory>
+    requires bits { bits ≤ bits_of solver.now.program solver.now.analysis }
+    requires from { IsParting bits from }
+    requires until { IsParting bits until }
+    requires ordered { from ≤ until }
+    ensures { IfOk result (λ words. AreFactWords solver.now.program solver.now.analysis bits from until words.items) }
 {
     let problem = solver.problem();
     let must = problem.complements();
-    let end = bits.div_ceil(64);
-    let mut words = Vec::with_capacity(alloc, end as usize * problem.points() as usize)?;
-    if bits == 0 {
+    let count = (until - from) as usize;
+    let mut words = Vec::with_capacity(alloc, count * problem.points() as usize)?;
+    if count == 0 {
         return Ok(words);
     }
     let mut slice = solver.slice(alloc, 0, bits)?;
-    let mut word = 0;
-    'groups: while word < end {
-        let until = solver.solve_from(&mut slice, word);
+    let mut word = from;
+    'groups: while word < until {
+        let next = solver.solve_from(&mut slice, word);
         put_group(&slice, &turned_words(bits, must, word), &mut words);
-        word = until;
+        word = next;
     }
     Ok(words)
+}
+
+// The word at a place of two blocks, the second of which stands behind the first.
+fn word_of_both(words: &[u64], more: &[u64], place: usize) -> u64
+    requires { place < length words.now + length more.now }
+    ensures { result ≡ slice_index (words.now ++ more.now) place }
+{
+    if place < words.len() {
+        words[place]
+    } else {
+        more[place - words.len()]
+    }
 }
 
 impl WordBlock {
@@ -116,8 +149,21 @@ impl WordBlock {
         ensures bits { IfOk result (λ words. words.hi ≡ bits) }
     {
         let flags = solver.flags(alloc)?;
-        let words = solved_words(alloc, solver, bits)?;
-        Ok(WordBlock { bits, flags, words })
+        let words = solved_words(alloc, solver, bits, 0, bits.div_ceil(64))?;
+        Ok(WordBlock::of_two(bits, flags, words, Vec::new(alloc)))
+    }
+
+    /// The sets of the bits `0..bits` whose words stand in these two blocks, one behind the other.
+    pub(crate) fn of_two(bits: u32, flags: Vec<bool>, words: Vec<u64>, more: Vec<u64>) -> WordBlock
+        requires { IsBlock (length flags.items) bits (words.items ++ more.items) }
+        ensures { result ≡ block_table bits flags.items (words.items ++ more.items) }
+    {
+        WordBlock {
+            bits,
+            flags,
+            words,
+            more,
+        }
     }
 
     /// The point's path flag.
@@ -140,6 +186,6 @@ impl WordBlock {
         let first = WIDTH * (word / WIDTH);
         let width = (count - first).min(WIDTH);
         let row = first as usize * self.flags.len() + point as usize * width as usize;
-        self.words[row + (word % WIDTH) as usize]
+        word_of_both(&self.words, &self.more, row + (word % WIDTH) as usize)
     }
 }

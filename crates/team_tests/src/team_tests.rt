@@ -9,7 +9,7 @@ ghost use Rattle.flow_team.specs.Tables.{IsTableOf};
 use crate::gates::Recorder;
 use crate::texts::{
     Ask, RECURSIVE, RECURSIVE_REACH, asked, beginning, lines, printed, prints, slices, slices_at,
-    slices_of, summed, sums, words,
+    slices_of, stepped, steps, summed, sums, words,
 };
 use bit_rows::Cut;
 use flow_graph::{Analysis, Graph};
@@ -426,6 +426,52 @@ fn two_pairs_of_tables(rt: HostRuntime) -> Result<(), Fail> {
                 "{reach} and {avail} bits, {workers} workers"
             );
         }
+    }
+    Ok(())
+}
+
+// So many sums have nine words, of which one worker finds eight and the other the last.
+const PARTED_BITS: u32 = 520;
+
+// The lines of both pairs where nothing of reaching definitions is asked, by so many workers.
+fn check_parted<R: Threads + Sync + Abort>(
+    rt: &R,
+    alloc: Global,
+    text: &str,
+    want: &str,
+    workers: u32,
+) -> Result<(), Fail> {
+    let how = Pairs {
+        reach: 0,
+        avail: PARTED_BITS,
+        workers,
+    };
+    let told = asked(rt, alloc, text, &how)?;
+    assert_eq!(rt; told.as_str(), want, "{workers} workers");
+    Ok(())
+}
+
+// The lines of a table of no bits, of so many points that all have paths.
+fn no_bits(alloc: Global, points: u32) -> Result<String, OutOfMemory> {
+    let mut text = String::new(alloc);
+    for point in 0..points {
+        write!(text, "{point}:\n")?;
+    }
+    Ok(text)
+}
+
+#[test]
+fn two_workers_part_the_words(rt: HostRuntime) -> Result<(), Fail> {
+    let alloc = rt.alloc();
+    let text = steps(alloc, PARTED_BITS)?;
+    let mut want = stepped(alloc, PARTED_BITS)?;
+    // what is very busy is what is evaluated from there on, as what is printed is live
+    want.push_str(printed(alloc, PARTED_BITS)?.as_str())?;
+    want.push_str(no_bits(alloc, PARTED_BITS + 1)?.as_str())?;
+    want.push_str(summed(alloc, PARTED_BITS)?.as_str())?;
+    // by three the second pair is parted, by four both are
+    for workers in [1, 2, 3, 4] {
+        check_parted(&rt, alloc, text.as_str(), want.as_str(), workers)?;
     }
     Ok(())
 }

@@ -59,7 +59,28 @@ pub fn sums(alloc: Global, count: u32) -> Result<String, OutOfMemory> {
     Ok(text)
 }
 
-/// What is available there: at each point the sums that are evaluated before it.
+/// `main` that evaluates so many sums of one variable, one after the other.
+pub fn steps(alloc: Global, count: u32) -> Result<String, OutOfMemory> {
+    let mut text = String::new(alloc);
+    text.push_str("proc main\n")?;
+    for number in 0..count {
+        write!(text, "x = v + {number}\n")?;
+    }
+    text.push_str("end\n")?;
+    Ok(text)
+}
+
+/// What is live there: before the last sum `v`, the second variable.
+pub fn stepped(alloc: Global, count: u32) -> Result<String, OutOfMemory> {
+    let mut text = String::new(alloc);
+    for point in 0..count {
+        write!(text, "{point}: 1\n")?;
+    }
+    write!(text, "{count}:\n")?;
+    Ok(text)
+}
+
+/// What is available in texts of sums: at each point those that are evaluated before it.
 pub fn summed(alloc: Global, count: u32) -> Result<String, OutOfMemory> {
     let mut text = String::new(alloc);
     for point in 0..=count {

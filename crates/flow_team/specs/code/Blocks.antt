@@ -1,4 +1,4 @@
--- Sets of bits whose words stand in one block: group by group of 4 words, and in each group point by point.
+-- Sets of bits whose words stand one behind the other: group by group of 4 words, and in each group point by point.
 use Rattle.std.specs.Prelude.{◌≡◌, ℕ, ◌+◌, ◌-◌, ◌*◌, ◌/◌, ◌%◌, ◌<◌, ◌≤◌, min, Bool, false, List, length, map, slice_index}
 use Rattle.std.specs.List.{range_with_len}
 use Rattle.bit_rows.specs.RowSet.{RowSet, set_of}
@@ -39,10 +39,15 @@ pub record IsBlock (points bits : ℕ) (words : List ℕ) : Type 0 where
   pub clear : (point word k : ℕ) → point < points → word < words_for bits → k < 64 → bits ≤ 64 * word + k
       → has_bit (word_in points bits words point word) k ≡ false
 
--- The words up to a limit are told at each point, and no others stand there.
-pub record AreLaid (tells : ℕ → ℕ → ℕ → Type 0) (points count limit : ℕ) (words : List ℕ) : Type 0 where
-  pub size : length words ≡ limit * points
-  pub told : (point word : ℕ) → point < points → word < limit → tells point word (slice_index words (place_of points count point word))
+-- At a word the words part: it begins a group, or is behind the last.
+abbrev pub IsParting : ℕ → ℕ → Type 0
+IsParting bits word = (word ≤ words_for bits) × (word < words_for bits → 4 * (word / 4) ≡ word)
+
+-- The words from one on up to a limit are told at each point, and no others stand there.
+pub record AreLaid (tells : ℕ → ℕ → ℕ → Type 0) (points count from limit : ℕ) (words : List ℕ) : Type 0 where
+  pub size : length words + from * points ≡ limit * points
+  pub told : (point word : ℕ) → point < points → from ≤ word → word < limit
+      → tells point word (slice_index words (place_of points count point word - from * points))
 
 -- So many values stand behind what was there.
 pub record Appends (count : ℕ) (value : ℕ → ℕ) (old new : List ℕ) : Type 0 where
