@@ -233,7 +233,8 @@ pub fn variables(
     ensures numbered { IfOk result (λ found. All (IsNumberedIn text.now found.0) (found.1).items) }
 {
     let mut table = NameTable::new(alloc);
-    let mut occurrences = Vec::new(alloc);
+    // Room for what most texts have, as for their tokens.
+    let mut occurrences = Vec::with_capacity(alloc, text.len() / 8)?;
     let mut found = Vec::new(alloc);
     for section in sections {
         found.clear();
