@@ -6,7 +6,7 @@ ghost use Rattle.tac_reader.specs.code.Occurrences.{IsNumberedIn};
 ghost use Rattle.tac_reader.specs.code.Procedures.{labels_at};
 ghost use Rattle.tac_reader.specs.Programs.{label_places, labels_from, names_in, noted, procedure_of, procedures_from, start_of as start_in, statement_of, variables_in};
 ghost use Rattle.tac_reader.specs.code.SectionViews.{lines_view, section_view, sections_view};
-ghost use Rattle.tac_reader.specs.Sections.{labels_in, only_name, statements_of};
+ghost use Rattle.tac_reader.specs.Sections.{labels_in, only_name, statements_of, variables_of};
 ghost use Rattle.tac_reader.specs.Sound.{IsSound};
 ghost use Rattle.tac_reader.specs.code.Views.{tokens_view};
 
@@ -18,8 +18,8 @@ use crate::name_hashers::NameSeeds;
 use crate::names::NameTable;
 use crate::occurrences::{Occurrence, Variables};
 use crate::program::{Label, Proc, Program, Span, Stmt};
-use crate::section::{Section, section_cells};
-use crate::statement::Role;
+use crate::section::Section;
+use crate::statement::{Role, cells, has_only_variables};
 use crate::token::{Token, TokenKind};
 use std::alloc::{AllocError, Global};
 
@@ -221,6 +221,54 @@ fn note_names(
     Ok(())
 }
 
+/// Adds the variables of a statement, and where each stands. What `found` holds is lost.
+fn note_statement(
+    alloc: Global,
+    seeds: &mut NameSeeds<'_>,
+    table: &mut NameTable,
+    occurrences: &mut Vec<Occurrence>,
+    text: &[u8],
+    statement: Statement<'_>,
+    found: &mut Vec<Token>,
+) -> Result<(), AllocError>
+    requires { All (IsNumberedIn text.now table.old) occurrences.old.items }
+    ensures noted { OnOk result (table.new ≡ fold noted table.old (names_in (variables_of (tokens_view text.now statement.entry.tokens.now)))) }
+    ensures numbered { OnOk result (All (IsNumberedIn text.now table.new) occurrences.new.items) }
+{
+    match statement.form() {
+        // Most statements: there is no need to go along their form.
+        Some(form) if has_only_variables(form) => {
+            note_names(alloc, seeds, table, occurrences, text, statement.tokens)
+        }
+        _ => {
+            found.clear();
+            cells(found, Role::Variable, statement)?;
+            note_names(alloc, seeds, table, occurrences, text, found)
+        }
+    }
+}
+
+/// Adds the variables of the lines' statements, and where each stands. What `found` holds is lost.
+fn note_lines(
+    alloc: Global,
+    seeds: &mut NameSeeds<'_>,
+    table: &mut NameTable,
+    occurrences: &mut Vec<Occurrence>,
+    text: &[u8],
+    lines: Lines<'_>,
+    found: &mut Vec<Token>,
+) -> Result<(), AllocError>
+    requires { All (IsNumberedIn text.now table.old) occurrences.old.items }
+    ensures noted { OnOk result (table.new ≡ fold noted table.old (names_in (flat_map variables_of (statements_of (lines_view text.now lines.entry))))) }
+    ensures numbered { OnOk result (All (IsNumberedIn text.now table.new) occurrences.new.items) }
+{
+    for at in 0..lines.len() {
+        let statement = lines.line(at).statement();
+        note_statement(alloc, seeds, table, occurrences, text, statement, found)?;
+    }
+    Ok(())
+}
+
 /// The variables of the sections' statements, by first occurrence, and all their occurrences in text
 /// order. Fails where memory does.
 pub fn variables(
@@ -237,9 +285,15 @@ pub fn variables(
     let mut occurrences = Vec::with_capacity(alloc, text.len() / 8)?;
     let mut found = Vec::new(alloc);
     for section in sections {
-        found.clear();
-        section_cells(&mut found, Role::Variable, section.lines)?;
-        note_names(alloc, seeds, &mut table, &mut occurrences, text, &found)?;
+        note_lines(
+            alloc,
+            seeds,
+            &mut table,
+            &mut occurrences,
+            text,
+            section.lines,
+            &mut found,
+        )?;
     }
     Ok((table, occurrences))
 }
