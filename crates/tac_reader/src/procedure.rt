@@ -263,8 +263,10 @@ fn note_lines(
     ensures numbered { OnOk result (All (IsNumberedIn text.now table.new) occurrences.new.items) }
 {
     for at in 0..lines.len() {
-        let statement = lines.line(at).statement();
-        note_statement(alloc, seeds, table, occurrences, text, statement, found)?;
+        if lines.plays(at, Role::Variable) {
+            let statement = lines.line(at).statement();
+            note_statement(alloc, seeds, table, occurrences, text, statement, found)?;
+        }
     }
     Ok(())
 }

@@ -8,7 +8,6 @@ use Rattle.tac_reader.specs.Programs.{names_in, noted}
 use Rattle.tac_reader.specs.Sections.{Section, spelling_of, statements_of, variables_of}
 use Rattle.tac_reader.specs.code.Ranges.{range_view}
 use Rattle.tac_reader.specs.code.SectionViews.{section_view, sections_view}
-use Rattle.tac_reader.specs.code.Views.{tokens_view}
 use Rattle.tac_reader.specs.declared.lexed.LineRange.{LineRange}
 use Rattle.tac_reader.specs.declared.section.Section.{Section as Read}
 use Rattle.tac_reader.specs.declared.token.Token.{Token as Lexed}
@@ -25,11 +24,11 @@ abbrev line_names : List (List Token) → List Token
 line_names lines = flat_map variables_of (statements_of lines)
 
 -- The names of one line more.
-pub noted_line : (text : List ℕ) (all : List Lexed) (lines : List LineRange) (at : ℕ) (d : LineRange) (tokens : List Lexed) (table next whole : List (List ℕ)) → at < length lines → tokens_view text tokens ≡ behind_labels (range_view text all (slice_index_or lines at d)) → next ≡ fold noted table (names_in (variables_of (tokens_view text tokens))) → fold noted table (names_in (line_names (map (range_view text all) (drop at lines)))) ≡ whole → fold noted next (names_in (line_names (map (range_view text all) (drop (at + 1) lines)))) ≡ whole
-noted_line text all lines at d tokens table next whole below behind grown before =
-    let these = variables_of (tokens_view text tokens) in
+pub noted_line : (text : List ℕ) (all : List Lexed) (lines : List LineRange) (at : ℕ) (d : LineRange) (table next whole : List (List ℕ)) → at < length lines → next ≡ fold noted table (names_in (variables_of (behind_labels (range_view text all (slice_index_or lines at d))))) → fold noted table (names_in (line_names (map (range_view text all) (drop at lines)))) ≡ whole → fold noted next (names_in (line_names (map (range_view text all) (drop (at + 1) lines)))) ≡ whole
+noted_line text all lines at d table next whole below grown before =
+    let these = variables_of (behind_labels (range_view text all (slice_index_or lines at d))) in
     noted_both these (line_names (map (range_view text all) (drop (at + 1) lines))) table next grown
-    ∙ ap (λ ts. fold noted table (names_in ts)) (parts_on text all variables_of refl lines at d [] these _ below (ap variables_of behind) refl)
+    ∙ ap (λ ts. fold noted table (names_in ts)) (parts_on text all variables_of refl lines at d [] these _ below refl refl)
     ∙ before
 
 abbrev section_names : Section → List Token
