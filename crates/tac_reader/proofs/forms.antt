@@ -6,4 +6,5 @@ pub mod LineForms
 pub mod Rows
 pub mod Shapes
 pub mod Table
+pub mod VariableForms
 pub mod Walks

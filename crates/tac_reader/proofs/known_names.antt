@@ -1,4 +1,5 @@
 pub mod FoundNames
+pub mod KeptNumbers
 pub mod KnownNames
 pub mod NameFaults
 pub mod NameTexts

@@ -2,6 +2,7 @@ pub mod Built
 pub mod Formed
 pub mod Lexed
 pub mod Names
+pub mod Occurrences
 pub mod Procedures
 pub mod Ranges
 pub mod ReadFaults

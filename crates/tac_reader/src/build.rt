@@ -11,6 +11,7 @@ ghost use Rattle.tac_reader.specs.declared.program.StmtKind.TheVariants.{Binary,
 use crate::form::Form;
 use crate::formed::Statement;
 use crate::names::NameTable;
+use crate::occurrences::Variables;
 use crate::piece::number_value;
 use crate::program::{Callees, Op, Operand, StmtKind};
 use crate::statement::{Role, cells};
@@ -21,8 +22,16 @@ use std::alloc::AllocError;
 #[derive(Clone, Copy)]
 pub struct Names<'a> {
     pub procedures: &'a NameTable,
-    pub variables: &'a NameTable,
+    pub variables: Variables<'a>,
     pub labels: &'a NameTable,
+}
+
+/// What goes from one statement to the next: how many occurrences of variables are passed, and a
+/// buffer.
+#[derive(Drop)]
+pub struct Progress {
+    pub passed: usize,
+    pub found: Vec<Token>,
 }
 
 /// The number of a name, or 0 where it is not there.
@@ -42,14 +51,26 @@ fn number_at(table: &NameTable, text: &[u8], tokens: &[Token], at: usize) -> u32
     }
 }
 
+/// The number of the variable that the token there names.
+fn variable_at(variables: Variables<'_>, passed: &mut usize, tokens: &[Token], at: usize) -> u32
+    ensures { result ≡ number_of variables.entry.table.now (bytes_of (word_nth (tokens_view variables.entry.text.now tokens.now) at)) }
+{
+    if let Some(token) = tokens.get(at) {
+        if let TokenKind::Name = token.kind {
+            return variables.number(passed, *token);
+        }
+    }
+    number_at(variables.table, variables.text, tokens, at)
+}
+
 /// The operand that stands there.
-fn operand_at(names: Names<'_>, text: &[u8], tokens: &[Token], at: usize) -> Operand
-    ensures { result ≡ operand_of (names_view names.entry) (word_nth (tokens_view text.now tokens.now) at) }
+fn operand_at(names: Names<'_>, passed: &mut usize, tokens: &[Token], at: usize) -> Operand
+    ensures { result ≡ operand_of (names_view names.entry) (word_nth (tokens_view names.entry.variables.text.now tokens.now) at) }
 {
     match tokens.get(at) {
         Some(token) => match token.kind {
-            TokenKind::Name => Operand::Variable(number(names.variables, token.bytes(text))),
-            TokenKind::Number => Operand::Number(number_value(token.bytes(text))),
+            TokenKind::Name => Operand::Variable(names.variables.number(passed, *token)),
+            TokenKind::Number => Operand::Number(number_value(token.bytes(names.variables.text))),
             _ => Operand::Number(0),
         },
         None => Operand::Number(0),
@@ -70,26 +91,26 @@ fn operator_at(tokens: &[Token], at: usize) -> Op
 }
 
 /// What the tokens of a binary assignment say.
-fn binary(names: Names<'_>, text: &[u8], tokens: &[Token]) -> StmtKind
-    ensures { result ≡ Binary (operator_of (word_nth (tokens_view text.now tokens.now) 3)) (number_of names.entry.variables.now (bytes_of (word_nth (tokens_view text.now tokens.now) 0))) (operand_of (names_view names.entry) (word_nth (tokens_view text.now tokens.now) 2)) (operand_of (names_view names.entry) (word_nth (tokens_view text.now tokens.now) 4)) }
+fn binary(names: Names<'_>, passed: &mut usize, tokens: &[Token]) -> StmtKind
+    ensures { result ≡ Binary (operator_of (word_nth (tokens_view names.entry.variables.text.now tokens.now) 3)) (number_of names.entry.variables.table.now (bytes_of (word_nth (tokens_view names.entry.variables.text.now tokens.now) 0))) (operand_of (names_view names.entry) (word_nth (tokens_view names.entry.variables.text.now tokens.now) 2)) (operand_of (names_view names.entry) (word_nth (tokens_view names.entry.variables.text.now tokens.now) 4)) }
 {
     StmtKind::Binary {
         op: operator_at(tokens, 3),
-        target: number_at(names.variables, text, tokens, 0),
-        left: operand_at(names, text, tokens, 2),
-        right: operand_at(names, text, tokens, 4),
+        target: variable_at(names.variables, passed, tokens, 0),
+        left: operand_at(names, passed, tokens, 2),
+        right: operand_at(names, passed, tokens, 4),
     }
 }
 
 /// What the tokens of a comparison say.
-fn comparison(names: Names<'_>, text: &[u8], tokens: &[Token]) -> StmtKind
-    ensures { result ≡ IfCompare (operator_of (word_nth (tokens_view text.now tokens.now) 2)) (number_of names.entry.labels.now (bytes_of (word_nth (tokens_view text.now tokens.now) 5))) (operand_of (names_view names.entry) (word_nth (tokens_view text.now tokens.now) 1)) (operand_of (names_view names.entry) (word_nth (tokens_view text.now tokens.now) 3)) }
+fn comparison(names: Names<'_>, passed: &mut usize, tokens: &[Token]) -> StmtKind
+    ensures { result ≡ IfCompare (operator_of (word_nth (tokens_view names.entry.variables.text.now tokens.now) 2)) (number_of names.entry.labels.now (bytes_of (word_nth (tokens_view names.entry.variables.text.now tokens.now) 5))) (operand_of (names_view names.entry) (word_nth (tokens_view names.entry.variables.text.now tokens.now) 1)) (operand_of (names_view names.entry) (word_nth (tokens_view names.entry.variables.text.now tokens.now) 3)) }
 {
     StmtKind::IfCompare {
         op: operator_at(tokens, 2),
-        label: number_at(names.labels, text, tokens, 5),
-        left: operand_at(names, text, tokens, 1),
-        right: operand_at(names, text, tokens, 3),
+        label: number_at(names.labels, names.variables.text, tokens, 5),
+        left: operand_at(names, passed, tokens, 1),
+        right: operand_at(names, passed, tokens, 3),
     }
 }
 
@@ -111,48 +132,49 @@ fn callees(
     Ok(callees)
 }
 
-/// What a statement says. What `found` holds is lost.
+/// What a statement says. What the buffer holds is lost.
 pub fn kind(
     names: Names<'_>,
-    text: &[u8],
     statement: Statement<'_>,
-    found: &mut Vec<Token>,
+    progress: &mut Progress,
 ) -> Result<StmtKind, AllocError>
-    ensures { IfOk result (λ k. k ≡ kind_of (names_view names.entry) (call_numbers names.entry.procedures.now (tokens_view text.now statement.entry.tokens.now)) (form_in (tokens_view text.now statement.entry.tokens.now)) (map (λ t. t.word) (tokens_view text.now statement.entry.tokens.now))) }
+    ensures { IfOk result (λ k. k ≡ kind_of (names_view names.entry) (call_numbers names.entry.procedures.now (tokens_view names.entry.variables.text.now statement.entry.tokens.now)) (form_in (tokens_view names.entry.variables.text.now statement.entry.tokens.now)) (map (λ t. t.word) (tokens_view names.entry.variables.text.now statement.entry.tokens.now))) }
 {
+    let Progress { passed, found } = progress;
+    let text = names.variables.text;
     let tokens = statement.tokens;
     match statement.form() {
         Some(Form::Copy) => Ok(StmtKind::Copy {
-            target: number_at(names.variables, text, tokens, 0),
-            value: operand_at(names, text, tokens, 2),
+            target: variable_at(names.variables, passed, tokens, 0),
+            value: operand_at(names, passed, tokens, 2),
         }),
         Some(Form::Unary) => Ok(StmtKind::Unary {
-            target: number_at(names.variables, text, tokens, 0),
+            target: variable_at(names.variables, passed, tokens, 0),
             op: operator_at(tokens, 2),
-            operand: operand_at(names, text, tokens, 3),
+            operand: operand_at(names, passed, tokens, 3),
         }),
-        Some(Form::Binary) => Ok(binary(names, text, tokens)),
+        Some(Form::Binary) => Ok(binary(names, passed, tokens)),
         Some(Form::Jump) => Ok(StmtKind::Goto {
             label: number_at(names.labels, text, tokens, 1),
         }),
         Some(Form::Test) => Ok(StmtKind::If {
-            condition: operand_at(names, text, tokens, 1),
+            condition: operand_at(names, passed, tokens, 1),
             label: number_at(names.labels, text, tokens, 3),
         }),
         Some(Form::NegatedTest) => Ok(StmtKind::IfFalse {
-            condition: operand_at(names, text, tokens, 1),
+            condition: operand_at(names, passed, tokens, 1),
             label: number_at(names.labels, text, tokens, 3),
         }),
-        Some(Form::Comparison) => Ok(comparison(names, text, tokens)),
+        Some(Form::Comparison) => Ok(comparison(names, passed, tokens)),
         Some(Form::Call) => Ok(StmtKind::Call {
             callees: callees(names.procedures, text, statement, found)?,
         }),
         Some(Form::Return) => Ok(StmtKind::Return),
         Some(Form::Read) => Ok(StmtKind::Read {
-            target: number_at(names.variables, text, tokens, 1),
+            target: variable_at(names.variables, passed, tokens, 1),
         }),
         Some(Form::Print) => Ok(StmtKind::Print {
-            value: operand_at(names, text, tokens, 1),
+            value: operand_at(names, passed, tokens, 1),
         }),
         Some(Form::Skip) => Ok(StmtKind::Skip),
         None => Ok(StmtKind::Skip),

@@ -40,7 +40,8 @@ pub fn note_names(
     ensures fault { IfErr result (IfFault (λ f. head_of (repeated kind names.old (tokens_view text.now tokens.now)) ≡ Some f)) }
 {
     for token in tokens {
-        if !names.insert(alloc, seeds, token.spelling(text))? {
+        let (_, is_new) = names.insert_full(alloc, seeds, token.spelling(text))?;
+        if !is_new {
             return Err(Stop::Fault(Fault {
                 kind,
                 place: token.start,

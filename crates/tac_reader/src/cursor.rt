@@ -37,13 +37,6 @@ impl<'a> LineCursor<'a> {
         }
     }
 
-    /// The text.
-    pub fn text(&self) -> &'a [u8]
-        ensures { result.now ≡ self.now }
-    {
-        self.text
-    }
-
     /// The line of a place, from 1; a place behind the text's end is on its last line. Takes as many
     /// steps as the place is behind the last one that was asked for, and else as many as it is far
     /// from the start.

@@ -87,8 +87,10 @@ pub fn lex(alloc: Global, text: &[u8]) -> Result<Lexed, Stop>
     ensures faultless { OnOk result (first_by_place (line_faults false (length text.now) (rows text.now)) ≡ None) }
     ensures fault { IfErr result (IfFault (λ f. first_by_place (line_faults false (length text.now) (rows text.now)) ≡ Some f)) }
 {
-    let mut tokens = Vec::new(alloc);
-    let mut lines = Vec::new(alloc);
+    // Room for what most texts have: a list that outgrows its room moves, and room that is not
+    // written to takes no page.
+    let mut tokens = Vec::with_capacity(alloc, text.len() / 4)?;
+    let mut lines = Vec::with_capacity(alloc, text.len() / 8)?;
     let mut row = Vec::new(alloc);
     let mut inside = false;
     let mut at = 0;

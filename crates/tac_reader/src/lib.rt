@@ -19,6 +19,7 @@ mod listings;
 mod name_hashers;
 mod name_keys;
 mod names;
+mod occurrences;
 mod piece;
 mod procedure;
 mod program;

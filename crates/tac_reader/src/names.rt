@@ -95,25 +95,27 @@ impl NameTable {
         Ok(())
     }
 
-    /// Puts a name last, unless it is there already; answers whether it was new.
-    pub fn insert(
+    /// Puts a name last, unless it is there already; answers its number, and whether it was new.
+    pub fn insert_full(
         &mut self,
         alloc: Global,
         seeds: &mut NameSeeds<'_>,
         name: &[u8],
-    ) -> Result<bool, AllocError>
+    ) -> Result<(u32, bool), AllocError>
         ensures noted { OnOk result (self.new ≡ noted self.old name.now) }
-        ensures new { IfOk result (λ new. new ≡ not (is_one_of name.now self.old)) }
+        ensures number { IfOk result (λ r. position (bytes_eq name.now) self.new ≡ Some r.0) }
+        ensures new { IfOk result (λ r. r.1 ≡ not (is_one_of name.now self.old)) }
     {
-        if self.find(name).is_some() {
-            return Ok(false);
+        if let Some(number) = self.find(name) {
+            return Ok((number, false));
         }
         if self.len() == u32::MAX {
             return Err(AllocError);
         }
         self.seed(alloc, seeds)?;
         let bytes = Vec::from_slice(alloc, name)?;
+        let number = self.len();
         let _ = self.names.insert_full(NameKey { bytes })?;
-        Ok(true)
+        Ok((number, true))
     }
 }

@@ -1,23 +1,25 @@
 // Procedures out of sections: their statements and labels by number, and the program.
 
-ghost use Rattle.std.specs.Prelude.{◌≡◌, ◌+◌, ◌*◌, ◌<◌, ◌≤◌, ◌^◌, ◌++◌, ℕ, List, length, map, fold, flat_map, IfOk, OnOk};
+ghost use Rattle.std.specs.Prelude.{All, ◌≡◌, ◌+◌, ◌*◌, ◌<◌, ◌≤◌, ◌^◌, ◌++◌, ℕ, List, length, map, fold, flat_map, IfOk, OnOk};
 ghost use Rattle.tac_reader.specs.code.Built.{names_view};
+ghost use Rattle.tac_reader.specs.code.Occurrences.{IsNumberedIn};
 ghost use Rattle.tac_reader.specs.code.Procedures.{labels_at};
 ghost use Rattle.tac_reader.specs.Programs.{label_places, labels_from, names_in, noted, procedure_of, procedures_from, start_of as start_in, statement_of, variables_in};
 ghost use Rattle.tac_reader.specs.code.SectionViews.{lines_view, section_view, sections_view};
-ghost use Rattle.tac_reader.specs.Sections.{labels_in, only_name, statements_of};
+ghost use Rattle.tac_reader.specs.Sections.{labels_in, only_name, statements_of, variables_of};
 ghost use Rattle.tac_reader.specs.Sound.{IsSound};
 ghost use Rattle.tac_reader.specs.code.Views.{tokens_view};
 
-use crate::build::{Names, kind};
+use crate::build::{Names, Progress, kind};
 use crate::cursor::LineCursor;
 use crate::formed::{Lines, Statement, counted};
 use crate::line::stop_of;
 use crate::name_hashers::NameSeeds;
 use crate::names::NameTable;
+use crate::occurrences::{Occurrence, Variables};
 use crate::program::{Label, Proc, Program, Span, Stmt};
-use crate::section::{Section, section_cells};
-use crate::statement::Role;
+use crate::section::Section;
+use crate::statement::{Role, cells, has_only_variables};
 use crate::token::{Token, TokenKind};
 use std::alloc::{AllocError, Global};
 
@@ -25,7 +27,7 @@ use std::alloc::{AllocError, Global};
 #[derive(Clone, Copy)]
 struct Tables<'a> {
     procedures: &'a NameTable,
-    variables: &'a NameTable,
+    variables: Variables<'a>,
 }
 
 /// Where the first token starts.
@@ -38,36 +40,37 @@ fn start_of(tokens: &[Token]) -> u32
     }
 }
 
-/// What a statement's tokens say in the cursor's text, and where they stand. What `found` holds is
+/// What a statement's tokens say in the cursor's text, and where they stand. What the buffer holds is
 /// lost.
 fn statement(
     names: Names<'_>,
     cursor: &mut LineCursor<'_>,
     formed: Statement<'_>,
-    found: &mut Vec<Token>,
+    progress: &mut Progress,
 ) -> Result<Stmt, AllocError>
+    requires { names.variables.text.now ≡ cursor.old }
     ensures statement { IfOk result (λ s. s ≡ statement_of cursor.old (names_view names.entry) (tokens_view cursor.old formed.entry.tokens.now)) }
     ensures text { cursor.new ≡ cursor.old }
 {
-    let text = cursor.text();
     let start = start_of(formed.tokens);
     let span = Span {
         line: cursor.line_at(start),
         start,
         end: stop_of(formed.tokens),
     };
-    let kind = kind(names, text, formed, found)?;
+    let kind = kind(names, formed, progress)?;
     Ok(Stmt { kind, span })
 }
 
-/// The statements of the lines. What `found` holds is lost.
+/// The statements of the lines. What the buffer holds is lost.
 fn statements(
     alloc: Global,
     names: Names<'_>,
     cursor: &mut LineCursor<'_>,
     lines: Lines<'_>,
-    found: &mut Vec<Token>,
+    progress: &mut Progress,
 ) -> Result<Vec<Stmt>, AllocError>
+    requires { names.variables.text.now ≡ cursor.old }
     ensures statements { IfOk result (λ stmts. stmts.items ≡ map (statement_of cursor.old (names_view names.entry)) (statements_of (lines_view cursor.old lines.entry))) }
     ensures text { cursor.new ≡ cursor.old }
 {
@@ -75,7 +78,7 @@ fn statements(
     for at in 0..lines.len() {
         let formed = lines.line(at).statement();
         if !formed.tokens.is_empty() {
-            stmts.push(statement(names, cursor, formed, found)?)?;
+            stmts.push(statement(names, cursor, formed, progress)?)?;
         }
     }
     Ok(stmts)
@@ -108,7 +111,7 @@ fn section_labels(alloc: Global, count: u32, lines: Lines<'_>) -> Result<Vec<Lab
     Ok(labels)
 }
 
-/// A section's procedure, of this number, over tables of names; `labels` are its own. What `found`
+/// A section's procedure, of this number, over tables of names; `labels` are its own. What the buffer
 /// holds is lost.
 fn procedure(
     alloc: Global,
@@ -117,10 +120,11 @@ fn procedure(
     section: Section<'_>,
     labels: NameTable,
     cursor: &mut LineCursor<'_>,
-    found: &mut Vec<Token>,
+    progress: &mut Progress,
 ) -> Result<Proc, AllocError>
-    requires { labels ≡ names_in (labels_in (section_view cursor.old section)) }
-    ensures procedure { IfOk result (λ p. p ≡ procedure_of cursor.old tables.entry.procedures.now tables.entry.variables.now number (section_view cursor.old section.entry)) }
+    requires text { tables.variables.text.now ≡ cursor.old }
+    requires labels { labels ≡ names_in (labels_in (section_view cursor.old section)) }
+    ensures procedure { IfOk result (λ p. p ≡ procedure_of cursor.old tables.entry.procedures.now tables.entry.variables.table.now number (section_view cursor.old section.entry)) }
     ensures text { cursor.new ≡ cursor.old }
 {
     let places = section_labels(alloc, labels.len(), section.lines)?;
@@ -129,7 +133,7 @@ fn procedure(
         variables: tables.variables,
         labels: &labels,
     };
-    let stmts = statements(alloc, names, cursor, section.lines, found)?;
+    let stmts = statements(alloc, names, cursor, section.lines, progress)?;
     Ok(Proc::new(number, places, labels, stmts))
 }
 
@@ -137,17 +141,19 @@ fn procedure(
 fn procedures(
     alloc: Global,
     tables: Tables<'_>,
-    text: &[u8],
     sections: &[Section<'_>],
     labels: Vec<NameTable>,
 ) -> Result<Vec<Proc>, AllocError>
-    requires short { length text.now + 1 < 2 ^ 32 }
-    requires labels { labels.items ≡ map (λ s. names_in (labels_in s)) (sections_view text.now sections.now) }
-    ensures { IfOk result (λ procs. procs.items ≡ procedures_from text.now tables.entry.procedures.now tables.entry.variables.now 0 (sections_view text.now sections.now)) }
+    requires short { length tables.variables.text.now + 1 < 2 ^ 32 }
+    requires labels { labels.items ≡ map (λ s. names_in (labels_in s)) (sections_view tables.variables.text.now sections.now) }
+    ensures { IfOk result (λ procs. procs.items ≡ procedures_from tables.entry.variables.text.now tables.entry.procedures.now tables.entry.variables.table.now 0 (sections_view tables.entry.variables.text.now sections.now)) }
 {
     let mut procs = Vec::with_capacity(alloc, sections.len())?;
-    let mut cursor = LineCursor::new(text);
-    let mut found = Vec::new(alloc);
+    let mut cursor = LineCursor::new(tables.variables.text);
+    let mut progress = Progress {
+        passed: 0,
+        found: Vec::new(alloc),
+    };
     let mut labels = labels.into_iter();
     for section in sections {
         let number = counted(procs.len())?;
@@ -158,14 +164,14 @@ fn procedures(
             *section,
             labels.next().unwrap(),
             &mut cursor,
-            &mut found,
+            &mut progress,
         )?)?;
     }
     Ok(procs)
 }
 
 /// The program of the sections, each with its labels in `labels`, over these procedures and
-/// variables. Fails where memory does.
+/// variables, which stand in the text at `occurrences`. Fails where memory does.
 pub fn program(
     alloc: Global,
     text: &[u8],
@@ -173,53 +179,123 @@ pub fn program(
     procedures: NameTable,
     labels: Vec<NameTable>,
     variables: NameTable,
+    occurrences: Vec<Occurrence>,
 ) -> Result<Program, AllocError>
     requires short { length text.now + 1 < 2 ^ 32 }
     requires labels { labels.items ≡ map (λ s. names_in (labels_in s)) (sections_view text.now sections.now) }
+    requires numbered { All (IsNumberedIn text.now variables) occurrences.items }
     requires sound { IsSound (record { procedures = procedures_from text.now procedures variables 0 (sections_view text.now sections.now); procedure_names = procedures; variable_names = variables }) }
     ensures { IfOk result (λ p. p ≡ record { procedures = procedures_from text.now procedures variables 0 (sections_view text.now sections.now); procedure_names = procedures; variable_names = variables }) }
 {
     let tables = Tables {
         procedures: &procedures,
-        variables: &variables,
+        variables: Variables::of(text, &variables, &occurrences),
     };
-    let procs = self::procedures(alloc, tables, text, sections, labels)?;
+    let procs = self::procedures(alloc, tables, sections, labels)?;
     Ok(Program::new(procs, procedures, variables))
 }
 
-/// Adds the names among the tokens.
+/// Adds the names among the tokens, and where each stands.
 fn note_names(
     alloc: Global,
     seeds: &mut NameSeeds<'_>,
     table: &mut NameTable,
+    occurrences: &mut Vec<Occurrence>,
     text: &[u8],
     tokens: &[Token],
 ) -> Result<(), AllocError>
-    ensures { OnOk result (table.new ≡ fold noted table.old (names_in (flat_map only_name (tokens_view text.now tokens.now)))) }
+    requires { All (IsNumberedIn text.now table.old) occurrences.old.items }
+    ensures noted { OnOk result (table.new ≡ fold noted table.old (names_in (flat_map only_name (tokens_view text.now tokens.now)))) }
+    ensures numbered { OnOk result (All (IsNumberedIn text.now table.new) occurrences.new.items) }
 {
     for token in tokens {
         if token.kind == TokenKind::Name {
-            let _ = table.insert(alloc, seeds, token.bytes(text))?;
+            let (number, _) = table.insert_full(alloc, seeds, token.bytes(text))?;
+            occurrences.push(Occurrence {
+                start: token.start,
+                stop: token.stop,
+                number,
+            })?;
         }
     }
     Ok(())
 }
 
-/// The variables of the sections' statements, by first occurrence. Fails where memory does.
+/// Adds the variables of a statement, and where each stands. What `found` holds is lost.
+fn note_statement(
+    alloc: Global,
+    seeds: &mut NameSeeds<'_>,
+    table: &mut NameTable,
+    occurrences: &mut Vec<Occurrence>,
+    text: &[u8],
+    statement: Statement<'_>,
+    found: &mut Vec<Token>,
+) -> Result<(), AllocError>
+    requires { All (IsNumberedIn text.now table.old) occurrences.old.items }
+    ensures noted { OnOk result (table.new ≡ fold noted table.old (names_in (variables_of (tokens_view text.now statement.entry.tokens.now)))) }
+    ensures numbered { OnOk result (All (IsNumberedIn text.now table.new) occurrences.new.items) }
+{
+    match statement.form() {
+        // Most statements: there is no need to go along their form.
+        Some(form) if has_only_variables(form) => {
+            note_names(alloc, seeds, table, occurrences, text, statement.tokens)
+        }
+        _ => {
+            found.clear();
+            cells(found, Role::Variable, statement)?;
+            note_names(alloc, seeds, table, occurrences, text, found)
+        }
+    }
+}
+
+/// Adds the variables of the lines' statements, and where each stands. What `found` holds is lost.
+fn note_lines(
+    alloc: Global,
+    seeds: &mut NameSeeds<'_>,
+    table: &mut NameTable,
+    occurrences: &mut Vec<Occurrence>,
+    text: &[u8],
+    lines: Lines<'_>,
+    found: &mut Vec<Token>,
+) -> Result<(), AllocError>
+    requires { All (IsNumberedIn text.now table.old) occurrences.old.items }
+    ensures noted { OnOk result (table.new ≡ fold noted table.old (names_in (flat_map variables_of (statements_of (lines_view text.now lines.entry))))) }
+    ensures numbered { OnOk result (All (IsNumberedIn text.now table.new) occurrences.new.items) }
+{
+    for at in 0..lines.len() {
+        if lines.plays(at, Role::Variable) {
+            let statement = lines.line(at).statement();
+            note_statement(alloc, seeds, table, occurrences, text, statement, found)?;
+        }
+    }
+    Ok(())
+}
+
+/// The variables of the sections' statements, by first occurrence, and all their occurrences in text
+/// order. Fails where memory does.
 pub fn variables(
     alloc: Global,
     seeds: &mut NameSeeds<'_>,
     text: &[u8],
     sections: &[Section<'_>],
-) -> Result<NameTable, AllocError>
-    ensures { IfOk result (λ table. table ≡ variables_in (sections_view text.now sections.now)) }
+) -> Result<(NameTable, Vec<Occurrence>), AllocError>
+    ensures table { IfOk result (λ found. found.0 ≡ variables_in (sections_view text.now sections.now)) }
+    ensures numbered { IfOk result (λ found. All (IsNumberedIn text.now found.0) (found.1).items) }
 {
     let mut table = NameTable::new(alloc);
+    // Room for what most texts have, as for their tokens.
+    let mut occurrences = Vec::with_capacity(alloc, text.len() / 8)?;
     let mut found = Vec::new(alloc);
     for section in sections {
-        found.clear();
-        section_cells(&mut found, Role::Variable, section.lines)?;
-        note_names(alloc, seeds, &mut table, text, &found)?;
+        note_lines(
+            alloc,
+            seeds,
+            &mut table,
+            &mut occurrences,
+            text,
+            section.lines,
+            &mut found,
+        )?;
     }
-    Ok(table)
+    Ok((table, occurrences))
 }

@@ -105,8 +105,16 @@ fn read_checked(alloc: Global, text: &[u8]) -> Result<Program, Stop>
     let mut seeds = NameSeeds::of(text);
     let sections = sections(alloc, Lines::of(&lexed))?;
     let (procedures, labels) = check_names(alloc, &mut seeds, text, &sections)?;
-    let variables = variables(alloc, &mut seeds, text, &sections)?;
-    Ok(program(alloc, text, &sections, procedures, labels, variables)?)
+    let (variables, occurrences) = variables(alloc, &mut seeds, text, &sections)?;
+    Ok(program(
+        alloc,
+        text,
+        &sections,
+        procedures,
+        labels,
+        variables,
+        occurrences,
+    )?)
 }
 
 /// Reads a program: three-address code with procedures, in the language of `docs/LANGUAGE.md`.

@@ -1,7 +1,7 @@
 // Statements: their forms, and the names in them.
 
 ghost use Rattle.std.specs.Prelude.{◌≡◌, ◌++◌, ℕ, List, option_map, length, take, vec_len, OnOk};
-ghost use Rattle.tac_reader.specs.code.Formed.{has_role as has_role_in};
+ghost use Rattle.tac_reader.specs.code.Formed.{has_only_variables as only_variables_in, has_role as has_role_in};
 ghost use Rattle.tac_reader.specs.Forms.{cells_of, in_slot, paired, statement_row};
 ghost use Rattle.tac_reader.specs.code.Roles.{role_test};
 ghost use Rattle.tac_reader.specs.code.Views.{form_slots, slot_view, slots_view, tokens_view};
@@ -88,6 +88,20 @@ pub fn has_role(form: Form, role: Role) -> bool
             Form::Skip => false,
             _ => true,
         },
+    }
+}
+
+/// Whether all names in the form are variables.
+pub fn has_only_variables(form: Form) -> bool
+    ensures { result ≡ only_variables_in form }
+{
+    match form {
+        Form::Jump => false,
+        Form::Test => false,
+        Form::NegatedTest => false,
+        Form::Comparison => false,
+        Form::Call => false,
+        _ => true,
     }
 }
 

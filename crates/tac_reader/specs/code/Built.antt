@@ -6,7 +6,7 @@ use Rattle.tac_reader.specs.Sections.{spelling_of, callees_of}
 use Rattle.tac_reader.specs.declared.build.Names.{Names as Tables}
 
 abbrev pub names_view : Tables → Names
-names_view tables = record { procedures = tables.procedures.now; variables = tables.variables.now; labels = tables.labels.now }
+names_view tables = record { procedures = tables.procedures.now; variables = tables.variables.table.now; labels = tables.labels.now }
 
 -- The word there, or one without bytes.
 abbrev pub word_or_none : Option Token → Word

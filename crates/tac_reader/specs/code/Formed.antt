@@ -29,6 +29,17 @@ pub record AreLines (tokens : List Placed) (lines : List LineRange) : Type 0 whe
   pub counted : All (IsCountedIn tokens) lines
   pub formed : All (IsFormedIn tokens) lines
 
+-- Whether all names in a form are variables.
+abbrev pub has_only_variables : Form → Bool
+has_only_variables form.Copy = true
+has_only_variables form.Unary = true
+has_only_variables form.Binary = true
+has_only_variables form.Return = true
+has_only_variables form.Read = true
+has_only_variables form.Print = true
+has_only_variables form.Skip = true
+has_only_variables _ = false
+
 -- Whether some place of a form has that role.
 abbrev pub has_role : Role → Form → Bool
 has_role role.Label form.Jump = true

@@ -15,7 +15,7 @@ use Rattle.tac_reader.proofs.lex.lex.Goals as goal
 pub returns-in_err-bad-clause-fault : goal.returns-in_err-bad-clause-fault
 returns-in_err-bad-clause-fault c =
     let line = c.line_stop-stop.ensures in
-    let p = err_from_is_err_and c.from_residual.result c.from_residual.ensures.1 in
+    let p = err_from_is_err_and c.from_residual-in_err-bad.result c.from_residual-in_err-bad.ensures.1 in
     rw p.1 (rw p.2 (stop_of_text c.args.text.now c.loop-at.at c.line_stop-stop.result c.loop-at.inside c.in_err-bad.field-0.0 _ line.line line.after line.within c.in_err-bad.ensures.fault c.loop-at.invariant.faults))
 
 pub returns-in-Some-clause-fault : goal.returns-in-Some-clause-fault

@@ -8,7 +8,7 @@ use Rattle.tac_reader.proofs.procedure.procedures.Given as goal
 -- The procedures so far and those of the other sections are all, and the other sections' labels are left.
 abbrev pub invariant-loop-section : goal.invariant-loop-section
 invariant-loop-section l = record {
-  text : l.cursor ≡ l.text;
-  labels : into_iter_items l.labels ≡ map (λ s. names_in (labels_in s)) (sections_view l.text (drop l.section-index l.sections));
-  rest : l.procs.items ++ procedures_from l.text l.tables.procedures.now l.tables.variables.now (length l.procs.items) (sections_view l.text (drop l.section-index l.sections)) ≡ procedures_from l.text l.tables.procedures.now l.tables.variables.now 0 (sections_view l.text l.sections);
+  text : l.cursor ≡ l.tables.variables.text.now;
+  labels : into_iter_items l.labels ≡ map (λ s. names_in (labels_in s)) (sections_view l.tables.variables.text.now (drop l.section-index l.sections));
+  rest : l.procs.items ++ procedures_from l.tables.variables.text.now l.tables.procedures.now l.tables.variables.table.now (length l.procs.items) (sections_view l.tables.variables.text.now (drop l.section-index l.sections)) ≡ procedures_from l.tables.variables.text.now l.tables.procedures.now l.tables.variables.table.now 0 (sections_view l.tables.variables.text.now l.sections);
 }

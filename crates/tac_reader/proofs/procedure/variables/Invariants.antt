@@ -1,9 +1,13 @@
-use Rattle.std.proofs.Common.{◌≡◌, drop, fold, flat_map}
+use Rattle.std.proofs.Common.{◌≡◌, All, drop, fold, flat_map}
 use Rattle.tac_reader.specs.Programs.{names_in, noted, variables_in}
+use Rattle.tac_reader.specs.code.Occurrences.{IsNumberedIn}
 use Rattle.tac_reader.specs.code.SectionViews.{sections_view}
 use Rattle.tac_reader.specs.Sections.{statements_of, variables_of}
 use Rattle.tac_reader.proofs.procedure.variables.Given as goal
 
--- The names of the other sections are still to be noted.
+-- The names of the other sections are still to be noted; where those so far stand is known.
 abbrev pub invariant-loop-section : goal.invariant-loop-section
-invariant-loop-section l = fold noted l.table (names_in (flat_map (λ s. flat_map variables_of (statements_of s.body)) (sections_view l.text (drop l.section-index l.sections)))) ≡ variables_in (sections_view l.text l.sections)
+invariant-loop-section l = record {
+  rest : fold noted l.table (names_in (flat_map (λ s. flat_map variables_of (statements_of s.body)) (sections_view l.text (drop l.section-index l.sections)))) ≡ variables_in (sections_view l.text l.sections);
+  numbered : All (IsNumberedIn l.text l.table) l.occurrences.items;
+}

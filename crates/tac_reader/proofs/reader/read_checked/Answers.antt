@@ -28,7 +28,7 @@ returns-clause-program c =
     let text = c.args.text.now in
     let ss = sections_are text c.in_ok-lexed.lexed _ _ _ (c.in_ok-sections.ensures text) c.of.ensures.tokens c.of.ensures.lines c.in_ok-lexed.ensures.lines in
     let names = c.in_ok-procedures.ensures.procedures ∙ ap (λ x. names_in (titles (sections_view text x))) (c.deref.ensures.value ∙ sym c.deref-3.ensures.value) in
-    let variables = c.in_ok-variables.ensures ∙ ap (λ x. variables_in (sections_view text x)) (c.deref-2.ensures.value ∙ sym c.deref-3.ensures.value) in
+    let variables = c.in_ok-variables.ensures.table ∙ ap (λ x. variables_in (sections_view text x)) (c.deref-2.ensures.value ∙ sym c.deref-3.ensures.value) in
     c.in_ok-program.ensures ∙ program_is text (sections_view text c.deref-3.result.now) _ _ (ap (λ x. sections_view text x) c.deref-3.ensures.value ∙ ss) names variables
 
 pub program-requires-clause-sound : goal.program-requires-clause-sound
@@ -37,6 +37,6 @@ program-requires-clause-sound c =
     let ss = sections_are text c.in_ok-lexed.lexed _ _ _ (c.in_ok-sections.ensures text) c.of.ensures.tokens c.of.ensures.lines c.in_ok-lexed.ensures.lines in
     let here = ap (λ x. sections_view text x) c.deref.ensures.value in
     let names = c.in_ok-procedures.ensures.procedures ∙ ap (λ x. names_in (titles (sections_view text x))) (c.deref.ensures.value ∙ sym c.deref-3.ensures.value) in
-    let variables = c.in_ok-variables.ensures ∙ ap (λ x. variables_in (sections_view text x)) (c.deref-2.ensures.value ∙ sym c.deref-3.ensures.value) in
+    let variables = c.in_ok-variables.ensures.table ∙ ap (λ x. variables_in (sections_view text x)) (c.deref-2.ensures.value ∙ sym c.deref-3.ensures.value) in
     program_sound text (sections_view text c.deref-3.result.now) _ _ (ap (λ x. sections_view text x) c.deref-3.ensures.value ∙ ss) names variables
     (no_fault text (sections_view text c.deref.result.now) c.requires c.in_ok-lexed.ensures.faultless (here ∙ ss) c.in_ok-procedures.ensures.faultless)
