@@ -1,25 +1,9 @@
 //! `tacflow`: reads a program of three-address code, and writes its listing, the table of an analysis, or a report.
 #![tactic(auto)]
 
-#[cfg(test)]
-mod case_tests;
-#[cfg(test)]
-mod cut_tests;
-#[cfg(test)]
-mod example_tests;
-#[cfg(test)]
-mod growth_tests;
-mod options;
-mod run;
-mod shows;
-#[cfg(test)]
-mod tests;
-mod words;
-
+use flow_commands::tacflow::{Options, run};
 use flow_runs::{fault_line, tell_line, tell_no_words, tell_words};
 use flow_texts::{FromRead, ToWrite};
-use options::Options;
-use run::run;
 use std::process::ExitCode;
 use std::thread::Threads;
 use std::{env, io};

@@ -2,20 +2,9 @@
 //! lines of JSON.
 #![tactic(auto)]
 
-mod facts;
-mod lines;
-mod options;
-mod run;
-#[cfg(test)]
-mod tests;
-mod views;
-mod words;
-
+use flow_commands::tacview::{Options, line_of, run};
 use flow_runs::{tell_line, tell_no_words, tell_words};
 use flow_texts::{FromRead, ToWrite};
-use lines::line_of;
-use options::Options;
-use run::run;
 use std::process::ExitCode;
 use std::thread::Threads;
 use std::{env, io};

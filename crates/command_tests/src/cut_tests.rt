@@ -1,0 +1,84 @@
+// Texts that are cut short, and single bytes that are no text.
+
+use crate::devices::blank_page;
+use crate::tacflow_tests::{check, told};
+use flow_commands::tacflow::Show;
+use std::process::Abort;
+use std::test::Fail;
+use std::thread::Threads;
+
+// Whether one line that tells a refusal at a place was written.
+fn is_refusal(told: &[u8]) -> bool {
+    told.starts_with(b"tacflow: ")
+        && told.get(9).is_some_and(|byte| byte.is_ascii_digit())
+        && told.ends_with(b"\n")
+        && told.iter().filter(|byte| **byte == b'\n').count() == 1
+}
+
+// Each beginning of a text is refused by one line and nothing else, but for the last two, which are programs with this listing; and
+// a listing is its own listing.
+fn check_beginnings<R: Threads + Sync + Abort + AllocGlobal>(
+    rt: &R,
+    text: &str,
+    listing: &str,
+) -> Result<(), Fail> {
+    let bytes = text.as_bytes();
+    for length in 0..=bytes.len() {
+        let beginning = bytes.get(..length).ok_or("a beginning")?;
+        let got = told(rt, beginning, &mut blank_page(rt.alloc()), Show::List)?;
+        if length + 1 < bytes.len() {
+            assert!(rt; is_refusal(got.as_slice()), "the first {length} bytes");
+        } else {
+            assert_eq!(rt; got.as_slice(), listing.as_bytes());
+        }
+    }
+    check(rt, listing.as_bytes(), Show::List, listing.as_bytes())
+}
+
+#[test]
+fn beginnings_of_a_recursive_program(rt: HostRuntime) -> Result<(), Fail> {
+    check_beginnings(
+        &rt,
+        "proc main\nx = 1\ncall f\nprint x\nend\nproc f\nif x goto L\ncall f\nx = 2\nL:\nend\n",
+        "proc main\n  x = 1\n  call f\n  print x\nend\nproc f\n  if x goto L\n  call f\n  x = 2\nL:\nend\n",
+    )
+}
+
+#[test]
+fn beginnings_of_a_text_with_comments_and_labels(rt: HostRuntime) -> Result<(), Fail> {
+    check_beginnings(
+        &rt,
+        "proc main # start\nL:M: x=y+007\nz=- x\nif x<3 goto L\nend\n",
+        "proc main\nL:\nM:\n  x = y + 7\n  z = -x\n  if x < 3 goto L\nend\n",
+    )
+}
+
+// What stands before a byte and behind it, and the answer, which is the same for each of the bytes 0, 13 and 255.
+const AROUND_A_BYTE: [(&[u8], &[u8], &[u8]); 5] = [
+    (b"", b"", b"tacflow: 1:1: refusal 1: BadByte\n"),
+    (
+        b"proc main\nx = ",
+        b" 1\nend\n",
+        b"tacflow: 2:5: refusal 1: BadByte\n",
+    ),
+    (
+        b"proc main\nend",
+        b" \n",
+        b"tacflow: 2:4: refusal 1: BadByte\n",
+    ),
+    (b"proc main #", b"\nend\n", b"proc main\nend\n"),
+    (b"proc main\nend\n#", b"", b"proc main\nend\n"),
+];
+
+#[test]
+fn bytes_in_and_out_of_comments(rt: HostRuntime) -> Result<(), Fail> {
+    for byte in [0, 13, 255] {
+        for (before, after, answer) in AROUND_A_BYTE {
+            let mut text = before.to_vec(rt.alloc())?;
+            text.push(byte)?;
+            text.extend_from_slice(after)?;
+            check(&rt, &text, Show::List, answer)?;
+        }
+    }
+    Ok(())
+}

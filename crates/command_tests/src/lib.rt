@@ -1,0 +1,18 @@
+//! Tests of what the two programs do with their words and their streams. They stand in a crate of their own, which is nothing else:
+//! a crate with tests is proved twice.
+#![tactic(auto)]
+
+#[cfg(test)]
+mod case_tests;
+#[cfg(test)]
+mod cut_tests;
+#[cfg(test)]
+mod devices;
+#[cfg(test)]
+mod example_tests;
+#[cfg(test)]
+mod growth_tests;
+#[cfg(test)]
+mod tacflow_tests;
+#[cfg(test)]
+mod tacview_tests;

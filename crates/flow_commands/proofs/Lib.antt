@@ -1,0 +1,4 @@
+pub mod Cases
+pub mod TacflowHeld
+pub mod TacviewAnswers
+pub mod TacviewHeld

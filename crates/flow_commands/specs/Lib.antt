@@ -1,0 +1,3 @@
+pub mod tacflow
+pub mod tacview
+pub mod code

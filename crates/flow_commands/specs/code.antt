@@ -1,0 +1,2 @@
+pub mod TacflowMatches
+pub mod TacviewMatches

@@ -1,0 +1,4 @@
+-- What `tacflow` shows of a program, and which words ask for it.
+pub mod Runs
+pub mod Shows
+pub mod Commands

@@ -1,4 +1,0 @@
-pub mod Runs
-pub mod Shows
-pub mod Commands
-pub mod code

@@ -1,5 +1,0 @@
-pub mod Views
-pub mod Kinds
-pub mod Commands
-pub mod Lines
-pub mod code
