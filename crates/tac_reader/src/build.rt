@@ -6,7 +6,7 @@ ghost use Rattle.tac_reader.specs.Programs.{number_of, operand_of, operator_of, 
 ghost use Rattle.tac_reader.specs.Sections.{bytes_of, callees_of};
 ghost use Rattle.tac_reader.specs.Text.{line_after};
 ghost use Rattle.tac_reader.specs.code.Views.{token_view, tokens_view};
-ghost use Rattle.tac_reader.specs.declared.program.StmtKind.TheVariants.{Binary, IfCompare};
+ghost use Rattle.tac_reader.specs.declared.program.StmtKind.TheVariants.{Binary, Copy, IfCompare, Unary};
 
 use crate::form::Form;
 use crate::formed::Statement;
@@ -90,6 +90,27 @@ fn operator_at(tokens: &[Token], at: usize) -> Op
     }
 }
 
+/// What the tokens of a copy say.
+fn copy(names: Names<'_>, passed: &mut usize, tokens: &[Token]) -> StmtKind
+    ensures { result ≡ Copy (number_of names.entry.variables.table.now (bytes_of (word_nth (tokens_view names.entry.variables.text.now tokens.now) 0))) (operand_of (names_view names.entry) (word_nth (tokens_view names.entry.variables.text.now tokens.now) 2)) }
+{
+    StmtKind::Copy {
+        target: variable_at(names.variables, passed, tokens, 0),
+        value: operand_at(names, passed, tokens, 2),
+    }
+}
+
+/// What the tokens of a unary assignment say.
+fn unary(names: Names<'_>, passed: &mut usize, tokens: &[Token]) -> StmtKind
+    ensures { result ≡ Unary (number_of names.entry.variables.table.now (bytes_of (word_nth (tokens_view names.entry.variables.text.now tokens.now) 0))) (operator_of (word_nth (tokens_view names.entry.variables.text.now tokens.now) 2)) (operand_of (names_view names.entry) (word_nth (tokens_view names.entry.variables.text.now tokens.now) 3)) }
+{
+    StmtKind::Unary {
+        target: variable_at(names.variables, passed, tokens, 0),
+        op: operator_at(tokens, 2),
+        operand: operand_at(names, passed, tokens, 3),
+    }
+}
+
 /// What the tokens of a binary assignment say.
 fn binary(names: Names<'_>, passed: &mut usize, tokens: &[Token]) -> StmtKind
     ensures { result ≡ Binary (operator_of (word_nth (tokens_view names.entry.variables.text.now tokens.now) 3)) (number_of names.entry.variables.table.now (bytes_of (word_nth (tokens_view names.entry.variables.text.now tokens.now) 0))) (operand_of (names_view names.entry) (word_nth (tokens_view names.entry.variables.text.now tokens.now) 2)) (operand_of (names_view names.entry) (word_nth (tokens_view names.entry.variables.text.now tokens.now) 4)) }
@@ -144,15 +165,8 @@ pub fn kind(
     let text = names.variables.text;
     let tokens = statement.tokens;
     match statement.form() {
-        Some(Form::Copy) => Ok(StmtKind::Copy {
-            target: variable_at(names.variables, passed, tokens, 0),
-            value: operand_at(names, passed, tokens, 2),
-        }),
-        Some(Form::Unary) => Ok(StmtKind::Unary {
-            target: variable_at(names.variables, passed, tokens, 0),
-            op: operator_at(tokens, 2),
-            operand: operand_at(names, passed, tokens, 3),
-        }),
+        Some(Form::Copy) => Ok(copy(names, passed, tokens)),
+        Some(Form::Unary) => Ok(unary(names, passed, tokens)),
         Some(Form::Binary) => Ok(binary(names, passed, tokens)),
         Some(Form::Jump) => Ok(StmtKind::Goto {
             label: number_at(names.labels, text, tokens, 1),
@@ -176,7 +190,6 @@ pub fn kind(
         Some(Form::Print) => Ok(StmtKind::Print {
             value: operand_at(names, passed, tokens, 1),
         }),
-        Some(Form::Skip) => Ok(StmtKind::Skip),
-        None => Ok(StmtKind::Skip),
+        Some(Form::Skip) | None => Ok(StmtKind::Skip),
     }
 }

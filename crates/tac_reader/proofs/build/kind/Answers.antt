@@ -18,7 +18,7 @@ returns-in-Some-Unary c =
     let ts = tokens_view text c.args.statement.tokens.now in
     let names = names_view c.args.names in
     let row = row_of ts (length c.args.statement.tokens.now) c.form.result c.in-Some-Unary.field-0 form.Unary (c.form.ensures text) c.in-Some-Unary.is c.in-Some-Unary.field-0-is in
-    (λ i. stmt.Unary (c.variable_at-in-Some-Unary.ensures i) (sym (c.operator_at.ensures text) i) (c.operand_at-in-Some-Unary.ensures i))
+    c.unary.ensures
     ∙ unary_words names (called c.args.names c.args.names.variables.text.now c.args.statement.tokens.now) ts (row_length ts _ row)
     ∙ ap (λ f. kind_of names (called c.args.names c.args.names.variables.text.now c.args.statement.tokens.now) f (map (λ t. t.word) ts)) (sym (row_form ts _ row))
 
@@ -48,7 +48,7 @@ returns-in-Some-Copy c =
     let ts = tokens_view text c.args.statement.tokens.now in
     let names = names_view c.args.names in
     let row = row_of ts (length c.args.statement.tokens.now) c.form.result c.in-Some-Copy.field-0 form.Copy (c.form.ensures text) c.in-Some-Copy.is c.in-Some-Copy.field-0-is in
-    (λ i. stmt.Copy (c.variable_at.ensures i) (c.operand_at.ensures i))
+    c.copy.ensures
     ∙ copy_words names (called c.args.names c.args.names.variables.text.now c.args.statement.tokens.now) ts (row_length ts _ row)
     ∙ ap (λ f. kind_of names (called c.args.names c.args.names.variables.text.now c.args.statement.tokens.now) f (map (λ t. t.word) ts)) (sym (row_form ts _ row))
 
@@ -68,7 +68,7 @@ returns-in-Some-Test c =
     let ts = tokens_view text c.args.statement.tokens.now in
     let names = names_view c.args.names in
     let row = row_of ts (length c.args.statement.tokens.now) c.form.result c.in-Some-Test.field-0 form.Test (c.form.ensures text) c.in-Some-Test.is c.in-Some-Test.field-0-is in
-    (λ i. stmt.If (c.operand_at-in-Some-Test.ensures i) (c.number_at-in-Some-Test.ensures i))
+    (λ i. stmt.If (c.operand_at.ensures i) (c.number_at-in-Some-Test.ensures i))
     ∙ test_words names (called c.args.names c.args.names.variables.text.now c.args.statement.tokens.now) ts (row_length ts _ row)
     ∙ ap (λ f. kind_of names (called c.args.names c.args.names.variables.text.now c.args.statement.tokens.now) f (map (λ t. t.word) ts)) (sym (row_form ts _ row))
 
@@ -88,7 +88,7 @@ returns-in-Some-Read c =
     let ts = tokens_view text c.args.statement.tokens.now in
     let names = names_view c.args.names in
     let row = row_of ts (length c.args.statement.tokens.now) c.form.result c.in-Some-Read.field-0 form.Read (c.form.ensures text) c.in-Some-Read.is c.in-Some-Read.field-0-is in
-    (λ i. stmt.Read (c.variable_at-in-Some-Read.ensures i))
+    (λ i. stmt.Read (c.variable_at.ensures i))
     ∙ read_words names (called c.args.names c.args.names.variables.text.now c.args.statement.tokens.now) ts (row_length ts _ row)
     ∙ ap (λ f. kind_of names (called c.args.names c.args.names.variables.text.now c.args.statement.tokens.now) f (map (λ t. t.word) ts)) (sym (row_form ts _ row))
 
