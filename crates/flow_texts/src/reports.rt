@@ -88,10 +88,6 @@ impl RemarkForm for ReportLine<'_> {
         remark: Remark,
     ) {
         out.write(self.head);
-        if let Remark::VeryBusy { expression } = remark {
-            out.write(found.busy_lines.text(expression));
-            return;
-        }
         write_before_name(out, remark);
         out.write(found.name(remark));
         out.write(words_to_end(remark));

@@ -21,19 +21,14 @@ pub record TellDoubtful (program : Program) (doubtful : List Bool) : Type 0 wher
   pub count : length doubtful ≡ point_count program
   pub each : (point : ℕ) → point < point_count program → (get_or doubtful point false ≡ true) ↔ IsDoubtful (shape_of program) point
 
--- the end of a line that says that an expression is very busy
-abbrev pub busy_line : Program → ℕ → List ℕ
-busy_line program bit = bit_text program Busy bit ++ codes " is very busy\n"
-
 -- The tables tell a report on the program, which is sound and has few points, there is one truth value for each point, and the texts are
--- those of the program's expressions and of the lines that say that one is very busy.
+-- those of the program's expressions.
 pub record AreFindings (found : Findings) : Type 0 where
   pub sound : IsSound found.graph.now
   pub few : HasFewPoints found.graph.now
   pub tables : TellReport found.graph.now found.tables.now
   pub doubts : length found.doubtful.items ≡ point_count found.graph.now
   pub expressions : AreTexts (bit_text found.graph.now Avail) (bits found.graph.now Avail) found.expressions.texts
-  pub busy_lines : AreTexts (busy_line found.graph.now) (bits found.graph.now Busy) found.busy_lines.texts
 
 -- what they tell
 abbrev pub knowledge_of : Findings → Knowledge
