@@ -3,10 +3,12 @@
 ghost use Rattle.std.specs.Prelude.{◌≡◌, length, IfOk};
 ghost use Rattle.flow_graph.specs.Points.{point_count};
 
-use crate::tables::{table_lines, table_text};
+use crate::tables::{write_lines, write_table};
 use flow_graph::{Analysis, Edge, Graph, GraphFault, OutOfMemory, Problem};
 use std::alloc::Global;
-use tac_reader::{ReadFault, read};
+use std::process::Abort;
+use std::test::Fail;
+use tac_reader::{Program, ReadFault, read};
 
 /// What is asked of a text's program.
 #[derive(Clone, Copy)]
@@ -31,46 +33,96 @@ pub enum Question {
     TableAt(Analysis, u32, &'static [u32]),
 }
 
+/// A text, what is asked of its program, and the answer.
+pub type Row = (&'static str, Question, &'static str);
+
 /// The answer to a question, or the message of why there is none.
 pub fn answer(alloc: Global, text: &[u8], question: Question) -> Result<String, OutOfMemory> {
     match read(alloc, text) {
-        Ok(program) => match Graph::build(alloc, &program) {
-            Ok(graph) => answer_of(alloc, &graph, question),
-            Err(GraphFault::OutOfMemory) => Err(OutOfMemory),
-            Err(fault) => fault.to_string(alloc),
-        },
+        Ok(program) => answer_of_program(alloc, &program, question),
         Err(ReadFault::OutOfMemory) => Err(OutOfMemory),
         Err(fault) => fault.to_string(alloc),
     }
 }
 
-/// The answer to a question about a graph.
-pub fn answer_of(
+fn answer_of_program(
+    alloc: Global,
+    program: &Program,
+    question: Question,
+) -> Result<String, OutOfMemory> {
+    match Graph::build(alloc, program) {
+        Ok(graph) => answer_of(alloc, &graph, question),
+        Err(GraphFault::OutOfMemory) => Err(OutOfMemory),
+        Err(fault) => fault.to_string(alloc),
+    }
+}
+
+fn answer_of(alloc: Global, graph: &Graph<'_>, question: Question) -> Result<String, OutOfMemory> {
+    let mut text = String::new(alloc);
+    write_answer(&mut text, alloc, graph, question)?;
+    Ok(text)
+}
+
+/// The question of a text has this answer.
+pub fn check<R: Abort + AllocGlobal>(
+    rt: &R,
+    text: &str,
+    question: Question,
+    want: &str,
+) -> Result<(), Fail> {
+    let got = answer(rt.alloc(), text.as_bytes(), question)?;
+    assert_eq!(rt; got.as_str(), want);
+    Ok(())
+}
+
+/// The same of a question about slices of this width.
+pub fn check_in_slices<R: Abort + AllocGlobal>(
+    rt: &R,
+    text: &str,
+    question: Question,
+    width: u32,
+    want: &str,
+) -> Result<(), Fail> {
+    let got = answer(rt.alloc(), text.as_bytes(), question)?;
+    assert_eq!(rt; got.as_str(), want, "in slices of {width}");
+    Ok(())
+}
+
+/// Each row has its answer.
+pub fn check_rows<R: Abort + AllocGlobal>(rt: &R, rows: &[Row]) -> Result<(), Fail> {
+    for (text, question, want) in rows {
+        check(rt, text, *question, want)?;
+    }
+    Ok(())
+}
+
+/// Writes the answer to a question about a graph. All that is written here goes to a text that the caller owns, so that nothing is
+/// given up where a write fails.
+pub fn write_answer(
+    text: &mut String,
     alloc: Global,
     graph: &Graph<'_>,
     question: Question,
-) -> Result<String, OutOfMemory> {
+) -> Result<(), OutOfMemory> {
     match question {
-        Question::Edges => edges(alloc, graph),
-        Question::Points => points(alloc, graph),
-        Question::Numbers => numbers(alloc, graph),
-        Question::LeadsTo(marked) => leading(alloc, graph, marked),
-        Question::Frame(analysis) => frame(alloc, &Problem::of(alloc, graph, analysis)?),
-        Question::Sets(analysis) => sets(alloc, &Problem::of(alloc, graph, analysis)?),
+        Question::Edges => write_edges_out(text, alloc, graph),
+        Question::Points => write_points(text, graph),
+        Question::Numbers => write_numbers(text, graph),
+        Question::LeadsTo(marked) => write_leading(text, alloc, graph, marked),
+        Question::Frame(analysis) => write_frame(text, &Problem::of(alloc, graph, analysis)?),
+        Question::Sets(analysis) => write_all_sets(text, &Problem::of(alloc, graph, analysis)?),
         Question::SetsAt(analysis, point) => {
-            let mut text = String::new(alloc);
-            write_sets(&mut text, &Problem::of(alloc, graph, analysis)?, point)?;
-            Ok(text)
-        },
-        Question::Table(analysis, width) => table_text(alloc, graph, analysis, width),
+            write_sets(text, &Problem::of(alloc, graph, analysis)?, point)
+        }
+        Question::Table(analysis, width) => write_table(text, alloc, graph, analysis, width),
         Question::TableAt(analysis, width, points) => {
-            table_lines(alloc, graph, analysis, width, points)
-        },
+            write_lines(text, alloc, graph, analysis, width, points)
+        }
     }
 }
 
 /// Writes an edge behind a blank.
-pub fn write_edge(text: &mut String, edge: Edge) -> Result<(), OutOfMemory> {
+fn write_edge(text: &mut String, edge: Edge) -> Result<(), OutOfMemory> {
     match edge {
         Edge::Step { from, to } => write!(text, " {from}-{to}"),
         Edge::Call { site, from, to } => write!(text, " call {from}-{to} at {site}"),
@@ -78,21 +130,24 @@ pub fn write_edge(text: &mut String, edge: Edge) -> Result<(), OutOfMemory> {
     }
 }
 
-fn edges(alloc: Global, graph: &Graph<'_>) -> Result<String, OutOfMemory> {
-    let mut text = String::new(alloc);
-    for point in 0..graph.points() {
-        write!(text, "{point}:")?;
-        let edges = graph.succ(alloc, point)?;
-        for edge in edges.as_slice() {
-            write_edge(&mut text, *edge)?;
-        }
-        text.push('\n')?;
+/// Writes edges, each behind a blank.
+pub fn write_edges(text: &mut String, edges: &[Edge]) -> Result<(), OutOfMemory> {
+    for edge in edges {
+        write_edge(text, *edge)?;
     }
-    Ok(text)
+    Ok(())
 }
 
-fn points(alloc: Global, graph: &Graph<'_>) -> Result<String, OutOfMemory> {
-    let mut text = String::new(alloc);
+fn write_edges_out(text: &mut String, alloc: Global, graph: &Graph<'_>) -> Result<(), OutOfMemory> {
+    for point in 0..graph.points() {
+        write!(text, "{point}:")?;
+        write_edges(text, graph.succ(alloc, point)?.as_slice())?;
+        text.push('\n')?;
+    }
+    Ok(())
+}
+
+fn write_points(text: &mut String, graph: &Graph<'_>) -> Result<(), OutOfMemory> {
     for point in 0..graph.points() {
         let place = graph.place(point);
         write!(text, "{point}: {} of {}", place.place, place.procedure)?;
@@ -106,11 +161,10 @@ fn points(alloc: Global, graph: &Graph<'_>) -> Result<String, OutOfMemory> {
         let first = graph.point(procedure as u32, 0);
         write!(text, "{procedure} from {first}\n")?;
     }
-    Ok(text)
+    Ok(())
 }
 
-fn numbers(alloc: Global, graph: &Graph<'_>) -> Result<String, OutOfMemory> {
-    let mut text = String::new(alloc);
+fn write_numbers(text: &mut String, graph: &Graph<'_>) -> Result<(), OutOfMemory> {
     write!(text, "{} variables\n", graph.bits(Analysis::Live))?;
     for bit in 0..graph.bits(Analysis::Reach) {
         let (variable, point) = graph.definition(bit);
@@ -123,7 +177,7 @@ fn numbers(alloc: Global, graph: &Graph<'_>) -> Result<String, OutOfMemory> {
     for point in 0..graph.points() {
         write!(text, "{point}: {:?}\n", graph.evaluated(point))?;
     }
-    Ok(text)
+    Ok(())
 }
 
 /// For each point whether it is listed.
@@ -137,20 +191,29 @@ pub fn marks(alloc: Global, graph: &Graph<'_>, listed: &[u32]) -> Result<Vec<boo
     Ok(marks)
 }
 
-fn leading(alloc: Global, graph: &Graph<'_>, marked: &[u32]) -> Result<String, OutOfMemory> {
-    let marks = marks(alloc, graph, marked)?;
-    let mut text = String::new(alloc);
-    for (point, leads) in graph.leads_to(alloc, marks.as_slice())?.iter().enumerate() {
-        if *leads {
-            write!(text, " {point}")?;
+/// Writes the numbers of the places that are true.
+pub fn write_flags(text: &mut String, flags: &[bool]) -> Result<(), OutOfMemory> {
+    for (place, flag) in flags.iter().enumerate() {
+        if *flag {
+            write!(text, " {place}")?;
         }
     }
-    Ok(text)
+    Ok(())
 }
 
-/// How the edges of a problem go, and where it begins and ends.
-pub fn frame(alloc: Global, problem: &Problem<'_, '_>) -> Result<String, OutOfMemory> {
-    let mut text = String::new(alloc);
+fn write_leading(
+    text: &mut String,
+    alloc: Global,
+    graph: &Graph<'_>,
+    marked: &[u32],
+) -> Result<(), OutOfMemory> {
+    let marks = marks(alloc, graph, marked)?;
+    let leads = graph.leads_to(alloc, marks.as_slice())?;
+    write_flags(text, leads.as_slice())
+}
+
+/// Writes how the edges of a problem go, and where it begins and ends.
+pub fn write_frame(text: &mut String, problem: &Problem<'_, '_>) -> Result<(), OutOfMemory> {
     write!(
         text,
         "reverses {}, complements {}\n",
@@ -166,10 +229,7 @@ pub fn frame(alloc: Global, problem: &Problem<'_, '_>) -> Result<String, OutOfMe
         write!(text, " {}", problem.procedure(point))?;
     }
     text.push('\n')?;
-    for edge in problem.edges() {
-        write_edge(&mut text, *edge)?;
-    }
-    Ok(text)
+    write_edges(text, problem.edges())
 }
 
 /// A word with its number, unless it is empty.
@@ -206,8 +266,8 @@ fn write_sets(text: &mut String, problem: &Problem<'_, '_>, point: u32) -> Resul
     text.push('\n')
 }
 
-fn sets(alloc: Global, problem: &Problem<'_, '_>) -> Result<String, OutOfMemory> {
-    let mut text = String::new(alloc);
+/// Writes the boundary of a problem, and what is generated and killed at each of its points.
+fn write_all_sets(text: &mut String, problem: &Problem<'_, '_>) -> Result<(), OutOfMemory> {
     text.push_str("begins")?;
     for bit in 0..problem.bits() {
         if problem.in_boundary(bit) {
@@ -215,11 +275,11 @@ fn sets(alloc: Global, problem: &Problem<'_, '_>) -> Result<String, OutOfMemory>
         }
     }
     for word in 0..problem.bits() / 64 + 2 {
-        write_word(&mut text, word, problem.boundary_word(word))?;
+        write_word(text, word, problem.boundary_word(word))?;
     }
     text.push('\n')?;
     for point in 0..problem.points() {
-        write_sets(&mut text, problem, point)?;
+        write_sets(text, problem, point)?;
     }
-    Ok(text)
+    Ok(())
 }

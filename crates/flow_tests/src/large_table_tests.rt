@@ -1,6 +1,7 @@
-use crate::answers::{Question, answer};
+use crate::answers::{Question, check, check_in_slices};
 use flow_graph::{Analysis, OutOfMemory};
 use std::alloc::Global;
+use std::process::Abort;
 use std::test::Fail;
 
 /// A program that is written by rule.
@@ -54,17 +55,21 @@ fn long_loop(text: &mut String) -> Result<(), OutOfMemory> {
 
 fn program(alloc: Global, large: Large) -> Result<String, OutOfMemory> {
     let mut text = String::new(alloc);
-    match large {
-        Large::Chain => chain(&mut text, false)?,
-        Large::BrokenChain => chain(&mut text, true)?,
-        Large::Circle => circle(&mut text)?,
-        Large::Loop => long_loop(&mut text)?,
-    }
+    write_program(&mut text, large)?;
     Ok(text)
 }
 
+fn write_program(text: &mut String, large: Large) -> Result<(), OutOfMemory> {
+    match large {
+        Large::Chain => chain(text, false),
+        Large::BrokenChain => chain(text, true),
+        Large::Circle => circle(text),
+        Large::Loop => long_loop(text),
+    }
+}
+
 /// Large programs, some of their points, and what a table has there.
-const CHOSEN_LINES: [(Large, Analysis, &[u32], &str); 7] = [
+const CHOSEN_LINES: &[(Large, Analysis, &[u32], &str)] = &[
     (
         Large::Chain,
         Analysis::Reach,
@@ -109,45 +114,55 @@ const CHOSEN_LINES: [(Large, Analysis, &[u32], &str); 7] = [
     ),
 ];
 
-#[test]
-fn chosen_lines(rt: HostRuntime) -> Result<(), Fail> {
-    let alloc = rt.alloc();
-    for (large, analysis, points, want) in CHOSEN_LINES {
-        let text = program(alloc, large)?;
-        for width in [65, 4_096] {
-            let question = Question::TableAt(analysis, width, points);
-            assert_eq!(rt;
-                answer(alloc, text.as_bytes(), question)?.as_str(),
-                want,
-                "in slices of {width}"
-            );
-        }
+/// A large program has these lines at these points, in slices of two widths.
+fn check_lines<R: Abort + AllocGlobal>(
+    rt: &R,
+    text: &str,
+    analysis: Analysis,
+    points: &'static [u32],
+    want: &str,
+) -> Result<(), Fail> {
+    for width in &[65, 4_096] {
+        let question = Question::TableAt(analysis, *width, points);
+        check_in_slices(rt, text, question, *width, want)?;
     }
     Ok(())
 }
 
-/// A line that lists the definitions of all 255 procedures of the circle behind its beginning.
-fn all_of_the_circle(alloc: Global, beginning: &str) -> Result<String, OutOfMemory> {
-    let mut text = String::new(alloc);
+#[test]
+fn chosen_lines(rt: HostRuntime) -> Result<(), Fail> {
+    for (large, analysis, points, want) in CHOSEN_LINES {
+        let text = program(rt.alloc(), *large)?;
+        check_lines(&rt, text.as_str(), *analysis, points, want)?;
+    }
+    Ok(())
+}
+
+/// Writes a line that lists the definitions of all 255 procedures of the circle behind its beginning.
+fn write_all_of_the_circle(text: &mut String, beginning: &str) -> Result<(), OutOfMemory> {
     write!(text, "{beginning}x@6")?;
     for number in 1..255_u32 {
         write!(text, ", x@{}", 6 + 6 * number)?;
     }
-    text.push('\n')?;
-    Ok(text)
+    text.push('\n')
+}
+
+/// The circle has such a line at this point.
+fn check_circle<R: Abort + AllocGlobal>(
+    rt: &R,
+    circle: &str,
+    point: &'static [u32],
+    beginning: &str,
+) -> Result<(), Fail> {
+    let mut want = String::new(rt.alloc());
+    write_all_of_the_circle(&mut want, beginning)?;
+    let question = Question::TableAt(Analysis::Reach, 4_096, point);
+    check(rt, circle, question, want.as_str())
 }
 
 #[test]
 fn all_meet_behind_the_circle(rt: HostRuntime) -> Result<(), Fail> {
-    let alloc = rt.alloc();
-    let text = program(alloc, Large::Circle)?;
-    let table: [(&'static [u32], &str); 2] = [(&[1], "main 1: x@entry, "), (&[45], "p10 3: ")];
-    for (point, beginning) in table {
-        let question = Question::TableAt(Analysis::Reach, 4_096, point);
-        assert_eq!(rt;
-            answer(alloc, text.as_bytes(), question)?.as_str(),
-            all_of_the_circle(alloc, beginning)?.as_str()
-        );
-    }
-    Ok(())
+    let circle = program(rt.alloc(), Large::Circle)?;
+    check_circle(&rt, circle.as_str(), &[1], "main 1: x@entry, ")?;
+    check_circle(&rt, circle.as_str(), &[45], "p10 3: ")
 }

@@ -1,4 +1,4 @@
-use crate::answers::{Question, answer};
+use crate::answers::{Question, Row, check_rows};
 use flow_graph::Analysis;
 use std::test::Fail;
 
@@ -12,7 +12,7 @@ const CALLS_MAIN: &str =
     "proc main\nif a goto L\na = 1\ncall main\nL: print a\nend\nproc unused\nend\n";
 
 /// Programs, what is asked of their may forms, and the answers.
-const MAY_FORMS: [(&str, Question, &str); 13] = [
+const MAY_FORMS: &[Row] = &[
     (
         ADDS_TO_ITSELF,
         Question::Frame(Analysis::Reach),
@@ -82,11 +82,5 @@ const MAY_FORMS: [(&str, Question, &str); 13] = [
 
 #[test]
 fn may_forms(rt: HostRuntime) -> Result<(), Fail> {
-    for (text, question, want) in MAY_FORMS {
-        assert_eq!(rt;
-            answer(rt.alloc(), text.as_bytes(), question)?.as_str(),
-            want
-        );
-    }
-    Ok(())
+    check_rows(&rt, MAY_FORMS)
 }

@@ -2,20 +2,21 @@
 // Nth request of each test is refused (`rt try --test --fail-alloc N`), the call that met it is made once more and has to give the same
 // answer; then the test fails by the call's name. A test that fails by want of memory met it before its call or behind it.
 
-ghost use Rattle.std.specs.Prelude.{◌≡◌, ◌≤◌, IfOk};
+ghost use Rattle.std.specs.Prelude.{◌≡◌, ◌≤◌, length, IfOk};
+ghost use Rattle.flow_graph.specs.Points.{point_count};
 ghost use Rattle.flow_graph.specs.Universes.{bits as bits_of};
 ghost use Rattle.gk_solve.specs.Solved.{IsSliceOf};
 
-use crate::answers::{Question, answer_of, frame, marks, write_edge};
+use crate::answers::{Question, marks, write_answer, write_edges, write_flags, write_frame};
 use bit_rows::{OutOfMemory, Rows};
-use flow_graph::{Analysis, Graph, Problem};
+use flow_graph::{Analysis, Graph, GraphFault, Problem};
 use flow_links::Links;
 use gk_solve::{Routes, SliceWords, Solver, solve, solve_counted};
 use std::alloc::Global;
 use std::process::Abort;
 use std::test::Fail;
 use tac_reader::{
-    Op, Operand, Program, listing, read, write_binary_expression, write_unary_expression,
+    Op, Operand, Program, ReadFault, listing, read, write_binary_expression, write_unary_expression,
 };
 
 /// The calls.
@@ -56,23 +57,33 @@ const RECURSION: &str =
 const THREE_CALLEES: &str =
     "proc main\ncall p | q | r\nend\nproc p\nend\nproc q\nend\nproc r\nend\n";
 
-fn listed(alloc: Global, program: &Program, refused: &mut bool) -> Result<String, Fail> {
-    let text = match listing(alloc, program) {
-        Ok(text) => text,
+/// Writes bytes that are read as UTF-8.
+fn write_bytes(text: &mut String, alloc: Global, bytes: &[u8]) -> Result<(), OutOfMemory> {
+    text.push_str(String::from_utf8_lossy(alloc, bytes)?.as_str())
+}
+
+fn listed_again(
+    text: &mut String,
+    alloc: Global,
+    program: &Program,
+    refused: &mut bool,
+) -> Result<(), OutOfMemory> {
+    let bytes = match listing(alloc, program) {
+        Ok(bytes) => bytes,
         Err(_) => {
             *refused = true;
             listing(alloc, program)?
         }
     };
-    Ok(String::from_utf8_lossy(alloc, text.as_slice())?)
+    write_bytes(text, alloc, bytes.as_slice())
 }
 
-fn read_again(alloc: Global, refused: &mut bool) -> Result<Program, Fail> {
+fn read_again(alloc: Global, refused: &mut bool) -> Result<Program, ReadFault> {
     match read(alloc, RECURSION.as_bytes()) {
         Ok(program) => Ok(program),
         Err(_) => {
             *refused = true;
-            Ok(read(alloc, RECURSION.as_bytes())?)
+            read(alloc, RECURSION.as_bytes())
         }
     }
 }
@@ -91,95 +102,115 @@ fn write_expression(
     }
 }
 
+/// Writes it behind what stands there.
+fn write_expression_again(
+    text: &mut Vec<u8>,
+    program: &Program,
+    is_unary: bool,
+    refused: &mut bool,
+) -> Result<(), OutOfMemory> {
+    if write_expression(text, program, is_unary).is_ok() {
+        return Ok(());
+    }
+    *refused = text.as_slice().starts_with(b"y = ");
+    text.truncate(4);
+    write_expression(text, program, is_unary)
+}
+
 /// An expression behind what stood there before.
 fn expression_again(
+    text: &mut String,
     alloc: Global,
     program: &Program,
     is_unary: bool,
     refused: &mut bool,
-) -> Result<String, Fail> {
-    let mut text = b"y = ".to_vec(alloc)?;
-    if write_expression(&mut text, program, is_unary).is_err() {
-        *refused = text.as_slice().starts_with(b"y = ");
-        text.truncate(4);
-        write_expression(&mut text, program, is_unary)?;
-    }
-    Ok(String::from_utf8_lossy(alloc, text.as_slice())?)
+) -> Result<(), OutOfMemory> {
+    let mut bytes = b"y = ".to_vec(alloc)?;
+    write_expression_again(&mut bytes, program, is_unary, refused)?;
+    write_bytes(text, alloc, bytes.as_slice())
 }
 
 fn graph_again<'p>(
     alloc: Global,
     program: &'p Program,
     refused: &mut bool,
-) -> Result<Graph<'p>, Fail> {
+) -> Result<Graph<'p>, GraphFault> {
     match Graph::build(alloc, program) {
         Ok(graph) => Ok(graph),
         Err(_) => {
             *refused = true;
-            Ok(Graph::build(alloc, program)?)
+            Graph::build(alloc, program)
         }
     }
 }
 
 /// The edges out of the first point.
-fn edges_again(alloc: Global, graph: &Graph<'_>, refused: &mut bool) -> Result<String, Fail> {
-    let mut text = String::new(alloc);
-    if graph.points() > 0 {
-        let edges = match graph.succ(alloc, 0) {
-            Ok(edges) => edges,
-            Err(_) => {
-                *refused = true;
-                graph.succ(alloc, 0)?
-            }
-        };
-        for edge in edges.as_slice() {
-            write_edge(&mut text, *edge)?;
-        }
+fn edges_again(
+    text: &mut String,
+    alloc: Global,
+    graph: &Graph<'_>,
+    refused: &mut bool,
+) -> Result<(), OutOfMemory> {
+    if graph.points() == 0 {
+        return Ok(());
     }
-    Ok(text)
+    let edges = match graph.succ(alloc, 0) {
+        Ok(edges) => edges,
+        Err(_) => {
+            *refused = true;
+            graph.succ(alloc, 0)?
+        }
+    };
+    write_edges(text, edges.as_slice())
 }
 
-/// The points that lead to point 2.
-fn leads_again(alloc: Global, graph: &Graph<'_>, refused: &mut bool) -> Result<String, Fail> {
-    let marked = marks(alloc, graph, &[2])?;
-    let leads = match graph.leads_to(alloc, marked.as_slice()) {
+/// The points that lead to those that are marked.
+fn leads_of_marks_again(
+    text: &mut String,
+    alloc: Global,
+    graph: &Graph<'_>,
+    marked: &[bool],
+    refused: &mut bool,
+) -> Result<(), OutOfMemory>
+    requires { length marked.now ≡ point_count graph.now }
+{
+    let leads = match graph.leads_to(alloc, marked) {
         Ok(leads) => leads,
         Err(_) => {
             *refused = true;
-            graph.leads_to(alloc, marked.as_slice())?
+            graph.leads_to(alloc, marked)?
         }
     };
-    Ok(flags_text(alloc, leads.as_slice())?)
+    write_flags(text, leads.as_slice())
+}
+
+/// The points that lead to point 2.
+fn leads_again(
+    text: &mut String,
+    alloc: Global,
+    graph: &Graph<'_>,
+    refused: &mut bool,
+) -> Result<(), OutOfMemory> {
+    let marked = marks(alloc, graph, &[2])?;
+    leads_of_marks_again(text, alloc, graph, marked.as_slice(), refused)
 }
 
 fn problem_again<'g, 'p>(
     alloc: Global,
     graph: &'g Graph<'p>,
     refused: &mut bool,
-) -> Result<Problem<'g, 'p>, Fail> {
+) -> Result<Problem<'g, 'p>, OutOfMemory> {
     match Problem::of(alloc, graph, Analysis::Reach) {
         Ok(problem) => Ok(problem),
         Err(_) => {
             *refused = true;
-            Ok(Problem::of(alloc, graph, Analysis::Reach)?)
+            Problem::of(alloc, graph, Analysis::Reach)
         }
     }
-}
-
-/// The numbers of the places that are true.
-fn flags_text(alloc: Global, flags: &[bool]) -> Result<String, OutOfMemory> {
-    let mut text = String::new(alloc);
-    for (place, flag) in flags.iter().enumerate() {
-        if *flag {
-            write!(text, " {place}")?;
-        }
-    }
-    Ok(text)
 }
 
 /// The points to which steps lead from each point.
-fn steps_text(alloc: Global, links: &Links<'_, '_>) -> Result<String, OutOfMemory> {
-    let mut text = String::new(alloc);
+fn write_steps(text: &mut String, links: &Links<'_, '_>) -> Result<(), OutOfMemory> {
     for point in 0..links.points() {
         write!(text, "{point}:")?;
         let steps = links.steps_from(point);
@@ -190,14 +221,15 @@ fn steps_text(alloc: Global, links: &Links<'_, '_>) -> Result<String, OutOfMemor
         }
         text.push('\n')?;
     }
-    Ok(text)
+    Ok(())
 }
 
 fn links_again(
+    text: &mut String,
     alloc: Global,
     problem: &Problem<'_, '_>,
     refused: &mut bool,
-) -> Result<String, Fail> {
+) -> Result<(), OutOfMemory> {
     let links = match Links::of(alloc, problem) {
         Ok(links) => links,
         Err(_) => {
@@ -205,26 +237,26 @@ fn links_again(
             Links::of(alloc, problem)?
         }
     };
-    Ok(steps_text(alloc, &links)?)
+    write_steps(text, &links)
 }
 
 /// The first word and the flag of each point.
-fn rows_text(alloc: Global, rows: &Rows) -> Result<String, OutOfMemory> {
-    let mut text = String::new(alloc);
+fn write_rows(text: &mut String, rows: &Rows) -> Result<(), OutOfMemory> {
     for point in 0..rows.points() {
         write!(text, " {}", rows.row(point).word(0))?;
         if !rows.flag(point) {
             text.push_str(" without a path")?;
         }
     }
-    Ok(text)
+    Ok(())
 }
 
 fn solve_again(
+    text: &mut String,
     alloc: Global,
     problem: &Problem<'_, '_>,
     refused: &mut bool,
-) -> Result<String, Fail> {
+) -> Result<(), OutOfMemory> {
     let bits = problem.bits();
     let rows = match solve(alloc, problem, 0, bits) {
         Ok(rows) => rows,
@@ -233,14 +265,15 @@ fn solve_again(
             solve(alloc, problem, 0, bits)?
         }
     };
-    Ok(rows_text(alloc, &rows)?)
+    write_rows(text, &rows)
 }
 
 fn solve_counted_again(
+    text: &mut String,
     alloc: Global,
     problem: &Problem<'_, '_>,
     refused: &mut bool,
-) -> Result<String, Fail> {
+) -> Result<(), OutOfMemory> {
     let bits = problem.bits();
     let (rows, _) = match solve_counted(alloc, problem, 0, bits) {
         Ok(solved) => solved,
@@ -249,42 +282,47 @@ fn solve_counted_again(
             solve_counted(alloc, problem, 0, bits)?
         }
     };
-    Ok(rows_text(alloc, &rows)?)
+    write_rows(text, &rows)
 }
 
 fn routes_again<'g, 'p>(
     alloc: Global,
     problem: &Problem<'g, 'p>,
     refused: &mut bool,
-) -> Result<Routes<'g, 'p>, Fail>
+) -> Result<Routes<'g, 'p>, OutOfMemory>
     ensures { IfOk result (λ routes. routes.program ≡ problem.now.program) }
 {
     match Routes::of(alloc, problem) {
         Ok(routes) => Ok(routes),
         Err(_) => {
             *refused = true;
-            Ok(Routes::of(alloc, problem)?)
+            Routes::of(alloc, problem)
         }
     }
 }
 
 /// The points to which valid paths lead.
 fn paths_again(
+    text: &mut String,
     alloc: Global,
     problem: &Problem<'_, '_>,
     refused: &mut bool,
-) -> Result<String, Fail> {
+) -> Result<(), OutOfMemory> {
     let routes = routes_again(alloc, problem, refused)?;
-    let mut text = String::new(alloc);
     for point in 0..problem.points() {
         if routes.has_path(point) {
             write!(text, " {point}")?;
         }
     }
-    Ok(text)
+    Ok(())
 }
 
-fn flags_again(alloc: Global, solver: &Solver<'_, '_>, refused: &mut bool) -> Result<String, Fail> {
+fn flags_again(
+    text: &mut String,
+    alloc: Global,
+    solver: &Solver<'_, '_>,
+    refused: &mut bool,
+) -> Result<(), OutOfMemory> {
     let flags = match solver.flags(alloc) {
         Ok(flags) => flags,
         Err(_) => {
@@ -292,14 +330,15 @@ fn flags_again(alloc: Global, solver: &Solver<'_, '_>, refused: &mut bool) -> Re
             solver.flags(alloc)?
         }
     };
-    Ok(flags_text(alloc, flags.as_slice())?)
+    write_flags(text, flags.as_slice())
 }
 
 fn solver_solve_again(
+    text: &mut String,
     alloc: Global,
     solver: &Solver<'_, '_>,
     refused: &mut bool,
-) -> Result<String, Fail> {
+) -> Result<(), OutOfMemory> {
     let bits = solver.problem().bits();
     let rows = match solver.solve(alloc, 0, bits) {
         Ok(rows) => rows,
@@ -308,7 +347,7 @@ fn solver_solve_again(
             solver.solve(alloc, 0, bits)?
         }
     };
-    Ok(rows_text(alloc, &rows)?)
+    write_rows(text, &rows)
 }
 
 fn slice_again(
@@ -316,7 +355,7 @@ fn slice_again(
     solver: &Solver<'_, '_>,
     bits: u32,
     refused: &mut bool,
-) -> Result<SliceWords, Fail>
+) -> Result<SliceWords, OutOfMemory>
     requires { bits ≤ bits_of solver.now.program solver.now.analysis }
     ensures slice { IfOk result (IsSliceOf solver.now) }
     ensures end { IfOk result (λ slice. slice.hi ≡ bits) }
@@ -325,178 +364,179 @@ fn slice_again(
         Ok(slice) => Ok(slice),
         Err(_) => {
             *refused = true;
-            Ok(solver.slice(alloc, 0, bits)?)
+            solver.slice(alloc, 0, bits)
         }
     }
 }
 
 /// The first word of each point, as it is solved in a slice of all bits.
-fn words_again(alloc: Global, solver: &Solver<'_, '_>, refused: &mut bool) -> Result<String, Fail> {
+fn words_again(
+    text: &mut String,
+    alloc: Global,
+    solver: &Solver<'_, '_>,
+    refused: &mut bool,
+) -> Result<(), OutOfMemory> {
     let bits = solver.problem().bits();
     let mut slice = slice_again(alloc, solver, bits, refused)?;
-    let mut text = String::new(alloc);
     if bits > 0 {
         let _ = solver.solve_from(&mut slice, 0);
         for point in 0..slice.points() {
             write!(text, " {}", slice.word(point, 0))?;
         }
     }
-    Ok(text)
+    Ok(())
 }
 
 fn solver_again<'g, 'p>(
     alloc: Global,
     graph: &'g Graph<'p>,
     refused: &mut bool,
-) -> Result<Solver<'g, 'p>, Fail> {
-    let problem = Problem::of(alloc, graph, Analysis::Reach)?;
-    match Solver::of(alloc, problem) {
+) -> Result<Solver<'g, 'p>, OutOfMemory> {
+    match Solver::of(alloc, Problem::of(alloc, graph, Analysis::Reach)?) {
         Ok(solver) => Ok(solver),
         Err(_) => {
             *refused = true;
-            let problem = Problem::of(alloc, graph, Analysis::Reach)?;
-            Ok(Solver::of(alloc, problem)?)
+            Solver::of(alloc, Problem::of(alloc, graph, Analysis::Reach)?)
         }
     }
 }
 
 fn told_of_problem(
+    text: &mut String,
     alloc: Global,
     problem: &Problem<'_, '_>,
     call: Call,
     refused: &mut bool,
-) -> Result<String, Fail> {
+) -> Result<(), OutOfMemory> {
     match call {
-        Call::LinksOf => links_again(alloc, problem, refused),
-        Call::RoutesOf => paths_again(alloc, problem, refused),
-        Call::Solve => solve_again(alloc, problem, refused),
-        _ => solve_counted_again(alloc, problem, refused),
+        Call::LinksOf => links_again(text, alloc, problem, refused),
+        Call::RoutesOf => paths_again(text, alloc, problem, refused),
+        Call::Solve => solve_again(text, alloc, problem, refused),
+        _ => solve_counted_again(text, alloc, problem, refused),
     }
 }
 
 fn told_of_solver(
+    text: &mut String,
     alloc: Global,
     solver: &Solver<'_, '_>,
     call: Call,
     refused: &mut bool,
-) -> Result<String, Fail> {
+) -> Result<(), OutOfMemory> {
     match call {
-        Call::SolverFlags => flags_again(alloc, solver, refused),
-        Call::SolverSlice => words_again(alloc, solver, refused),
-        _ => solver_solve_again(alloc, solver, refused),
+        Call::SolverFlags => flags_again(text, alloc, solver, refused),
+        Call::SolverSlice => words_again(text, alloc, solver, refused),
+        _ => solver_solve_again(text, alloc, solver, refused),
     }
 }
 
 fn told_of_new_solver(
+    text: &mut String,
     alloc: Global,
     graph: &Graph<'_>,
     refused: &mut bool,
-) -> Result<String, Fail> {
+) -> Result<(), OutOfMemory> {
     let solver = solver_again(alloc, graph, refused)?;
     let bits = solver.problem().bits();
-    Ok(rows_text(alloc, &solver.solve(alloc, 0, bits)?)?)
+    write_rows(text, &solver.solve(alloc, 0, bits)?)
 }
 
 fn told_of_its_solver(
+    text: &mut String,
     alloc: Global,
     graph: &Graph<'_>,
     call: Call,
     refused: &mut bool,
-) -> Result<String, Fail> {
-    let problem = Problem::of(alloc, graph, Analysis::Reach)?;
-    let solver = Solver::of(alloc, problem)?;
-    told_of_solver(alloc, &solver, call, refused)
-}
-
-fn told_of_its_problem(
-    alloc: Global,
-    graph: &Graph<'_>,
-    call: Call,
-    refused: &mut bool,
-) -> Result<String, Fail> {
-    let problem = Problem::of(alloc, graph, Analysis::Reach)?;
-    told_of_problem(alloc, &problem, call, refused)
-}
-
-fn told_of_new_problem(
-    alloc: Global,
-    graph: &Graph<'_>,
-    refused: &mut bool,
-) -> Result<String, Fail> {
-    let problem = problem_again(alloc, graph, refused)?;
-    Ok(frame(alloc, &problem)?)
+) -> Result<(), OutOfMemory> {
+    let solver = Solver::of(alloc, Problem::of(alloc, graph, Analysis::Reach)?)?;
+    told_of_solver(text, alloc, &solver, call, refused)
 }
 
 fn told_of_graph(
+    text: &mut String,
     alloc: Global,
     graph: &Graph<'_>,
     call: Call,
     refused: &mut bool,
-) -> Result<String, Fail> {
+) -> Result<(), OutOfMemory> {
     match call {
-        Call::GraphSucc => edges_again(alloc, graph, refused),
-        Call::GraphLeadsTo => leads_again(alloc, graph, refused),
-        Call::ProblemOf => told_of_new_problem(alloc, graph, refused),
-        Call::SolverOf => told_of_new_solver(alloc, graph, refused),
-        Call::SolverFlags => told_of_its_solver(alloc, graph, call, refused),
-        Call::SolverSolve => told_of_its_solver(alloc, graph, call, refused),
-        Call::SolverSlice => told_of_its_solver(alloc, graph, call, refused),
-        _ => told_of_its_problem(alloc, graph, call, refused),
+        Call::GraphSucc => edges_again(text, alloc, graph, refused),
+        Call::GraphLeadsTo => leads_again(text, alloc, graph, refused),
+        Call::ProblemOf => write_frame(text, &problem_again(alloc, graph, refused)?),
+        Call::SolverOf => told_of_new_solver(text, alloc, graph, refused),
+        Call::SolverFlags => told_of_its_solver(text, alloc, graph, call, refused),
+        Call::SolverSolve => told_of_its_solver(text, alloc, graph, call, refused),
+        Call::SolverSlice => told_of_its_solver(text, alloc, graph, call, refused),
+        _ => {
+            let problem = Problem::of(alloc, graph, Analysis::Reach)?;
+            told_of_problem(text, alloc, &problem, call, refused)
+        }
     }
 }
 
-fn told_of_new_graph(alloc: Global, program: &Program, refused: &mut bool) -> Result<String, Fail> {
+fn told_of_new_graph(
+    text: &mut String,
+    alloc: Global,
+    program: &Program,
+    refused: &mut bool,
+) -> Result<(), Fail> {
     let graph = graph_again(alloc, program, refused)?;
-    Ok(answer_of(alloc, &graph, Question::Edges)?)
+    Ok(write_answer(text, alloc, &graph, Question::Edges)?)
 }
 
 fn told_of_its_graph(
+    text: &mut String,
     alloc: Global,
     program: &Program,
     call: Call,
     refused: &mut bool,
-) -> Result<String, Fail> {
+) -> Result<(), Fail> {
     let graph = Graph::build(alloc, program)?;
-    told_of_graph(alloc, &graph, call, refused)
+    Ok(told_of_graph(text, alloc, &graph, call, refused)?)
 }
 
 fn told_of_program(
+    text: &mut String,
     alloc: Global,
     program: &Program,
     call: Call,
     refused: &mut bool,
-) -> Result<String, Fail> {
+) -> Result<(), Fail> {
     match call {
-        Call::Listing => listed(alloc, program, refused),
-        Call::UnaryExpression => expression_again(alloc, program, true, refused),
-        Call::BinaryExpression => expression_again(alloc, program, false, refused),
-        Call::GraphBuild => told_of_new_graph(alloc, program, refused),
-        _ => told_of_its_graph(alloc, program, call, refused),
+        Call::Listing => Ok(listed_again(text, alloc, program, refused)?),
+        Call::UnaryExpression => Ok(expression_again(text, alloc, program, true, refused)?),
+        Call::BinaryExpression => Ok(expression_again(text, alloc, program, false, refused)?),
+        Call::GraphBuild => told_of_new_graph(text, alloc, program, refused),
+        _ => told_of_its_graph(text, alloc, program, call, refused),
     }
 }
 
-fn told_of_new_program(alloc: Global, refused: &mut bool) -> Result<String, Fail> {
+fn write_listing(text: &mut String, alloc: Global, program: &Program) -> Result<(), OutOfMemory> {
+    write_bytes(text, alloc, listing(alloc, program)?.as_slice())
+}
+
+fn told_of_new_program(text: &mut String, alloc: Global, refused: &mut bool) -> Result<(), Fail> {
     let program = read_again(alloc, refused)?;
-    let text = listing(alloc, &program)?;
-    Ok(String::from_utf8_lossy(alloc, text.as_slice())?)
+    Ok(write_listing(text, alloc, &program)?)
 }
 
 fn told_of_its_program(
+    text: &mut String,
     alloc: Global,
     call: Call,
-    text: &str,
+    source: &str,
     refused: &mut bool,
-) -> Result<String, Fail> {
-    let program = read(alloc, text.as_bytes())?;
-    told_of_program(alloc, &program, call, refused)
+) -> Result<(), Fail> {
+    let program = read(alloc, source.as_bytes())?;
+    told_of_program(text, alloc, &program, call, refused)
 }
 
-/// What a call answers for its program, the second time where it was refused.
-fn told(alloc: Global, call: Call, refused: &mut bool) -> Result<String, Fail> {
+/// Writes what a call answers for its program, the second time where it was refused.
+fn told(text: &mut String, alloc: Global, call: Call, refused: &mut bool) -> Result<(), Fail> {
     match call {
-        Call::Read => told_of_new_program(alloc, refused),
-        Call::GraphSucc => told_of_its_program(alloc, call, THREE_CALLEES, refused),
-        _ => told_of_its_program(alloc, call, RECURSION, refused),
+        Call::Read => told_of_new_program(text, alloc, refused),
+        Call::GraphSucc => told_of_its_program(text, alloc, call, THREE_CALLEES, refused),
+        _ => told_of_its_program(text, alloc, call, RECURSION, refused),
     }
 }
 
@@ -508,7 +548,8 @@ fn check<R: Abort + AllocGlobal>(
     want: &str,
 ) -> Result<(), Fail> {
     let mut refused = false;
-    let got = told(rt.alloc(), call, &mut refused)?;
+    let mut got = String::new(rt.alloc());
+    told(&mut got, rt.alloc(), call, &mut refused)?;
     assert_eq!(rt; got.as_str(), want, "{name}");
     named(refused, name)
 }

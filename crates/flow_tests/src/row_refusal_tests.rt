@@ -105,18 +105,22 @@ fn slices_of(alloc: Global, by_width: bool) -> Result<(Vec<(u32, u32)>, bool), F
     Ok((slices, refused))
 }
 
+// The slices are these; where the call was refused, the test fails by its name.
+fn check_slices<R: Abort + AllocGlobal>(
+    rt: &R,
+    by_width: bool,
+    name: &'static str,
+    want: &[(u32, u32)],
+) -> Result<(), Fail> {
+    let (slices, refused) = slices_of(rt.alloc(), by_width)?;
+    assert_eq!(rt; slices.as_slice(), want, "{name}");
+    named(refused, name)
+}
+
 #[test]
 fn cuts_are_made_again(rt: HostRuntime) -> Result<(), Fail> {
-    let calls = [
-        (true, "Cut::even", [(0, 4), (4, 8), (8, 10)]),
-        (false, "Cut::at", [(0, 3), (3, 7), (7, 10)]),
-    ];
-    for (by_width, name, want) in calls {
-        let (slices, refused) = slices_of(rt.alloc(), by_width)?;
-        assert_eq!(rt; slices.as_slice(), want.as_slice(), "{name}");
-        named(refused, name)?;
-    }
-    Ok(())
+    check_slices(&rt, true, "Cut::even", &[(0, 4), (4, 8), (8, 10)])?;
+    check_slices(&rt, false, "Cut::at", &[(0, 3), (3, 7), (7, 10)])
 }
 
 // The order in which these points are listed.
@@ -134,23 +138,26 @@ fn taken(alloc: Global, order: &Order) -> Result<([Option<usize>; 3], bool), Out
     Ok(([marks.take(), marks.take(), marks.take()], refused))
 }
 
+// The points are taken in this order; where a call was refused, the test fails by its name.
+fn check_order<R: Abort + AllocGlobal>(
+    rt: &R,
+    listed: [u16; 3],
+    want: [Option<usize>; 3],
+) -> Result<(), Fail> {
+    let (order, refused) = match order_of(rt.alloc(), listed) {
+        Ok(order) => (order, false),
+        Err(_) => (order_of(rt.alloc(), listed)?, true),
+    };
+    let (points, without_marks) = taken(rt.alloc(), &order)?;
+    assert_eq!(rt; points, want);
+    named(refused, "Order::of, or its list")?;
+    named(without_marks, "Marks::none")
+}
+
 #[test]
 fn orders_are_made_again(rt: HostRuntime) -> Result<(), Fail> {
-    let cases = [
-        ([2, 0, 1], [Some(2), Some(0), Some(1)]),
-        ([0, 0, 1], [Some(0), Some(1), Some(2)]),
-    ];
-    for (listed, want) in cases {
-        let (order, refused) = match order_of(rt.alloc(), listed) {
-            Ok(order) => (order, false),
-            Err(_) => (order_of(rt.alloc(), listed)?, true),
-        };
-        let (points, without_marks) = taken(rt.alloc(), &order)?;
-        assert_eq!(rt; points, want);
-        named(refused, "Order::of, or its list")?;
-        named(without_marks, "Marks::none")?;
-    }
-    Ok(())
+    check_order(&rt, [2, 0, 1], [Some(2), Some(0), Some(1)])?;
+    check_order(&rt, [0, 0, 1], [Some(0), Some(1), Some(2)])
 }
 
 #[test]

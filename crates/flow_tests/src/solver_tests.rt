@@ -1,11 +1,12 @@
-use crate::answers::{Question, answer};
+use crate::answers::{Question, answer, check};
 use flow_graph::{Analysis, Graph, GraphFault, OutOfMemory, Problem};
 use gk_solve::solve_counted;
 use std::alloc::Global;
+use std::process::Abort;
 use std::test::Fail;
-use tac_reader::{ReadFault, read};
+use tac_reader::{Program, ReadFault, read};
 
-const ANALYSES: [Analysis; 4] = [
+const ANALYSES: &[Analysis] = &[
     Analysis::Reach,
     Analysis::Live,
     Analysis::Avail,
@@ -33,7 +34,7 @@ enum Hard {
     Web,
 }
 
-const HARD: [Hard; 8] = [
+const HARD: &[Hard] = &[
     Hard::Branches,
     Hard::Reversed,
     Hard::Nested,
@@ -184,32 +185,43 @@ fn web(text: &mut String) -> Result<(), OutOfMemory> {
     Ok(())
 }
 
-fn program(alloc: Global, hard: Hard) -> Result<String, OutOfMemory> {
-    let mut text = String::new(alloc);
+fn write_program(text: &mut String, hard: Hard) -> Result<(), OutOfMemory> {
     match hard {
-        Hard::Branches => branches(&mut text)?,
-        Hard::Reversed => reversed(&mut text)?,
-        Hard::Nested => nested(&mut text)?,
-        Hard::Irreducible => irreducible(&mut text)?,
-        Hard::Feeders => feeders(&mut text)?,
-        Hard::UpAndDown => up_and_down(&mut text)?,
-        Hard::Ring => ring(&mut text)?,
-        Hard::Web => web(&mut text)?,
+        Hard::Branches => branches(text),
+        Hard::Reversed => reversed(text),
+        Hard::Nested => nested(text),
+        Hard::Irreducible => irreducible(text),
+        Hard::Feeders => feeders(text),
+        Hard::UpAndDown => up_and_down(text),
+        Hard::Ring => ring(text),
+        Hard::Web => web(text),
     }
-    Ok(text)
+}
+
+/// A hard program's table is the same in one slice and bit by bit.
+fn check_table<R: Abort + AllocGlobal>(rt: &R, text: &str, analysis: Analysis) -> Result<(), Fail> {
+    let whole = answer(
+        rt.alloc(),
+        text.as_bytes(),
+        Question::Table(analysis, 4_096),
+    )?;
+    assert!(rt; whole.as_str().starts_with("main 0"));
+    check(rt, text, Question::Table(analysis, 1), whole.as_str())
+}
+
+fn check_tables<R: Abort + AllocGlobal>(rt: &R, hard: Hard) -> Result<(), Fail> {
+    let mut text = String::new(rt.alloc());
+    write_program(&mut text, hard)?;
+    for analysis in ANALYSES {
+        check_table(rt, text.as_str(), *analysis)?;
+    }
+    Ok(())
 }
 
 #[test]
 fn hard_programs(rt: HostRuntime) -> Result<(), Fail> {
-    let alloc = rt.alloc();
     for hard in HARD {
-        let text = program(alloc, hard)?;
-        for analysis in ANALYSES {
-            let whole = answer(alloc, text.as_bytes(), Question::Table(analysis, 4_096))?;
-            let by_bits = answer(alloc, text.as_bytes(), Question::Table(analysis, 1))?;
-            assert!(rt; whole.as_str().starts_with("main 0"));
-            assert_eq!(rt; by_bits.as_str(), whole.as_str());
-        }
+        check_tables(&rt, *hard)?;
     }
     Ok(())
 }
@@ -218,29 +230,37 @@ fn hard_programs(rt: HostRuntime) -> Result<(), Fail> {
 /// has no graph.
 fn steps_followed(alloc: Global, text: &[u8]) -> Result<Option<u64>, OutOfMemory> {
     match read(alloc, text) {
-        Ok(program) => match Graph::build(alloc, &program) {
-            Ok(graph) => {
-                let problem = Problem::of(alloc, &graph, Analysis::Reach)?;
-                let (_, followed) = solve_counted(alloc, &problem, 0, 0)?;
-                Ok(Some(followed))
-            }
-            Err(GraphFault::OutOfMemory) => Err(OutOfMemory),
-            Err(_) => Ok(None),
-        },
+        Ok(program) => steps_of_program(alloc, &program),
         Err(ReadFault::OutOfMemory) => Err(OutOfMemory),
         Err(_) => Ok(None),
     }
+}
+
+fn steps_of_program(alloc: Global, program: &Program) -> Result<Option<u64>, OutOfMemory> {
+    match Graph::build(alloc, program) {
+        Ok(graph) => {
+            let problem = Problem::of(alloc, &graph, Analysis::Reach)?;
+            let (_, followed) = solve_counted(alloc, &problem, 0, 0)?;
+            Ok(Some(followed))
+        }
+        Err(GraphFault::OutOfMemory) => Err(OutOfMemory),
+        Err(_) => Ok(None),
+    }
+}
+
+fn write_line_of_skips(text: &mut String) -> Result<(), OutOfMemory> {
+    text.push_str("proc main\n")?;
+    for _ in 0..100 {
+        text.push_str("skip\n")?;
+    }
+    text.push_str("end\n")
 }
 
 #[test]
 fn steps_of_a_line(rt: HostRuntime) -> Result<(), Fail> {
     let alloc = rt.alloc();
     let mut text = String::new(alloc);
-    text.push_str("proc main\n")?;
-    for _ in 0..100 {
-        text.push_str("skip\n")?;
-    }
-    text.push_str("end\n")?;
+    write_line_of_skips(&mut text)?;
     assert_eq!(rt; steps_followed(alloc, text.as_bytes())?, Some(100));
     Ok(())
 }

@@ -1,10 +1,11 @@
-use crate::answers::{Question, answer};
+use crate::answers::{Question, check_in_slices};
 use flow_graph::{Analysis, OutOfMemory};
 use std::alloc::Global;
+use std::process::Abort;
 use std::test::Fail;
 
 /// Widths of slices: within a word, to its end, across it, several words, and all bits at once.
-const WIDTHS: [u32; 7] = [1, 7, 63, 64, 65, 300, 4_096];
+const WIDTHS: &[u32] = &[1, 7, 63, 64, 65, 300, 4_096];
 
 /// No statement.
 const EMPTY: &str = "proc main\nend\n";
@@ -64,7 +65,7 @@ const TWO_CALLEES: &str =
     "proc main\nx = 1\ncall p | q\nprint x\nend\nproc p\nx = 2\nend\nproc q\nskip\nend\n";
 
 /// Programs, and their tables.
-const TABLES: [(&str, Analysis, &str); 25] = [
+const TABLES: &[(&str, Analysis, &str)] = &[
     (EMPTY, Analysis::Reach, "main 0: -\n"),
     (NO_BITS, Analysis::Avail, "main 0: -\nmain 1: -\n"),
     (
@@ -168,35 +169,38 @@ const TABLES: [(&str, Analysis, &str); 25] = [
     ),
 ];
 
-#[test]
-fn tables(rt: HostRuntime) -> Result<(), Fail> {
-    for (text, analysis, want) in TABLES {
-        for width in WIDTHS {
-            let question = Question::Table(analysis, width);
-            assert_eq!(rt;
-                answer(rt.alloc(), text.as_bytes(), question)?.as_str(),
-                want,
-                "in slices of {width}"
-            );
-        }
+/// A text's program has this table, in slices of each width.
+fn check_table<R: Abort + AllocGlobal>(
+    rt: &R,
+    text: &str,
+    analysis: Analysis,
+    want: &str,
+) -> Result<(), Fail> {
+    for width in WIDTHS {
+        check_in_slices(rt, text, Question::Table(analysis, *width), *width, want)?;
     }
     Ok(())
 }
 
-/// `main` that prints so many variables, one after the other.
-fn prints(alloc: Global, count: u32) -> Result<String, OutOfMemory> {
-    let mut text = String::new(alloc);
+#[test]
+fn tables(rt: HostRuntime) -> Result<(), Fail> {
+    for (text, analysis, want) in TABLES {
+        check_table(&rt, text, *analysis, want)?;
+    }
+    Ok(())
+}
+
+/// Writes a `main` that prints so many variables, one after the other.
+fn write_prints(text: &mut String, count: u32) -> Result<(), OutOfMemory> {
     text.push_str("proc main\n")?;
     for number in 0..count {
         write!(text, "print v{number}\n")?;
     }
-    text.push_str("end\n")?;
-    Ok(text)
+    text.push_str("end\n")
 }
 
-/// What is live there: at each point the variables that are printed from there on.
-fn printed(alloc: Global, count: u32) -> Result<String, OutOfMemory> {
-    let mut text = String::new(alloc);
+/// Writes what is live there: at each point the variables that are printed from there on.
+fn write_printed(text: &mut String, count: u32) -> Result<(), OutOfMemory> {
     for point in 0..count {
         write!(text, "main {point}: v{point}")?;
         for number in point + 1..count {
@@ -204,22 +208,14 @@ fn printed(alloc: Global, count: u32) -> Result<String, OutOfMemory> {
         }
         text.push('\n')?;
     }
-    write!(text, "main {count}: -\n")?;
-    Ok(text)
+    write!(text, "main {count}: -\n")
 }
 
 #[test]
 fn more_bits_than_a_word(rt: HostRuntime) -> Result<(), Fail> {
-    let alloc = rt.alloc();
-    let text = prints(alloc, 70)?;
-    let want = printed(alloc, 70)?;
-    for width in WIDTHS {
-        let question = Question::Table(Analysis::Live, width);
-        assert_eq!(rt;
-            answer(alloc, text.as_bytes(), question)?.as_str(),
-            want.as_str(),
-            "in slices of {width}"
-        );
-    }
-    Ok(())
+    let mut text = String::new(rt.alloc());
+    write_prints(&mut text, 70)?;
+    let mut want = String::new(rt.alloc());
+    write_printed(&mut want, 70)?;
+    check_table(&rt, text.as_str(), Analysis::Live, want.as_str())
 }

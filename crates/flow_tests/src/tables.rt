@@ -52,6 +52,22 @@ fn expression_name(alloc: Global, graph: &Graph<'_>, expr: Expr) -> Result<Strin
     String::from_utf8_lossy(alloc, name.as_slice())
 }
 
+fn bit_name(
+    alloc: Global,
+    graph: &Graph<'_>,
+    analysis: Analysis,
+    bit: u32,
+) -> Result<String, OutOfMemory>
+    requires { bit < bits_of graph.now analysis }
+{
+    match analysis {
+        Analysis::Reach => definition_name(alloc, graph, bit),
+        Analysis::Live => String::from_utf8_lossy(alloc, graph.program().variable(bit)),
+        Analysis::Avail => expression_name(alloc, graph, graph.expression(bit)),
+        Analysis::Busy => expression_name(alloc, graph, graph.expression(bit)),
+    }
+}
+
 fn bit_names(
     alloc: Global,
     graph: &Graph<'_>,
@@ -59,12 +75,7 @@ fn bit_names(
 ) -> Result<Vec<String>, OutOfMemory> {
     let mut names = Vec::new(alloc);
     for bit in 0..graph.bits(analysis) {
-        names.push(match analysis {
-            Analysis::Reach => definition_name(alloc, graph, bit)?,
-            Analysis::Live => String::from_utf8_lossy(alloc, graph.program().variable(bit))?,
-            Analysis::Avail => expression_name(alloc, graph, graph.expression(bit))?,
-            Analysis::Busy => expression_name(alloc, graph, graph.expression(bit))?,
-        })?;
+        names.push(bit_name(alloc, graph, analysis, bit)?)?;
     }
     Ok(names)
 }
@@ -91,42 +102,49 @@ fn words_agree(alloc: Global, solver: &Solver<'_, '_>, rows: &Rows) -> Result<bo
     Ok(agree)
 }
 
-/// The problem's solution in slices of this width, of which the last one may be shorter; and whether their words are their rows.
-fn solved_slices(
+/// Puts the solution of the bits from `lo` to `hi` behind the slices; whether its words are its rows.
+fn add_slice(
     alloc: Global,
     solver: &Solver<'_, '_>,
+    slices: &mut Vec<Rows>,
+    lo: u32,
+    hi: u32,
+) -> Result<bool, OutOfMemory>
+    requires ordered { lo ≤ hi }
+    requires within { hi ≤ bits_of solver.now.program solver.now.analysis }
+{
+    let rows = solver.solve(alloc, lo, hi)?;
+    let agree = words_agree(alloc, solver, &rows)?;
+    slices.push(rows)?;
+    Ok(agree)
+}
+
+/// Solves the problem in slices of this width, of which the last one may be shorter; whether their words are their rows.
+fn add_slices(
+    alloc: Global,
+    solver: &Solver<'_, '_>,
+    slices: &mut Vec<Rows>,
     width: u32,
-) -> Result<(Vec<Rows>, bool), OutOfMemory> {
-    let mut slices = Vec::new(alloc);
+) -> Result<bool, OutOfMemory> {
     let mut agree = true;
     if let Ok(cut) = Cut::even(alloc, solver.problem().bits(), width) {
         for slice in 0..cut.slices() {
             let (lo, hi) = cut.range(slice);
-            let rows = solver.solve(alloc, lo, hi)?;
-            agree &= words_agree(alloc, solver, &rows)?;
-            slices.push(rows)?;
+            agree &= add_slice(alloc, solver, slices, lo, hi)?;
         }
     }
-    Ok((slices, agree))
+    Ok(agree)
 }
 
-/// An analysis of a graph, ready to be solved.
-fn solver_of<'g, 'p>(
-    alloc: Global,
-    graph: &'g Graph<'p>,
-    analysis: Analysis,
-) -> Result<Solver<'g, 'p>, OutOfMemory> {
-    Solver::of(alloc, Problem::of(alloc, graph, analysis)?)
-}
-
-/// What is known of it, with what its bits are called.
+/// What is known of a problem, with what its bits are called.
 fn solved_with(
     alloc: Global,
     names: Vec<String>,
     solver: &Solver<'_, '_>,
     width: u32,
 ) -> Result<Table, OutOfMemory> {
-    let (slices, agree) = solved_slices(alloc, solver, width)?;
+    let mut slices = Vec::new(alloc);
+    let agree = add_slices(alloc, solver, &mut slices, width)?;
     let flags = solve(alloc, solver.problem(), 0, 0)?;
     let complements = solver.problem().complements();
     Ok(Table {
@@ -144,9 +162,8 @@ fn solved(
     analysis: Analysis,
     width: u32,
 ) -> Result<Table, OutOfMemory> {
-    let names = bit_names(alloc, graph, analysis)?;
-    let solver = solver_of(alloc, graph, analysis)?;
-    solved_with(alloc, names, &solver, width)
+    let solver = Solver::of(alloc, Problem::of(alloc, graph, analysis)?)?;
+    solved_with(alloc, bit_names(alloc, graph, analysis)?, &solver, width)
 }
 
 /// Writes what the table has of a slice's bits at a point, behind a comma where something is there.
@@ -207,12 +224,7 @@ fn write_point(
 ) -> Result<(), OutOfMemory>
     requires { point < point_count graph.now }
 {
-    let place = graph.place(point);
-    let program = graph.program();
-    // Its contract tells that each procedure has a name.
-    let _ = program.procs();
-    let name = String::from_utf8_lossy(alloc, program.procedure(place.procedure))?;
-    write!(text, "{name} {}", place.place)?;
+    write_place(text, alloc, graph, point)?;
     write_flag(text, table, point)?;
     text.push_str(": ")?;
     let mut any = false;
@@ -225,35 +237,52 @@ fn write_point(
     text.push('\n')
 }
 
-/// The lines of all points.
-pub fn table_text(
+/// Writes a point's procedure and its place in it.
+fn write_place(
+    text: &mut String,
+    alloc: Global,
+    graph: &Graph<'_>,
+    point: u32,
+) -> Result<(), OutOfMemory>
+    requires { point < point_count graph.now }
+{
+    let place = graph.place(point);
+    let program = graph.program();
+    // Its contract tells that each procedure has a name.
+    let _ = program.procs();
+    let name = String::from_utf8_lossy(alloc, program.procedure(place.procedure))?;
+    write!(text, "{name} {}", place.place)
+}
+
+/// Writes the lines of all points.
+pub fn write_table(
+    text: &mut String,
     alloc: Global,
     graph: &Graph<'_>,
     analysis: Analysis,
     width: u32,
-) -> Result<String, OutOfMemory> {
+) -> Result<(), OutOfMemory> {
     let table = solved(alloc, graph, analysis, width)?;
-    let mut text = String::new(alloc);
     for point in 0..graph.points() {
-        write_point(&mut text, alloc, graph, &table, point)?;
+        write_point(text, alloc, graph, &table, point)?;
     }
-    Ok(text)
+    Ok(())
 }
 
-/// The lines of these points.
-pub fn table_lines(
+/// Writes the lines of these points.
+pub fn write_lines(
+    text: &mut String,
     alloc: Global,
     graph: &Graph<'_>,
     analysis: Analysis,
     width: u32,
     points: &[u32],
-) -> Result<String, OutOfMemory> {
+) -> Result<(), OutOfMemory> {
     let table = solved(alloc, graph, analysis, width)?;
-    let mut text = String::new(alloc);
     for point in points {
         if *point < graph.points() {
-            write_point(&mut text, alloc, graph, &table, *point)?;
+            write_point(text, alloc, graph, &table, *point)?;
         }
     }
-    Ok(text)
+    Ok(())
 }

@@ -1,8 +1,7 @@
 use Rattle.std.proofs.Common.{◌<◌, length, subst, sym}
 use Rattle.flow_graph.proofs.places.PointLemmas.{points_have_places}
-use Rattle.flow_tests.proofs.tables.write_point.Goals as goal
+use Rattle.flow_tests.proofs.tables.write_place.Goals as goal
 
--- src/tables.rt:160:47
 pub procedure-requires : goal.procedure-requires
 procedure-requires c =
     let graph = c.args.graph.now in
