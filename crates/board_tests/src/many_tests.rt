@@ -76,7 +76,7 @@ fn closed(board: Board<Nothing>, pass: Pass<Nothing>) -> Option<(u32, u32, u32)>
 fn closes(board: Board<Nothing>, pass: Pass<Nothing>) -> bool
     requires { IsOf board pass }
 {
-    board.close(pass).is_ok()
+    closed(board, pass).is_some()
 }
 
 #[test]
@@ -198,7 +198,7 @@ fn passes_that_both_hold_are_not_joined(rt: HostRuntime) -> Result<(), CutFault>
     let both = joined_at_last(&rt, &board, first, second);
     assert_eq!(rt; both.held(), Some(2));
     let (board, mut both) = not_closed(&rt, board, both);
-    assert!(rt; turn(&board, &mut both).is_none());
+    draws(&rt, &board, &mut both, None);
     assert!(rt; closes(board, both));
     Ok(())
 }
@@ -257,7 +257,7 @@ fn joined(
 {
     let mut all = pass;
     while let Some(mut other) = passes.pop() {
-        assert!(rt; turn(board, &mut other).is_none());
+        draws(rt, board, &mut other, None);
         all = match board.join(all, other) {
             Ok(both) => both,
             Err(_) => panic!(rt; "both hold a slice"),
@@ -326,11 +326,13 @@ fn closes_behind_two<R: Threads>(
     }
 }
 
+const NUMBERS_OF_SLICES: &[u32] = &[0, 1, 70, 4_096];
+
 #[test]
 fn two_threads(rt: HostRuntime) -> Result<(), CutFault> {
-    for slices in [0, 1, 70, 4_096] {
+    for slices in NUMBERS_OF_SLICES {
         assert_eq!(rt;
-            closes_behind_two(&rt, rt.alloc(), slices)?,
+            closes_behind_two(&rt, rt.alloc(), *slices)?,
             Some(true),
             "{slices} slices"
         );

@@ -154,7 +154,7 @@ const POSTS_IN_TURN: Case = Case {
     last: &[],
 };
 
-const CASES: [(&Case, &str); 7] = [
+const CASES: &[(&Case, &str)] = &[
     (
         &BOTH,
         "claims 0\nclaims 1\nsees 3\nfinishes 1\n1 of 2 finished\nfinishes 0\n0 true: 0 1\n",

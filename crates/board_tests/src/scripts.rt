@@ -6,7 +6,7 @@ ghost use Rattle.board_tests.specs.Benches.{IsFor, AreNoted};
 
 use crate::bench::{Sets, Worker, open, wanted_sets};
 use bit_rows::{Cut, Row, Rows};
-use slice_board::{Board, OutOfMemory, Pass};
+use slice_board::{Board, OutOfMemory, Pass, Unfinished};
 use std::alloc::Global;
 
 /// What a worker does.
@@ -62,6 +62,10 @@ fn tell_post(log: &mut String, posted: bool) -> Result<(), OutOfMemory> {
     log.push_str("may not post\n")
 }
 
+fn tell_unfinished(log: &mut String, unfinished: &Unfinished) -> Result<(), OutOfMemory> {
+    writeln!(log, "{} of {} finished", unfinished.done, unfinished.of)
+}
+
 fn take(
     log: &mut String,
     board: &Board<Sets>,
@@ -86,8 +90,10 @@ fn take(
     }
 }
 
-fn take_all(
+// Tells how many slices are finished, and takes the steps behind that.
+fn take_last(
     log: &mut String,
+    unfinished: &Unfinished,
     board: &Board<Sets>,
     sets: &Sets,
     worker: &mut Worker,
@@ -100,6 +106,7 @@ fn take_all(
     ensures of { IsOf board.now worker.new.pass }
     ensures noted { AreNoted worker.new.mine worker.new.pass.posted }
 {
+    tell_unfinished(log, unfinished)?;
     for step in steps {
         take(log, board, sets, worker, step)?;
     }
@@ -122,31 +129,6 @@ fn write_rows(log: &mut String, rows: &Rows) -> Result<(), OutOfMemory> {
         log.push_str("\n")?;
     }
     Ok(())
-}
-
-// Closes the board, or gives all back.
-fn close(
-    log: &mut String,
-    board: Board<Sets>,
-    worker: Worker,
-) -> Result<Option<(Board<Sets>, Worker)>, OutOfMemory>
-    requires of { IsOf board worker.pass }
-    requires noted { AreNoted worker.mine worker.pass.posted }
-    ensures board { IfOk result (λ r. IfSome r (λ kept. kept.0 ≡ board)) }
-    ensures of { IfOk result (λ r. IfSome r (λ kept. IsOf board kept.1.pass)) }
-    ensures noted { IfOk result (λ r. IfSome r (λ kept. AreNoted kept.1.mine kept.1.pass.posted)) }
-{
-    let Worker { pass, mine } = worker;
-    match board.close(pass) {
-        Ok(rows) => {
-            write_rows(log, &rows)?;
-            Ok(None)
-        }
-        Err((unfinished, board, pass)) => {
-            writeln!(log, "{} of {} finished", unfinished.done, unfinished.of)?;
-            Ok(Some((board, Worker { pass, mine })))
-        }
-    }
 }
 
 // The steps of both workers, and what they leave.
@@ -231,13 +213,12 @@ fn work(
 }
 
 // Closes the board a second time.
-fn close_again(log: &mut String, board: Board<Sets>, worker: Worker) -> Result<(), OutOfMemory>
-    requires of { IsOf board worker.pass }
-    requires noted { AreNoted worker.mine worker.pass.posted }
+fn close_again(log: &mut String, board: Board<Sets>, pass: Pass<Sets>) -> Result<(), OutOfMemory>
+    requires { IsOf board pass }
 {
-    match close(log, board, worker) {
-        Ok(_) => Ok(()),
-        Err(no_memory) => Err(no_memory),
+    match board.close(pass) {
+        Ok(rows) => write_rows(log, &rows),
+        Err((unfinished, _board, _pass)) => tell_unfinished(log, &unfinished),
     }
 }
 
@@ -246,6 +227,7 @@ fn work_on(
     log: &mut String,
     case: &Case,
     sets: &Sets,
+    unfinished: &Unfinished,
     board: Board<Sets>,
     mut worker: Worker,
 ) -> Result<(), OutOfMemory>
@@ -254,8 +236,8 @@ fn work_on(
     requires wanted { board.wanted ≡ sets.now }
     requires board { IsFor board sets.now.rows }
 {
-    take_all(log, &board, sets, &mut worker, case.last)?;
-    close_again(log, board, worker)
+    take_last(log, unfinished, &board, sets, &mut worker, case.last)?;
+    close_again(log, board, worker.pass)
 }
 
 // Closes the board, and where it is given back, once more behind the last steps.
@@ -271,9 +253,12 @@ fn close_at_last(
     requires wanted { board.wanted ≡ sets.now }
     requires board { IsFor board sets.now.rows }
 {
-    match close(log, board, worker)? {
-        Some((board, worker)) => work_on(log, case, sets, board, worker),
-        None => Ok(()),
+    let Worker { pass, mine } = worker;
+    match board.close(pass) {
+        Ok(rows) => write_rows(log, &rows),
+        Err((unfinished, board, pass)) => {
+            work_on(log, case, sets, &unfinished, board, Worker { pass, mine })
+        }
     }
 }
 

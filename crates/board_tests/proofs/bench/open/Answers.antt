@@ -1,3 +1,4 @@
+use Rattle.std.proofs.lemmas.Grind.{common_steps}
 use Rattle.std.proofs.Common.{◌≡◌, length, ap, arith, rules}
 use mathlib.Core.Logic.{dite}
 use native.Mathlib.Decide.{dec_le}
@@ -24,3 +25,6 @@ open-requires-clause-within c point bit has =
     dite (dec_le (length rows.sets) point)
     (λ far. absurd (both_ways (contains (set_at rows point) bit) (past_point rows point bit far) has))
     (λ near. (omega arith, omega arith))
+
+pub loop-point-preserved : goal.loop-point-preserved
+loop-point-preserved c = grind (arith, common_steps)
