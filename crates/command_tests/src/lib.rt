@@ -16,3 +16,5 @@ mod growth_tests;
 mod tacflow_tests;
 #[cfg(test)]
 mod tacview_tests;
+#[cfg(test)]
+mod texts;
