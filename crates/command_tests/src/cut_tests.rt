@@ -11,9 +11,11 @@ use std::thread::Threads;
 // Whether one line that tells a refusal at a place was written.
 fn is_refusal(told: &[u8]) -> bool {
     told.starts_with(b"tacflow: ")
-        && told.get(9).is_some_and(|byte| byte.is_ascii_digit())
-        && told.ends_with(b"\n")
-        && told.iter().filter(|byte| **byte == b'\n').count() == 1
+        && matches!(told.get(9), Some(b'0'..=b'9'))
+        && match told.split_last() {
+            Some((last, line)) => *last == b'\n' && !line.contains(&b'\n'),
+            None => false,
+        }
 }
 
 // The text is refused by one line and nothing else.

@@ -1,6 +1,7 @@
 // Each request for memory refused in turn (`rt try --test --fail-alloc N`): with ample memory these tests end as all others.
 
-use crate::tacflow_tests::{NAME, check_growths, check_line, named_by};
+use crate::answers::check_same;
+use crate::tacflow_tests::{ALL_WORDS, NAME, check_growths, check_line, check_options, named_by};
 use clap::error::ErrorKind;
 use flow_commands::tacflow::Show;
 use flow_runs::{Fault, fault_line};
@@ -142,7 +143,7 @@ fn line_of_a_fault_is_told_again(rt: HostRuntime) -> Result<(), Fail> {
     let fault = Fault::Refused(refusal);
     let wanted = "tacflow: 12:6: refusal 9: UnknownLabel\n";
     match fault_line(rt.alloc(), NAME, &fault) {
-        Ok(line) => assert_eq!(rt; line.as_slice(), wanted.as_bytes()),
+        Ok(line) => check_same(&rt, &line, wanted.as_bytes()),
         Err(_) => check_line(&rt, &fault, wanted)?,
     }
     Ok(())
@@ -151,12 +152,10 @@ fn line_of_a_fault_is_told_again(rt: HostRuntime) -> Result<(), Fail> {
 // What the words name, or want of memory; and then what they name.
 #[test]
 fn words_are_taken_again(rt: HostRuntime) -> Result<(), Fail> {
-    let words = &["tacflow", "--workers", "64", "--cut=4096", "--show", "busy"];
-    let mut named = named_by(rt.alloc(), words);
+    let mut named = named_by(rt.alloc(), ALL_WORDS);
     if named == Err(ErrorKind::OutOfMemory) {
-        named = named_by(rt.alloc(), words);
+        named = named_by(rt.alloc(), ALL_WORDS);
     }
-    let options = named?;
-    assert!(rt; options.workers == 64 && options.cut == 4096 && options.show == Show::Busy);
+    check_options(&rt, named?, (64, 4096), Show::Busy);
     Ok(())
 }

@@ -3,6 +3,8 @@
 #![tactic(auto)]
 
 #[cfg(test)]
+mod answers;
+#[cfg(test)]
 mod case_tests;
 #[cfg(test)]
 mod cut_tests;

@@ -1,5 +1,6 @@
 // `tacflow`'s values by hand: what small texts are told, what words name, and what faults of devices leave.
 
+use crate::answers::{check_fault, check_outcome, check_same, check_team};
 use crate::devices::{ALONE, Page, Pieces, TEAMS, blank_page};
 use crate::texts::{numbered, repeated};
 use clap::error;
@@ -58,7 +59,7 @@ pub(crate) fn check_by<R: Threads + Sync + Abort + AllocGlobal, D: Read + Drop>(
     let mut page = blank_page(rt.alloc());
     page.piece = piece;
     let got = told(rt, reader, &mut page, show, team)?;
-    assert_eq!(rt; got.as_slice(), answer, "{team:?}");
+    check_team(rt, &got, answer, team);
     Ok(())
 }
 
@@ -289,26 +290,19 @@ fn lengths_of_names(rt: HostRuntime) -> Result<(), Fail> {
     Ok(())
 }
 
-// A `main`, and procedures behind it with the numbers from 1 up to this one.
-fn procedures(alloc: Global, last: u32) -> Result<String, Fail> {
-    numbered(alloc, SMALLEST, 1..last + 1, ("proc q", "\nend\n"), "")
-}
+// What stands around the number of each procedure but `main`.
+const AROUND_NUMBERS: (&str, &str) = ("proc q", "\nend\n");
 
 #[test]
 fn numbers_of_procedures(rt: HostRuntime) -> Result<(), Fail> {
-    let most = procedures(rt.alloc(), 255)?;
+    let most = numbered(rt.alloc(), SMALLEST, 1..256, AROUND_NUMBERS, "")?;
     check(&rt, most.as_bytes(), Show::List, most.as_bytes())?;
-    let more = procedures(rt.alloc(), 256)?;
+    let more = numbered(rt.alloc(), SMALLEST, 1..257, AROUND_NUMBERS, "")?;
     let refusal = b"tacflow: 513:6: refusal 12: TooManyProcedures\n";
     check(&rt, more.as_bytes(), Show::List, refusal)
 }
 
-// The smallest program with so many empty lines behind its 14 bytes.
-fn long_text(alloc: Global, lines: usize) -> Result<String, Fail> {
-    repeated(alloc, SMALLEST, "\n", lines, "")
-}
-
-// How many empty lines stand behind the smallest program, and the answer: at most 1,048,576 bytes are a text.
+// How many empty lines stand behind the smallest program, which has 14 bytes, and the answer: at most 1,048,576 bytes are a text.
 const LENGTHS: &[(usize, &str)] = &[
     (1_048_576 - 14, "proc main\nend\n"),
     (1_048_577 - 14, "tacflow: 1:1: refusal 11: TextTooLong\n"),
@@ -318,7 +312,7 @@ const LENGTHS: &[(usize, &str)] = &[
 #[test]
 fn lengths_of_texts(rt: HostRuntime) -> Result<(), Fail> {
     for (lines, answer) in LENGTHS {
-        let text = long_text(rt.alloc(), *lines)?;
+        let text = repeated(rt.alloc(), SMALLEST, "\n", *lines, "")?;
         check(&rt, text.as_bytes(), Show::List, answer.as_bytes())?;
     }
     Ok(())
@@ -333,7 +327,7 @@ const ENDS: &[(usize, &str)] = &[
 // Nothing is pulled behind what is one byte too long.
 #[test]
 fn faults_behind_the_longest_text(rt: HostRuntime) -> Result<(), Fail> {
-    let text = long_text(rt.alloc(), 1_200_000 - 14)?;
+    let text = repeated(rt.alloc(), SMALLEST, "\n", 1_200_000 - 14, "")?;
     for (left, answer) in ENDS {
         let reader = Pieces {
             rest: text.as_bytes(),
@@ -410,8 +404,8 @@ fn check_page<R: Threads + Sync + Abort + AllocGlobal>(
     beginning: &[u8],
 ) -> Result<(), Fail> {
     let got = told(rt, text, &mut page, show, ALONE)?;
-    assert_eq!(rt; page.taken.as_slice(), beginning);
-    assert!(rt; got.as_slice().starts_with(b"tacflow: write fault\n"));
+    let line = b"tacflow: write fault\n";
+    check_fault(rt, &got, line, &page.taken, beginning);
     Ok(())
 }
 
@@ -484,22 +478,6 @@ fn prints(alloc: Global) -> Result<String, Fail> {
     )
 }
 
-// Its table of live variables: the only one is live before each statement.
-fn live_of_prints(alloc: Global) -> Result<String, Fail> {
-    numbered(alloc, "", 0..PRINTS, ("main ", ": a\n"), "main 12000: -\n")
-}
-
-// Its report: no statement sets the variable.
-fn report_of_prints(alloc: Global) -> Result<String, Fail> {
-    numbered(
-        alloc,
-        "points 12001, variables 1, definitions 1, expressions 0\n",
-        2..PRINTS + 2,
-        ("", ": a may be used before it is set\n"),
-        "",
-    )
-}
-
 // The ends of two pieces, and the places around them.
 const CUTS: &[usize] = &[0, 1, 65_535, 65_536, 65_537, 131_071, 131_072];
 
@@ -519,13 +497,23 @@ fn check_pieces<R: Threads + Sync + Abort + AllocGlobal>(
     check_writer(rt, text, show, answer, all_but_one, Some(ErrorKind::Other))
 }
 
+// What stands around a number in its table of live variables, whose only one is live before each statement, and in its report, since
+// no statement sets that one.
+const AROUND_PLACES: (&str, &str) = ("main ", ": a\n");
+
+const AROUND_LINES: (&str, &str) = ("", ": a may be used before it is set\n");
+
+const FIRST_LINE: &str = "points 12001, variables 1, definitions 1, expressions 0\n";
+
 #[test]
 fn faults_of_writers_around_pieces(rt: HostRuntime) -> Result<(), Fail> {
     let text = prints(rt.alloc())?;
-    let table = live_of_prints(rt.alloc())?;
-    check_pieces(&rt, text.as_bytes(), Show::Live, table.as_bytes())?;
-    let report = report_of_prints(rt.alloc())?;
-    check_pieces(&rt, text.as_bytes(), Show::Report, report.as_bytes())
+    let text = text.as_bytes();
+    let last = "main 12000: -\n";
+    let table = numbered(rt.alloc(), "", 0..PRINTS, AROUND_PLACES, last)?;
+    check_pieces(&rt, text, Show::Live, table.as_bytes())?;
+    let report = numbered(rt.alloc(), FIRST_LINE, 2..PRINTS + 2, AROUND_LINES, "")?;
+    check_pieces(&rt, text, Show::Report, report.as_bytes())
 }
 
 // A listing of 120,014 bytes, which is the text itself.
@@ -553,12 +541,8 @@ pub(crate) fn check_growths<R: Threads + Sync + Abort + AllocGlobal>(
     };
     let mut page = blank_page(rt.alloc());
     page.taken = taken;
-    match run_to_page(rt, text.as_bytes(), &mut page, options) {
-        Ok(()) => assert_eq!(rt; page.taken.as_slice(), answer.as_bytes()),
-        Err(Fault::OutOfMemory) => assert!(rt; page.taken.is_empty()),
-        Err(_) => return Err(Fail::from("another answer")),
-    }
-    Ok(())
+    let outcome = run_to_page(rt, text.as_bytes(), &mut page, options);
+    check_outcome(rt, outcome, &page.taken, answer.as_bytes())
 }
 
 const RECURSION: &str =
@@ -606,14 +590,14 @@ pub(crate) fn check_line<R: Abort + AllocGlobal>(
     wanted: &str,
 ) -> Result<(), Fail> {
     let line = fault_line(rt.alloc(), NAME, fault)?;
-    assert_eq!(rt; line.as_slice(), wanted.as_bytes());
+    check_same(rt, &line, wanted.as_bytes());
     Ok(())
 }
 
 // The fault behind the program's name.
 fn check_shown<R: Abort + AllocGlobal>(rt: &R, fault: &Fault, wanted: &str) -> Result<(), Fail> {
     let shown = format!(in rt.alloc(); "tacflow: {fault}\n")?;
-    assert_eq!(rt; shown.as_bytes(), wanted.as_bytes());
+    check_same(rt, shown.as_bytes(), wanted.as_bytes());
     Ok(())
 }
 
@@ -724,12 +708,27 @@ fn ranges_of_options(rt: HostRuntime) {
     }
 }
 
+// Words that name each option.
+pub(crate) const ALL_WORDS: &[&str] = &[
+    "tacflow",
+    "--workers",
+    "64",
+    "--cut=4096",
+    "--show",
+    "busy",
+];
+
 // What the words name, or the kind of the error.
 pub(crate) fn named_by(alloc: Global, words: &[&str]) -> Result<Options, error::ErrorKind> {
     match Options::from_words(alloc, words) {
         Ok(options) => Ok(options),
         Err(error) => Err(error.kind()),
     }
+}
+
+// The words name this team and this kind.
+pub(crate) fn check_options<R: Abort>(rt: &R, options: Options, team: (u32, u32), show: Show) {
+    assert!(rt; options.workers == team.0 && options.cut == team.1 && options.show == show);
 }
 
 // Words that name one kind alone.
@@ -744,10 +743,9 @@ const SHOWS: &[(&str, Show)] = &[
 #[test]
 fn words_that_are_taken(rt: HostRuntime) -> Result<(), Fail> {
     let options = named_by(rt.alloc(), &["tacflow"])?;
-    assert!(rt; options.workers == 1 && options.cut == 64 && options.show == Show::Report);
-    let words = &["tacflow", "--workers", "64", "--cut=4096", "--show", "busy"];
-    let options = named_by(rt.alloc(), words)?;
-    assert!(rt; options.workers == 64 && options.cut == 4096 && options.show == Show::Busy);
+    check_options(&rt, options, (1, 64), Show::Report);
+    let options = named_by(rt.alloc(), ALL_WORDS)?;
+    check_options(&rt, options, (64, 4096), Show::Busy);
     for (word, show) in SHOWS {
         let options = named_by(rt.alloc(), &["tacflow", "--show", word])?;
         assert!(rt; options.show == *show);

@@ -1,5 +1,6 @@
 // `tacview`'s values by hand: what small texts are told, what words name, and what faults of devices leave.
 
+use crate::answers::{check_fault, check_outcome, check_same, check_team};
 use crate::devices::{ALONE, Page, Pieces, TEAMS, blank_page};
 use crate::texts::repeated;
 use clap::error;
@@ -116,7 +117,7 @@ fn check_by<R: Threads + Sync + Abort + AllocGlobal, D: Read + Drop>(
     let mut page = blank_page(rt.alloc());
     page.piece = piece;
     let got = told(rt, reader, &mut page, asked, team)?;
-    assert_eq!(rt; got.as_slice(), answer.as_bytes(), "{team:?}");
+    check_team(rt, &got, answer.as_bytes(), team);
     Ok(())
 }
 
@@ -160,11 +161,26 @@ const F_GRAPH: &str =
 const F_LINES: &str =
     "{\"type\":\"program\",\"points\":8,\"procedures\":[\"main\",\"f\"],\"variables\":[\"x\"],\"definitions\":3,\"expressions\":0}\n{\"type\":\"point\",\"point\":4,\"procedure\":\"f\",\"place\":0,\"line\":7,\"first\":43,\"last\":53,\"statement\":\"if x goto L\",\"edges\":[{\"kind\":\"step\",\"to\":5},{\"kind\":\"step\",\"to\":7}]}\n{\"type\":\"point\",\"point\":5,\"procedure\":\"f\",\"place\":1,\"line\":8,\"first\":55,\"last\":60,\"statement\":\"call f\",\"edges\":[{\"kind\":\"call\",\"site\":5,\"to\":4}]}\n{\"type\":\"point\",\"point\":6,\"procedure\":\"f\",\"place\":2,\"line\":9,\"first\":62,\"last\":66,\"statement\":\"x = 2\",\"edges\":[{\"kind\":\"step\",\"to\":7}]}\n{\"type\":\"point\",\"point\":7,\"procedure\":\"f\",\"place\":3,\"line\":null,\"first\":null,\"last\":null,\"statement\":null,\"edges\":[{\"kind\":\"return\",\"site\":1,\"to\":2},{\"kind\":\"return\",\"site\":5,\"to\":6}]}\n";
 
+// Each text is answered so.
+fn check_all<R: Threads + Sync + Abort + AllocGlobal>(
+    rt: &R,
+    cases: &[(&str, Asked<'_>, &str)],
+) -> Result<(), Fail> {
+    for (text, asked, answer) in cases {
+        check(rt, text, *asked, answer)?;
+    }
+    Ok(())
+}
+
+const WHOLE_PROGRAMS: &[(&str, Asked<'static>, &str)] = &[
+    (SMALL, GRAPH, SMALL_GRAPH),
+    (SMALL, LINES, SMALL_LINES),
+    (RECURSION, GRAPH, RECURSION_GRAPH),
+];
+
 #[test]
 fn whole_programs(rt: HostRuntime) -> Result<(), Fail> {
-    check(&rt, SMALL, GRAPH, SMALL_GRAPH)?;
-    check(&rt, SMALL, LINES, SMALL_LINES)?;
-    check(&rt, RECURSION, GRAPH, RECURSION_GRAPH)
+    check_all(&rt, WHOLE_PROGRAMS)
 }
 
 // What is asked of `f` or of `main` alone.
@@ -186,11 +202,15 @@ const GRAPH_OF_MAIN: Asked<'static> = Asked {
     procedure: Some("main"),
 };
 
+const ONE_PROCEDURE: &[(&str, Asked<'static>, &str)] = &[
+    (RECURSION, GRAPH_OF_F, F_GRAPH),
+    (RECURSION, LINES_OF_F, F_LINES),
+    (SMALL, GRAPH_OF_MAIN, SMALL_GRAPH),
+];
+
 #[test]
 fn one_procedure(rt: HostRuntime) -> Result<(), Fail> {
-    check(&rt, RECURSION, GRAPH_OF_F, F_GRAPH)?;
-    check(&rt, RECURSION, LINES_OF_F, F_LINES)?;
-    check(&rt, SMALL, GRAPH_OF_MAIN, SMALL_GRAPH)
+    check_all(&rt, ONE_PROCEDURE)
 }
 
 // Names that no procedure has, and the line that says so.
@@ -220,22 +240,34 @@ fn procedures_that_are_not_there(rt: HostRuntime) -> Result<(), Fail> {
     Ok(())
 }
 
-const REFUSED_TEXTS: &[(&str, &str)] = &[
-    ("", "tacview: 1:1: refusal 6: NoMain\n"),
-    ("proc main\nx =\nend\n", "tacview: 2:4: refusal 4: Syntax\n"),
+const REFUSED_TEXTS: &[(&str, Asked<'static>, &str)] = &[
+    ("", GRAPH, "tacview: 1:1: refusal 6: NoMain\n"),
+    ("", LINES, "tacview: 1:1: refusal 6: NoMain\n"),
+    (
+        "proc main\nx =\nend\n",
+        GRAPH,
+        "tacview: 2:4: refusal 4: Syntax\n",
+    ),
+    (
+        "proc main\nx =\nend\n",
+        LINES,
+        "tacview: 2:4: refusal 4: Syntax\n",
+    ),
     (
         "proc main\ncall z\nend\n",
+        GRAPH,
+        "tacview: 2:6: refusal 10: UnknownProcedure\n",
+    ),
+    (
+        "proc main\ncall z\nend\n",
+        LINES,
         "tacview: 2:6: refusal 10: UnknownProcedure\n",
     ),
 ];
 
 #[test]
 fn refused_texts(rt: HostRuntime) -> Result<(), Fail> {
-    for (text, line) in REFUSED_TEXTS {
-        check(&rt, text, GRAPH, line)?;
-        check(&rt, text, LINES, line)?;
-    }
-    Ok(())
+    check_all(&rt, REFUSED_TEXTS)
 }
 
 #[test]
@@ -269,22 +301,7 @@ fn faults_of_readers(rt: HostRuntime) -> Result<(), Fail> {
     Ok(())
 }
 
-// The page takes no more than this beginning of the answer to the small text, and then fails.
-fn check_page<R: Threads + Sync + Abort + AllocGlobal>(
-    rt: &R,
-    asked: Asked<'_>,
-    beginning: &[u8],
-) -> Result<(), Fail> {
-    let mut page = blank_page(rt.alloc());
-    page.left = beginning.len();
-    page.fault = Some(ErrorKind::Other);
-    let got = told(rt, SMALL.as_bytes(), &mut page, asked, ALONE)?;
-    assert_eq!(rt; page.taken.as_slice(), beginning);
-    assert!(rt; got.as_slice().starts_with(b"tacview: write fault\n"));
-    Ok(())
-}
-
-// The writer takes so many bytes of the answer, and then fails.
+// The writer takes so many bytes of the answer to the small text, and then fails.
 fn check_writer<R: Threads + Sync + Abort + AllocGlobal>(
     rt: &R,
     asked: Asked<'_>,
@@ -292,7 +309,13 @@ fn check_writer<R: Threads + Sync + Abort + AllocGlobal>(
     left: usize,
 ) -> Result<(), Fail> {
     let beginning = answer.as_bytes().get(..left).ok_or("a beginning")?;
-    check_page(rt, asked, beginning)
+    let mut page = blank_page(rt.alloc());
+    page.left = left;
+    page.fault = Some(ErrorKind::Other);
+    let got = told(rt, SMALL.as_bytes(), &mut page, asked, ALONE)?;
+    let line = b"tacview: write fault\n";
+    check_fault(rt, &got, line, &page.taken, beginning);
+    Ok(())
 }
 
 #[test]
@@ -318,12 +341,8 @@ fn check_growths<R: Threads + Sync + Abort + AllocGlobal>(
     };
     let mut page = blank_page(rt.alloc());
     page.taken = taken;
-    match run_to_page(rt, text.as_bytes(), &mut page, options) {
-        Ok(()) => assert_eq!(rt; page.taken.as_slice(), answer.as_bytes()),
-        Err(Fault::OutOfMemory) => assert!(rt; page.taken.is_empty()),
-        Err(_) => return Err(Fail::from("another answer")),
-    }
-    Ok(())
+    let outcome = run_to_page(rt, text.as_bytes(), &mut page, options);
+    check_outcome(rt, outcome, &page.taken, answer.as_bytes())
 }
 
 const GROWTHS: &[(&str, Asked<'static>, &str)] = &[
@@ -365,7 +384,7 @@ const FAULTS: &[(Option<&str>, Fault, &str)] = &[
 fn lines_of_faults(rt: HostRuntime) -> Result<(), Fail> {
     for (name, fault, wanted) in FAULTS {
         let line = line_of(rt.alloc(), *name, fault)?;
-        assert_eq!(rt; line.as_slice(), wanted.as_bytes());
+        check_same(&rt, &line, wanted.as_bytes());
     }
     Ok(())
 }
@@ -385,10 +404,18 @@ fn ranges_of_options(rt: HostRuntime) {
     }
 }
 
-// What the words name, or the kind of the error.
-fn named_by(alloc: Global, words: &[&str]) -> Result<Options, error::ErrorKind> {
+// The workers, the width, the format and the facts that the words name, or the kind of the error.
+fn named_by(alloc: Global, words: &[&str]) -> Result<(u32, u32, Format, Chosen), error::ErrorKind> {
     match Options::from_words(alloc, words) {
-        Ok(options) => Ok(options),
+        Ok(options) => Ok((options.workers, options.cut, options.format, options.facts)),
+        Err(error) => Err(error.kind()),
+    }
+}
+
+// The procedure that the words name, or the kind of the error.
+fn procedure_by(alloc: Global, words: &[&str]) -> Result<Option<String>, error::ErrorKind> {
+    match Options::from_words(alloc, words) {
+        Ok(options) => Ok(options.procedure),
         Err(error) => Err(error.kind()),
     }
 }
@@ -406,19 +433,15 @@ const ALL_WORDS: &[&str] = &[
 
 #[test]
 fn words_that_are_taken(rt: HostRuntime) -> Result<(), Fail> {
-    {
-        let options = named_by(rt.alloc(), &["tacview"])?;
-        assert!(rt; options.workers == 1 && options.cut == 64 && options.format == Format::Dot);
-        assert!(rt; options.facts == NONE && options.procedure.is_none());
-    }
-    {
-        let options = named_by(rt.alloc(), &["tacview", "--format", "json"])?;
-        assert!(rt; options.facts == ALL && options.format == Format::Json);
-    }
-    let options = named_by(rt.alloc(), ALL_WORDS)?;
-    assert!(rt; options.workers == 64 && options.cut == 4096 && options.facts == ALL);
-    let name = options.procedure.ok_or("a name")?;
-    assert_eq!(rt; name.as_str(), "f");
+    let (workers, cut, format, facts) = named_by(rt.alloc(), &["tacview"])?;
+    assert!(rt; workers == 1 && cut == 64 && format == Format::Dot && facts == NONE);
+    let (_, _, format, facts) = named_by(rt.alloc(), &["tacview", "--format", "json"])?;
+    assert!(rt; facts == ALL && format == Format::Json);
+    let (workers, cut, _, facts) = named_by(rt.alloc(), ALL_WORDS)?;
+    assert!(rt; workers == 64 && cut == 4096 && facts == ALL);
+    assert!(rt; procedure_by(rt.alloc(), &["tacview"])?.is_none());
+    let name = procedure_by(rt.alloc(), ALL_WORDS)?.ok_or("a name")?;
+    check_same(&rt, name.as_bytes(), b"f");
     Ok(())
 }
 
@@ -451,8 +474,8 @@ const LISTS: &[(&str, Chosen)] = &[
 #[test]
 fn lists_of_facts(rt: HostRuntime) -> Result<(), Fail> {
     for (list, wanted) in LISTS {
-        let options = named_by(rt.alloc(), &["tacview", "--facts", list])?;
-        assert!(rt; options.facts == *wanted);
+        let (_, _, _, facts) = named_by(rt.alloc(), &["tacview", "--facts", list])?;
+        assert!(rt; facts == *wanted);
     }
     Ok(())
 }
