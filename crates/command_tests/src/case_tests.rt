@@ -1,26 +1,14 @@
 // Values by hand: tables and reports of small programs, and programs at the limits.
 
-use crate::devices::blank_page;
-use crate::tacflow_tests::{check, told};
+use crate::devices::{ALONE, blank_page};
+use crate::tacflow_tests::{check, check_all, told};
+use crate::texts::{numbered, push_numbered};
 use flow_commands::tacflow::Show;
-use std::alloc::Global;
 use std::process::Abort;
 use std::test::Fail;
 use std::thread::Threads;
 
-// Each text is answered so.
-fn check_all<R: Threads + Sync + Abort + AllocGlobal>(
-    rt: &R,
-    show: Show,
-    cases: &[(&str, &str)],
-) -> Result<(), Fail> {
-    for (text, answer) in cases {
-        check(rt, text.as_bytes(), show, answer.as_bytes())?;
-    }
-    Ok(())
-}
-
-const REACH_TABLES: [(&str, &str); 12] = [
+const REACH_TABLES: &[(&str, &str)] = &[
     (
         "proc main\nx = 1\nx = y\nend\n",
         "main 0: x@entry, y@entry\nmain 1: y@entry, x@2\nmain 2: y@entry, x@3\n",
@@ -70,10 +58,10 @@ const REACH_TABLES: [(&str, &str); 12] = [
 
 #[test]
 fn tables_of_reaching_definitions(rt: HostRuntime) -> Result<(), Fail> {
-    check_all(&rt, Show::Reach, REACH_TABLES.as_slice())
+    check_all(&rt, Show::Reach, REACH_TABLES)
 }
 
-const LIVE_TABLES: [(&str, &str); 7] = [
+const LIVE_TABLES: &[(&str, &str)] = &[
     (
         "proc main\ncall a\nend\nproc a\nif x goto L\ncall b\nL:\nend\nproc b\ny = 1\ncall a\nend\n",
         "main 0: x\nmain 1: -\na 0: x\na 1: x\na 2: -\nb 0: x\nb 1: x\nb 2: -\n",
@@ -103,39 +91,41 @@ const LIVE_TABLES: [(&str, &str); 7] = [
 
 #[test]
 fn tables_of_live_variables(rt: HostRuntime) -> Result<(), Fail> {
-    check_all(&rt, Show::Live, LIVE_TABLES.as_slice())
+    check_all(&rt, Show::Live, LIVE_TABLES)
 }
+
+const AVAIL_TABLES: &[(&str, &str)] = &[
+    ("proc main\nprint 1\nend\n", "main 0: -\nmain 1: -\n"),
+    ("proc main\nx = x + y\nend\n", "main 0: -\nmain 1: -\n"),
+    (
+        "proc main\ncall f\na = b + c\nend\nproc f\nL: goto L\nend\n",
+        "main 0: -\nmain 1 (no path): b + c\nmain 2 (no path): b + c\nf 0: -\nf 1 (no path): b + c\n",
+    ),
+];
 
 #[test]
 fn tables_of_available_expressions(rt: HostRuntime) -> Result<(), Fail> {
-    let cases = [
-        ("proc main\nprint 1\nend\n", "main 0: -\nmain 1: -\n"),
-        ("proc main\nx = x + y\nend\n", "main 0: -\nmain 1: -\n"),
-        (
-            "proc main\ncall f\na = b + c\nend\nproc f\nL: goto L\nend\n",
-            "main 0: -\nmain 1 (no path): b + c\nmain 2 (no path): b + c\nf 0: -\nf 1 (no path): b + c\n",
-        ),
-    ];
-    check_all(&rt, Show::Avail, cases.as_slice())
+    check_all(&rt, Show::Avail, AVAIL_TABLES)
 }
+
+const BUSY_TABLES: &[(&str, &str)] = &[
+    ("proc main\nx = x + y\nend\n", "main 0: x + y\nmain 1: -\n"),
+    (
+        "proc main\ncall f\na = b + c\nend\nproc f\nL: goto L\nend\n",
+        "main 0 (no path): b + c\nmain 1: b + c\nmain 2: -\nf 0 (no path): b + c\nf 1: b + c\n",
+    ),
+    (
+        "proc main\nread b\nread c\nif c goto L\nx = b + c\nprint x\nreturn\nL: y = b + c\nprint y\nend\n",
+        "main 0: -\nmain 1: -\nmain 2: b + c\nmain 3: b + c\nmain 4: -\nmain 5: -\nmain 6: b + c\nmain 7: -\nmain 8: -\n",
+    ),
+];
 
 #[test]
 fn tables_of_very_busy_expressions(rt: HostRuntime) -> Result<(), Fail> {
-    let cases = [
-        ("proc main\nx = x + y\nend\n", "main 0: x + y\nmain 1: -\n"),
-        (
-            "proc main\ncall f\na = b + c\nend\nproc f\nL: goto L\nend\n",
-            "main 0 (no path): b + c\nmain 1: b + c\nmain 2: -\nf 0 (no path): b + c\nf 1: b + c\n",
-        ),
-        (
-            "proc main\nread b\nread c\nif c goto L\nx = b + c\nprint x\nreturn\nL: y = b + c\nprint y\nend\n",
-            "main 0: -\nmain 1: -\nmain 2: b + c\nmain 3: b + c\nmain 4: -\nmain 5: -\nmain 6: b + c\nmain 7: -\nmain 8: -\n",
-        ),
-    ];
-    check_all(&rt, Show::Busy, cases.as_slice())
+    check_all(&rt, Show::Busy, BUSY_TABLES)
 }
 
-const REPORTS: [(&str, &str); 17] = [
+const REPORTS: &[(&str, &str)] = &[
     (
         "proc main\nif a goto L\na = 1\ncall main\nprint a\nL:\nend\n",
         "points 5, variables 1, definitions 2, expressions 0\n2: a may be used before it is set\n",
@@ -208,106 +198,107 @@ const REPORTS: [(&str, &str); 17] = [
 
 #[test]
 fn reports(rt: HostRuntime) -> Result<(), Fail> {
-    check_all(&rt, Show::Report, REPORTS.as_slice())
+    check_all(&rt, Show::Report, REPORTS)
 }
+
+const REFUSALS: &[(&str, &str)] = &[
+    (
+        "proc main\ngoto A\ncall z\nA: A: skip\nend\n",
+        "tacflow: 4:4: refusal 8: DuplicateLabel\n",
+    ),
+    (
+        "proc main\ncall main | main\nend\n",
+        "tacflow: 2:13: refusal 13: DuplicateCallee\n",
+    ),
+    (
+        "proc main\ncall a|b|c|d|e|f|g|h|i\nend\n",
+        "tacflow: 2:21: refusal 4: Syntax\n",
+    ),
+    (
+        "proc main\ncall main |\nend\n",
+        "tacflow: 2:12: refusal 4: Syntax\n",
+    ),
+    ("", "tacflow: 1:1: refusal 6: NoMain\n"),
+    (
+        "proc main\ngoto M\nend\n",
+        "tacflow: 2:6: refusal 9: UnknownLabel\n",
+    ),
+    (
+        "proc main\nx = 9223372036854775808\nend\n",
+        "tacflow: 2:5: refusal 2: NumberTooLarge\n",
+    ),
+    ("proc main\nx =\nend\n", "tacflow: 2:4: refusal 4: Syntax\n"),
+    ("proc main\nx = 1\n", "tacflow: 3:1: refusal 5: Unclosed\n"),
+    ("proc main\nx = 1", "tacflow: 2:6: refusal 5: Unclosed\n"),
+];
 
 #[test]
 fn texts_without_a_report(rt: HostRuntime) -> Result<(), Fail> {
-    let cases = [
-        (
-            "proc main\ngoto A\ncall z\nA: A: skip\nend\n",
-            "tacflow: 4:4: refusal 8: DuplicateLabel\n",
-        ),
-        (
-            "proc main\ncall main | main\nend\n",
-            "tacflow: 2:13: refusal 13: DuplicateCallee\n",
-        ),
-        (
-            "proc main\ncall a|b|c|d|e|f|g|h|i\nend\n",
-            "tacflow: 2:21: refusal 4: Syntax\n",
-        ),
-        (
-            "proc main\ncall main |\nend\n",
-            "tacflow: 2:12: refusal 4: Syntax\n",
-        ),
-        ("", "tacflow: 1:1: refusal 6: NoMain\n"),
-        (
-            "proc main\ngoto M\nend\n",
-            "tacflow: 2:6: refusal 9: UnknownLabel\n",
-        ),
-        (
-            "proc main\nx = 9223372036854775808\nend\n",
-            "tacflow: 2:5: refusal 2: NumberTooLarge\n",
-        ),
-        ("proc main\nx =\nend\n", "tacflow: 2:4: refusal 4: Syntax\n"),
-        ("proc main\nx = 1\n", "tacflow: 3:1: refusal 5: Unclosed\n"),
-        ("proc main\nx = 1", "tacflow: 2:6: refusal 5: Unclosed\n"),
-    ];
-    check_all(&rt, Show::Report, cases.as_slice())
+    check_all(&rt, Show::Report, REFUSALS)
 }
 
-// A `main` of so many lines, each this word with its number behind it and this end.
-fn numbered(alloc: Global, count: u32, word: &str, end: &str) -> Result<Vec<u8>, Fail> {
-    let mut text = b"proc main\n".to_vec(alloc)?;
-    for number in 0..count {
-        text.extend_from_slice(format!(in alloc; "{word}{number}{end}\n")?.as_bytes())?;
+// Puts behind the table what is live at each point of a `main` that prints seventy variables, one by one.
+fn push_live_of_seventy(table: &mut String) -> Result<(), Fail> {
+    for place in 0..70 {
+        push_numbered(table, "main ", place, ": v")?;
+        push_numbered(table, "", place, "")?;
+        for variable in place + 1..70 {
+            push_numbered(table, ", v", variable, "")?;
+        }
+        table.push_str("\n")?;
     }
-    text.extend_from_slice(b"end\n")?;
-    Ok(text)
+    table.push_str("main 70: -\n")?;
+    Ok(())
 }
 
 // Variables of more than one word: each is live up to the line that prints it.
 #[test]
 fn table_of_seventy_variables(rt: HostRuntime) -> Result<(), Fail> {
-    let text = numbered(rt.alloc(), 70, "print v", "")?;
-    let mut answer = Vec::new(rt.alloc());
-    for place in 0..70 {
-        answer.extend_from_slice(format!(in rt.alloc(); "main {place}: v{place}")?.as_bytes())?;
-        for variable in place + 1..70 {
-            answer.extend_from_slice(format!(in rt.alloc(); ", v{variable}")?.as_bytes())?;
-        }
-        answer.extend_from_slice(b"\n")?;
-    }
-    answer.extend_from_slice(b"main 70: -\n")?;
-    check(&rt, &text, Show::Live, &answer)
+    let text = numbered(rt.alloc(), "proc main\n", 0..70, ("print v", "\n"), "end\n")?;
+    let mut answer = String::new(rt.alloc());
+    push_live_of_seventy(&mut answer)?;
+    check(&rt, text.as_bytes(), Show::Live, answer.as_bytes())
 }
 
-// The first line of what a text is answered.
-fn first_line<R: Threads + Sync + AllocGlobal>(
+// The first line of what a text is answered, with its line feed.
+fn check_first_line<R: Threads + Sync + Abort + AllocGlobal>(
     rt: &R,
-    text: &[u8],
+    text: &str,
     show: Show,
-) -> Result<Vec<u8>, Fail> {
-    let mut line = told(rt, text, &mut blank_page(rt.alloc()), show)?;
-    let end = line.iter().position(|byte| *byte == b'\n').ok_or("a line")?;
-    line.truncate(end);
-    Ok(line)
+    line: &str,
+) -> Result<(), Fail> {
+    let mut page = blank_page(rt.alloc());
+    let got = told(rt, text.as_bytes(), &mut page, show, ALONE)?;
+    assert!(rt; got.as_slice().starts_with(line.as_bytes()));
+    Ok(())
 }
+
+// How many lines a `main` has, what stands before the number of each and behind it, and the first line of its report.
+const LIMITS: &[(u32, (&str, &str), &str)] = &[
+    (
+        16_383,
+        ("# ", "\nskip\n"),
+        "points 16384, variables 0, definitions 0, expressions 0\n",
+    ),
+    (
+        16_384,
+        ("# ", "\nskip\n"),
+        "tacflow: refusal 21: TooManyPoints\n",
+    ),
+    (
+        2_048,
+        ("v", " = 1\n"),
+        "points 2049, variables 2048, definitions 4096, expressions 0\n",
+    ),
+    (2_049, ("v", " = 1\n"), "tacflow: refusal 22: TooManyBits\n"),
+];
 
 #[test]
 fn programs_at_the_limits(rt: HostRuntime) -> Result<(), Fail> {
-    let cases = [
-        (
-            16_383,
-            "# ",
-            "\nskip",
-            "points 16384, variables 0, definitions 0, expressions 0",
-        ),
-        (16_384, "# ", "\nskip", "tacflow: refusal 21: TooManyPoints"),
-        (
-            2_048,
-            "v",
-            " = 1",
-            "points 2049, variables 2048, definitions 4096, expressions 0",
-        ),
-        (2_049, "v", " = 1", "tacflow: refusal 22: TooManyBits"),
-    ];
-    for (count, word, end, line) in cases {
-        let text = numbered(rt.alloc(), count, word, end)?;
-        let got = first_line(&rt, &text, Show::Report)?;
-        assert_eq!(rt; got.as_slice(), line.as_bytes());
-        let listed = first_line(&rt, &text, Show::List)?;
-        assert_eq!(rt; listed.as_slice(), b"proc main".as_slice());
+    for (count, around, line) in LIMITS {
+        let text = numbered(rt.alloc(), "proc main\n", 0..*count, *around, "end\n")?;
+        check_first_line(&rt, &text, Show::Report, line)?;
+        check_first_line(&rt, &text, Show::List, "proc main\n")?;
     }
     Ok(())
 }

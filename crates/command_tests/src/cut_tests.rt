@@ -1,8 +1,9 @@
 // Texts that are cut short, and single bytes that are no text.
 
-use crate::devices::blank_page;
-use crate::tacflow_tests::{check, told};
+use crate::devices::{ALONE, blank_page};
+use crate::tacflow_tests::{check, check_by, told};
 use flow_commands::tacflow::Show;
+use std::alloc::Global;
 use std::process::Abort;
 use std::test::Fail;
 use std::thread::Threads;
@@ -10,9 +11,22 @@ use std::thread::Threads;
 // Whether one line that tells a refusal at a place was written.
 fn is_refusal(told: &[u8]) -> bool {
     told.starts_with(b"tacflow: ")
-        && told.get(9).is_some_and(|byte| byte.is_ascii_digit())
-        && told.ends_with(b"\n")
-        && told.iter().filter(|byte| **byte == b'\n').count() == 1
+        && matches!(told.get(9), Some(b'0'..=b'9'))
+        && match told.split_last() {
+            Some((last, line)) => *last == b'\n' && !line.contains(&b'\n'),
+            None => false,
+        }
+}
+
+// The text is refused by one line and nothing else.
+fn check_refused<R: Threads + Sync + Abort + AllocGlobal>(rt: &R, text: &[u8]) -> Result<(), Fail> {
+    let got = told(rt, text, &mut blank_page(rt.alloc()), Show::List, ALONE)?;
+    assert!(rt;
+        is_refusal(got.as_slice()),
+        "the first {} bytes",
+        text.len()
+    );
+    Ok(())
 }
 
 // Each beginning of a text is refused by one line and nothing else, but for the last two, which are programs with this listing; and
@@ -23,16 +37,16 @@ fn check_beginnings<R: Threads + Sync + Abort + AllocGlobal>(
     listing: &str,
 ) -> Result<(), Fail> {
     let bytes = text.as_bytes();
+    let listing = listing.as_bytes();
     for length in 0..=bytes.len() {
         let beginning = bytes.get(..length).ok_or("a beginning")?;
-        let got = told(rt, beginning, &mut blank_page(rt.alloc()), Show::List)?;
         if length + 1 < bytes.len() {
-            assert!(rt; is_refusal(got.as_slice()), "the first {length} bytes");
+            check_refused(rt, beginning)?;
         } else {
-            assert_eq!(rt; got.as_slice(), listing.as_bytes());
+            check_by(rt, beginning, usize::MAX, Show::List, ALONE, listing)?;
         }
     }
-    check(rt, listing.as_bytes(), Show::List, listing.as_bytes())
+    check(rt, listing, Show::List, listing)
 }
 
 #[test]
@@ -54,7 +68,7 @@ fn beginnings_of_a_text_with_comments_and_labels(rt: HostRuntime) -> Result<(), 
 }
 
 // What stands before a byte and behind it, and the answer, which is the same for each of the bytes 0, 13 and 255.
-const AROUND_A_BYTE: [(&[u8], &[u8], &[u8]); 5] = [
+const AROUND_A_BYTE: &[(&[u8], &[u8], &[u8])] = &[
     (b"", b"", b"tacflow: 1:1: refusal 1: BadByte\n"),
     (
         b"proc main\nx = ",
@@ -70,13 +84,18 @@ const AROUND_A_BYTE: [(&[u8], &[u8], &[u8]); 5] = [
     (b"proc main\nend\n#", b"", b"proc main\nend\n"),
 ];
 
+fn with_byte(alloc: Global, before: &[u8], byte: u8, after: &[u8]) -> Result<Vec<u8>, Fail> {
+    let mut text = before.to_vec(alloc)?;
+    text.push(byte)?;
+    text.extend_from_slice(after)?;
+    Ok(text)
+}
+
 #[test]
 fn bytes_in_and_out_of_comments(rt: HostRuntime) -> Result<(), Fail> {
-    for byte in [0, 13, 255] {
+    for byte in b"\0\r\xff" {
         for (before, after, answer) in AROUND_A_BYTE {
-            let mut text = before.to_vec(rt.alloc())?;
-            text.push(byte)?;
-            text.extend_from_slice(after)?;
+            let text = with_byte(rt.alloc(), before, *byte, after)?;
             check(&rt, &text, Show::List, answer)?;
         }
     }

@@ -71,4 +71,7 @@ pub(crate) fn blank_page(alloc: Global) -> Page {
 }
 
 // Numbers of workers, and widths of slices.
-pub(crate) const TEAMS: [(u32, u32); 4] = [(1, 64), (3, 64), (1, 1), (3, 1)];
+pub(crate) const TEAMS: &[(u32, u32)] = &[ALONE, (3, 64), (1, 1), (3, 1)];
+
+// One worker, in slices of 64 bits.
+pub(crate) const ALONE: (u32, u32) = (1, 64);

@@ -1,34 +1,12 @@
 // The programs of `examples/`, with the report and the table that stand beside each as files.
 
-use crate::devices::blank_page;
-use crate::tacflow_tests::told;
+use crate::devices::ALONE;
+use crate::tacflow_tests::check_by;
 use flow_commands::tacflow::Show;
-use std::process::Abort;
 use std::test::Fail;
-use std::thread::Threads;
-
-// The report of a text, and the table of this kind.
-fn check_example<R: Threads + Sync + Abort + AllocGlobal>(
-    rt: &R,
-    text: &str,
-    report: &str,
-    show: Show,
-    table: &str,
-) -> Result<(), Fail> {
-    let got = told(
-        rt,
-        text.as_bytes(),
-        &mut blank_page(rt.alloc()),
-        Show::Report,
-    )?;
-    assert_eq!(rt; got.as_slice(), report.as_bytes());
-    let got = told(rt, text.as_bytes(), &mut blank_page(rt.alloc()), show)?;
-    assert_eq!(rt; got.as_slice(), table.as_bytes());
-    Ok(())
-}
 
 // Each text, its report, and one of its tables.
-const EXAMPLES: [(&str, &str, Show, &str); 8] = [
+const EXAMPLES: &[(&str, &str, Show, &str)] = &[
     (
         "# Both sides of the test evaluate b + c, so it may be computed before it.\nproc main\n  read b\n  read c\n  if c goto right\n  x = b + c\n  print x\n  return\nright:\n  y = b + c\n  print y\nend\n",
         "points 9, variables 4, definitions 8, expressions 1\n5: b + c is very busy\n",
@@ -82,7 +60,16 @@ const EXAMPLES: [(&str, &str, Show, &str); 8] = [
 #[test]
 fn examples(rt: HostRuntime) -> Result<(), Fail> {
     for (text, report, show, table) in EXAMPLES {
-        check_example(&rt, text, report, show, table)?;
+        let text = text.as_bytes();
+        check_by(
+            &rt,
+            text,
+            usize::MAX,
+            Show::Report,
+            ALONE,
+            report.as_bytes(),
+        )?;
+        check_by(&rt, text, usize::MAX, *show, ALONE, table.as_bytes())?;
     }
     Ok(())
 }

@@ -1,8 +1,9 @@
 // Each request for memory refused in turn (`rt try --test --fail-alloc N`): with ample memory these tests end as all others.
 
-use crate::tacflow_tests::{NAME, check_growths};
+use crate::answers::check_same;
+use crate::tacflow_tests::{ALL_WORDS, NAME, check_growths, check_line, check_options, named_by};
 use clap::error::ErrorKind;
-use flow_commands::tacflow::{Options, Show};
+use flow_commands::tacflow::Show;
 use flow_runs::{Fault, fault_line};
 use std::process::Abort;
 use std::test::Fail;
@@ -21,157 +22,140 @@ const CALL_BETWEEN: &str =
 const BOTH_BRANCHES: &str =
     "proc main\nread b\nread c\nif c goto L\nx = b + c\nprint x\nreturn\nL: y = b + c\nprint y\nend\n";
 
-// A text, and what is shown of it.
-type Shown = (&'static str, [(Show, &'static str); 6]);
+// What is shown of each.
+const RECURSION_SHOWN: &[(Show, &str)] = &[
+    (
+        Show::List,
+        "proc main\n  x = 1\n  call f\n  print x\nend\nproc f\n  if x goto L\n  call f\n  x = 2\nL:\nend\n",
+    ),
+    (
+        Show::Reach,
+        "main 0: x@entry\nmain 1: x@2\nmain 2: x@2, x@9\nmain 3: x@2, x@9\nf 0: x@2\nf 1: x@2\nf 2: x@2, x@9\nf 3: x@2, x@9\n",
+    ),
+    (
+        Show::Live,
+        "main 0: -\nmain 1: x\nmain 2: x\nmain 3: -\nf 0: x\nf 1: x\nf 2: -\nf 3: x\n",
+    ),
+    (
+        Show::Avail,
+        "main 0: -\nmain 1: -\nmain 2: -\nmain 3: -\nf 0: -\nf 1: -\nf 2: -\nf 3: -\n",
+    ),
+    (
+        Show::Busy,
+        "main 0: -\nmain 1: -\nmain 2: -\nmain 3: -\nf 0: -\nf 1: -\nf 2: -\nf 3: -\n",
+    ),
+    (
+        Show::Report,
+        "points 8, variables 1, definitions 3, expressions 0\n",
+    ),
+];
 
-const RECURSION_SHOWN: Shown = (
-    RECURSION,
-    [
-        (
-            Show::List,
-            "proc main\n  x = 1\n  call f\n  print x\nend\nproc f\n  if x goto L\n  call f\n  x = 2\nL:\nend\n",
-        ),
-        (
-            Show::Reach,
-            "main 0: x@entry\nmain 1: x@2\nmain 2: x@2, x@9\nmain 3: x@2, x@9\nf 0: x@2\nf 1: x@2\nf 2: x@2, x@9\nf 3: x@2, x@9\n",
-        ),
-        (
-            Show::Live,
-            "main 0: -\nmain 1: x\nmain 2: x\nmain 3: -\nf 0: x\nf 1: x\nf 2: -\nf 3: x\n",
-        ),
-        (
-            Show::Avail,
-            "main 0: -\nmain 1: -\nmain 2: -\nmain 3: -\nf 0: -\nf 1: -\nf 2: -\nf 3: -\n",
-        ),
-        (
-            Show::Busy,
-            "main 0: -\nmain 1: -\nmain 2: -\nmain 3: -\nf 0: -\nf 1: -\nf 2: -\nf 3: -\n",
-        ),
-        (
-            Show::Report,
-            "points 8, variables 1, definitions 3, expressions 0\n",
-        ),
-    ],
-);
+const CALL_BETWEEN_SHOWN: &[(Show, &str)] = &[
+    (
+        Show::List,
+        "proc main\n  a = b + c\n  call p\n  d = b + c\nend\nproc p\n  if c goto L\n  b = 1\nL:\nend\n",
+    ),
+    (
+        Show::Reach,
+        "main 0: a@entry, b@entry, c@entry, d@entry\nmain 1: b@entry, c@entry, d@entry, a@2\nmain 2: b@entry, c@entry, d@entry, a@2, b@8\nmain 3: b@entry, c@entry, a@2, d@4, b@8\np 0: b@entry, c@entry, d@entry, a@2\np 1: b@entry, c@entry, d@entry, a@2\np 2: b@entry, c@entry, d@entry, a@2, b@8\n",
+    ),
+    (
+        Show::Live,
+        "main 0: b, c\nmain 1: b, c\nmain 2: b, c\nmain 3: -\np 0: b, c\np 1: c\np 2: b, c\n",
+    ),
+    (
+        Show::Avail,
+        "main 0: -\nmain 1: b + c\nmain 2: -\nmain 3: b + c\np 0: b + c\np 1: b + c\np 2: -\n",
+    ),
+    (
+        Show::Busy,
+        "main 0: b + c\nmain 1: -\nmain 2: b + c\nmain 3: -\np 0: -\np 1: -\np 2: b + c\n",
+    ),
+    (
+        Show::Report,
+        "points 7, variables 4, definitions 7, expressions 1\n2: b may be used before it is set\n2: c may be used before it is set\n2: assignment to a is dead\n4: b may be used before it is set\n4: c may be used before it is set\n4: assignment to d is dead\n7: c may be used before it is set\n",
+    ),
+];
 
-const CALL_BETWEEN_SHOWN: Shown = (
-    CALL_BETWEEN,
-    [
-        (
-            Show::List,
-            "proc main\n  a = b + c\n  call p\n  d = b + c\nend\nproc p\n  if c goto L\n  b = 1\nL:\nend\n",
-        ),
-        (
-            Show::Reach,
-            "main 0: a@entry, b@entry, c@entry, d@entry\nmain 1: b@entry, c@entry, d@entry, a@2\nmain 2: b@entry, c@entry, d@entry, a@2, b@8\nmain 3: b@entry, c@entry, a@2, d@4, b@8\np 0: b@entry, c@entry, d@entry, a@2\np 1: b@entry, c@entry, d@entry, a@2\np 2: b@entry, c@entry, d@entry, a@2, b@8\n",
-        ),
-        (
-            Show::Live,
-            "main 0: b, c\nmain 1: b, c\nmain 2: b, c\nmain 3: -\np 0: b, c\np 1: c\np 2: b, c\n",
-        ),
-        (
-            Show::Avail,
-            "main 0: -\nmain 1: b + c\nmain 2: -\nmain 3: b + c\np 0: b + c\np 1: b + c\np 2: -\n",
-        ),
-        (
-            Show::Busy,
-            "main 0: b + c\nmain 1: -\nmain 2: b + c\nmain 3: -\np 0: -\np 1: -\np 2: b + c\n",
-        ),
-        (
-            Show::Report,
-            "points 7, variables 4, definitions 7, expressions 1\n2: b may be used before it is set\n2: c may be used before it is set\n2: assignment to a is dead\n4: b may be used before it is set\n4: c may be used before it is set\n4: assignment to d is dead\n7: c may be used before it is set\n",
-        ),
-    ],
-);
-
-const BOTH_BRANCHES_SHOWN: Shown = (
-    BOTH_BRANCHES,
-    [
-        (
-            Show::List,
-            "proc main\n  read b\n  read c\n  if c goto L\n  x = b + c\n  print x\n  return\nL:\n  y = b + c\n  print y\nend\n",
-        ),
-        (
-            Show::Reach,
-            "main 0: b@entry, c@entry, x@entry, y@entry\nmain 1: c@entry, x@entry, y@entry, b@2\nmain 2: x@entry, y@entry, b@2, c@3\nmain 3: x@entry, y@entry, b@2, c@3\nmain 4: y@entry, b@2, c@3, x@5\nmain 5: y@entry, b@2, c@3, x@5\nmain 6: x@entry, y@entry, b@2, c@3\nmain 7: x@entry, b@2, c@3, y@8\nmain 8: x@entry, y@entry, b@2, c@3, x@5, y@8\n",
-        ),
-        (
-            Show::Live,
-            "main 0: -\nmain 1: b\nmain 2: b, c\nmain 3: b, c\nmain 4: x\nmain 5: -\nmain 6: b, c\nmain 7: y\nmain 8: -\n",
-        ),
-        (
-            Show::Avail,
-            "main 0: -\nmain 1: -\nmain 2: -\nmain 3: -\nmain 4: b + c\nmain 5: b + c\nmain 6: -\nmain 7: b + c\nmain 8: b + c\n",
-        ),
-        (
-            Show::Busy,
-            "main 0: -\nmain 1: -\nmain 2: b + c\nmain 3: b + c\nmain 4: -\nmain 5: -\nmain 6: b + c\nmain 7: -\nmain 8: -\n",
-        ),
-        (
-            Show::Report,
-            "points 9, variables 4, definitions 8, expressions 1\n4: b + c is very busy\n",
-        ),
-    ],
-);
+const BOTH_BRANCHES_SHOWN: &[(Show, &str)] = &[
+    (
+        Show::List,
+        "proc main\n  read b\n  read c\n  if c goto L\n  x = b + c\n  print x\n  return\nL:\n  y = b + c\n  print y\nend\n",
+    ),
+    (
+        Show::Reach,
+        "main 0: b@entry, c@entry, x@entry, y@entry\nmain 1: c@entry, x@entry, y@entry, b@2\nmain 2: x@entry, y@entry, b@2, c@3\nmain 3: x@entry, y@entry, b@2, c@3\nmain 4: y@entry, b@2, c@3, x@5\nmain 5: y@entry, b@2, c@3, x@5\nmain 6: x@entry, y@entry, b@2, c@3\nmain 7: x@entry, b@2, c@3, y@8\nmain 8: x@entry, y@entry, b@2, c@3, x@5, y@8\n",
+    ),
+    (
+        Show::Live,
+        "main 0: -\nmain 1: b\nmain 2: b, c\nmain 3: b, c\nmain 4: x\nmain 5: -\nmain 6: b, c\nmain 7: y\nmain 8: -\n",
+    ),
+    (
+        Show::Avail,
+        "main 0: -\nmain 1: -\nmain 2: -\nmain 3: -\nmain 4: b + c\nmain 5: b + c\nmain 6: -\nmain 7: b + c\nmain 8: b + c\n",
+    ),
+    (
+        Show::Busy,
+        "main 0: -\nmain 1: -\nmain 2: b + c\nmain 3: b + c\nmain 4: -\nmain 5: -\nmain 6: b + c\nmain 7: -\nmain 8: -\n",
+    ),
+    (
+        Show::Report,
+        "points 9, variables 4, definitions 8, expressions 1\n4: b + c is very busy\n",
+    ),
+];
 
 // Each kind of answer to a text, by one worker and by three.
 fn check_all_growths<R: Threads + Sync + Abort + AllocGlobal>(
     rt: &R,
-    shown: Shown,
+    text: &str,
+    answers: &[(Show, &str)],
 ) -> Result<(), Fail> {
-    let (text, answers) = shown;
     for (show, answer) in answers {
-        check_growths(rt, text, show, answer, 1)?;
-        check_growths(rt, text, show, answer, 3)?;
+        check_growths(rt, text, *show, answer, 1)?;
+        check_growths(rt, text, *show, answer, 3)?;
     }
     Ok(())
 }
 
 #[test]
 fn growths_of_a_recursive_program(rt: HostRuntime) -> Result<(), Fail> {
-    check_all_growths(&rt, RECURSION_SHOWN)
+    check_all_growths(&rt, RECURSION, RECURSION_SHOWN)
 }
 
 #[test]
 fn growths_of_a_call_between(rt: HostRuntime) -> Result<(), Fail> {
-    check_all_growths(&rt, CALL_BETWEEN_SHOWN)
+    check_all_growths(&rt, CALL_BETWEEN, CALL_BETWEEN_SHOWN)
 }
 
 #[test]
 fn growths_of_both_branches(rt: HostRuntime) -> Result<(), Fail> {
-    check_all_growths(&rt, BOTH_BRANCHES_SHOWN)
+    check_all_growths(&rt, BOTH_BRANCHES, BOTH_BRANCHES_SHOWN)
 }
 
 // The line of a fault, or want of memory; and then the line.
 #[test]
 fn line_of_a_fault_is_told_again(rt: HostRuntime) -> Result<(), Fail> {
-    let fault = Fault::Refused(Refusal {
+    let refusal = Refusal {
         kind: RefusalKind::UnknownLabel,
         line: 12,
         column: 6,
-    });
-    let line = match fault_line(rt.alloc(), NAME, &fault) {
-        Ok(line) => line,
-        Err(_) => fault_line(rt.alloc(), NAME, &fault)?,
     };
-    assert_eq!(rt;
-        line.as_slice(),
-        b"tacflow: 12:6: refusal 9: UnknownLabel\n".as_slice()
-    );
+    let fault = Fault::Refused(refusal);
+    let wanted = "tacflow: 12:6: refusal 9: UnknownLabel\n";
+    match fault_line(rt.alloc(), NAME, &fault) {
+        Ok(line) => check_same(&rt, &line, wanted.as_bytes()),
+        Err(_) => check_line(&rt, &fault, wanted)?,
+    }
     Ok(())
 }
 
 // What the words name, or want of memory; and then what they name.
 #[test]
 fn words_are_taken_again(rt: HostRuntime) -> Result<(), Fail> {
-    let words = ["tacflow", "--workers", "64", "--cut=4096", "--show", "busy"];
-    let options = match Options::from_words(rt.alloc(), words.as_slice()) {
-        Ok(options) => options,
-        Err(error) if error.kind() == ErrorKind::OutOfMemory => {
-            Options::from_words(rt.alloc(), words.as_slice())?
-        }
-        Err(_) => return Err(Fail::from("the words are refused")),
-    };
-    assert!(rt; options.workers == 64 && options.cut == 4096 && options.show == Show::Busy);
+    let mut named = named_by(rt.alloc(), ALL_WORDS);
+    if named == Err(ErrorKind::OutOfMemory) {
+        named = named_by(rt.alloc(), ALL_WORDS);
+    }
+    check_options(&rt, named?, (64, 4096), Show::Busy);
     Ok(())
 }

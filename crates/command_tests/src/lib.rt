@@ -3,6 +3,8 @@
 #![tactic(auto)]
 
 #[cfg(test)]
+mod answers;
+#[cfg(test)]
 mod case_tests;
 #[cfg(test)]
 mod cut_tests;
@@ -16,3 +18,5 @@ mod growth_tests;
 mod tacflow_tests;
 #[cfg(test)]
 mod tacview_tests;
+#[cfg(test)]
+mod texts;

@@ -1,6 +1,9 @@
 // `tacflow`'s values by hand: what small texts are told, what words name, and what faults of devices leave.
 
-use crate::devices::{Page, Pieces, TEAMS, blank_page};
+use crate::answers::{check_fault, check_outcome, check_same, check_team};
+use crate::devices::{ALONE, Page, Pieces, TEAMS, blank_page};
+use crate::texts::{numbered, repeated};
+use clap::error;
 use flow_commands::tacflow::{Options, Show, run};
 use flow_graph::GraphFault;
 use flow_runs::{Fault, fault_line};
@@ -15,34 +18,49 @@ use tac_reader::{Refusal, RefusalKind};
 /// The program's name, which its lines begin with.
 pub(crate) const NAME: &str = "tacflow";
 
+// What comes of a run from the reader to the page.
+fn run_to_page<R: Threads + Sync + AllocGlobal, D: Read + Drop>(
+    rt: &R,
+    reader: D,
+    page: &mut Page,
+    options: Options,
+) -> Result<(), Fault> {
+    let mut source = FromRead::new(reader);
+    let mut sink = ToWrite::new(page);
+    run(rt, rt.alloc(), &mut source, &mut sink, options)
+}
+
 // The line of the fault, if there was one, and behind it what was written, by so many workers in slices of this width.
-fn told_by<R: Threads + Sync + AllocGlobal, D: Read + Drop>(
+pub(crate) fn told<R: Threads + Sync + AllocGlobal, D: Read + Drop>(
     rt: &R,
     reader: D,
     page: &mut Page,
     show: Show,
     team: (u32, u32),
 ) -> Result<Vec<u8>, Fail> {
-    let alloc = rt.alloc();
     let options = Options::new(team.0, team.1, show).ok_or("options")?;
-    let mut source = FromRead::new(reader);
-    let mut sink = ToWrite::new(&mut *page);
-    let mut line = match run(rt, alloc, &mut source, &mut sink, options) {
-        Ok(()) => Vec::new(alloc),
-        Err(fault) => fault_line(alloc, NAME, &fault)?,
+    let mut line = match run_to_page(rt, reader, &mut *page, options) {
+        Ok(()) => Vec::new(rt.alloc()),
+        Err(fault) => fault_line(rt.alloc(), NAME, &fault)?,
     };
     line.extend_from_slice(&page.taken)?;
     Ok(line)
 }
 
-// The same by one worker, in slices of 64 bits.
-pub(crate) fn told<R: Threads + Sync + AllocGlobal, D: Read + Drop>(
+// The reader's text is answered so by this team, where a write takes so many bytes at most.
+pub(crate) fn check_by<R: Threads + Sync + Abort + AllocGlobal, D: Read + Drop>(
     rt: &R,
     reader: D,
-    page: &mut Page,
+    piece: usize,
     show: Show,
-) -> Result<Vec<u8>, Fail> {
-    told_by(rt, reader, page, show, (1, 64))
+    team: (u32, u32),
+    answer: &[u8],
+) -> Result<(), Fail> {
+    let mut page = blank_page(rt.alloc());
+    page.piece = piece;
+    let got = told(rt, reader, &mut page, show, team)?;
+    check_team(rt, &got, answer, team);
+    Ok(())
 }
 
 // The text is answered so, whole or byte by byte, and by each team.
@@ -53,8 +71,7 @@ pub(crate) fn check<R: Threads + Sync + Abort + AllocGlobal>(
     answer: &[u8],
 ) -> Result<(), Fail> {
     for team in TEAMS {
-        let got = told_by(rt, text, &mut blank_page(rt.alloc()), show, team)?;
-        assert_eq!(rt; got.as_slice(), answer, "{team:?}");
+        check_by(rt, text, usize::MAX, show, *team, answer)?;
     }
     let slow = Pieces {
         rest: text,
@@ -62,285 +79,276 @@ pub(crate) fn check<R: Threads + Sync + Abort + AllocGlobal>(
         left: usize::MAX,
         fault: ErrorKind::Other,
     };
-    let mut narrow = blank_page(rt.alloc());
-    narrow.piece = 1;
-    let got = told(rt, slow, &mut narrow, show)?;
-    assert_eq!(rt; got.as_slice(), answer);
-    Ok(())
+    check_by(rt, slow, 1, show, ALONE, answer)
 }
 
-fn check_all<R: Threads + Sync + Abort + AllocGlobal>(
+// Each text is answered so.
+pub(crate) fn check_all<R: Threads + Sync + Abort + AllocGlobal>(
     rt: &R,
+    show: Show,
     cases: &[(&str, &str)],
 ) -> Result<(), Fail> {
     for (text, answer) in cases {
-        check(rt, text.as_bytes(), Show::List, answer.as_bytes())?;
+        check(rt, text.as_bytes(), show, answer.as_bytes())?;
     }
     Ok(())
 }
+
+const REFUSED_LINES: &[(&str, &str)] = &[
+    ("", "tacflow: 1:1: refusal 6: NoMain\n"),
+    ("proc main\nx = 1\n", "tacflow: 3:1: refusal 5: Unclosed\n"),
+    ("proc main\nx = 1", "tacflow: 2:6: refusal 5: Unclosed\n"),
+    ("proc main\nx =\nend\n", "tacflow: 2:4: refusal 4: Syntax\n"),
+    (
+        "proc main\nx = 12ab\nend\n",
+        "tacflow: 2:7: refusal 4: Syntax\n",
+    ),
+    ("proc proc\nend\n", "tacflow: 1:6: refusal 4: Syntax\n"),
+    (
+        "proc main\ncall main |\nend\n",
+        "tacflow: 2:12: refusal 4: Syntax\n",
+    ),
+    (
+        "proc main\ncall a|b|c|d|e|f|g|h|i\nend\n",
+        "tacflow: 2:21: refusal 4: Syntax\n",
+    ),
+    (
+        "9223372036854775808\n",
+        "tacflow: 1:1: refusal 2: NumberTooLarge\n",
+    ),
+    (
+        "proc main\nx = 9223372036854775808\nend\n",
+        "tacflow: 2:5: refusal 2: NumberTooLarge\n",
+    ),
+];
 
 #[test]
 fn refused_lines(rt: HostRuntime) -> Result<(), Fail> {
-    let cases = [
-        ("", "tacflow: 1:1: refusal 6: NoMain\n"),
-        ("proc main\nx = 1\n", "tacflow: 3:1: refusal 5: Unclosed\n"),
-        ("proc main\nx = 1", "tacflow: 2:6: refusal 5: Unclosed\n"),
-        ("proc main\nx =\nend\n", "tacflow: 2:4: refusal 4: Syntax\n"),
-        (
-            "proc main\nx = 12ab\nend\n",
-            "tacflow: 2:7: refusal 4: Syntax\n",
-        ),
-        ("proc proc\nend\n", "tacflow: 1:6: refusal 4: Syntax\n"),
-        (
-            "proc main\ncall main |\nend\n",
-            "tacflow: 2:12: refusal 4: Syntax\n",
-        ),
-        (
-            "proc main\ncall a|b|c|d|e|f|g|h|i\nend\n",
-            "tacflow: 2:21: refusal 4: Syntax\n",
-        ),
-        (
-            "9223372036854775808\n",
-            "tacflow: 1:1: refusal 2: NumberTooLarge\n",
-        ),
-        (
-            "proc main\nx = 9223372036854775808\nend\n",
-            "tacflow: 2:5: refusal 2: NumberTooLarge\n",
-        ),
-    ];
-    check_all(&rt, cases.as_slice())
+    check_all(&rt, Show::List, REFUSED_LINES)
 }
+
+const REFUSED_NAMES: &[(&str, &str)] = &[
+    (
+        "proc main\ngoto M\nend\n",
+        "tacflow: 2:6: refusal 9: UnknownLabel\n",
+    ),
+    (
+        "proc main\nA: A: skip\nend\n",
+        "tacflow: 2:4: refusal 8: DuplicateLabel\n",
+    ),
+    (
+        "proc main\ngoto A\ncall z\nA: A: skip\nend\n",
+        "tacflow: 4:4: refusal 8: DuplicateLabel\n",
+    ),
+    (
+        "proc main\ncall z\nend\n",
+        "tacflow: 2:6: refusal 10: UnknownProcedure\n",
+    ),
+    (
+        "proc main\ncall main | main\nend\n",
+        "tacflow: 2:13: refusal 13: DuplicateCallee\n",
+    ),
+    (
+        "proc q\nend\nproc q\nend\n",
+        "tacflow: 3:6: refusal 7: DuplicateProcedure\n",
+    ),
+];
 
 #[test]
 fn refused_names(rt: HostRuntime) -> Result<(), Fail> {
-    let cases = [
-        (
-            "proc main\ngoto M\nend\n",
-            "tacflow: 2:6: refusal 9: UnknownLabel\n",
-        ),
-        (
-            "proc main\nA: A: skip\nend\n",
-            "tacflow: 2:4: refusal 8: DuplicateLabel\n",
-        ),
-        (
-            "proc main\ngoto A\ncall z\nA: A: skip\nend\n",
-            "tacflow: 4:4: refusal 8: DuplicateLabel\n",
-        ),
-        (
-            "proc main\ncall z\nend\n",
-            "tacflow: 2:6: refusal 10: UnknownProcedure\n",
-        ),
-        (
-            "proc main\ncall main | main\nend\n",
-            "tacflow: 2:13: refusal 13: DuplicateCallee\n",
-        ),
-        (
-            "proc q\nend\nproc q\nend\n",
-            "tacflow: 3:6: refusal 7: DuplicateProcedure\n",
-        ),
-    ];
-    check_all(&rt, cases.as_slice())
+    check_all(&rt, Show::List, REFUSED_NAMES)
 }
+
+const LISTINGS: &[(&str, &str)] = &[
+    (
+        "proc main # start\nL:M: x=007\nend\n",
+        "proc main\nL:\nM:\n  x = 7\nend\n",
+    ),
+    (
+        "proc main # start\nL:M: x=y+007\nz=- x\nif x<3 goto L\nend\n",
+        "proc main\nL:\nM:\n  x = y + 7\n  z = -x\n  if x < 3 goto L\nend\n",
+    ),
+    (
+        "proc main\nx = 9223372036854775807\nend\n",
+        "proc main\n  x = 9223372036854775807\nend\n",
+    ),
+    (
+        "proc main\r\nx = 1\r\n\r\nend\r\n",
+        "proc main\n  x = 1\nend\n",
+    ),
+    (
+        "proc main # \u{e9}\nx = 1 #\u{20ac}\n#\u{1d11e}\nend\n",
+        "proc main\n  x = 1\nend\n",
+    ),
+    (
+        "proc main\ncall p|q\nend\nproc p\nend\nproc q\nend\n",
+        "proc main\n  call p | q\nend\nproc p\nend\nproc q\nend\n",
+    ),
+    (
+        "proc main\nx = 1\ncall f\nprint x\nend\nproc f\nif x goto L\ncall f\nx = 2\nL:\nend\n",
+        "proc main\n  x = 1\n  call f\n  print x\nend\nproc f\n  if x goto L\n  call f\n  x = 2\nL:\nend\n",
+    ),
+];
 
 #[test]
 fn listings(rt: HostRuntime) -> Result<(), Fail> {
-    let cases = [
-        (
-            "proc main # start\nL:M: x=007\nend\n",
-            "proc main\nL:\nM:\n  x = 7\nend\n",
-        ),
-        (
-            "proc main # start\nL:M: x=y+007\nz=- x\nif x<3 goto L\nend\n",
-            "proc main\nL:\nM:\n  x = y + 7\n  z = -x\n  if x < 3 goto L\nend\n",
-        ),
-        (
-            "proc main\nx = 9223372036854775807\nend\n",
-            "proc main\n  x = 9223372036854775807\nend\n",
-        ),
-        (
-            "proc main\r\nx = 1\r\n\r\nend\r\n",
-            "proc main\n  x = 1\nend\n",
-        ),
-        (
-            "proc main # \u{e9}\nx = 1 #\u{20ac}\n#\u{1d11e}\nend\n",
-            "proc main\n  x = 1\nend\n",
-        ),
-        (
-            "proc main\ncall p|q\nend\nproc p\nend\nproc q\nend\n",
-            "proc main\n  call p | q\nend\nproc p\nend\nproc q\nend\n",
-        ),
-        (
-            "proc main\nx = 1\ncall f\nprint x\nend\nproc f\nif x goto L\ncall f\nx = 2\nL:\nend\n",
-            "proc main\n  x = 1\n  call f\n  print x\nend\nproc f\n  if x goto L\n  call f\n  x = 2\nL:\nend\n",
-        ),
-    ];
-    check_all(&rt, cases.as_slice())
+    check_all(&rt, Show::List, LISTINGS)
 }
 
-// The beginnings of a small program, by their lengths.
+// The beginnings of a small program.
+const BEGINNINGS: &[(&str, &str)] = &[
+    ("", "tacflow: 1:1: refusal 6: NoMain\n"),
+    ("p", "tacflow: 1:1: refusal 4: Syntax\n"),
+    ("pr", "tacflow: 1:1: refusal 4: Syntax\n"),
+    ("pro", "tacflow: 1:1: refusal 4: Syntax\n"),
+    ("proc", "tacflow: 1:5: refusal 4: Syntax\n"),
+    ("proc ", "tacflow: 1:5: refusal 4: Syntax\n"),
+    ("proc m", "tacflow: 1:7: refusal 5: Unclosed\n"),
+    ("proc ma", "tacflow: 1:8: refusal 5: Unclosed\n"),
+    ("proc mai", "tacflow: 1:9: refusal 5: Unclosed\n"),
+    ("proc main", "tacflow: 1:10: refusal 5: Unclosed\n"),
+    ("proc main\n", "tacflow: 2:1: refusal 5: Unclosed\n"),
+    ("proc main\ne", "tacflow: 2:2: refusal 4: Syntax\n"),
+    ("proc main\nen", "tacflow: 2:3: refusal 4: Syntax\n"),
+    ("proc main\nend", "proc main\nend\n"),
+    ("proc main\nend\n", "proc main\nend\n"),
+];
+
 #[test]
 fn beginnings(rt: HostRuntime) -> Result<(), Fail> {
-    let text = "proc main\nend\n";
-    let answers = [
-        "tacflow: 1:1: refusal 6: NoMain\n",
-        "tacflow: 1:1: refusal 4: Syntax\n",
-        "tacflow: 1:1: refusal 4: Syntax\n",
-        "tacflow: 1:1: refusal 4: Syntax\n",
-        "tacflow: 1:5: refusal 4: Syntax\n",
-        "tacflow: 1:5: refusal 4: Syntax\n",
-        "tacflow: 1:7: refusal 5: Unclosed\n",
-        "tacflow: 1:8: refusal 5: Unclosed\n",
-        "tacflow: 1:9: refusal 5: Unclosed\n",
-        "tacflow: 1:10: refusal 5: Unclosed\n",
-        "tacflow: 2:1: refusal 5: Unclosed\n",
-        "tacflow: 2:2: refusal 4: Syntax\n",
-        "tacflow: 2:3: refusal 4: Syntax\n",
-        text,
-        text,
-    ];
-    for (length, answer) in answers.iter().enumerate() {
-        let bytes = text.as_bytes().get(..length).ok_or("a beginning")?;
-        check(&rt, bytes, Show::List, answer.as_bytes())?;
-    }
-    Ok(())
+    check_all(&rt, Show::List, BEGINNINGS)
 }
+
+const NO_TEXTS: &[(&[u8], &[u8])] = &[
+    (b"proc main\nx = \0", b"tacflow: 2:5: refusal 1: BadByte\n"),
+    (
+        b"proc main\nx = \0\nend\n",
+        b"tacflow: 2:5: refusal 1: BadByte\n",
+    ),
+    (b"\r", b"tacflow: 1:1: refusal 1: BadByte\n"),
+    (b"proc main\nend\r", b"tacflow: 2:4: refusal 1: BadByte\n"),
+    (
+        b"proc main # \0\r\xff\nend\n# \xff\r\0",
+        b"proc main\nend\n",
+    ),
+];
 
 #[test]
 fn bytes_that_are_no_text(rt: HostRuntime) -> Result<(), Fail> {
-    let bad = b"tacflow: 2:5: refusal 1: BadByte\n";
-    check(&rt, b"proc main\nx = \0", Show::List, bad.as_slice())?;
-    check(&rt, b"proc main\nx = \0\nend\n", Show::List, bad.as_slice())?;
-    check(
-        &rt,
-        b"\r",
-        Show::List,
-        b"tacflow: 1:1: refusal 1: BadByte\n",
-    )?;
-    check(
-        &rt,
-        b"proc main\nend\r",
-        Show::List,
-        b"tacflow: 2:4: refusal 1: BadByte\n",
-    )?;
-    check(
-        &rt,
-        b"proc main # \0\r\xff\nend\n# \xff\r\0",
-        Show::List,
-        b"proc main\nend\n",
-    )
-}
-
-// The text with this many `n` between its parts.
-fn with_name(alloc: Global, before: &str, length: usize, after: &str) -> Result<Vec<u8>, Fail> {
-    let mut text = before.as_bytes().to_vec(alloc)?;
-    for _ in 0..length {
-        text.push(b'n')?;
-    }
-    text.extend_from_slice(after.as_bytes())?;
-    Ok(text)
-}
-
-#[test]
-fn lengths_of_names(rt: HostRuntime) -> Result<(), Fail> {
-    let cases = [
-        (
-            "proc main\n  ",
-            " = 1\nend\n",
-            "tacflow: 2:3: refusal 3: NameTooLong\n",
-        ),
-        (
-            "proc main\n",
-            ":\nend\n",
-            "tacflow: 2:1: refusal 3: NameTooLong\n",
-        ),
-        (
-            "proc main\n  x = ",
-            "\nend\n",
-            "tacflow: 2:7: refusal 3: NameTooLong\n",
-        ),
-        (
-            "proc main\nend\nproc ",
-            "\nend\n",
-            "tacflow: 3:6: refusal 3: NameTooLong\n",
-        ),
-    ];
-    for (before, after, refusal) in cases {
-        let longest = with_name(rt.alloc(), before, 64, after)?;
-        check(&rt, &longest, Show::List, &longest)?;
-        let longer = with_name(rt.alloc(), before, 65, after)?;
-        check(&rt, &longer, Show::List, refusal.as_bytes())?;
+    for (text, answer) in NO_TEXTS {
+        check(&rt, text, Show::List, answer)?;
     }
     Ok(())
 }
 
-#[test]
-fn numbers_of_procedures(rt: HostRuntime) -> Result<(), Fail> {
-    let mut text = b"proc main\nend\n".to_vec(rt.alloc())?;
-    for number in 1..256 {
-        text.extend_from_slice(format!(in rt.alloc(); "proc q{number}\nend\n")?.as_bytes())?;
-    }
-    check(&rt, &text, Show::List, &text)?;
-    text.extend_from_slice(b"proc q256\nend\n")?;
-    check(
-        &rt,
-        &text,
-        Show::List,
-        b"tacflow: 513:6: refusal 12: TooManyProcedures\n",
-    )
+// A name of so many bytes between two parts of a text: the text is refused so, or else is its own listing.
+fn check_name<R: Threads + Sync + Abort + AllocGlobal>(
+    rt: &R,
+    before: &str,
+    length: usize,
+    after: &str,
+    refusal: Option<&str>,
+) -> Result<(), Fail> {
+    let text = repeated(rt.alloc(), before, "n", length, after)?;
+    let answer = match refusal {
+        Some(line) => line,
+        None => text.as_str(),
+    };
+    check(rt, text.as_bytes(), Show::List, answer.as_bytes())
 }
 
-// A program of this many bytes, most of them empty lines.
-fn long_text(alloc: Global, length: usize) -> Result<Vec<u8>, Fail> {
-    let mut text = b"proc main\nend\n".to_vec(alloc)?;
-    for _ in text.len()..length {
-        text.push(b'\n')?;
+// What stands before a name and behind it, and how one that is too long is refused.
+const AROUND_NAMES: &[(&str, &str, &str)] = &[
+    (
+        "proc main\n  ",
+        " = 1\nend\n",
+        "tacflow: 2:3: refusal 3: NameTooLong\n",
+    ),
+    (
+        "proc main\n",
+        ":\nend\n",
+        "tacflow: 2:1: refusal 3: NameTooLong\n",
+    ),
+    (
+        "proc main\n  x = ",
+        "\nend\n",
+        "tacflow: 2:7: refusal 3: NameTooLong\n",
+    ),
+    (
+        "proc main\nend\nproc ",
+        "\nend\n",
+        "tacflow: 3:6: refusal 3: NameTooLong\n",
+    ),
+];
+
+#[test]
+fn lengths_of_names(rt: HostRuntime) -> Result<(), Fail> {
+    for (before, after, refusal) in AROUND_NAMES {
+        check_name(&rt, before, 64, after, None)?;
+        check_name(&rt, before, 65, after, Some(refusal))?;
     }
-    Ok(text)
+    Ok(())
 }
+
+// What stands around the number of each procedure but `main`.
+const AROUND_NUMBERS: (&str, &str) = ("proc q", "\nend\n");
+
+#[test]
+fn numbers_of_procedures(rt: HostRuntime) -> Result<(), Fail> {
+    let most = numbered(rt.alloc(), SMALLEST, 1..256, AROUND_NUMBERS, "")?;
+    check(&rt, most.as_bytes(), Show::List, most.as_bytes())?;
+    let more = numbered(rt.alloc(), SMALLEST, 1..257, AROUND_NUMBERS, "")?;
+    let refusal = b"tacflow: 513:6: refusal 12: TooManyProcedures\n";
+    check(&rt, more.as_bytes(), Show::List, refusal)
+}
+
+// How many empty lines stand behind the smallest program, which has 14 bytes, and the answer: at most 1,048,576 bytes are a text.
+const LENGTHS: &[(usize, &str)] = &[
+    (1_048_576 - 14, "proc main\nend\n"),
+    (1_048_577 - 14, "tacflow: 1:1: refusal 11: TextTooLong\n"),
+    (1_200_000 - 14, "tacflow: 1:1: refusal 11: TextTooLong\n"),
+];
 
 #[test]
 fn lengths_of_texts(rt: HostRuntime) -> Result<(), Fail> {
-    let longest = long_text(rt.alloc(), 1_048_576)?;
-    check(&rt, &longest, Show::List, b"proc main\nend\n")?;
-    let longer = long_text(rt.alloc(), 1_048_577)?;
-    check(
-        &rt,
-        &longer,
-        Show::List,
-        b"tacflow: 1:1: refusal 11: TextTooLong\n",
-    )?;
-    let much_longer = long_text(rt.alloc(), 1_200_000)?;
-    check(
-        &rt,
-        &much_longer,
-        Show::List,
-        b"tacflow: 1:1: refusal 11: TextTooLong\n",
-    )
+    for (lines, answer) in LENGTHS {
+        let text = repeated(rt.alloc(), SMALLEST, "\n", *lines, "")?;
+        check(&rt, text.as_bytes(), Show::List, answer.as_bytes())?;
+    }
+    Ok(())
 }
+
+// After how many bytes of a longer text the reader fails, and the answer.
+const ENDS: &[(usize, &str)] = &[
+    (1_048_576, "tacflow: read fault\n"),
+    (1_048_577, "tacflow: 1:1: refusal 11: TextTooLong\n"),
+];
 
 // Nothing is pulled behind what is one byte too long.
 #[test]
 fn faults_behind_the_longest_text(rt: HostRuntime) -> Result<(), Fail> {
-    let text = long_text(rt.alloc(), 1_200_000)?;
-    let cases = [
-        (1_048_576, "tacflow: read fault\n"),
-        (1_048_577, "tacflow: 1:1: refusal 11: TextTooLong\n"),
-    ];
-    for (left, answer) in cases {
+    let text = repeated(rt.alloc(), SMALLEST, "\n", 1_200_000 - 14, "")?;
+    for (left, answer) in ENDS {
         let reader = Pieces {
-            rest: &text,
+            rest: text.as_bytes(),
             piece: usize::MAX,
-            left,
+            left: *left,
             fault: ErrorKind::Other,
         };
-        let got = told(&rt, reader, &mut blank_page(rt.alloc()), Show::List)?;
-        assert_eq!(rt; got.as_slice(), answer.as_bytes());
+        check_by(
+            &rt,
+            reader,
+            usize::MAX,
+            Show::List,
+            ALONE,
+            answer.as_bytes(),
+        )?;
     }
     Ok(())
 }
 
 // What is shown of a small program, of each sort: a listing, a table and a report.
-const SHOWN: [(Show, &[u8]); 3] = [
+const SHOWN: &[(Show, &[u8])] = &[
     (Show::List, b"proc main\nL:\n  x = 1\nend\n"),
     (Show::Reach, b"main 0: x@entry\nmain 1: x@2\n"),
     (
@@ -351,22 +359,53 @@ const SHOWN: [(Show, &[u8]); 3] = [
 
 const SMALL: &[u8] = b"proc main\nL: x = 1\nend\n";
 
+// The reader gives so many bytes a call, and after this many in all it fails.
+fn check_reader<R: Threads + Sync + Abort + AllocGlobal>(
+    rt: &R,
+    text: &[u8],
+    piece: usize,
+    left: usize,
+    fault: ErrorKind,
+    show: Show,
+) -> Result<(), Fail> {
+    let reader = Pieces {
+        rest: text,
+        piece,
+        left,
+        fault,
+    };
+    check_by(
+        rt,
+        reader,
+        usize::MAX,
+        show,
+        ALONE,
+        b"tacflow: read fault\n",
+    )
+}
+
 #[test]
 fn faults_of_readers(rt: HostRuntime) -> Result<(), Fail> {
     for (show, _) in SHOWN {
-        for fault in [ErrorKind::Other, ErrorKind::Interrupted] {
-            for left in 0..SMALL.len() {
-                let reader = Pieces {
-                    rest: SMALL,
-                    piece: usize::MAX,
-                    left,
-                    fault,
-                };
-                let got = told(&rt, reader, &mut blank_page(rt.alloc()), show)?;
-                assert_eq!(rt; got.as_slice(), b"tacflow: read fault\n".as_slice());
-            }
+        for left in 0..SMALL.len() {
+            check_reader(&rt, SMALL, usize::MAX, left, ErrorKind::Other, *show)?;
+            check_reader(&rt, SMALL, usize::MAX, left, ErrorKind::Interrupted, *show)?;
         }
     }
+    Ok(())
+}
+
+// The page fails once it has taken this beginning of the answer.
+fn check_page<R: Threads + Sync + Abort + AllocGlobal>(
+    rt: &R,
+    text: &[u8],
+    show: Show,
+    mut page: Page,
+    beginning: &[u8],
+) -> Result<(), Fail> {
+    let got = told(rt, text, &mut page, show, ALONE)?;
+    let line = b"tacflow: write fault\n";
+    check_fault(rt, &got, line, &page.taken, beginning);
     Ok(())
 }
 
@@ -379,57 +418,47 @@ fn check_writer<R: Threads + Sync + Abort + AllocGlobal>(
     left: usize,
     fault: Option<ErrorKind>,
 ) -> Result<(), Fail> {
+    let beginning = answer.get(..left).ok_or("a beginning")?;
     let mut page = blank_page(rt.alloc());
     page.left = left;
     page.fault = fault;
-    let got = told(rt, text, &mut page, show)?;
-    let beginning = answer.get(..left).ok_or("a beginning")?;
-    assert_eq!(rt; page.taken.as_slice(), beginning);
-    assert!(rt; got.as_slice().starts_with(b"tacflow: write fault\n"));
-    Ok(())
+    check_page(rt, text, show, page, beginning)
 }
 
 #[test]
 fn faults_of_writers(rt: HostRuntime) -> Result<(), Fail> {
     for (show, text) in SHOWN {
         for left in 0..text.len() {
-            check_writer(&rt, SMALL, show, text, left, Some(ErrorKind::Other))?;
+            check_writer(&rt, SMALL, *show, text, left, Some(ErrorKind::Other))?;
         }
-        for left in [0, 5] {
-            check_writer(&rt, SMALL, show, text, left, Some(ErrorKind::Interrupted))?;
-            check_writer(&rt, SMALL, show, text, left, None)?;
+        for left in &[0, 5] {
+            check_writer(&rt, SMALL, *show, text, *left, Some(ErrorKind::Interrupted))?;
+            check_writer(&rt, SMALL, *show, text, *left, None)?;
         }
         let mut page = blank_page(rt.alloc());
         page.flushes = false;
-        let got = told(&rt, SMALL, &mut page, show)?;
-        assert_eq!(rt; page.taken.as_slice(), text);
-        assert!(rt; got.as_slice().starts_with(b"tacflow: write fault\n"));
+        check_page(&rt, SMALL, *show, page, text)?;
     }
     Ok(())
 }
 
 // The smallest program, and what is shown of it.
-const SMALLEST: &[u8] = b"proc main\nend\n";
+const SMALLEST: &str = "proc main\nend\n";
 
-const SMALLEST_SHOWN: [(Show, &[u8]); 2] = [(Show::List, SMALLEST), (Show::Reach, b"main 0: -\n")];
+const SMALLEST_SHOWN: &[(Show, &str)] = &[(Show::List, SMALLEST), (Show::Reach, "main 0: -\n")];
 
 // A reader fails after each number of bytes, also in place of the end; a writer after each number below all, or takes none.
 #[test]
 fn faults_around_the_smallest(rt: HostRuntime) -> Result<(), Fail> {
+    let program = SMALLEST.as_bytes();
     for (show, text) in SMALLEST_SHOWN {
-        for left in 0..=SMALLEST.len() {
-            let reader = Pieces {
-                rest: SMALLEST,
-                piece: 1,
-                left,
-                fault: ErrorKind::Other,
-            };
-            let got = told(&rt, reader, &mut blank_page(rt.alloc()), show)?;
-            assert_eq!(rt; got.as_slice(), b"tacflow: read fault\n".as_slice());
+        for left in 0..=program.len() {
+            check_reader(&rt, program, 1, left, ErrorKind::Other, *show)?;
         }
+        let text = text.as_bytes();
         for left in 0..text.len() {
-            check_writer(&rt, SMALLEST, show, text, left, Some(ErrorKind::Other))?;
-            check_writer(&rt, SMALLEST, show, text, left, None)?;
+            check_writer(&rt, program, *show, text, left, Some(ErrorKind::Other))?;
+            check_writer(&rt, program, *show, text, left, None)?;
         }
     }
     Ok(())
@@ -439,82 +468,63 @@ fn faults_around_the_smallest(rt: HostRuntime) -> Result<(), Fail> {
 const PRINTS: u32 = 12_000;
 
 // That program, as a listing has it.
-fn prints(alloc: Global) -> Result<Vec<u8>, Fail> {
-    let mut text = b"proc main\n".to_vec(alloc)?;
-    for _ in 0..PRINTS {
-        text.extend_from_slice(b"  print a\n")?;
-    }
-    text.extend_from_slice(b"end\n")?;
-    Ok(text)
+fn prints(alloc: Global) -> Result<String, Fail> {
+    repeated(
+        alloc,
+        "proc main\n",
+        "  print a\n",
+        PRINTS as usize,
+        "end\n",
+    )
 }
 
-// Its table of live variables: the only one is live before each statement.
-fn live_of_prints(alloc: Global) -> Result<Vec<u8>, Fail> {
-    let mut text = Vec::new(alloc);
-    for place in 0..PRINTS {
-        text.extend_from_slice(format!(in alloc; "main {place}: a\n")?.as_bytes())?;
-    }
-    text.extend_from_slice(format!(in alloc; "main {PRINTS}: -\n")?.as_bytes())?;
-    Ok(text)
-}
-
-// Its report: no statement sets the variable.
-fn report_of_prints(alloc: Global) -> Result<Vec<u8>, Fail> {
-    let mut text = b"points 12001, variables 1, definitions 1, expressions 0\n".to_vec(alloc)?;
-    for line in 2..PRINTS + 2 {
-        text.extend_from_slice(format!(in alloc;
-            "{line}: a may be used before it is set\n"
-        )?.as_bytes())?;
-    }
-    Ok(text)
-}
+// The ends of two pieces, and the places around them.
+const CUTS: &[usize] = &[0, 1, 65_535, 65_536, 65_537, 131_071, 131_072];
 
 // The whole answer to that program, and its beginnings where the writer fails around the ends of pieces.
 fn check_pieces<R: Threads + Sync + Abort + AllocGlobal>(
     rt: &R,
+    text: &[u8],
     show: Show,
     answer: &[u8],
 ) -> Result<(), Fail> {
-    let text = prints(rt.alloc())?;
-    let got = told(rt, text.as_slice(), &mut blank_page(rt.alloc()), show)?;
-    assert_eq!(rt; got.as_slice(), answer);
+    check_by(rt, text, usize::MAX, show, ALONE, answer)?;
     assert!(rt; answer.len() > 2 * 65_536);
-    for left in [
-        0,
-        1,
-        65_535,
-        65_536,
-        65_537,
-        131_071,
-        131_072,
-        answer.len() - 1,
-    ] {
-        check_writer(rt, &text, show, answer, left, Some(ErrorKind::Other))?;
+    for left in CUTS {
+        check_writer(rt, text, show, answer, *left, Some(ErrorKind::Other))?;
     }
-    Ok(())
+    let all_but_one = answer.len() - 1;
+    check_writer(rt, text, show, answer, all_but_one, Some(ErrorKind::Other))
 }
+
+// What stands around a number in its table of live variables, whose only one is live before each statement, and in its report, since
+// no statement sets that one.
+const AROUND_PLACES: (&str, &str) = ("main ", ": a\n");
+
+const AROUND_LINES: (&str, &str) = ("", ": a may be used before it is set\n");
+
+const FIRST_LINE: &str = "points 12001, variables 1, definitions 1, expressions 0\n";
 
 #[test]
 fn faults_of_writers_around_pieces(rt: HostRuntime) -> Result<(), Fail> {
-    check_pieces(&rt, Show::Live, &live_of_prints(rt.alloc())?)?;
-    check_pieces(&rt, Show::Report, &report_of_prints(rt.alloc())?)
+    let text = prints(rt.alloc())?;
+    let text = text.as_bytes();
+    let last = "main 12000: -\n";
+    let table = numbered(rt.alloc(), "", 0..PRINTS, AROUND_PLACES, last)?;
+    check_pieces(&rt, text, Show::Live, table.as_bytes())?;
+    let report = numbered(rt.alloc(), FIRST_LINE, 2..PRINTS + 2, AROUND_LINES, "")?;
+    check_pieces(&rt, text, Show::Report, report.as_bytes())
 }
 
 // A listing of 120,014 bytes, which is the text itself.
 #[test]
 fn listing_of_two_pieces(rt: HostRuntime) -> Result<(), Fail> {
     let text = prints(rt.alloc())?;
-    for left in [65_535, 65_536, 65_537, 120_013] {
-        check_writer(&rt, &text, Show::List, &text, left, None)?;
+    let text = text.as_bytes();
+    for left in &[65_535, 65_536, 65_537, 120_013] {
+        check_writer(&rt, text, Show::List, text, *left, None)?;
     }
-    let got = told(
-        &rt,
-        text.as_slice(),
-        &mut blank_page(rt.alloc()),
-        Show::List,
-    )?;
-    assert_eq!(rt; got.as_slice(), text.as_slice());
-    Ok(())
+    check_by(&rt, text, usize::MAX, Show::List, ALONE, text)
 }
 
 // With ample memory this answer, and where a growth is refused want of memory and nothing written.
@@ -531,160 +541,237 @@ pub(crate) fn check_growths<R: Threads + Sync + Abort + AllocGlobal>(
     };
     let mut page = blank_page(rt.alloc());
     page.taken = taken;
-    let mut source = FromRead::new(text.as_bytes());
-    match run(
-        rt,
-        rt.alloc(),
-        &mut source,
-        &mut ToWrite::new(&mut page),
-        options,
-    ) {
-        Ok(()) => assert_eq!(rt; page.taken.as_slice(), answer.as_bytes()),
-        Err(Fault::OutOfMemory) => assert!(rt; page.taken.is_empty()),
-        Err(_) => return Err(Fail::from("another answer")),
-    }
-    Ok(())
+    let outcome = run_to_page(rt, text.as_bytes(), &mut page, options);
+    check_outcome(rt, outcome, &page.taken, answer.as_bytes())
 }
+
+const RECURSION: &str =
+    "proc main\nx = 1\ncall f\nprint x\nend\nproc f\nif x goto L\ncall f\nx = 2\nL:\nend\n";
+
+const BRANCHES: &str =
+    "proc main\nread b\nread c\nif c goto L\nx = b + c\nprint x\nreturn\nL: y = b + c\nprint y\nend\n";
+
+const GROWTHS: &[(&str, Show, &str)] = &[
+    (
+        RECURSION,
+        Show::List,
+        "proc main\n  x = 1\n  call f\n  print x\nend\nproc f\n  if x goto L\n  call f\n  x = 2\nL:\nend\n",
+    ),
+    (
+        RECURSION,
+        Show::Reach,
+        "main 0: x@entry\nmain 1: x@2\nmain 2: x@2, x@9\nmain 3: x@2, x@9\nf 0: x@2\nf 1: x@2\nf 2: x@2, x@9\nf 3: x@2, x@9\n",
+    ),
+    (
+        BRANCHES,
+        Show::Busy,
+        "main 0: -\nmain 1: -\nmain 2: b + c\nmain 3: b + c\nmain 4: -\nmain 5: -\nmain 6: b + c\nmain 7: -\nmain 8: -\n",
+    ),
+    (
+        BRANCHES,
+        Show::Report,
+        "points 9, variables 4, definitions 8, expressions 1\n4: b + c is very busy\n",
+    ),
+];
 
 #[test]
 fn growths_refused(rt: HostRuntime) -> Result<(), Fail> {
-    let recursion =
-        "proc main\nx = 1\ncall f\nprint x\nend\nproc f\nif x goto L\ncall f\nx = 2\nL:\nend\n";
-    let branches =
-        "proc main\nread b\nread c\nif c goto L\nx = b + c\nprint x\nreturn\nL: y = b + c\nprint y\nend\n";
-    let cases = [
-        (
-            recursion,
-            Show::List,
-            "proc main\n  x = 1\n  call f\n  print x\nend\nproc f\n  if x goto L\n  call f\n  x = 2\nL:\nend\n",
-        ),
-        (
-            recursion,
-            Show::Reach,
-            "main 0: x@entry\nmain 1: x@2\nmain 2: x@2, x@9\nmain 3: x@2, x@9\nf 0: x@2\nf 1: x@2\nf 2: x@2, x@9\nf 3: x@2, x@9\n",
-        ),
-        (
-            branches,
-            Show::Busy,
-            "main 0: -\nmain 1: -\nmain 2: b + c\nmain 3: b + c\nmain 4: -\nmain 5: -\nmain 6: b + c\nmain 7: -\nmain 8: -\n",
-        ),
-        (
-            branches,
-            Show::Report,
-            "points 9, variables 4, definitions 8, expressions 1\n4: b + c is very busy\n",
-        ),
-    ];
-    for (text, show, answer) in cases {
-        check_growths(&rt, text, show, answer, 1)?;
-        check_growths(&rt, text, show, answer, 3)?;
+    for (text, show, answer) in GROWTHS {
+        check_growths(&rt, text, *show, answer, 1)?;
+        check_growths(&rt, text, *show, answer, 3)?;
     }
     Ok(())
 }
+
+// The line that tells the fault.
+pub(crate) fn check_line<R: Abort + AllocGlobal>(
+    rt: &R,
+    fault: &Fault,
+    wanted: &str,
+) -> Result<(), Fail> {
+    let line = fault_line(rt.alloc(), NAME, fault)?;
+    check_same(rt, &line, wanted.as_bytes());
+    Ok(())
+}
+
+// The fault behind the program's name.
+fn check_shown<R: Abort + AllocGlobal>(rt: &R, fault: &Fault, wanted: &str) -> Result<(), Fail> {
+    let shown = format!(in rt.alloc(); "tacflow: {fault}\n")?;
+    check_same(rt, shown.as_bytes(), wanted.as_bytes());
+    Ok(())
+}
+
+const REFUSALS: &[(RefusalKind, &str)] = &[
+    (
+        RefusalKind::BadByte,
+        "tacflow: 10:4294967295: refusal 1: BadByte\n",
+    ),
+    (
+        RefusalKind::NumberTooLarge,
+        "tacflow: 10:4294967295: refusal 2: NumberTooLarge\n",
+    ),
+    (
+        RefusalKind::NameTooLong,
+        "tacflow: 10:4294967295: refusal 3: NameTooLong\n",
+    ),
+    (
+        RefusalKind::Syntax,
+        "tacflow: 10:4294967295: refusal 4: Syntax\n",
+    ),
+    (
+        RefusalKind::Unclosed,
+        "tacflow: 10:4294967295: refusal 5: Unclosed\n",
+    ),
+    (
+        RefusalKind::NoMain,
+        "tacflow: 10:4294967295: refusal 6: NoMain\n",
+    ),
+    (
+        RefusalKind::DuplicateProcedure,
+        "tacflow: 10:4294967295: refusal 7: DuplicateProcedure\n",
+    ),
+    (
+        RefusalKind::DuplicateLabel,
+        "tacflow: 10:4294967295: refusal 8: DuplicateLabel\n",
+    ),
+    (
+        RefusalKind::UnknownLabel,
+        "tacflow: 10:4294967295: refusal 9: UnknownLabel\n",
+    ),
+    (
+        RefusalKind::UnknownProcedure,
+        "tacflow: 10:4294967295: refusal 10: UnknownProcedure\n",
+    ),
+    (
+        RefusalKind::TextTooLong,
+        "tacflow: 10:4294967295: refusal 11: TextTooLong\n",
+    ),
+    (
+        RefusalKind::TooManyProcedures,
+        "tacflow: 10:4294967295: refusal 12: TooManyProcedures\n",
+    ),
+    (
+        RefusalKind::DuplicateCallee,
+        "tacflow: 10:4294967295: refusal 13: DuplicateCallee\n",
+    ),
+];
 
 #[test]
 fn lines_of_faults(rt: HostRuntime) -> Result<(), Fail> {
-    let kinds = [
-        (RefusalKind::BadByte, "1: BadByte"),
-        (RefusalKind::NumberTooLarge, "2: NumberTooLarge"),
-        (RefusalKind::NameTooLong, "3: NameTooLong"),
-        (RefusalKind::Syntax, "4: Syntax"),
-        (RefusalKind::Unclosed, "5: Unclosed"),
-        (RefusalKind::NoMain, "6: NoMain"),
-        (RefusalKind::DuplicateProcedure, "7: DuplicateProcedure"),
-        (RefusalKind::DuplicateLabel, "8: DuplicateLabel"),
-        (RefusalKind::UnknownLabel, "9: UnknownLabel"),
-        (RefusalKind::UnknownProcedure, "10: UnknownProcedure"),
-        (RefusalKind::TextTooLong, "11: TextTooLong"),
-        (RefusalKind::TooManyProcedures, "12: TooManyProcedures"),
-        (RefusalKind::DuplicateCallee, "13: DuplicateCallee"),
-    ];
-    for (kind, name) in kinds {
-        let fault = Fault::Refused(Refusal {
-            kind,
+    for (kind, wanted) in REFUSALS {
+        let refusal = Refusal {
+            kind: *kind,
             line: 10,
             column: 4294967295,
-        });
-        let line = fault_line(rt.alloc(), NAME, &fault)?;
-        let wanted = format!(in rt.alloc(); "tacflow: 10:4294967295: refusal {name}\n")?;
-        assert_eq!(rt; line.as_slice(), wanted.as_bytes());
-        let shown = format!(in rt.alloc(); "tacflow: {fault}\n")?;
-        assert_eq!(rt; shown.as_bytes(), wanted.as_bytes());
+        };
+        check_line(&rt, &Fault::Refused(refusal), wanted)?;
+        check_shown(&rt, &Fault::Refused(refusal), wanted)?;
     }
     Ok(())
 }
+
+const OTHER_FAULTS: &[(Fault, &str)] = &[
+    (
+        Fault::Graph(GraphFault::TooManyPoints),
+        "tacflow: refusal 21: TooManyPoints\n",
+    ),
+    (
+        Fault::Graph(GraphFault::TooManyBits),
+        "tacflow: refusal 22: TooManyBits\n",
+    ),
+    (Fault::NoProcedure, "tacflow: no such procedure\n"),
+    (Fault::OutOfMemory, "tacflow: out of memory\n"),
+    (Fault::Read, "tacflow: read fault\n"),
+    (Fault::Write, "tacflow: write fault\n"),
+];
 
 #[test]
 fn lines_of_other_faults(rt: HostRuntime) -> Result<(), Fail> {
-    let others = [
-        (
-            Fault::Graph(GraphFault::TooManyPoints),
-            "tacflow: refusal 21: TooManyPoints\n",
-        ),
-        (
-            Fault::Graph(GraphFault::TooManyBits),
-            "tacflow: refusal 22: TooManyBits\n",
-        ),
-        (Fault::NoProcedure, "tacflow: no such procedure\n"),
-        (Fault::OutOfMemory, "tacflow: out of memory\n"),
-        (Fault::Read, "tacflow: read fault\n"),
-        (Fault::Write, "tacflow: write fault\n"),
-    ];
-    for (fault, wanted) in others {
-        let line = fault_line(rt.alloc(), NAME, &fault)?;
-        assert_eq!(rt; line.as_slice(), wanted.as_bytes());
+    for (fault, wanted) in OTHER_FAULTS {
+        check_line(&rt, fault, wanted)?;
     }
     Ok(())
 }
+
+// Numbers of workers and widths of slices that are taken, and others that are not.
+const IN_RANGE: &[(u32, u32)] = &[(1, 1), (64, 4096), (1, 4096), (64, 1)];
+
+const OUT_OF_RANGE: &[(u32, u32)] = &[(0, 64), (65, 64), (1, 0), (1, 4097), (u32::MAX, 64)];
 
 #[test]
 fn ranges_of_options(rt: HostRuntime) {
-    for (workers, cut) in [(1, 1), (64, 4096), (1, 4096), (64, 1)] {
-        assert!(rt; Options::new(workers, cut, Show::List).is_some());
+    for (workers, cut) in IN_RANGE {
+        assert!(rt; Options::new(*workers, *cut, Show::List).is_some());
     }
-    for (workers, cut) in [(0, 64), (65, 64), (1, 0), (1, 4097), (u32::MAX, 64)] {
-        assert!(rt; Options::new(workers, cut, Show::List).is_none());
+    for (workers, cut) in OUT_OF_RANGE {
+        assert!(rt; Options::new(*workers, *cut, Show::List).is_none());
     }
 }
 
+// Words that name each option.
+pub(crate) const ALL_WORDS: &[&str] = &[
+    "tacflow",
+    "--workers",
+    "64",
+    "--cut=4096",
+    "--show",
+    "busy",
+];
+
+// What the words name, or the kind of the error.
+pub(crate) fn named_by(alloc: Global, words: &[&str]) -> Result<Options, error::ErrorKind> {
+    match Options::from_words(alloc, words) {
+        Ok(options) => Ok(options),
+        Err(error) => Err(error.kind()),
+    }
+}
+
+// The words name this team and this kind.
+pub(crate) fn check_options<R: Abort>(rt: &R, options: Options, team: (u32, u32), show: Show) {
+    assert!(rt; options.workers == team.0 && options.cut == team.1 && options.show == show);
+}
+
+// Words that name one kind alone.
+const SHOWS: &[(&str, Show)] = &[
+    ("report", Show::Report),
+    ("list", Show::List),
+    ("reach", Show::Reach),
+    ("live", Show::Live),
+    ("avail", Show::Avail),
+];
+
 #[test]
 fn words_that_are_taken(rt: HostRuntime) -> Result<(), Fail> {
-    let options = Options::from_words(rt.alloc(), &["tacflow"])?;
-    assert!(rt; options.workers == 1 && options.cut == 64 && options.show == Show::Report);
-    let words = ["tacflow", "--workers", "64", "--cut=4096", "--show", "busy"];
-    let options = Options::from_words(rt.alloc(), words.as_slice())?;
-    assert!(rt; options.workers == 64 && options.cut == 4096 && options.show == Show::Busy);
-    let shows = [
-        ("report", Show::Report),
-        ("list", Show::List),
-        ("reach", Show::Reach),
-        ("live", Show::Live),
-        ("avail", Show::Avail),
-    ];
-    for (word, show) in shows {
-        let options = Options::from_words(rt.alloc(), &["tacflow", "--show", word])?;
-        assert!(rt; options.show == show);
+    let options = named_by(rt.alloc(), &["tacflow"])?;
+    check_options(&rt, options, (1, 64), Show::Report);
+    let options = named_by(rt.alloc(), ALL_WORDS)?;
+    check_options(&rt, options, (64, 4096), Show::Busy);
+    for (word, show) in SHOWS {
+        let options = named_by(rt.alloc(), &["tacflow", "--show", word])?;
+        assert!(rt; options.show == *show);
     }
     Ok(())
 }
 
+const REFUSED_WORDS: &[[&str; 3]] = &[
+    ["tacflow", "--workers", "0"],
+    ["tacflow", "--workers", "65"],
+    ["tacflow", "--workers", "x"],
+    ["tacflow", "--cut", "0"],
+    ["tacflow", "--cut", "4097"],
+    ["tacflow", "--show", "none"],
+    ["tacflow", "--show", "List"],
+    ["tacflow", "--show", ""],
+    ["tacflow", "--show=list", "more"],
+    ["tacflow", "--show=list", "--show=list"],
+    ["tacflow", "--cut=1", "--show"],
+    ["tacflow", "--cut=1", "--shown"],
+];
+
 #[test]
 fn words_that_are_refused(rt: HostRuntime) -> Result<(), Fail> {
-    let words = [
-        ["tacflow", "--workers", "0"],
-        ["tacflow", "--workers", "65"],
-        ["tacflow", "--workers", "x"],
-        ["tacflow", "--cut", "0"],
-        ["tacflow", "--cut", "4097"],
-        ["tacflow", "--show", "none"],
-        ["tacflow", "--show", "List"],
-        ["tacflow", "--show", ""],
-        ["tacflow", "--show=list", "more"],
-        ["tacflow", "--show=list", "--show=list"],
-        ["tacflow", "--cut=1", "--show"],
-        ["tacflow", "--cut=1", "--shown"],
-    ];
-    for words in words {
-        assert!(rt; Options::from_words(rt.alloc(), words.as_slice()).is_err());
+    for words in REFUSED_WORDS {
+        assert!(rt; named_by(rt.alloc(), words.as_slice()).is_err());
     }
     Ok(())
 }

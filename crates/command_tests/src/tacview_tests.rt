@@ -1,6 +1,9 @@
 // `tacview`'s values by hand: what small texts are told, what words name, and what faults of devices leave.
 
-use crate::devices::{Page, Pieces, TEAMS, blank_page};
+use crate::answers::{check_fault, check_outcome, check_same, check_team};
+use crate::devices::{ALONE, Page, Pieces, TEAMS, blank_page};
+use crate::texts::repeated;
+use clap::error;
 use flow_commands::tacview::{Format, Options, line_of, run};
 use flow_graph::GraphFault;
 use flow_runs::Fault;
@@ -62,34 +65,60 @@ fn options(alloc: Global, asked: Asked<'_>, team: (u32, u32)) -> Option<Options>
     Options::new(team.0, team.1, asked.format, asked.facts, procedure)
 }
 
-// The line of the fault, if there was one, and behind it what was written, by so many workers in slices of this width.
-fn told_by<R: Threads + Sync + AllocGlobal, D: Read + Drop>(
+// What comes of a run from the reader to the page.
+fn run_to_page<R: Threads + Sync + AllocGlobal, D: Read + Drop>(
+    rt: &R,
+    reader: D,
+    page: &mut Page,
+    options: &Options,
+) -> Result<(), Fault> {
+    let mut source = FromRead::new(reader);
+    let mut sink = ToWrite::new(page);
+    run(rt, rt.alloc(), &mut source, &mut sink, options)
+}
+
+// The line of the fault, if there was one, and behind it what was written.
+fn line_and_text(
+    alloc: Global,
+    procedure: Option<&str>,
+    answered: Result<(), Fault>,
+    written: &[u8],
+) -> Result<Vec<u8>, Fail> {
+    let mut line = match answered {
+        Ok(()) => Vec::new(alloc),
+        Err(fault) => line_of(alloc, procedure, &fault)?,
+    };
+    line.extend_from_slice(written)?;
+    Ok(line)
+}
+
+// Both, by so many workers in slices of this width.
+fn told<R: Threads + Sync + AllocGlobal, D: Read + Drop>(
     rt: &R,
     reader: D,
     page: &mut Page,
     asked: Asked<'_>,
     team: (u32, u32),
 ) -> Result<Vec<u8>, Fail> {
-    let alloc = rt.alloc();
-    let options = options(alloc, asked, team).ok_or("options")?;
-    let mut source = FromRead::new(reader);
-    let mut sink = ToWrite::new(&mut *page);
-    let mut line = match run(rt, alloc, &mut source, &mut sink, &options) {
-        Ok(()) => Vec::new(alloc),
-        Err(fault) => line_of(alloc, asked.procedure, &fault)?,
-    };
-    line.extend_from_slice(&page.taken)?;
-    Ok(line)
+    let options = options(rt.alloc(), asked, team).ok_or("options")?;
+    let answered = run_to_page(rt, reader, &mut *page, &options);
+    line_and_text(rt.alloc(), asked.procedure, answered, &page.taken)
 }
 
-// The same by one worker, in slices of 64 bits.
-fn told<R: Threads + Sync + AllocGlobal, D: Read + Drop>(
+// The reader's text is answered so by this team, where a write takes so many bytes at most.
+fn check_by<R: Threads + Sync + Abort + AllocGlobal, D: Read + Drop>(
     rt: &R,
     reader: D,
-    page: &mut Page,
+    piece: usize,
     asked: Asked<'_>,
-) -> Result<Vec<u8>, Fail> {
-    told_by(rt, reader, page, asked, (1, 64))
+    team: (u32, u32),
+    answer: &str,
+) -> Result<(), Fail> {
+    let mut page = blank_page(rt.alloc());
+    page.piece = piece;
+    let got = told(rt, reader, &mut page, asked, team)?;
+    check_team(rt, &got, answer.as_bytes(), team);
+    Ok(())
 }
 
 // The text is answered so, whole or byte by byte, and by each team.
@@ -100,14 +129,7 @@ fn check<R: Threads + Sync + Abort + AllocGlobal>(
     answer: &str,
 ) -> Result<(), Fail> {
     for team in TEAMS {
-        let got = told_by(
-            rt,
-            text.as_bytes(),
-            &mut blank_page(rt.alloc()),
-            asked,
-            team,
-        )?;
-        assert_eq!(rt; got.as_slice(), answer.as_bytes(), "{team:?}");
+        check_by(rt, text.as_bytes(), usize::MAX, asked, *team, answer)?;
     }
     let slow = Pieces {
         rest: text.as_bytes(),
@@ -115,11 +137,7 @@ fn check<R: Threads + Sync + Abort + AllocGlobal>(
         left: usize::MAX,
         fault: ErrorKind::Other,
     };
-    let mut narrow = blank_page(rt.alloc());
-    narrow.piece = 1;
-    let got = told(rt, slow, &mut narrow, asked)?;
-    assert_eq!(rt; got.as_slice(), answer.as_bytes());
-    Ok(())
+    check_by(rt, slow, 1, asked, ALONE, answer)
 }
 
 const SMALL: &str = "proc main\nL: x = 1\nend\n";
@@ -143,51 +161,76 @@ const F_GRAPH: &str =
 const F_LINES: &str =
     "{\"type\":\"program\",\"points\":8,\"procedures\":[\"main\",\"f\"],\"variables\":[\"x\"],\"definitions\":3,\"expressions\":0}\n{\"type\":\"point\",\"point\":4,\"procedure\":\"f\",\"place\":0,\"line\":7,\"first\":43,\"last\":53,\"statement\":\"if x goto L\",\"edges\":[{\"kind\":\"step\",\"to\":5},{\"kind\":\"step\",\"to\":7}]}\n{\"type\":\"point\",\"point\":5,\"procedure\":\"f\",\"place\":1,\"line\":8,\"first\":55,\"last\":60,\"statement\":\"call f\",\"edges\":[{\"kind\":\"call\",\"site\":5,\"to\":4}]}\n{\"type\":\"point\",\"point\":6,\"procedure\":\"f\",\"place\":2,\"line\":9,\"first\":62,\"last\":66,\"statement\":\"x = 2\",\"edges\":[{\"kind\":\"step\",\"to\":7}]}\n{\"type\":\"point\",\"point\":7,\"procedure\":\"f\",\"place\":3,\"line\":null,\"first\":null,\"last\":null,\"statement\":null,\"edges\":[{\"kind\":\"return\",\"site\":1,\"to\":2},{\"kind\":\"return\",\"site\":5,\"to\":6}]}\n";
 
+// Each text is answered so.
+fn check_all<R: Threads + Sync + Abort + AllocGlobal>(
+    rt: &R,
+    cases: &[(&str, Asked<'_>, &str)],
+) -> Result<(), Fail> {
+    for (text, asked, answer) in cases {
+        check(rt, text, *asked, answer)?;
+    }
+    Ok(())
+}
+
+const WHOLE_PROGRAMS: &[(&str, Asked<'static>, &str)] = &[
+    (SMALL, GRAPH, SMALL_GRAPH),
+    (SMALL, LINES, SMALL_LINES),
+    (RECURSION, GRAPH, RECURSION_GRAPH),
+];
+
 #[test]
 fn whole_programs(rt: HostRuntime) -> Result<(), Fail> {
-    check(&rt, SMALL, GRAPH, SMALL_GRAPH)?;
-    check(&rt, SMALL, LINES, SMALL_LINES)?;
-    check(&rt, RECURSION, GRAPH, RECURSION_GRAPH)
+    check_all(&rt, WHOLE_PROGRAMS)
 }
+
+// What is asked of `f` or of `main` alone.
+const GRAPH_OF_F: Asked<'static> = Asked {
+    format: Format::Dot,
+    facts: REACH,
+    procedure: Some("f"),
+};
+
+const LINES_OF_F: Asked<'static> = Asked {
+    format: Format::Json,
+    facts: NONE,
+    procedure: Some("f"),
+};
+
+const GRAPH_OF_MAIN: Asked<'static> = Asked {
+    format: Format::Dot,
+    facts: NONE,
+    procedure: Some("main"),
+};
+
+const ONE_PROCEDURE: &[(&str, Asked<'static>, &str)] = &[
+    (RECURSION, GRAPH_OF_F, F_GRAPH),
+    (RECURSION, LINES_OF_F, F_LINES),
+    (SMALL, GRAPH_OF_MAIN, SMALL_GRAPH),
+];
 
 #[test]
 fn one_procedure(rt: HostRuntime) -> Result<(), Fail> {
-    let graph = Asked {
-        format: Format::Dot,
-        facts: REACH,
-        procedure: Some("f"),
-    };
-    check(&rt, RECURSION, graph, F_GRAPH)?;
-    let lines = Asked {
-        format: Format::Json,
-        facts: NONE,
-        procedure: Some("f"),
-    };
-    check(&rt, RECURSION, lines, F_LINES)?;
-    let main_alone = Asked {
-        format: Format::Dot,
-        facts: NONE,
-        procedure: Some("main"),
-    };
-    check(&rt, SMALL, main_alone, SMALL_GRAPH)
+    check_all(&rt, ONE_PROCEDURE)
 }
+
+// Names that no procedure has, and the line that says so.
+const NO_PROCEDURES: &[(&str, &str)] = &[
+    ("g", "tacview: the program has no procedure g\n"),
+    ("", "tacview: the program has no procedure \n"),
+    ("F", "tacview: the program has no procedure F\n"),
+    ("ff", "tacview: the program has no procedure ff\n"),
+    (
+        "f\n\\\u{e9}",
+        "tacview: the program has no procedure f\\x0a\\x5c\\xc3\\xa9\n",
+    ),
+];
 
 #[test]
 fn procedures_that_are_not_there(rt: HostRuntime) -> Result<(), Fail> {
-    let cases = [
-        ("g", "tacview: the program has no procedure g\n"),
-        ("", "tacview: the program has no procedure \n"),
-        ("F", "tacview: the program has no procedure F\n"),
-        ("ff", "tacview: the program has no procedure ff\n"),
-        (
-            "f\n\\\u{e9}",
-            "tacview: the program has no procedure f\\x0a\\x5c\\xc3\\xa9\n",
-        ),
-    ];
-    for (name, line) in cases {
-        for format in [Format::Dot, Format::Json] {
+    for (name, line) in NO_PROCEDURES {
+        for format in &[Format::Dot, Format::Json] {
             let asked = Asked {
-                format,
+                format: *format,
                 facts: NONE,
                 procedure: Some(name),
             };
@@ -197,47 +240,47 @@ fn procedures_that_are_not_there(rt: HostRuntime) -> Result<(), Fail> {
     Ok(())
 }
 
+const REFUSED_TEXTS: &[(&str, Asked<'static>, &str)] = &[
+    ("", GRAPH, "tacview: 1:1: refusal 6: NoMain\n"),
+    ("", LINES, "tacview: 1:1: refusal 6: NoMain\n"),
+    (
+        "proc main\nx =\nend\n",
+        GRAPH,
+        "tacview: 2:4: refusal 4: Syntax\n",
+    ),
+    (
+        "proc main\nx =\nend\n",
+        LINES,
+        "tacview: 2:4: refusal 4: Syntax\n",
+    ),
+    (
+        "proc main\ncall z\nend\n",
+        GRAPH,
+        "tacview: 2:6: refusal 10: UnknownProcedure\n",
+    ),
+    (
+        "proc main\ncall z\nend\n",
+        LINES,
+        "tacview: 2:6: refusal 10: UnknownProcedure\n",
+    ),
+];
+
 #[test]
 fn refused_texts(rt: HostRuntime) -> Result<(), Fail> {
-    let cases = [
-        ("", "tacview: 1:1: refusal 6: NoMain\n"),
-        ("proc main\nx =\nend\n", "tacview: 2:4: refusal 4: Syntax\n"),
-        (
-            "proc main\ncall z\nend\n",
-            "tacview: 2:6: refusal 10: UnknownProcedure\n",
-        ),
-    ];
-    for (text, line) in cases {
-        check(&rt, text, GRAPH, line)?;
-        check(&rt, text, LINES, line)?;
-    }
-    Ok(())
-}
-
-// A `main` of so many lines.
-fn repeated(alloc: Global, count: u32, line: &str) -> Result<String, Fail> {
-    let mut text = String::from_str(alloc, "proc main\n")?;
-    for _ in 0..count {
-        text.push_str(line)?;
-    }
-    text.push_str("end\n")?;
-    Ok(text)
+    check_all(&rt, REFUSED_TEXTS)
 }
 
 #[test]
 fn programs_over_the_limits(rt: HostRuntime) -> Result<(), Fail> {
-    let text = repeated(rt.alloc(), 16_384, "skip\n")?;
-    let line = b"tacview: refusal 21: TooManyPoints\n";
-    for asked in [GRAPH, LINES] {
-        let got = told(&rt, text.as_bytes(), &mut blank_page(rt.alloc()), asked)?;
-        assert_eq!(rt; got.as_slice(), line.as_slice());
-    }
-    Ok(())
+    let text = repeated(rt.alloc(), "proc main\n", "skip\n", 16_384, "end\n")?;
+    let line = "tacview: refusal 21: TooManyPoints\n";
+    check_by(&rt, text.as_bytes(), usize::MAX, GRAPH, ALONE, line)?;
+    check_by(&rt, text.as_bytes(), usize::MAX, LINES, ALONE, line)
 }
 
 #[test]
 fn faults_of_readers(rt: HostRuntime) -> Result<(), Fail> {
-    for asked in [GRAPH, LINES] {
+    for asked in &[GRAPH, LINES] {
         for left in 0..SMALL.len() {
             let reader = Pieces {
                 rest: SMALL.as_bytes(),
@@ -245,8 +288,14 @@ fn faults_of_readers(rt: HostRuntime) -> Result<(), Fail> {
                 left,
                 fault: ErrorKind::Other,
             };
-            let got = told(&rt, reader, &mut blank_page(rt.alloc()), asked)?;
-            assert_eq!(rt; got.as_slice(), b"tacview: read fault\n".as_slice());
+            check_by(
+                &rt,
+                reader,
+                usize::MAX,
+                *asked,
+                ALONE,
+                "tacview: read fault\n",
+            )?;
         }
     }
     Ok(())
@@ -259,23 +308,23 @@ fn check_writer<R: Threads + Sync + Abort + AllocGlobal>(
     answer: &str,
     left: usize,
 ) -> Result<(), Fail> {
+    let beginning = answer.as_bytes().get(..left).ok_or("a beginning")?;
     let mut page = blank_page(rt.alloc());
     page.left = left;
     page.fault = Some(ErrorKind::Other);
-    let got = told(rt, SMALL.as_bytes(), &mut page, asked)?;
-    let beginning = answer.as_bytes().get(..left).ok_or("a beginning")?;
-    assert_eq!(rt; page.taken.as_slice(), beginning);
-    assert!(rt; got.as_slice().starts_with(b"tacview: write fault\n"));
+    let got = told(rt, SMALL.as_bytes(), &mut page, asked, ALONE)?;
+    let line = b"tacview: write fault\n";
+    check_fault(rt, &got, line, &page.taken, beginning);
     Ok(())
 }
 
 #[test]
 fn faults_of_writers(rt: HostRuntime) -> Result<(), Fail> {
-    for left in [0, 1, 100, SMALL_GRAPH.len() - 1] {
-        check_writer(&rt, GRAPH, SMALL_GRAPH, left)?;
+    for left in &[0, 1, 100, SMALL_GRAPH.len() - 1] {
+        check_writer(&rt, GRAPH, SMALL_GRAPH, *left)?;
     }
-    for left in [0, 1, 100, SMALL_LINES.len() - 1] {
-        check_writer(&rt, LINES, SMALL_LINES, left)?;
+    for left in &[0, 1, 100, SMALL_LINES.len() - 1] {
+        check_writer(&rt, LINES, SMALL_LINES, *left)?;
     }
     Ok(())
 }
@@ -292,36 +341,21 @@ fn check_growths<R: Threads + Sync + Abort + AllocGlobal>(
     };
     let mut page = blank_page(rt.alloc());
     page.taken = taken;
-    let mut source = FromRead::new(text.as_bytes());
-    match run(
-        rt,
-        rt.alloc(),
-        &mut source,
-        &mut ToWrite::new(&mut page),
-        options,
-    ) {
-        Ok(()) => assert_eq!(rt; page.taken.as_slice(), answer.as_bytes()),
-        Err(Fault::OutOfMemory) => assert!(rt; page.taken.is_empty()),
-        Err(_) => return Err(Fail::from("another answer")),
-    }
-    Ok(())
+    let outcome = run_to_page(rt, text.as_bytes(), &mut page, options);
+    check_outcome(rt, outcome, &page.taken, answer.as_bytes())
 }
+
+const GROWTHS: &[(&str, Asked<'static>, &str)] = &[
+    (SMALL, GRAPH, SMALL_GRAPH),
+    (SMALL, LINES, SMALL_LINES),
+    (RECURSION, GRAPH_OF_F, F_GRAPH),
+];
 
 #[test]
 fn growths_refused(rt: HostRuntime) -> Result<(), Fail> {
-    let one = Asked {
-        format: Format::Dot,
-        facts: REACH,
-        procedure: Some("f"),
-    };
-    let cases = [
-        (SMALL, GRAPH, SMALL_GRAPH),
-        (SMALL, LINES, SMALL_LINES),
-        (RECURSION, one, F_GRAPH),
-    ];
-    for (text, asked, answer) in cases {
+    for (text, asked, answer) in GROWTHS {
         for team in TEAMS {
-            if let Some(options) = options(rt.alloc(), asked, team) {
+            if let Some(options) = options(rt.alloc(), *asked, *team) {
                 check_growths(&rt, text, &options, answer)?;
             }
         }
@@ -329,107 +363,144 @@ fn growths_refused(rt: HostRuntime) -> Result<(), Fail> {
     Ok(())
 }
 
+const FAULTS: &[(Option<&str>, Fault, &str)] = &[
+    (
+        None,
+        Fault::Graph(GraphFault::TooManyBits),
+        "tacview: refusal 22: TooManyBits\n",
+    ),
+    (Some("f"), Fault::OutOfMemory, "tacview: out of memory\n"),
+    (Some("f"), Fault::Read, "tacview: read fault\n"),
+    (None, Fault::Write, "tacview: write fault\n"),
+    (None, Fault::NoProcedure, "tacview: no such procedure\n"),
+    (
+        Some(" ~\u{7f}\t"),
+        Fault::NoProcedure,
+        "tacview: the program has no procedure  ~\\x7f\\x09\n",
+    ),
+];
+
 #[test]
 fn lines_of_faults(rt: HostRuntime) -> Result<(), Fail> {
-    let cases = [
-        (
-            None,
-            Fault::Graph(GraphFault::TooManyBits),
-            "tacview: refusal 22: TooManyBits\n",
-        ),
-        (Some("f"), Fault::OutOfMemory, "tacview: out of memory\n"),
-        (Some("f"), Fault::Read, "tacview: read fault\n"),
-        (None, Fault::Write, "tacview: write fault\n"),
-        (None, Fault::NoProcedure, "tacview: no such procedure\n"),
-        (
-            Some(" ~\u{7f}\t"),
-            Fault::NoProcedure,
-            "tacview: the program has no procedure  ~\\x7f\\x09\n",
-        ),
-    ];
-    for (name, fault, wanted) in cases {
-        let line = line_of(rt.alloc(), name, &fault)?;
-        assert_eq!(rt; line.as_slice(), wanted.as_bytes());
+    for (name, fault, wanted) in FAULTS {
+        let line = line_of(rt.alloc(), *name, fault)?;
+        check_same(&rt, &line, wanted.as_bytes());
     }
     Ok(())
 }
+
+// Numbers of workers and widths of slices that are taken, and others that are not.
+const IN_RANGE: &[(u32, u32)] = &[(1, 1), (64, 4096), (1, 4096), (64, 1)];
+
+const OUT_OF_RANGE: &[(u32, u32)] = &[(0, 64), (65, 64), (1, 0), (1, 4097), (u32::MAX, 64)];
 
 #[test]
 fn ranges_of_options(rt: HostRuntime) {
-    for (workers, cut) in [(1, 1), (64, 4096), (1, 4096), (64, 1)] {
-        assert!(rt; Options::new(workers, cut, Format::Dot, NONE, None).is_some());
+    for (workers, cut) in IN_RANGE {
+        assert!(rt; Options::new(*workers, *cut, Format::Dot, NONE, None).is_some());
     }
-    for (workers, cut) in [(0, 64), (65, 64), (1, 0), (1, 4097), (u32::MAX, 64)] {
-        assert!(rt; Options::new(workers, cut, Format::Dot, NONE, None).is_none());
+    for (workers, cut) in OUT_OF_RANGE {
+        assert!(rt; Options::new(*workers, *cut, Format::Dot, NONE, None).is_none());
     }
 }
+
+// The workers, the width, the format and the facts that the words name, or the kind of the error.
+fn named_by(alloc: Global, words: &[&str]) -> Result<(u32, u32, Format, Chosen), error::ErrorKind> {
+    match Options::from_words(alloc, words) {
+        Ok(options) => Ok((options.workers, options.cut, options.format, options.facts)),
+        Err(error) => Err(error.kind()),
+    }
+}
+
+// The procedure that the words name, or the kind of the error.
+fn procedure_by(alloc: Global, words: &[&str]) -> Result<Option<String>, error::ErrorKind> {
+    match Options::from_words(alloc, words) {
+        Ok(options) => Ok(options.procedure),
+        Err(error) => Err(error.kind()),
+    }
+}
+
+const ALL_WORDS: &[&str] = &[
+    "tacview",
+    "--workers=64",
+    "--cut",
+    "4096",
+    "--format=dot",
+    "--procedure",
+    "f",
+    "--facts=all",
+];
 
 #[test]
 fn words_that_are_taken(rt: HostRuntime) -> Result<(), Fail> {
-    let options = Options::from_words(rt.alloc(), &["tacview"])?;
-    assert!(rt; options.workers == 1 && options.cut == 64 && options.format == Format::Dot);
-    assert!(rt; options.facts == NONE && options.procedure.is_none());
-    let options = Options::from_words(rt.alloc(), &["tacview", "--format", "json"])?;
-    assert!(rt; options.facts == ALL && options.format == Format::Json);
-    let words = [
-        "tacview",
-        "--workers=64",
-        "--cut",
-        "4096",
-        "--format=dot",
-        "--procedure",
-        "f",
-        "--facts=all",
-    ];
-    let options = Options::from_words(rt.alloc(), words.as_slice())?;
-    assert!(rt; options.workers == 64 && options.cut == 4096 && options.facts == ALL);
-    assert_eq!(rt; options.procedure.ok_or("a name")?.as_str(), "f");
+    let (workers, cut, format, facts) = named_by(rt.alloc(), &["tacview"])?;
+    assert!(rt; workers == 1 && cut == 64 && format == Format::Dot && facts == NONE);
+    let (_, _, format, facts) = named_by(rt.alloc(), &["tacview", "--format", "json"])?;
+    assert!(rt; facts == ALL && format == Format::Json);
+    let (workers, cut, _, facts) = named_by(rt.alloc(), ALL_WORDS)?;
+    assert!(rt; workers == 64 && cut == 4096 && facts == ALL);
+    assert!(rt; procedure_by(rt.alloc(), &["tacview"])?.is_none());
+    let name = procedure_by(rt.alloc(), ALL_WORDS)?.ok_or("a name")?;
+    check_same(&rt, name.as_bytes(), b"f");
     Ok(())
 }
 
+// Lists of analyses, and whose facts each names.
+const LISTS: &[(&str, Chosen)] = &[
+    ("none", NONE),
+    ("all", ALL),
+    ("reach", REACH),
+    (
+        "live,reach",
+        Chosen {
+            reach: true,
+            live: true,
+            avail: false,
+            busy: false,
+        },
+    ),
+    (
+        "busy,busy",
+        Chosen {
+            reach: false,
+            live: false,
+            avail: false,
+            busy: true,
+        },
+    ),
+    ("avail,busy,live,reach", ALL),
+];
+
 #[test]
 fn lists_of_facts(rt: HostRuntime) -> Result<(), Fail> {
-    let lists = [
-        ("none", false, false, false, false),
-        ("all", true, true, true, true),
-        ("reach", true, false, false, false),
-        ("live,reach", true, true, false, false),
-        ("busy,busy", false, false, false, true),
-        ("avail,busy,live,reach", true, true, true, true),
-    ];
-    for (list, reach, live, avail, busy) in lists {
-        let options = Options::from_words(rt.alloc(), &["tacview", "--facts", list])?;
-        let wanted = Chosen {
-            reach,
-            live,
-            avail,
-            busy,
-        };
-        assert!(rt; options.facts == wanted);
+    for (list, wanted) in LISTS {
+        let (_, _, _, facts) = named_by(rt.alloc(), &["tacview", "--facts", list])?;
+        assert!(rt; facts == *wanted);
     }
     Ok(())
 }
 
+const REFUSED_WORDS: &[[&str; 3]] = &[
+    ["tacview", "--workers", "0"],
+    ["tacview", "--cut", "4097"],
+    ["tacview", "--format", "svg"],
+    ["tacview", "--format", "Dot"],
+    ["tacview", "--facts", ""],
+    ["tacview", "--facts", "reach,"],
+    ["tacview", "--facts", "reach live"],
+    ["tacview", "--facts", "Reach"],
+    ["tacview", "--facts", "none,reach"],
+    ["tacview", "--facts", "all,reach"],
+    ["tacview", "--facts=reach", "--facts=live"],
+    ["tacview", "--facts=reach", "--procedure"],
+    ["tacview", "--procedure=f", "--procedure=f"],
+    ["tacview", "--procedure=f", "program.tac"],
+];
+
 #[test]
 fn words_that_are_refused(rt: HostRuntime) -> Result<(), Fail> {
-    let words = [
-        ["tacview", "--workers", "0"],
-        ["tacview", "--cut", "4097"],
-        ["tacview", "--format", "svg"],
-        ["tacview", "--format", "Dot"],
-        ["tacview", "--facts", ""],
-        ["tacview", "--facts", "reach,"],
-        ["tacview", "--facts", "reach live"],
-        ["tacview", "--facts", "Reach"],
-        ["tacview", "--facts", "none,reach"],
-        ["tacview", "--facts", "all,reach"],
-        ["tacview", "--facts=reach", "--facts=live"],
-        ["tacview", "--facts=reach", "--procedure"],
-        ["tacview", "--procedure=f", "--procedure=f"],
-        ["tacview", "--procedure=f", "program.tac"],
-    ];
-    for words in words {
-        assert!(rt; Options::from_words(rt.alloc(), words.as_slice()).is_err());
+    for words in REFUSED_WORDS {
+        assert!(rt; named_by(rt.alloc(), words.as_slice()).is_err());
     }
     Ok(())
 }
