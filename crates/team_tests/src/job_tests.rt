@@ -7,7 +7,7 @@ ghost use Rattle.flow_team.specs.Tables.{IsTableOf};
 ghost use Rattle.slice_board.specs.Boards.{IsOf, point_count};
 
 use crate::gates::Recorder;
-use crate::texts::{Ask, RECURSIVE, RECURSIVE_REACH, asked, lines, printed, prints, slices};
+use crate::texts::{Ask, RECURSIVE, RECURSIVE_REACH, check, lines, printed, prints, slices};
 use flow_graph::{Analysis, Graph};
 use flow_team::{Gate, GraphSets, Job, OpenGate, OutOfMemory, Solve, Table};
 use slice_board::Pass;
@@ -185,15 +185,13 @@ impl Ask for BySlices {
         graph: &Graph<'_>,
     ) -> Result<String, Fail> {
         let table = table_by_slices(rt, alloc, graph, &Recorder::new())?;
-        Ok(lines(alloc, graph, &table)?)
+        lines(alloc, graph, &table)
     }
 }
 
 #[test]
 fn slices_one_after_the_other(rt: HostRuntime) -> Result<(), Fail> {
-    let told = asked(&rt, rt.alloc(), RECURSIVE, &BySlices)?;
-    assert_eq!(rt; told.as_str(), RECURSIVE_REACH);
-    Ok(())
+    check(&rt, RECURSIVE, &BySlices, RECURSIVE_REACH, (0, 0))
 }
 
 // Works until no slice is left.
@@ -277,7 +275,7 @@ impl Ask for ByTwo {
         graph: &Graph<'_>,
     ) -> Result<String, Fail> {
         let table = table_by_two(rt, alloc, graph)?;
-        Ok(lines(alloc, graph, &table)?)
+        lines(alloc, graph, &table)
     }
 }
 
@@ -285,8 +283,6 @@ impl Ask for ByTwo {
 fn two_activities_over_one_job(rt: HostRuntime) -> Result<(), Fail> {
     let alloc = rt.alloc();
     let text = prints(alloc, 70)?;
-    let told = asked(&rt, alloc, text.as_str(), &ByTwo)?;
     let want = printed(alloc, 70)?;
-    assert_eq!(rt; told.as_str(), want.as_str());
-    Ok(())
+    check(&rt, text.as_str(), &ByTwo, want.as_str(), (0, 2))
 }

@@ -1,7 +1,7 @@
 // That workers run at the same time, and that the standard helpers which may start them do.
 
 use crate::gates::Meeting;
-use crate::texts::{Ask, RECURSIVE, RECURSIVE_REACH, asked, lines, slices_at};
+use crate::texts::{Ask, RECURSIVE, RECURSIVE_REACH, check, lines, slices_at};
 use flow_graph::{Analysis, Graph};
 use flow_team::analyse;
 use std::alloc::Global;
@@ -25,7 +25,7 @@ impl<'a> Ask for Overlapping<'a> {
     ) -> Result<String, Fail> {
         let cut = slices_at(alloc, graph, Analysis::Reach, &[1])?;
         match analyse(rt, alloc, graph, Analysis::Reach, cut, 2, self.gate) {
-            Ok(table) => Ok(lines(alloc, graph, &table)?),
+            Ok(table) => lines(alloc, graph, &table),
             Err(_) => Err(Fail::new("refused")),
         }
     }
@@ -34,8 +34,13 @@ impl<'a> Ask for Overlapping<'a> {
 #[test]
 fn two_workers_overlap(rt: HostRuntime) -> Result<(), Fail> {
     let gate = Meeting::new();
-    let told = asked(&rt, rt.alloc(), RECURSIVE, &Overlapping { gate: &gate })?;
-    assert_eq!(rt; told.as_str(), RECURSIVE_REACH);
+    check(
+        &rt,
+        RECURSIVE,
+        &Overlapping { gate: &gate },
+        RECURSIVE_REACH,
+        (0, 2),
+    )?;
     assert!(rt; gate.met(), "no other slice was claimed meanwhile");
     let (claimed_by, finished_by) = gate.workers();
     assert!(rt; claimed_by[0] != claimed_by[1], "one worker claimed both");

@@ -7,11 +7,9 @@ ghost use Rattle.slice_board.specs.Boards.{IsOf};
 
 use crate::gates::Recorder;
 use crate::job_tests::{closed, opened};
-use crate::texts::{Ask, RECURSIVE, RECURSIVE_REACH, asked, lines, slices};
+use crate::texts::{Ask, RECURSIVE, RECURSIVE_REACH, check, lines, slices};
 use flow_graph::{Analysis, Graph};
-use flow_team::{
-    GraphSets, Job, OpenGate, OutOfMemory, Solve, Table, analyse, analyse_alone, analyse_pairs,
-};
+use flow_team::{GraphSets, Job, OpenGate, Solve, Table, analyse, analyse_alone, analyse_pairs};
 use slice_board::Pass;
 use std::alloc::Global;
 use std::process::Abort;
@@ -54,38 +52,33 @@ impl<'a> Ask for ByWorkers<'a> {
             self.workers,
             self.gate,
         ) {
-            Ok(table) => Ok(lines(alloc, graph, &table)?),
+            Ok(table) => lines(alloc, graph, &table),
             Err(_) => Err(Fail::new(lost_slice(self.gate))),
         }
     }
 }
 
 // The lines of the recursive program, or which slice was lost.
-fn lines_or_loss<R: Threads + Sync + Abort>(
+fn check_by_workers<R: Threads + Sync + Abort + AllocGlobal>(
     rt: &R,
-    alloc: Global,
     workers: u32,
-) -> Result<String, Fail> {
+) -> Result<(), Fail> {
     let gate = Recorder::new();
     let how = ByWorkers {
         workers,
         gate: &gate,
     };
-    asked(rt, alloc, RECURSIVE, &how)
+    check_told(rt, &how)
 }
 
 #[test]
 fn one_worker_is_refused(rt: HostRuntime) -> Result<(), Fail> {
-    let told = lines_or_loss(&rt, rt.alloc(), 1)?;
-    assert_eq!(rt; told.as_str(), RECURSIVE_REACH);
-    Ok(())
+    check_by_workers(&rt, 1)
 }
 
 #[test]
 fn two_workers_are_refused(rt: HostRuntime) -> Result<(), Fail> {
-    let told = lines_or_loss(&rt, rt.alloc(), 2)?;
-    assert_eq!(rt; told.as_str(), RECURSIVE_REACH);
-    Ok(())
+    check_by_workers(&rt, 2)
 }
 
 // Works until no slice is left, and goes on where a call is refused: the slice is then held.
@@ -147,15 +140,13 @@ impl Ask for WithRefusals {
         graph: &Graph<'_>,
     ) -> Result<String, Fail> {
         let table = table_after_refusals(rt, alloc, graph, &Recorder::new())?;
-        Ok(lines(alloc, graph, &table)?)
+        lines(alloc, graph, &table)
     }
 }
 
 #[test]
 fn a_refused_call_goes_on(rt: HostRuntime) -> Result<(), Fail> {
-    let told = asked(&rt, rt.alloc(), RECURSIVE, &WithRefusals)?;
-    assert_eq!(rt; told.as_str(), RECURSIVE_REACH);
-    Ok(())
+    check_told(&rt, &WithRefusals)
 }
 
 // A call that gives a table.
@@ -259,11 +250,7 @@ fn table_of_call<R: Threads + Sync>(
 }
 
 // The lines of a table, if there is one.
-fn lines_of(
-    alloc: Global,
-    graph: &Graph<'_>,
-    table: Option<Table>,
-) -> Result<Option<String>, OutOfMemory>
+fn lines_of(alloc: Global, graph: &Graph<'_>, table: Option<Table>) -> Result<Option<String>, Fail>
     requires { IfSome table (IsTableOf graph.now) }
 {
     match table {
@@ -279,7 +266,7 @@ fn lines_of_call<R: Threads + Sync>(
     call: Whole,
 ) -> Result<Option<String>, Fail> {
     let table = table_of_call(rt, alloc, graph, call)?;
-    Ok(lines_of(alloc, graph, table)?)
+    lines_of(alloc, graph, table)
 }
 
 fn lines_of_opened<R: Abort>(
@@ -288,7 +275,7 @@ fn lines_of_opened<R: Abort>(
     graph: &Graph<'_>,
 ) -> Result<Option<String>, Fail> {
     let table = table_of_opened(rt, alloc, graph)?;
-    Ok(lines_of(alloc, graph, table)?)
+    lines_of(alloc, graph, table)
 }
 
 // What a call that was refused tells the second time: the test then fails by the call's name.
@@ -347,9 +334,7 @@ fn check_told<R: Threads + Sync + Abort + AllocGlobal, A: Ask>(
     rt: &R,
     ask: &A,
 ) -> Result<(), Fail> {
-    let told = asked(rt, rt.alloc(), RECURSIVE, ask)?;
-    assert_eq!(rt; told.as_str(), RECURSIVE_REACH);
-    Ok(())
+    check(rt, RECURSIVE, ask, RECURSIVE_REACH, (0, 0))
 }
 
 #[test]

@@ -8,8 +8,8 @@ ghost use Rattle.flow_team.specs.Tables.{IsTableOf};
 
 use crate::gates::Recorder;
 use crate::texts::{
-    Ask, RECURSIVE, RECURSIVE_REACH, asked, beginning, lines, printed, prints, slices, slices_at,
-    slices_of, stepped, steps, summed, sums, words,
+    Ask, RECURSIVE, RECURSIVE_REACH, asked, beginning, check, check_text, lines, printed, prints,
+    slices, slices_at, slices_of, stepped, steps, summed, sums, words,
 };
 use bit_rows::Cut;
 use flow_graph::{Analysis, Graph};
@@ -21,7 +21,9 @@ use std::process::Abort;
 use std::test::Fail;
 use std::thread::Threads;
 
-const WORKERS: [u32; 4] = [1, 2, 3, 64];
+const WORKERS: &[u32] = &[1, 2, 3, 64];
+
+const WIDTHS: &[u32] = &[1, 2, 64];
 
 const CALLEE_LOOPS: &str = "proc main\ncall f\na = b + c\nend\nproc f\nL: goto L\nend\n";
 
@@ -40,7 +42,7 @@ const ON_BOTH_BRANCHES: &str =
     "proc main\nread b\nread c\nif c goto L\nx = b + c\nprint x\nreturn\nL: y = b + c\nprint y\nend\n";
 
 /// Programs, and their tables.
-const TABLES: [(&str, Analysis, &str); 7] = [
+const TABLES: &[(&str, Analysis, &str)] = &[
     ("proc main\nprint 1\nend\n", Analysis::Avail, "0:\n1:\n"),
     (RECURSIVE, Analysis::Reach, RECURSIVE_REACH),
     (CALLEE_LOOPS, Analysis::Reach, CALLEE_LOOPS_REACH),
@@ -59,7 +61,7 @@ const TABLES: [(&str, Analysis, &str); 7] = [
 ];
 
 /// How the bits are cut.
-#[derive(Clone, Copy, Debug)]
+#[derive(Clone, Copy)]
 enum Cutting {
     Even(u32),
     At(&'static [u32]),
@@ -106,30 +108,46 @@ impl Ask for Lines {
         graph: &Graph<'_>,
     ) -> Result<String, Fail> {
         let table = table_by(rt, alloc, graph, self.how, &OpenGate)?;
-        Ok(lines(alloc, graph, &table)?)
+        lines(alloc, graph, &table)
     }
-}
-
-// The lines of a text's table.
-fn text_lines<R: Threads + Sync + Abort>(
-    rt: &R,
-    alloc: Global,
-    text: &str,
-    how: (Analysis, Cutting, u32),
-) -> Result<String, Fail> {
-    asked(rt, alloc, text, &Lines { how })
 }
 
 #[test]
 fn tables(rt: HostRuntime) -> Result<(), Fail> {
     for (text, analysis, want) in TABLES {
-        for width in [1, 2, 64] {
+        for width in WIDTHS {
             for workers in WORKERS {
-                let how = (analysis, Cutting::Even(width), workers);
-                let told = text_lines(&rt, rt.alloc(), text, how)?;
-                assert_eq!(rt; told.as_str(), want, "slices of {width}, {workers} workers");
+                let how = (*analysis, Cutting::Even(*width), *workers);
+                check(&rt, text, &Lines { how }, want, (*width, *workers))?;
             }
         }
+    }
+    Ok(())
+}
+
+const CUTTINGS: &[Cutting] = &[
+    Cutting::Even(1),
+    Cutting::Even(7),
+    Cutting::Even(63),
+    Cutting::Even(64),
+    Cutting::Even(65),
+    Cutting::Even(70),
+    Cutting::At(&[1, 64]),
+];
+
+// The lines of a text, however its bits are cut.
+fn check_cuttings<R: Threads + Sync + Abort + AllocGlobal>(
+    rt: &R,
+    text: &str,
+    want: &str,
+) -> Result<(), Fail> {
+    let mut case = 0u32;
+    for cutting in CUTTINGS {
+        for workers in WORKERS {
+            let how = (Analysis::Live, *cutting, *workers);
+            check(rt, text, &Lines { how }, want, (case, *workers))?;
+        }
+        case = case.wrapping_add(1);
     }
     Ok(())
 }
@@ -138,27 +156,7 @@ fn tables(rt: HostRuntime) -> Result<(), Fail> {
 fn more_bits_than_a_word(rt: HostRuntime) -> Result<(), Fail> {
     let text = prints(rt.alloc(), 70)?;
     let want = printed(rt.alloc(), 70)?;
-    let cuttings = [
-        Cutting::Even(1),
-        Cutting::Even(7),
-        Cutting::Even(63),
-        Cutting::Even(64),
-        Cutting::Even(65),
-        Cutting::Even(70),
-        Cutting::At(&[1, 64]),
-    ];
-    for cutting in cuttings {
-        for workers in WORKERS {
-            let how = (Analysis::Live, cutting, workers);
-            let told = text_lines(&rt, rt.alloc(), text.as_str(), how)?;
-            assert_eq!(rt;
-                told.as_str(),
-                want.as_str(),
-                "{cutting:?}, {workers} workers"
-            );
-        }
-    }
-    Ok(())
+    check_cuttings(&rt, text.as_str(), want.as_str())
 }
 
 // Two groups of words, the second of which has two, the last of them with 10 bits.
@@ -169,9 +167,7 @@ fn more_words_than_a_group(rt: HostRuntime) -> Result<(), Fail> {
     let text = prints(rt.alloc(), BITS_OF_TWO_GROUPS)?;
     let want = printed(rt.alloc(), BITS_OF_TWO_GROUPS)?;
     let how = (Analysis::Live, Cutting::Even(64), 1);
-    let told = text_lines(&rt, rt.alloc(), text.as_str(), how)?;
-    assert_eq!(rt; told.as_str(), want.as_str());
-    Ok(())
+    check(&rt, text.as_str(), &Lines { how }, want.as_str(), (64, 1))
 }
 
 #[test]
@@ -179,9 +175,7 @@ fn complements_of_more_words_than_a_group(rt: HostRuntime) -> Result<(), Fail> {
     let text = sums(rt.alloc(), BITS_OF_TWO_GROUPS)?;
     let want = summed(rt.alloc(), BITS_OF_TWO_GROUPS)?;
     let how = (Analysis::Avail, Cutting::Even(64), 1);
-    let told = text_lines(&rt, rt.alloc(), text.as_str(), how)?;
-    assert_eq!(rt; told.as_str(), want.as_str());
-    Ok(())
+    check(&rt, text.as_str(), &Lines { how }, want.as_str(), (64, 1))
 }
 
 // The words of a point's set, and one more.
@@ -204,21 +198,38 @@ impl Ask for WordsOf {
     }
 }
 
-const ALL_ONES: &str = "18446744073709551615";
+// Points, and the words of their sets.
+const WORDS: &[(u32, &str)] = &[
+    (
+        0,
+        " 18446744073709551615 18446744073709551615 18446744073709551615 18446744073709551615 18446744073709551615 1023 0",
+    ),
+    (325, " 0 0 0 0 0 992 0"),
+];
+
+fn check_words<R: Threads + Sync + Abort + AllocGlobal>(
+    rt: &R,
+    text: &str,
+    workers: u32,
+) -> Result<(), Fail> {
+    for (point, want) in WORDS {
+        let point = *point;
+        check(
+            rt,
+            text,
+            &WordsOf { workers, point },
+            want,
+            (point, workers),
+        )?;
+    }
+    Ok(())
+}
 
 #[test]
 fn words_of_a_set(rt: HostRuntime) -> Result<(), Fail> {
     let text = prints(rt.alloc(), BITS_OF_TWO_GROUPS)?;
-    let all = format!(in rt.alloc();
-        " {ALL_ONES} {ALL_ONES} {ALL_ONES} {ALL_ONES} {ALL_ONES} 1023 0"
-    )?;
-    for workers in [1, 3] {
-        for (point, want) in [(0, all.as_str()), (325, " 0 0 0 0 0 992 0")] {
-            let told = asked(&rt, rt.alloc(), text.as_str(), &WordsOf { workers, point })?;
-            assert_eq!(rt; told.as_str(), want, "point {point}, {workers} workers");
-        }
-    }
-    Ok(())
+    check_words(&rt, text.as_str(), 1)?;
+    check_words(&rt, text.as_str(), 3)
 }
 
 // The lines by 64 workers, 200 times over.
@@ -239,7 +250,7 @@ impl<'a> Ask for AgainAndAgain<'a> {
         let lines = Lines { how };
         for turn in 0..200 {
             let told = lines.answer(rt, alloc, graph)?;
-            assert_eq!(rt; told.as_str(), self.want, "turn {turn}");
+            check_text(rt, told.as_str(), self.want, (turn, 64));
         }
         Ok(String::new(alloc))
     }
@@ -297,20 +308,26 @@ impl Ask for Beginnings {
     }
 }
 
+const TWO_OF_REACH: &str = "0: 0 1\n1 (no path):\n2 (no path):\n3: 0 1\n4 (no path):\n";
+
+// Numbers of bits of both tables, and their lines.
+const BEGINNINGS: &[(u32, u32, &str, &str)] = &[
+    (0, 0, NO_BITS, NO_BITS),
+    (2, 0, TWO_OF_REACH, NO_BITS),
+    (3, 0, CALLEE_LOOPS_REACH, NO_BITS),
+    (0, 1, NO_BITS, CALLEE_LOOPS_AVAIL),
+    (3, 1, CALLEE_LOOPS_REACH, CALLEE_LOOPS_AVAIL),
+];
+
 #[test]
 fn beginnings_of_two_tables(rt: HostRuntime) -> Result<(), Fail> {
-    let two_of_reach = "0: 0 1\n1 (no path):\n2 (no path):\n3: 0 1\n4 (no path):\n";
-    let rows = [
-        (0, 0, NO_BITS, NO_BITS),
-        (2, 0, two_of_reach, NO_BITS),
-        (3, 0, CALLEE_LOOPS_REACH, NO_BITS),
-        (0, 1, NO_BITS, CALLEE_LOOPS_AVAIL),
-        (3, 1, CALLEE_LOOPS_REACH, CALLEE_LOOPS_AVAIL),
-    ];
-    for (reach, avail, first, second) in rows {
+    for (reach, avail, first, second) in BEGINNINGS {
+        let how = Beginnings {
+            reach: *reach,
+            avail: *avail,
+        };
         let want = format!(in rt.alloc(); "{first}{second}")?;
-        let told = asked(&rt, rt.alloc(), CALLEE_LOOPS, &Beginnings { reach, avail })?;
-        assert_eq!(rt; told.as_str(), want.as_str(), "{reach} and {avail} bits");
+        check(&rt, CALLEE_LOOPS, &how, want.as_str(), (*reach, 1))?;
     }
     Ok(())
 }
@@ -342,11 +359,7 @@ fn pairs_of<R: Threads + Sync>(
 }
 
 // The lines of two tables of all bits, one table's behind the other's.
-fn both_lines(
-    alloc: Global,
-    graph: &Graph<'_>,
-    tables: (Table, Table),
-) -> Result<String, OutOfMemory>
+fn both_lines(alloc: Global, graph: &Graph<'_>, tables: (Table, Table)) -> Result<String, Fail>
     requires first { IsTableOf graph.now tables.0 }
     requires second { IsTableOf graph.now tables.1 }
 {
@@ -399,33 +412,35 @@ impl Ask for Pairs {
     }
 }
 
+// Numbers of bits of the second pair, and their lines.
+const PAIRS: &[(u32, u32, &str, &str)] = &[
+    (0, 0, NO_BITS, NO_BITS),
+    (2, 0, TWO_OF_REACH, NO_BITS),
+    (2, 1, TWO_OF_REACH, CALLEE_LOOPS_AVAIL),
+    (3, 1, CALLEE_LOOPS_REACH, CALLEE_LOOPS_AVAIL),
+];
+
+// All rows, by so many workers.
+fn check_pairs<R: Threads + Sync + Abort + AllocGlobal>(rt: &R, workers: u32) -> Result<(), Fail> {
+    for (reach, avail, first, second) in PAIRS {
+        let how = Pairs {
+            reach: *reach,
+            avail: *avail,
+            workers,
+        };
+        let want = format!(in rt.alloc(); "{CALLEE_LOOPS_LIVE}{CALLEE_LOOPS_BUSY}{first}{second}")?;
+        check(rt, CALLEE_LOOPS, &how, want.as_str(), (*reach, workers))?;
+    }
+    Ok(())
+}
+
+// Four share out the analyses, and five leave three to work in slices.
+const WORKERS_ON_PAIRS: &[u32] = &[1, 2, 3, 4, 5, 64];
+
 #[test]
 fn two_pairs_of_tables(rt: HostRuntime) -> Result<(), Fail> {
-    let two_of_reach = "0: 0 1\n1 (no path):\n2 (no path):\n3: 0 1\n4 (no path):\n";
-    let rows = [
-        (0, 0, NO_BITS, NO_BITS),
-        (2, 0, two_of_reach, NO_BITS),
-        (2, 1, two_of_reach, CALLEE_LOOPS_AVAIL),
-        (3, 1, CALLEE_LOOPS_REACH, CALLEE_LOOPS_AVAIL),
-    ];
-    // four share out the analyses, and five leave three to work in slices
-    for workers in [1, 2, 3, 4, 5, 64] {
-        for (reach, avail, first, second) in rows {
-            let want = format!(in rt.alloc();
-                "{CALLEE_LOOPS_LIVE}{CALLEE_LOOPS_BUSY}{first}{second}"
-            )?;
-            let how = Pairs {
-                reach,
-                avail,
-                workers,
-            };
-            let told = asked(&rt, rt.alloc(), CALLEE_LOOPS, &how)?;
-            assert_eq!(rt;
-                told.as_str(),
-                want.as_str(),
-                "{reach} and {avail} bits, {workers} workers"
-            );
-        }
+    for workers in WORKERS_ON_PAIRS {
+        check_pairs(&rt, *workers)?;
     }
     Ok(())
 }
@@ -433,21 +448,23 @@ fn two_pairs_of_tables(rt: HostRuntime) -> Result<(), Fail> {
 // So many sums have nine words, of which one worker finds eight and the other the last.
 const PARTED_BITS: u32 = 520;
 
-// The lines of both pairs where nothing of reaching definitions is asked, by so many workers.
-fn check_parted<R: Threads + Sync + Abort>(
+// By three the second pair is parted, by four both are.
+const WORKERS_ON_PARTS: &[u32] = &[1, 2, 3, 4];
+
+// The lines of both pairs where nothing of reaching definitions is asked.
+fn check_parted<R: Threads + Sync + Abort + AllocGlobal>(
     rt: &R,
-    alloc: Global,
     text: &str,
     want: &str,
-    workers: u32,
 ) -> Result<(), Fail> {
-    let how = Pairs {
-        reach: 0,
-        avail: PARTED_BITS,
-        workers,
-    };
-    let told = asked(rt, alloc, text, &how)?;
-    assert_eq!(rt; told.as_str(), want, "{workers} workers");
+    for workers in WORKERS_ON_PARTS {
+        let how = Pairs {
+            reach: 0,
+            avail: PARTED_BITS,
+            workers: *workers,
+        };
+        check(rt, text, &how, want, (PARTED_BITS, *workers))?;
+    }
     Ok(())
 }
 
@@ -469,11 +486,7 @@ fn two_workers_part_the_words(rt: HostRuntime) -> Result<(), Fail> {
     want.push_str(printed(alloc, PARTED_BITS)?.as_str())?;
     want.push_str(no_bits(alloc, PARTED_BITS + 1)?.as_str())?;
     want.push_str(summed(alloc, PARTED_BITS)?.as_str())?;
-    // by three the second pair is parted, by four both are
-    for workers in [1, 2, 3, 4] {
-        check_parted(&rt, alloc, text.as_str(), want.as_str(), workers)?;
-    }
-    Ok(())
+    check_parted(&rt, text.as_str(), want.as_str())
 }
 
 // The fault that tells that so many workers are refused.
@@ -528,32 +541,35 @@ impl Ask for RefusedPairs {
     }
 }
 
-// What is told where there are so many workers.
-fn check_refused<R: Threads + Sync + Abort, A: Ask>(
-    rt: &R,
-    alloc: Global,
-    ask: &A,
-    workers: u32,
-) -> Result<(), Fail> {
-    let told = asked(rt, alloc, RECURSIVE, ask)?;
-    assert_eq!(rt;
-        told.as_str(),
-        "33: the number of workers is not one of 1 to 64",
-        "{workers} workers"
-    );
-    Ok(())
-}
+const REFUSED_WORKERS: &[u32] = &[0, 65, u32::MAX];
+
+const BAD_WORKERS: &str = "33: the number of workers is not one of 1 to 64";
 
 #[test]
 fn numbers_of_workers(rt: HostRuntime) -> Result<(), Fail> {
-    for workers in [0, 65, u32::MAX] {
-        check_refused(&rt, rt.alloc(), &Refused { workers }, workers)?;
-        check_refused(&rt, rt.alloc(), &RefusedPairs { workers }, workers)?;
+    for workers in REFUSED_WORKERS {
+        let workers = *workers;
+        check(
+            &rt,
+            RECURSIVE,
+            &Refused { workers },
+            BAD_WORKERS,
+            (1, workers),
+        )?;
+        check(
+            &rt,
+            RECURSIVE,
+            &RefusedPairs { workers },
+            BAD_WORKERS,
+            (2, workers),
+        )?;
     }
     let shown = format!(in rt.alloc(); "{}; {}", TeamFault::BadWorkers, TeamFault::OutOfMemory)?;
-    assert_eq!(rt;
+    check_text(
+        &rt,
         shown.as_str(),
-        "33: the number of workers is not one of 1 to 64; out of memory"
+        "33: the number of workers is not one of 1 to 64; out of memory",
+        (3, 0),
     );
     Ok(())
 }
@@ -574,7 +590,7 @@ impl<'a> Ask for Told<'a> {
     ) -> Result<String, Fail> {
         let how = (Analysis::Reach, Cutting::Even(1), self.workers);
         let table = table_by(rt, alloc, graph, how, self.gate)?;
-        Ok(lines(alloc, graph, &table)?)
+        lines(alloc, graph, &table)
     }
 }
 
@@ -583,11 +599,10 @@ fn each_slice_is_told_once(rt: HostRuntime) -> Result<(), Fail> {
     for workers in WORKERS {
         let gate = Recorder::new();
         let how = Told {
-            workers,
+            workers: *workers,
             gate: &gate,
         };
-        let told = asked(&rt, rt.alloc(), RECURSIVE, &how)?;
-        assert_eq!(rt; told.as_str(), RECURSIVE_REACH);
+        check(&rt, RECURSIVE, &how, RECURSIVE_REACH, (1, *workers))?;
         assert_eq!(rt; gate.told(), (7, 7, 3, 3), "{workers} workers");
     }
     Ok(())

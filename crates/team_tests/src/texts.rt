@@ -144,6 +144,25 @@ pub fn asked<R: Threads + Sync + Abort, A: Ask>(
     asked_of_program(rt, alloc, &program, ask)
 }
 
+/// The text is what is wanted. A failure names the case and the number of workers.
+pub fn check_text<R: Abort>(rt: &R, told: &str, want: &str, case: (u32, u32)) {
+    let (case, workers) = case;
+    assert_eq!(rt; told, want, "case {case}, {workers} workers");
+}
+
+/// What is made of the graph of a text's program is what is wanted. Of the case and the number of workers a failure tells.
+pub fn check<R: Threads + Sync + Abort + AllocGlobal, A: Ask>(
+    rt: &R,
+    text: &str,
+    ask: &A,
+    want: &str,
+    case: (u32, u32),
+) -> Result<(), Fail> {
+    let told = asked(rt, rt.alloc(), text, ask)?;
+    check_text(rt, told.as_str(), want, case);
+    Ok(())
+}
+
 // The lines of all points with so many of the first bits, `(no path)` behind the number of one without a path.
 fn lines_below(
     alloc: Global,
@@ -173,10 +192,10 @@ fn lines_below(
 }
 
 /// The lines of all points, `(no path)` behind the number of one without a path.
-pub fn lines(alloc: Global, graph: &Graph<'_>, table: &Table) -> Result<String, OutOfMemory>
+pub fn lines(alloc: Global, graph: &Graph<'_>, table: &Table) -> Result<String, Fail>
     requires { IsTableOf graph.now table.now }
 {
-    lines_below(alloc, graph, table, graph.bits(table.analysis()))
+    Ok(lines_below(alloc, graph, table, graph.bits(table.analysis()))?)
 }
 
 /// The lines of all points with the first bits, of which the table has so many.
