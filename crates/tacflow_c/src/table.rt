@@ -89,6 +89,33 @@ fn put_words(
     }
 }
 
+// Solves a slice's words up to the last one, group by group, and puts them into those of all points.
+fn put_groups(
+    solver: &Solver<'_, '_>,
+    slice: &mut SliceWords,
+    full: &Row,
+    layout: Layout,
+    end: u32,
+    words: &mut [u64],
+)
+    requires slice { IsSliceOf solver.now slice.old }
+    requires full { full.now ≡ full_set slice.old.lo slice.old.hi }
+    requires must { layout.must ≡ is_must solver.now.analysis }
+    requires first { layout.first ≡ slice.old.lo / 64 }
+    requires last { end ≡ (slice.old.hi + 63) / 64 }
+    requires count { layout.first + layout.count ≡ end }
+    requires room { length words.old ≡ slice.old.points * layout.count }
+    ensures { AreFilled (IsFactWord solver.now.program solver.now.analysis slice.old.lo slice.old.hi) slice.old.points layout.count
+        layout.first layout.first end words.old words.new }
+{
+    let mut word = layout.first;
+    while word < end {
+        let until = solver.solve_from(slice, word);
+        put_words(solver, slice, full, layout, (word, until), words);
+        word = until;
+    }
+}
+
 // Puts the path flags of all points, 1 or 0 each.
 fn put_flags(paths: &[bool], flags: &mut [u8])
     requires { length flags.old ≡ length paths.now }
@@ -97,6 +124,37 @@ fn put_flags(paths: &[bool], flags: &mut [u8])
     for point in 0..paths.len() {
         flags[point] = paths[point] as u8;
     }
+}
+
+// Puts the facts of a solver's problem. The solver is not owned here, so that no way out drops it.
+fn put_solved(
+    alloc: Global,
+    solver: &Solver<'_, '_>,
+    range: (u32, u32),
+    flags: &mut [u8],
+    words: &mut [u64],
+) -> Result<(), AllocError>
+    requires ordered { range.0 ≤ range.1 }
+    requires within { range.1 ≤ bits_of solver.now.program solver.now.analysis }
+    requires flags { length flags.old ≡ point_count solver.now.program }
+    requires words { length words.old ≡ point_count solver.now.program * word_count range.0 range.1 }
+    ensures facts { OnOk result (AreFactsOf solver.now.program solver.now.analysis range.0 range.1 flags.new words.new) }
+    ensures kept { OnErr result ((flags.new ≡ flags.old) × (words.new ≡ words.old)) }
+{
+    let (lo, hi) = range;
+    let paths = solver.flags(alloc)?;
+    let full = Row::full(alloc, lo, hi)?;
+    let mut slice = solver.slice(alloc, lo, hi)?;
+    put_flags(&paths, flags);
+    let first = lo / 64;
+    let end = hi.div_ceil(64);
+    let layout = Layout {
+        count: end - first,
+        first,
+        must: solver.problem().complements(),
+    };
+    put_groups(solver, &mut slice, &full, layout, end, words);
+    Ok(())
 }
 
 /// Puts the facts of an analysis on the bits `lo..hi` into flags and words.
@@ -115,25 +173,6 @@ pub(crate) fn put_facts(
     ensures facts { OnOk result (AreFactsOf graph.now analysis range.0 range.1 flags.new words.new) }
     ensures kept { OnErr result ((flags.new ≡ flags.old) × (words.new ≡ words.old)) }
 {
-    let (lo, hi) = range;
     let solver = Solver::of(alloc, Problem::of(alloc, graph, analysis)?)?;
-    let must = solver.problem().complements();
-    let paths = solver.flags(alloc)?;
-    let full = Row::full(alloc, lo, hi)?;
-    let mut slice = solver.slice(alloc, lo, hi)?;
-    put_flags(&paths, flags);
-    let end = hi.div_ceil(64);
-    let first = lo / 64;
-    let layout = Layout {
-        count: end - first,
-        first,
-        must,
-    };
-    let mut word = first;
-    while word < end {
-        let until = solver.solve_from(&mut slice, word);
-        put_words(&solver, &slice, &full, layout, (word, until), words);
-        word = until;
-    }
-    Ok(())
+    put_solved(alloc, &solver, range, flags, words)
 }

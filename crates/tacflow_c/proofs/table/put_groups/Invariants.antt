@@ -1,18 +1,18 @@
 -- The words before the next one are told at all points.
 use Rattle.std.proofs.Common.{◌≡◌, ◌-◌, ◌≤◌}
-use Rattle.flow_graph.specs.Points.{point_count}
 use Rattle.gk_solve.specs.Solved.{IsSliceOf}
 use Rattle.tacflow_c.specs.Facts.{IsFactWord}
 use Rattle.tacflow_c.specs.code.Filled.{AreFilled}
-use Rattle.tacflow_c.proofs.table.put_facts.Given as goal
+use Rattle.tacflow_c.proofs.table.put_groups.Given as goal
 
 abbrev pub invariant-loop-word : goal.invariant-loop-word
 invariant-loop-word l = record {
-  slice : IsSliceOf (record { program = l.graph; analysis = l.fn.analysis }) l.slice;
-  range : (l.slice.lo ≡ l.lo) × (l.slice.hi ≡ l.hi);
-  low : l.first ≤ l.word;
+  slice : IsSliceOf l.solver l.slice;
+  range : (l.slice.lo ≡ l.initial.slice.lo) × (l.slice.hi ≡ l.initial.slice.hi);
+  low : l.layout.first ≤ l.word;
   high : l.word ≤ l.end;
-  filled : AreFilled (IsFactWord l.graph l.fn.analysis l.lo l.hi) (point_count l.graph) l.layout.count l.first l.first l.word l.initial.words l.words;
+  filled : AreFilled (IsFactWord l.solver.program l.solver.analysis l.initial.slice.lo l.initial.slice.hi) l.initial.slice.points l.layout.count
+      l.layout.first l.layout.first l.word l.initial.words l.words;
 }
 
 abbrev pub decreases-loop-word : goal.decreases-loop-word
