@@ -21,14 +21,33 @@ pub(crate) trait Half<T> {
         ensures { IfOk result (gives self) };
 }
 
+// A half on a new thread, for which this one waits.
+fn find_on_thread<R: Threads + Sync, T: Send, F: Half<T> + Send + Drop>(
+    rt: &R,
+    alloc: Global,
+    half: F,
+) -> Result<T, OutOfMemory>
+    requires { F.is_ready half }
+    ensures { IfOk result (F.gives half) }
+{
+    let (found, ()) = join(
+        rt,
+        move || -> Result<T, OutOfMemory>
+            requires { IsSync R.row × F.is_ready half }
+            ensures { IfOk result (F.gives half) }
+        { half.find(rt, alloc) },
+        || {},
+    );
+    found
+}
+
 /// Both halves: the first on a new thread, the second on this one.
-pub(crate) fn side_by_side<
-    R: Threads + Sync,
-    T: Send,
-    U,
-    F: Half<T> + Send + Drop,
-    S: Half<U> + Drop,
->(rt: &R, alloc: Global, first: F, second: S) -> (Result<T, OutOfMemory>, Result<U, OutOfMemory>)
+pub(crate) fn beside<R: Threads + Sync, T: Send, U, F: Half<T> + Send + Drop, S: Half<U> + Drop>(
+    rt: &R,
+    alloc: Global,
+    first: F,
+    second: S,
+) -> (Result<T, OutOfMemory>, Result<U, OutOfMemory>)
     requires first { F.is_ready first }
     requires second { S.is_ready second }
     ensures first { IfOk result.0 (F.gives first) }
@@ -44,5 +63,32 @@ pub(crate) fn side_by_side<
             requires { IsSync R.row × S.is_ready second }
             ensures { IfOk result (S.gives second) }
         { second.find(rt, alloc) },
+    )
+}
+
+/// Both halves, each on a new thread. This one waits: where it went on with a half, the thread that it started could be kept waiting, on
+/// the same processor, for as long as the system lets one run.
+pub(crate) fn side_by_side<
+    R: Threads + Sync,
+    T: Send,
+    U: Send,
+    F: Half<T> + Send + Drop,
+    S: Half<U> + Send + Drop,
+>(rt: &R, alloc: Global, first: F, second: S) -> (Result<T, OutOfMemory>, Result<U, OutOfMemory>)
+    requires first { F.is_ready first }
+    requires second { S.is_ready second }
+    ensures first { IfOk result.0 (F.gives first) }
+    ensures second { IfOk result.1 (S.gives second) }
+{
+    join(
+        rt,
+        move || -> Result<T, OutOfMemory>
+            requires { IsSync R.row × F.is_ready first }
+            ensures { IfOk result (F.gives first) }
+        { first.find(rt, alloc) },
+        move || -> Result<U, OutOfMemory>
+            requires { IsSync R.row × S.is_ready second }
+            ensures { IfOk result (S.gives second) }
+        { find_on_thread(rt, alloc, second) },
     )
 }

@@ -44,8 +44,44 @@ fn united<S: Solve>(job: &Job<S>, first: Pass<S>, second: Pass<S>) -> Pass<S>
     }
 }
 
-/// Runs the workers `from..from + count`, each on a thread and with a pass of its own, and answers the pass of all once all have
-/// ended: a half of them on this thread, the other on a new one, and so on with each half. A single worker starts no thread.
+// Runs the workers, each on a thread of its own, and answers the pass of all once all have ended.
+fn run_threads<S: Solve, R: Threads + Sync, G: Gate>(
+    rt: &R,
+    alloc: Global,
+    job: &Job<S>,
+    gate: &G,
+    from: u32,
+    count: u32,
+    pass: Pass<S>,
+) -> Result<Pass<S>, OutOfMemory>
+    requires few { from + count < 2 ^ 32 }
+    requires pass { IsOf job.now pass }
+    ensures { IfOk result (IsOf job.now) }
+{
+    if count == 0 {
+        return Ok(pass);
+    }
+    let mut mine = pass;
+    let theirs = job.split(&mut mine);
+    let next = from + 1;
+    let others = count - 1;
+    let (mine, theirs) = join(
+        rt,
+        move || -> Result<Pass<S>, OutOfMemory>
+            requires { IsSync G.row × IsOf job.now mine }
+            ensures { IfOk result (IsOf job.entry.now) }
+        { drain(alloc, job, gate, from, mine) },
+        move || -> Result<Pass<S>, OutOfMemory>
+            requires { IsSync R.row × IsSync G.row × (next + others < 2 ^ 32) × IsOf job.now theirs }
+            ensures { IfOk result (IsOf job.entry.now) }
+        { run_threads(rt, alloc, job, gate, next, others, theirs) },
+    );
+    Ok(united(job, mine?, theirs?))
+}
+
+/// Runs the workers `from..from + count`, each with a pass of its own, and answers the pass of all once all have ended. Each is on a
+/// thread of its own, and this one waits: where it worked too, a thread that it started could be kept waiting, on the same processor, for as
+/// long as the system lets one run. A single worker starts no thread.
 pub(crate) fn run_workers<S: Solve, R: Threads + Sync, G: Gate>(
     rt: &R,
     alloc: Global,
@@ -63,21 +99,5 @@ pub(crate) fn run_workers<S: Solve, R: Threads + Sync, G: Gate>(
     if count == 1 {
         return drain(alloc, job, gate, from, pass);
     }
-    let mut mine = pass;
-    let theirs = job.split(&mut mine);
-    let low = count / 2;
-    let high = count - low;
-    let middle = from + low;
-    let (mine, theirs) = join(
-        rt,
-        move || -> Result<Pass<S>, OutOfMemory>
-            requires { IsSync R.row × IsSync G.row × (0 < low) × (from + low < 2 ^ 32) × IsOf job.now mine }
-            ensures { IfOk result (IsOf job.entry.now) }
-        { run_workers(rt, alloc, job, gate, from, low, mine) },
-        move || -> Result<Pass<S>, OutOfMemory>
-            requires { IsSync R.row × IsSync G.row × (0 < high) × (middle + high < 2 ^ 32) × IsOf job.now theirs }
-            ensures { IfOk result (IsOf job.entry.now) }
-        { run_workers(rt, alloc, job, gate, middle, high, theirs) },
-    );
-    Ok(united(job, mine?, theirs?))
+    run_threads(rt, alloc, job, gate, from, count, pass)
 }

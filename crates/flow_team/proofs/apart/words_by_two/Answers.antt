@@ -11,6 +11,9 @@ use Rattle.flow_team.proofs.apart.words_by_two.Goals as goal
 pub side_by_side-words-requires-send-F : goal.side_by_side-words-requires-send-F
 side_by_side-words-requires-send-F c k = λ κs lives. search sets_cross depth 60
 
+pub side_by_side-words-requires-send-S : goal.side_by_side-words-requires-send-S
+side_by_side-words-requires-send-S c k = λ κs lives. search sets_cross depth 60
+
 pub of_two-requires : goal.of_two-requires
 of_two-requires c k =
     let form = k.args.sets.now in
