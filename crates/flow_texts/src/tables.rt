@@ -155,8 +155,8 @@ impl Tables {
     }
 
     /// What a report asks of the four tables, by so many workers: of reaching definitions only the dummies, which tell what may be used
-    /// before it is set. One worker finds the facts of the forward analyses, and the others, in slices of so many bits, those of the backward
-    /// ones at the same time; a single worker starts no thread.
+    /// before it is set. The forward analyses are found at the same time as the backward ones. Up to two workers find each pair; where there
+    /// are more than four, the others share the backward pair in slices of so many bits. A single worker starts no thread.
     ///
     /// The condition: 1 to 64 workers, and 1 to 4,096 bits. Fails only where memory runs out.
     pub fn for_report<R: Threads + Sync>(
