@@ -11,6 +11,7 @@ use Rattle.gk_solve.specs.contracts.solver.Solver as Solver
 use Rattle.work_list.specs.contracts.order.Order as Order
 use Rattle.flow_team.specs.contracts.sets.GraphSets as GraphSets
 use Rattle.flow_team.specs.contracts.first_bits.FirstBits as FirstBits
+use Rattle.flow_team.specs.contracts.first_job.Finding as Finding
 
 program_sync : IsSync Program.the_row
 program_sync = search (crosses, sendable) depth 60 fits 5000
@@ -50,7 +51,7 @@ solver_sync g p = search (problem_sync, routes_sync, crosses, sendable) depth 60
 
 pub ruleset solver_crosses = (solver_send, solver_sync, crosses, sendable)
 
-sets_send : (g p : NamedLft) → IsSend (GraphSets.the_row g p)
+pub sets_send : (g p : NamedLft) → IsSend (GraphSets.the_row g p)
 sets_send g p = search (solver_send, crosses, sendable) depth 60
 
 pub sets_sync : (g p : NamedLft) → IsSync (GraphSets.the_row g p)
@@ -65,3 +66,8 @@ pub first_sync : (g p : NamedLft) → IsSync (FirstBits.the_row g p)
 first_sync g p = search (sets_sync, crosses, sendable) depth 60
 
 pub ruleset first_crosses = (first_send, first_sync, crosses, sendable)
+
+pub finding_send : (g p : NamedLft) → IsSend (Finding.the_row g p)
+finding_send g p = search (graph_sync, routes_send, crosses, sendable) depth 60 fits 5000
+
+pub ruleset finding_crosses = (sets_send, finding_send, crosses, sendable)

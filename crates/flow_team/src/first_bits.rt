@@ -1,22 +1,23 @@
 // The first bits of a graph's sets, slice by slice.
-ghost use Rattle.std.specs.Prelude.{◌≡◌, ◌≤◌};
+ghost use Rattle.std.specs.Prelude.{◌≡◌, ◌≤◌, IfOk};
 ghost use Rattle.flow_graph.specs.Points.{point_count};
 ghost use Rattle.flow_graph.specs.Universes.{bits as bits_of};
-ghost use Rattle.gk_solve.specs.Solved.{direction_of};
+ghost use Rattle.gk_solve.specs.Solved.{HasPathFlags, direction_of};
 ghost use Rattle.flow_team.specs.Beginnings.{IsBeginningOf};
 ghost use Rattle.flow_team.specs.code.FirstSets.{HasFirstPath, IsFirstSlice, IsInFirstSet};
 ghost use Rattle.flow_team.specs.code.Jobs.{HoldSets};
 
 use crate::OutOfMemory;
+use crate::first_sets::FirstSets;
 use crate::sets::GraphSets;
 use crate::solve::Solve;
 use crate::table::Table;
 use gk_solve::{Routes, SliceWords};
-use slice_board::{PostedWords, Wanted};
+use slice_board::PostedWords;
 use std::alloc::Global;
 use std::marker::Model;
 
-/// The sets of an analysis of a graph, in its may form, of which only so many first bits are wanted. No slice past them is solved.
+/// What finds so many first bits of the sets of an analysis of a graph. No slice past them is solved.
 #[derive(Drop)]
 pub struct FirstBits<'g, 'p> {
     sets: GraphSets<'g, 'p>,
@@ -44,6 +45,13 @@ impl<'g, 'p> FirstBits<'g, 'p> {
         FirstBits { sets, bits }
     }
 
+    /// The path flag of each point.
+    pub(crate) fn flags(&self, alloc: Global) -> Result<Vec<bool>, OutOfMemory>
+        ensures { IfOk result (λ flags. HasPathFlags self.now.form flags.items) }
+    {
+        self.sets.flags(alloc)
+    }
+
     /// The first bits of the analysis's table, of the words that hold these sets, and what another of the same direction can use.
     pub(crate) fn into_table(self, posted: PostedWords) -> (Table, Routes<'g, 'p>)
         requires { HoldSets (point_count self.form.program) self.bits (HasFirstPath self) (IsInFirstSet self) posted }
@@ -58,11 +66,9 @@ impl<'g, 'p> FirstBits<'g, 'p> {
     }
 }
 
-impl<'g, 'p> Wanted for FirstBits<'g, 'p> {
-    ghost wants = { IsInFirstSet };
-}
+impl<'g, 'p> Solve<FirstSets<'g, 'p>> for FirstBits<'g, 'p> {
+    ghost sets = { λ first. first };
 
-impl<'g, 'p> Solve for FirstBits<'g, 'p> {
     ghost points = { λ first. point_count first.form.program };
 
     ghost bits = { λ first. first.bits };

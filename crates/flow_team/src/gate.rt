@@ -2,8 +2,7 @@
 ghost use Rattle.std.specs.Prelude.{◌<◌};
 ghost use Rattle.slice_board.specs.Passes.{times};
 
-use crate::solve::Solve;
-use slice_board::Pass;
+use slice_board::{Pass, Wanted};
 
 /// What a caller does when a slice is claimed and when it is finished, on the thread of the worker that does so.
 ///
@@ -18,7 +17,7 @@ pub trait Gate: Sync {
     fn claimed(&self, worker: u32, slice: u32);
 
     /// The worker finished the slice, with this pass.
-    fn finished<S: Solve>(&self, worker: u32, slice: u32, pass: &Pass<S>)
+    fn finished<W: Wanted>(&self, worker: u32, slice: u32, pass: &Pass<W>)
         requires { 0 < times slice pass.now.finished };
 }
 
@@ -33,5 +32,5 @@ impl Gate for OpenGate {
 
     fn claimed(&self, _worker: u32, _slice: u32) {}
 
-    fn finished<S: Solve>(&self, _worker: u32, _slice: u32, _pass: &Pass<S>) {}
+    fn finished<W: Wanted>(&self, _worker: u32, _slice: u32, _pass: &Pass<W>) {}
 }

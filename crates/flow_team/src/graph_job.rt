@@ -8,13 +8,14 @@ ghost use Rattle.flow_team.specs.Tables.{IsTableOf};
 use crate::OutOfMemory;
 use crate::job::Job;
 use crate::sets::GraphSets;
+use crate::solve::Solve;
 use crate::table::Table;
 use bit_rows::Cut;
 use flow_graph::{Analysis, Graph};
-use slice_board::{Pass, Unfinished};
+use slice_board::{Pass, Unfinished, WordBoard};
 use std::alloc::Global;
 
-impl<'g, 'p> Job<GraphSets<'g, 'p>> {
+impl<'g, 'p> Job<GraphSets<'g, 'p>, GraphSets<'g, 'p>> {
     /// The job of an analysis of a graph, its bits cut into these slices, and a pass of it with empty lists. The path flags are
     /// found here; no slice is drawn yet.
     pub fn open(
@@ -44,7 +45,10 @@ impl<'g, 'p> Job<GraphSets<'g, 'p>> {
         ensures pass { IfOk result (λ r. r.1 ≡ fresh_pass r.0) }
     {
         let flags = sets.flags(alloc)?;
-        Job::on_board(alloc, sets, flags, cut)
+        // Its contract tells at which points something is wanted.
+        let _ = sets.points();
+        let (board, pass) = WordBoard::open(alloc, &sets, flags, cut)?;
+        Ok((Job::on_board(board, sets), pass))
     }
 
     /// The table of the analysis, where every slice is finished. Else all is handed back, with how many slices are finished.

@@ -41,8 +41,8 @@ fn find_on_thread<R: Threads + Sync, T: Send, F: Half<T> + Send + Drop>(
     found
 }
 
-/// Both halves: the first on a new thread, the second on this one.
-pub(crate) fn beside<R: Threads + Sync, T: Send, U, F: Half<T> + Send + Drop, S: Half<U> + Drop>(
+// Both halves: the first on a new thread, the second on this one.
+fn started_beside<R: Threads + Sync, T: Send, U, F: Half<T> + Send + Drop, S: Half<U> + Drop>(
     rt: &R,
     alloc: Global,
     first: F,
@@ -64,6 +64,31 @@ pub(crate) fn beside<R: Threads + Sync, T: Send, U, F: Half<T> + Send + Drop, S:
             ensures { IfOk result (S.gives second) }
         { second.find(rt, alloc) },
     )
+}
+
+/// Both halves: the first on a new thread, the second on this one. A thread that does nothing is started before them: the first that is
+/// started may be put on this one's processor, and is kept waiting there while this one works; the next goes to a processor that is idle.
+pub(crate) fn beside<R: Threads + Sync, T: Send, U, F: Half<T> + Send + Drop, S: Half<U> + Drop>(
+    rt: &R,
+    alloc: Global,
+    first: F,
+    second: S,
+) -> (Result<T, OutOfMemory>, Result<U, OutOfMemory>)
+    requires first { F.is_ready first }
+    requires second { S.is_ready second }
+    ensures first { IfOk result.0 (F.gives first) }
+    ensures second { IfOk result.1 (S.gives second) }
+{
+    let ((), both) = join(
+        rt,
+        || {},
+        move || -> (Result<T, OutOfMemory>, Result<U, OutOfMemory>)
+            requires { IsSync R.row × F.is_ready first × S.is_ready second }
+            ensures first { IfOk result.0 (F.gives first) }
+            ensures second { IfOk result.1 (S.gives second) }
+        { started_beside(rt, alloc, first, second) },
+    );
+    both
 }
 
 /// Both halves, each on a new thread. This one waits: where it went on with a half, the thread that it started could be kept waiting, on

@@ -1,11 +1,11 @@
 // A problem's sets on a board, from which workers draw.
-ghost use Rattle.std.specs.Prelude.{◌≡◌, ℕ, ◌+◌, ◌*◌, ◌/◌, ◌<◌, ◌≤◌, ◌↔◌, [], ◌∷◌, ◌++◌, true, false, IfOk, IfErr, IfSome, IfNone, IsOk, IsErr, IsSome, slice_index_or, vec_len};
+ghost use Rattle.std.specs.Prelude.{◌≡◌, ℕ, ◌+◌, ◌*◌, ◌/◌, ◌<◌, ◌≤◌, ◌↔◌, [], ◌∷◌, ◌++◌, true, false, IfOk, IfErr, IfSome, IfNone, IsOk, IsErr, IsSome};
 ghost use Rattle.bit_rows.specs.Words.{has_bit};
 ghost use Rattle.gk_solve.specs.Solved.{TellWords};
 ghost use Rattle.slice_board.specs.Boards.{IsOf, IsPlace, CountsOnce, fresh_pass, point_count, slice_count};
 ghost use Rattle.slice_board.specs.Passes.{IsMarked, joined, mark, times};
 ghost use Rattle.flow_team.specs.Teams.{Keeps, Takes, Works, Idles, Holds};
-ghost use Rattle.flow_team.specs.code.Jobs.{HoldSets};
+ghost use Rattle.flow_team.specs.code.Jobs.{HoldSets, IsJob};
 ghost use Rattle.flow_team.specs.code.Posting.{IsPosted, PostsMore};
 
 use crate::OutOfMemory;
@@ -13,31 +13,32 @@ use crate::gate::Gate;
 use crate::solve::Solve;
 use bit_rows::Cut;
 use gk_solve::SliceWords;
-use slice_board::{Pass, PostedWords, Unfinished, WordBoard};
+use slice_board::{Pass, PostedWords, Unfinished, Wanted, WordBoard};
 use std::alloc::Global;
 use std::marker::Model;
 
-/// Sets that several workers solve, each with a pass of its own: slices are drawn from a board, solved, and posted on it.
+/// Sets that several workers solve, each with a pass of its own: slices are drawn from a board, solved, and posted on it. What solves them
+/// stands for the sets that the board wants; these may be of another type, which is there sooner.
 #[derive(Drop)]
-pub struct Job<S: Solve> {
-    pub(crate) board: WordBoard<S>,
+pub struct Job<W: Wanted + Sync + Send, S: Solve<W>> {
+    pub(crate) board: WordBoard<W>,
     pub(crate) sets: S,
 }
 
-impl<S: Solve> Model for Job<S> {
+impl<W: Wanted + Sync + Send, S: Solve<W>> Model for Job<W, S> {
     ghost use Rattle.slice_board.specs.Boards.{BoardState};
     ghost use Rattle.flow_team.specs.code.Jobs.{IsJob};
 
-    ghost Value = { BoardState S };
+    ghost Value = { BoardState W };
 
     ghost view = { λ job. job.board };
 
-    ghost invariant = { λ job. IsJob (S.points job.sets) (S.bits job.sets) (S.has_path job.sets) job.sets job.board };
+    ghost invariant = { λ job. IsJob (S.points (S.sets job.sets)) (S.bits (S.sets job.sets)) (S.has_path (S.sets job.sets)) (S.sets job.sets) job.board };
 }
 
-impl<S: Solve> Job<S> {
+impl<W: Wanted + Sync + Send, S: Solve<W>> Job<W, S> {
     /// A new pass of the job, with empty lists. The old one is unchanged.
-    pub fn split(&self, pass: &mut Pass<S>) -> Pass<S>
+    pub fn split(&self, pass: &mut Pass<W>) -> Pass<W>
         requires { IsOf self.now pass.old }
         ensures new { result ≡ fresh_pass self.now }
         ensures old { pass.new ≡ pass.old }
@@ -47,7 +48,7 @@ impl<S: Solve> Job<S> {
 
     /// Two passes as one: the lists of the first, followed by those of the second, and what either holds. Refused only
     /// where both hold a slice.
-    pub fn join(&self, first: Pass<S>, second: Pass<S>) -> Result<Pass<S>, (Pass<S>, Pass<S>)>
+    pub fn join(&self, first: Pass<W>, second: Pass<W>) -> Result<Pass<W>, (Pass<W>, Pass<W>)>
         requires first { IsOf self.now first }
         requires second { IsOf self.now second }
         ensures joined { IfOk result (λ pass. pass ≡ joined first second) }
@@ -61,13 +62,13 @@ impl<S: Solve> Job<S> {
     /// A word of a point's row as it is now: at least all that this pass posted or saw there, and nothing that is not wanted.
     ///
     /// Takes no memory and waits for nobody.
-    pub fn look(&self, pass: &mut Pass<S>, point: u32, word: u32) -> u64
+    pub fn look(&self, pass: &mut Pass<W>, point: u32, word: u32) -> u64
         requires of { IsOf self.now pass.old }
         requires place { IsPlace self.now point word }
         ensures seen { pass.new ≡ record pass.old { seen = pass.old.seen ++ mark point word result ∷ [] } }
         ensures own { (i : ℕ) → i < 64 → IsMarked pass.old.posted point (64 * word + i) → has_bit result i ≡ true }
         ensures again { (i : ℕ) → i < 64 → IsMarked pass.old.seen point (64 * word + i) → has_bit result i ≡ true }
-        ensures wanted { (i : ℕ) → i < 64 → has_bit result i ≡ true → S.wants self.now.wanted point (64 * word + i) }
+        ensures wanted { (i : ℕ) → i < 64 → has_bit result i ≡ true → W.wants self.now.wanted point (64 * word + i) }
     {
         self.board.look(pass, point, word)
     }
@@ -80,7 +81,7 @@ impl<S: Solve> Job<S> {
     }
 
     // The slice to solve next: the one that is held, or one that is drawn.
-    fn take_up<G: Gate>(&self, pass: &mut Pass<S>, worker: u32, gate: &G) -> Option<u32>
+    fn take_up<G: Gate>(&self, pass: &mut Pass<W>, worker: u32, gate: &G) -> Option<u32>
         requires { IsOf self.now pass.old }
         ensures of { IsOf self.now pass.new }
         ensures keeps { Keeps pass.old pass.new }
@@ -97,15 +98,15 @@ impl<S: Solve> Job<S> {
     }
 
     // Posts a solved word at a point, unless it has no bit.
-    fn post_word(&self, pass: &mut Pass<S>, slice: &SliceWords, point: u32, word: u32)
+    fn post_word(&self, pass: &mut Pass<W>, slice: &SliceWords, point: u32, word: u32)
         requires of { IsOf self.now pass.old }
-        requires words { TellWords (S.wants self.now.wanted) slice.now }
+        requires words { TellWords (W.wants self.now.wanted) slice.now }
         requires point { point < slice.now.points }
         requires place { IsPlace self.now point word }
         requires from { slice.now.from ≤ word }
         requires until { word < slice.now.until }
         ensures more { PostsMore pass.old pass.new }
-        ensures posted { IsPosted (S.wants self.now.wanted) slice.now.lo slice.now.hi (λ p w. (p ≡ point) × (w ≡ word)) pass.new.posted }
+        ensures posted { IsPosted (W.wants self.now.wanted) slice.now.lo slice.now.hi (λ p w. (p ≡ point) × (w ≡ word)) pass.new.posted }
     {
         let mask = slice.word(point, word);
         if mask == 0 {
@@ -115,15 +116,15 @@ impl<S: Solve> Job<S> {
     }
 
     // Posts the solved words of a point.
-    fn post_point(&self, pass: &mut Pass<S>, slice: &SliceWords, point: u32, from: u32, until: u32)
+    fn post_point(&self, pass: &mut Pass<W>, slice: &SliceWords, point: u32, from: u32, until: u32)
         requires of { IsOf self.now pass.old }
-        requires words { TellWords (S.wants self.now.wanted) slice.now }
+        requires words { TellWords (W.wants self.now.wanted) slice.now }
         requires point { point < slice.now.points }
         requires points { slice.now.points ≡ point_count self.now }
         requires range { (slice.now.from ≡ from) × (slice.now.until ≡ until) }
         requires within { 64 * until < self.now.cut.bits + 64 }
         ensures more { PostsMore pass.old pass.new }
-        ensures posted { IsPosted (S.wants self.now.wanted) slice.now.lo slice.now.hi
+        ensures posted { IsPosted (W.wants self.now.wanted) slice.now.lo slice.now.hi
             (λ p word. (p ≡ point) × (from ≤ word) × (word < until)) pass.new.posted }
     {
         for word in from..until {
@@ -132,14 +133,14 @@ impl<S: Solve> Job<S> {
     }
 
     // Posts the solved words of all points.
-    fn post_words(&self, pass: &mut Pass<S>, slice: &SliceWords, from: u32, until: u32)
+    fn post_words(&self, pass: &mut Pass<W>, slice: &SliceWords, from: u32, until: u32)
         requires of { IsOf self.now pass.old }
-        requires words { TellWords (S.wants self.now.wanted) slice.now }
+        requires words { TellWords (W.wants self.now.wanted) slice.now }
         requires points { slice.now.points ≡ point_count self.now }
         requires range { (slice.now.from ≡ from) × (slice.now.until ≡ until) }
         requires within { 64 * until < self.now.cut.bits + 64 }
         ensures more { PostsMore pass.old pass.new }
-        ensures posted { IsPosted (S.wants self.now.wanted) slice.now.lo slice.now.hi
+        ensures posted { IsPosted (W.wants self.now.wanted) slice.now.lo slice.now.hi
             (λ p word. (p < point_count self.now) × (from ≤ word) × (word < until)) pass.new.posted }
     {
         for point in 0..slice.points() {
@@ -148,13 +149,13 @@ impl<S: Solve> Job<S> {
     }
 
     // Solves the words of a slice, and posts them.
-    fn post_slice(&self, pass: &mut Pass<S>, slice: &mut SliceWords, lo: u32, hi: u32)
+    fn post_slice(&self, pass: &mut Pass<W>, slice: &mut SliceWords, lo: u32, hi: u32)
         requires of { IsOf self.now pass.old }
         requires slice { S.is_slice self.now.wanted slice.old }
         requires range { (slice.old.lo ≡ lo) × (slice.old.hi ≡ hi) }
         requires within { hi ≤ self.now.cut.bits }
         ensures more { PostsMore pass.old pass.new }
-        ensures posted { (point bit : ℕ) → S.wants self.now.wanted point bit → lo ≤ bit → bit < hi → IsMarked pass.new.posted point bit }
+        ensures posted { (point bit : ℕ) → W.wants self.now.wanted point bit → lo ≤ bit → bit < hi → IsMarked pass.new.posted point bit }
     {
         // Its contract tells at which points something is wanted.
         let _ = self.sets.points();
@@ -174,13 +175,13 @@ impl<S: Solve> Job<S> {
     pub fn work<G: Gate>(
         &self,
         alloc: Global,
-        pass: &mut Pass<S>,
+        pass: &mut Pass<W>,
         worker: u32,
         gate: &G,
     ) -> Result<Option<u32>, OutOfMemory>
         requires { IsOf self.now pass.old }
         ensures of { IsOf self.now pass.new }
-        ensures some { IfOk result (λ r. IfSome r (Works S.wants self.now pass.old pass.new)) }
+        ensures some { IfOk result (λ r. IfSome r (Works W.wants self.now pass.old pass.new)) }
         ensures none { IfOk result (λ r. IfNone r (Idles self.now pass.old pass.new)) }
         ensures refused { IfErr result (λ _. Holds pass.old pass.new) }
     {
@@ -199,34 +200,23 @@ impl<S: Solve> Job<S> {
     }
 }
 
-impl<S: Solve> Job<S> {
-    // A job of the sets, with their flags.
-    pub(crate) fn on_board(
-        alloc: Global,
-        sets: S,
-        flags: Vec<bool>,
-        cut: Cut,
-    ) -> Result<(Self, Pass<S>), OutOfMemory>
-        requires points { vec_len flags ≡ S.points sets }
-        requires bits { cut.bits ≡ S.bits sets }
-        requires flags { (point : ℕ) → point < S.points sets → (slice_index_or flags.items point false ≡ true) ↔ S.has_path sets point }
-        ensures wanted { IfOk result (λ r. r.0.wanted ≡ sets) }
-        ensures cut { IfOk result (λ r. r.0.cut ≡ cut) }
-        ensures pass { IfOk result (λ r. r.1 ≡ fresh_pass r.0) }
+impl<W: Wanted + Sync + Send, S: Solve<W>> Job<W, S> {
+    // The job of these sets, on their board.
+    pub(crate) fn on_board(board: WordBoard<W>, sets: S) -> Self
+        requires { IsJob (S.points (S.sets sets)) (S.bits (S.sets sets)) (S.has_path (S.sets sets)) (S.sets sets) board }
+        ensures { result ≡ board }
     {
-        let _points = sets.points();
-        let (board, pass) = WordBoard::open(alloc, &sets, flags, cut)?;
-        Ok((Job { board, sets }, pass))
+        Job { board, sets }
     }
 
     // The words, which hold exactly the sets, where every slice is finished. Else all is handed back.
     pub(crate) fn close_words(
         self,
-        pass: Pass<S>,
-    ) -> Result<(S, PostedWords), (Unfinished, Job<S>, Pass<S>)>
+        pass: Pass<W>,
+    ) -> Result<(S, PostedWords), (Unfinished, Job<W, S>, Pass<W>)>
         requires { IsOf self pass }
-        ensures sets { IfOk result (λ r. r.0 ≡ self.wanted) }
-        ensures rows { IfOk result (λ r. HoldSets (S.points self.wanted) (S.bits self.wanted) (S.has_path self.wanted) (S.wants self.wanted) r.1) }
+        ensures sets { IfOk result (λ r. S.sets r.0 ≡ self.wanted) }
+        ensures rows { IfOk result (λ r. HoldSets (S.points self.wanted) (S.bits self.wanted) (S.has_path self.wanted) (W.wants self.wanted) r.1) }
         ensures all_finished { ((s : ℕ) → s < slice_count self.cut → 0 < times s pass.finished) → IsOk result }
         ensures holding { IsSome pass.held → IsErr result }
         ensures unfinished { IfErr result (λ r. (r.0.done < r.0.of) × (r.0.of ≡ slice_count self.cut)) }

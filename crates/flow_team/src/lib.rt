@@ -7,6 +7,7 @@ mod apart;
 mod fault;
 mod first_bits;
 mod first_job;
+mod first_sets;
 mod gate;
 mod graph_job;
 mod halves;

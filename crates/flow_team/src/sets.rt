@@ -162,7 +162,9 @@ impl<'g, 'p> Wanted for GraphSets<'g, 'p> {
     ghost wants = { IsInMaySet };
 }
 
-impl<'g, 'p> Solve for GraphSets<'g, 'p> {
+impl<'g, 'p> Solve<GraphSets<'g, 'p>> for GraphSets<'g, 'p> {
+    ghost sets = { λ sets. sets };
+
     ghost points = { λ form. point_count form.program };
 
     ghost bits = { λ form. bits_of form.program form.analysis };

@@ -10,6 +10,7 @@ ghost use Rattle.flow_team.specs.Tables.{IsTableOf};
 use crate::OutOfMemory;
 use crate::fault::TeamFault;
 use crate::first_bits::FirstBits;
+use crate::first_sets::FirstSets;
 use crate::gate::Gate;
 use crate::job::Job;
 use crate::sets::GraphSets;
@@ -88,8 +89,8 @@ fn worked<'g, 'p, R: Threads + Sync, G: Gate>(
     alloc: Global,
     graph: &'g Graph<'p>,
     asked: (Analysis, u32),
-    job: Job<FirstBits<'g, 'p>>,
-    pass: Pass<FirstBits<'g, 'p>>,
+    job: Job<FirstSets<'g, 'p>, FirstBits<'g, 'p>>,
+    pass: Pass<FirstSets<'g, 'p>>,
     workers: u32,
     gate: &G,
 ) -> Result<(Table, Routes<'g, 'p>), OutOfMemory>
@@ -144,9 +145,8 @@ fn first_table<'g, 'p, R: Threads + Sync, G: Gate>(
     if is_alone(workers, slices, gate) {
         return alone_table(alloc, graph, analysis, bits);
     }
-    let sets = GraphSets::of(alloc, graph, analysis)?;
-    let (job, pass) = Job::open_first(alloc, sets, cut)?;
     let count = workers_at_work(workers, slices);
+    let (job, pass) = Job::open_first(rt, alloc, graph, analysis, None, cut, count)?;
     worked(rt, alloc, graph, (analysis, bits), job, pass, count, gate)
 }
 
@@ -174,9 +174,8 @@ fn second_table<'g, 'p, R: Threads + Sync, G: Gate>(
     if is_alone(workers, slices, gate) {
         return alone_table_over(alloc, graph, analysis, bits, routes);
     }
-    let sets = GraphSets::over(alloc, graph, analysis, routes)?;
-    let (job, pass) = Job::open_first(alloc, sets, cut)?;
     let count = workers_at_work(workers, slices);
+    let (job, pass) = Job::open_first(rt, alloc, graph, analysis, Some(routes), cut, count)?;
     worked(rt, alloc, graph, (analysis, bits), job, pass, count, gate)
 }
 
@@ -260,7 +259,8 @@ pub(crate) fn is_bad_number(workers: u32) -> bool
 /// intersection (must) over all interprocedurally valid paths, whatever the workers, the cut, and the order of their steps.
 ///
 /// The workers are threads, numbered from 0, each with a pass of its own; no more are started than there are slices. Each draws slices,
-/// solves them and publishes them until none is left, and tells the gate of it. A single worker starts no thread; where its gate does not
+/// solves them and publishes them until none is left, and tells the gate of it. Before them one more thread finds the edges, their
+/// order and the path flags while the calling one lays the board. A single worker starts no thread; where its gate does not
 /// listen, it draws no slices and solves all bits at once, and so is a single slice solved. The condition: the cut is of as many bits as the analysis has.
 ///
 /// - `BadWorkers`: the number of workers is not one of 1 to 64. This is checked first.

@@ -7,18 +7,18 @@ use crate::OutOfMemory;
 use crate::gate::Gate;
 use crate::job::Job;
 use crate::solve::Solve;
-use slice_board::Pass;
+use slice_board::{Pass, Wanted};
 use std::alloc::Global;
 use std::thread::{Threads, join};
 
 // One worker: works until all slices are claimed.
-fn drain<S: Solve, G: Gate>(
+fn drain<W: Wanted + Sync + Send, S: Solve<W>, G: Gate>(
     alloc: Global,
-    job: &Job<S>,
+    job: &Job<W, S>,
     gate: &G,
     worker: u32,
-    pass: Pass<S>,
-) -> Result<Pass<S>, OutOfMemory>
+    pass: Pass<W>,
+) -> Result<Pass<W>, OutOfMemory>
     requires { IsOf job.now pass }
     ensures { IfOk result (IsOf job.now) }
 {
@@ -32,7 +32,11 @@ fn drain<S: Solve, G: Gate>(
 }
 
 // The pass of both.
-fn united<S: Solve>(job: &Job<S>, first: Pass<S>, second: Pass<S>) -> Pass<S>
+fn united<W: Wanted + Sync + Send, S: Solve<W>>(
+    job: &Job<W, S>,
+    first: Pass<W>,
+    second: Pass<W>,
+) -> Pass<W>
     requires first { IsOf job.now first }
     requires second { IsOf job.now second }
     ensures { IsOf job.now result }
@@ -45,15 +49,15 @@ fn united<S: Solve>(job: &Job<S>, first: Pass<S>, second: Pass<S>) -> Pass<S>
 }
 
 // Runs the workers, each on a thread of its own, and answers the pass of all once all have ended.
-fn run_threads<S: Solve, R: Threads + Sync, G: Gate>(
+fn run_threads<W: Wanted + Sync + Send, S: Solve<W>, R: Threads + Sync, G: Gate>(
     rt: &R,
     alloc: Global,
-    job: &Job<S>,
+    job: &Job<W, S>,
     gate: &G,
     from: u32,
     count: u32,
-    pass: Pass<S>,
-) -> Result<Pass<S>, OutOfMemory>
+    pass: Pass<W>,
+) -> Result<Pass<W>, OutOfMemory>
     requires few { from + count < 2 ^ 32 }
     requires pass { IsOf job.now pass }
     ensures { IfOk result (IsOf job.now) }
@@ -67,11 +71,11 @@ fn run_threads<S: Solve, R: Threads + Sync, G: Gate>(
     let others = count - 1;
     let (mine, theirs) = join(
         rt,
-        move || -> Result<Pass<S>, OutOfMemory>
+        move || -> Result<Pass<W>, OutOfMemory>
             requires { IsSync G.row × IsOf job.now mine }
             ensures { IfOk result (IsOf job.entry.now) }
         { drain(alloc, job, gate, from, mine) },
-        move || -> Result<Pass<S>, OutOfMemory>
+        move || -> Result<Pass<W>, OutOfMemory>
             requires { IsSync R.row × IsSync G.row × (next + others < 2 ^ 32) × IsOf job.now theirs }
             ensures { IfOk result (IsOf job.entry.now) }
         { run_threads(rt, alloc, job, gate, next, others, theirs) },
@@ -82,15 +86,15 @@ fn run_threads<S: Solve, R: Threads + Sync, G: Gate>(
 /// Runs the workers `from..from + count`, each with a pass of its own, and answers the pass of all once all have ended. Each is on a
 /// thread of its own, and this one waits: where it worked too, a thread that it started could be kept waiting, on the same processor, for as
 /// long as the system lets one run. A single worker starts no thread.
-pub(crate) fn run_workers<S: Solve, R: Threads + Sync, G: Gate>(
+pub(crate) fn run_workers<W: Wanted + Sync + Send, S: Solve<W>, R: Threads + Sync, G: Gate>(
     rt: &R,
     alloc: Global,
-    job: &Job<S>,
+    job: &Job<W, S>,
     gate: &G,
     from: u32,
     count: u32,
-    pass: Pass<S>,
-) -> Result<Pass<S>, OutOfMemory>
+    pass: Pass<W>,
+) -> Result<Pass<W>, OutOfMemory>
     requires some { 0 < count }
     requires few { from + count < 2 ^ 32 }
     requires pass { IsOf job.now pass }

@@ -1,7 +1,7 @@
 // Gates that note what is called.
 
-use flow_team::{Gate, Solve};
-use slice_board::Pass;
+use flow_team::Gate;
+use slice_board::{Pass, Wanted};
 use std::sync::atomic::{AtomicBool, AtomicU32, AtomicU64, Ordering};
 
 /// Notes of the slices below 64 which were claimed and finished, how often each was called, and by which workers.
@@ -44,7 +44,7 @@ impl Gate for Recorder {
         self.workers.fetch_or(1 << (worker % 64), Ordering::SeqCst);
     }
 
-    fn finished<S: Solve>(&self, _worker: u32, slice: u32, _pass: &Pass<S>) {
+    fn finished<W: Wanted>(&self, _worker: u32, slice: u32, _pass: &Pass<W>) {
         self.finished.fetch_or(1 << (slice % 64), Ordering::SeqCst);
         self.finishes.fetch_add(1, Ordering::SeqCst);
     }
@@ -113,7 +113,7 @@ impl Gate for Meeting {
         self.missed.store(true, Ordering::SeqCst);
     }
 
-    fn finished<S: Solve>(&self, worker: u32, slice: u32, _pass: &Pass<S>) {
+    fn finished<W: Wanted>(&self, worker: u32, slice: u32, _pass: &Pass<W>) {
         self.finished_by[usize::from(slice != 0)].store(worker, Ordering::SeqCst);
         self.finishes.fetch_add(1, Ordering::SeqCst);
     }

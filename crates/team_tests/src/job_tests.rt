@@ -10,7 +10,7 @@ use crate::gates::Recorder;
 use crate::texts::{Ask, RECURSIVE, RECURSIVE_REACH, check, lines, printed, prints, slices};
 use flow_graph::{Analysis, Graph};
 use flow_team::{Gate, GraphSets, Job, OpenGate, OutOfMemory, Solve, Table};
-use slice_board::Pass;
+use slice_board::{Pass, Wanted};
 use std::alloc::Global;
 use std::process::Abort;
 use std::test::Fail;
@@ -18,11 +18,11 @@ use std::thread::{Threads, join};
 
 // A job of the recursive program's reaching definitions, a slice for each, on which two slices are worked, with what was seen
 // on the way: the definitions at the beginning and at line 2, which are in the first two slices.
-fn check_two_slices<S: Solve, R: Abort>(
+fn check_two_slices<W: Wanted + Sync + Send, S: Solve<W>, R: Abort>(
     rt: &R,
     alloc: Global,
-    job: &Job<S>,
-    pass: &mut Pass<S>,
+    job: &Job<W, S>,
+    pass: &mut Pass<W>,
     gate: &Recorder,
 ) -> Result<(), Fail>
     requires of { IsOf job.now pass.old }
@@ -39,13 +39,13 @@ fn check_two_slices<S: Solve, R: Abort>(
 }
 
 // The job, on which two slices are worked.
-fn with_two_slices<S: Solve, R: Abort>(
+fn with_two_slices<W: Wanted + Sync + Send, S: Solve<W>, R: Abort>(
     rt: &R,
     alloc: Global,
-    job: Job<S>,
-    mut pass: Pass<S>,
+    job: Job<W, S>,
+    mut pass: Pass<W>,
     gate: &Recorder,
-) -> Result<(Job<S>, Pass<S>), Fail>
+) -> Result<(Job<W, S>, Pass<W>), Fail>
     requires of { IsOf job pass }
     requires points { point_count job ≡ 8 }
     requires bits { job.cut.bits ≡ 3 }
@@ -58,10 +58,16 @@ fn with_two_slices<S: Solve, R: Abort>(
 // The job does not close yet: so many of its slices are finished.
 fn still_open<'g, 'p, R: Abort>(
     rt: &R,
-    job: Job<GraphSets<'g, 'p>>,
+    job: Job<GraphSets<'g, 'p>, GraphSets<'g, 'p>>,
     pass: Pass<GraphSets<'g, 'p>>,
     finished: (u32, u32),
-) -> Result<(Job<GraphSets<'g, 'p>>, Pass<GraphSets<'g, 'p>>), Fail>
+) -> Result<
+    (
+        Job<GraphSets<'g, 'p>, GraphSets<'g, 'p>>,
+        Pass<GraphSets<'g, 'p>>,
+    ),
+    Fail,
+>
     requires { IsOf job pass }
     ensures { IfOk result (λ again. (again.0 ≡ job.entry) × IsOf again.0 again.1) }
 {
@@ -75,11 +81,11 @@ fn still_open<'g, 'p, R: Abort>(
 }
 
 // The third slice is worked, and there is no fourth.
-fn check_last_slice<S: Solve, R: Abort>(
+fn check_last_slice<W: Wanted + Sync + Send, S: Solve<W>, R: Abort>(
     rt: &R,
     alloc: Global,
-    job: &Job<S>,
-    pass: &mut Pass<S>,
+    job: &Job<W, S>,
+    pass: &mut Pass<W>,
     gate: &Recorder,
 ) -> Result<(), Fail>
     requires { IsOf job.now pass.old }
@@ -93,7 +99,7 @@ fn check_last_slice<S: Solve, R: Abort>(
 
 /// The table of a job whose slices are all finished.
 pub fn closed<'g, 'p>(
-    job: Job<GraphSets<'g, 'p>>,
+    job: Job<GraphSets<'g, 'p>, GraphSets<'g, 'p>>,
     pass: Pass<GraphSets<'g, 'p>>,
 ) -> Result<Table, Fail>
     requires { IsOf job pass }
@@ -106,13 +112,13 @@ pub fn closed<'g, 'p>(
 }
 
 // The job, on which the third slice is worked.
-fn with_last_slice<S: Solve, R: Abort>(
+fn with_last_slice<W: Wanted + Sync + Send, S: Solve<W>, R: Abort>(
     rt: &R,
     alloc: Global,
-    job: Job<S>,
-    mut pass: Pass<S>,
+    job: Job<W, S>,
+    mut pass: Pass<W>,
     gate: &Recorder,
-) -> Result<(Job<S>, Pass<S>), Fail>
+) -> Result<(Job<W, S>, Pass<W>), Fail>
     requires { IsOf job pass }
     ensures { IfOk result (λ again. (again.0 ≡ job) × IsOf again.0 again.1) }
 {
@@ -124,7 +130,7 @@ fn with_last_slice<S: Solve, R: Abort>(
 fn closed_in_the_end<'g, 'p, R: Abort>(
     rt: &R,
     alloc: Global,
-    job: Job<GraphSets<'g, 'p>>,
+    job: Job<GraphSets<'g, 'p>, GraphSets<'g, 'p>>,
     pass: Pass<GraphSets<'g, 'p>>,
     gate: &Recorder,
 ) -> Result<Table, Fail>
@@ -150,7 +156,13 @@ pub fn opened<'g, 'p>(
     alloc: Global,
     graph: &'g Graph<'p>,
     analysis: Analysis,
-) -> Result<(Job<GraphSets<'g, 'p>>, Pass<GraphSets<'g, 'p>>), Fail>
+) -> Result<
+    (
+        Job<GraphSets<'g, 'p>, GraphSets<'g, 'p>>,
+        Pass<GraphSets<'g, 'p>>,
+    ),
+    Fail,
+>
     ensures wanted { IfOk result (λ r. r.0.wanted ≡ record { program = graph.now; analysis = analysis }) }
     ensures bits { IfOk result (λ r. r.0.cut.bits ≡ bits_of graph.now analysis) }
     ensures pass { IfOk result (λ r. IsOf r.0 r.1) }
@@ -195,13 +207,13 @@ fn slices_one_after_the_other(rt: HostRuntime) -> Result<(), Fail> {
 }
 
 // Works until no slice is left.
-fn drain<S: Solve, G: Gate>(
+fn drain<W: Wanted + Sync + Send, S: Solve<W>, G: Gate>(
     alloc: Global,
-    job: &Job<S>,
+    job: &Job<W, S>,
     gate: &G,
     worker: u32,
-    mut pass: Pass<S>,
-) -> Result<Pass<S>, OutOfMemory>
+    mut pass: Pass<W>,
+) -> Result<Pass<W>, OutOfMemory>
     requires { IsOf job.now pass }
     ensures { IfOk result (IsOf job.now) }
 {
@@ -214,23 +226,23 @@ fn drain<S: Solve, G: Gate>(
 }
 
 // Two activities, each with a pass of its own, and their passes as one.
-fn drained_by_two<S: Solve, R: Threads>(
+fn drained_by_two<W: Wanted + Sync + Send, S: Solve<W>, R: Threads>(
     rt: &R,
     alloc: Global,
-    job: &Job<S>,
-    mut pass: Pass<S>,
-) -> Result<Pass<S>, Fail>
+    job: &Job<W, S>,
+    mut pass: Pass<W>,
+) -> Result<Pass<W>, Fail>
     requires { IsOf job.now pass }
     ensures { IfOk result (IsOf job.now) }
 {
     let other = job.split(&mut pass);
     let (first, second) = join(
         rt,
-        move || -> Result<Pass<S>, OutOfMemory>
+        move || -> Result<Pass<W>, OutOfMemory>
             requires { IsOf job.now pass }
             ensures { IfOk result (IsOf job.entry.now) }
         { drain(alloc, job, &OpenGate, 0, pass) },
-        move || -> Result<Pass<S>, OutOfMemory>
+        move || -> Result<Pass<W>, OutOfMemory>
             requires { IsOf job.now other }
             ensures { IfOk result (IsOf job.entry.now) }
         { drain(alloc, job, &OpenGate, 1, other) },
@@ -242,12 +254,12 @@ fn drained_by_two<S: Solve, R: Threads>(
 }
 
 // The job, drained by two activities.
-fn with_two_activities<S: Solve, R: Threads>(
+fn with_two_activities<W: Wanted + Sync + Send, S: Solve<W>, R: Threads>(
     rt: &R,
     alloc: Global,
-    job: Job<S>,
-    pass: Pass<S>,
-) -> Result<(Job<S>, Pass<S>), Fail>
+    job: Job<W, S>,
+    pass: Pass<W>,
+) -> Result<(Job<W, S>, Pass<W>), Fail>
     requires { IsOf job pass }
     ensures { IfOk result (λ again. (again.0 ≡ job) × IsOf again.0 again.1) }
 {

@@ -10,7 +10,7 @@ use crate::job_tests::{closed, opened};
 use crate::texts::{Ask, RECURSIVE, RECURSIVE_REACH, check, lines, slices};
 use flow_graph::{Analysis, Graph};
 use flow_team::{GraphSets, Job, OpenGate, Solve, Table, analyse, analyse_alone, analyse_pairs};
-use slice_board::Pass;
+use slice_board::{Pass, Wanted};
 use std::alloc::Global;
 use std::process::Abort;
 use std::test::Fail;
@@ -82,11 +82,11 @@ fn two_workers_are_refused(rt: HostRuntime) -> Result<(), Fail> {
 }
 
 // Works until no slice is left, and goes on where a call is refused: the slice is then held.
-fn work_on<S: Solve, R: Abort>(
+fn work_on<W: Wanted + Sync + Send, S: Solve<W>, R: Abort>(
     rt: &R,
     alloc: Global,
-    job: &Job<S>,
-    pass: &mut Pass<S>,
+    job: &Job<W, S>,
+    pass: &mut Pass<W>,
     gate: &Recorder,
 ) -> Result<(), Fail>
     requires { IsOf job.now pass.old }
@@ -101,13 +101,13 @@ fn work_on<S: Solve, R: Abort>(
 }
 
 // The job, on which that was tried.
-fn with_refusals<S: Solve, R: Abort>(
+fn with_refusals<W: Wanted + Sync + Send, S: Solve<W>, R: Abort>(
     rt: &R,
     alloc: Global,
-    job: Job<S>,
-    mut pass: Pass<S>,
+    job: Job<W, S>,
+    mut pass: Pass<W>,
     gate: &Recorder,
-) -> Result<(Job<S>, Pass<S>), Fail>
+) -> Result<(Job<W, S>, Pass<W>), Fail>
     requires { IsOf job pass }
     ensures { IfOk result (λ again. (again.0 ≡ job) × IsOf again.0 again.1) }
 {
@@ -200,7 +200,7 @@ fn first_of_pairs<R: Threads + Sync>(
 fn table_of_job<'g, 'p, R: Abort>(
     rt: &R,
     alloc: Global,
-    job: Job<GraphSets<'g, 'p>>,
+    job: Job<GraphSets<'g, 'p>, GraphSets<'g, 'p>>,
     pass: Pass<GraphSets<'g, 'p>>,
 ) -> Result<Table, Fail>
     requires { IsOf job pass }

@@ -1,7 +1,7 @@
 // How a board begins.
 ghost use Rattle.std.specs.Prelude.{◌≡◌, ℕ, ◌+◌, ◌*◌, ◌^◌, ◌<◌, length, vec_len, IfOk};
 ghost use Rattle.bit_rows.specs.RowTable.{blank_table};
-ghost use Rattle.slice_board.specs.Boards.{fresh_pass, words_for};
+ghost use Rattle.slice_board.specs.Boards.{fresh_pass, point_count, words_for};
 
 use super::WordBoard;
 use crate::OutOfMemory;
@@ -53,5 +53,15 @@ impl<T: Wanted> WordBoard<T> {
             held: None,
         };
         Ok((board, pass))
+    }
+
+    /// The same board with these flags, which `close` hands out: one may be laid before they are known.
+    pub fn with_flags(self, flags: Vec<bool>) -> WordBoard<T>
+        requires { length flags.items ≡ point_count self }
+        ensures { result ≡ record self { blank = blank_table flags.items 0 self.cut.bits } }
+    {
+        let mut board = self;
+        board.flags = flags;
+        board
     }
 }

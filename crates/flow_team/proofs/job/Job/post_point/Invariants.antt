@@ -7,5 +7,5 @@ abbrev pub invariant-loop-word : goal.invariant-loop-word
 invariant-loop-word g l = record {
   of : IsOf l.self l.pass;
   more : PostsMore l.fn.pass l.pass;
-  posted : IsPosted (g.S.Wanted.wants l.self.wanted) l.slice.lo l.slice.hi (λ p word. (p ≡ l.point) × (l.fn.from ≤ word) × (word < l.word)) l.pass.posted;
+  posted : IsPosted (g.W.Wanted.wants l.self.wanted) l.slice.lo l.slice.hi (λ p word. (p ≡ l.point) × (l.fn.from ≤ word) × (word < l.word)) l.pass.posted;
 }

@@ -16,9 +16,9 @@ groups-preserved g c =
       slice = subst (λ sets. g.S.Solve.is_slice sets c.solve_from-until.new.slice) (sym same) solved.slice;
       lo = lo_is;
       hi = hi_is;
-      posted = groups_more (g.S.Wanted.wants c.args.self.now.wanted) c.args.lo c.args.hi c.groups.word c.groups.pass c.post_words.new.pass c.post_words.ensures.more
+      posted = groups_more (g.W.Wanted.wants c.args.self.now.wanted) c.args.lo c.args.hi c.groups.word c.groups.pass c.post_words.new.pass c.post_words.ensures.more
           (point_count c.args.self.now) c.solve_from-until.result
-          (λ p bit want. let there = (c.points.ensures.within p bit (subst (λ sets. g.S.Wanted.wants sets p bit) same want)).0 in
+          (λ p bit want. let there = (c.points.ensures.within p bit (subst (λ sets. g.W.Wanted.wants sets p bit) same want)).0 in
           omega (arith, there, c.self.invariant.same_points, ap point_count c.self.view_is))
           before.posted
           (λ p bit want low high at. c.post_words.ensures.posted p bit want (omega (arith, low, lo_is)) (omega (arith, high, hi_is)) at);

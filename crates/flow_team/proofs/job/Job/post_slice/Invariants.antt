@@ -10,7 +10,7 @@ invariant-groups g l = record {
   slice : g.S.Solve.is_slice l.self.wanted l.slice;
   lo : l.slice.lo ≡ l.lo;
   hi : l.slice.hi ≡ l.hi;
-  posted : IsPosted (g.S.Wanted.wants l.self.wanted) l.lo l.hi (λ point word. word < l.word) l.pass.posted;
+  posted : IsPosted (g.W.Wanted.wants l.self.wanted) l.lo l.hi (λ point word. word < l.word) l.pass.posted;
 }
 
 abbrev pub decreases-groups : goal.decreases-groups

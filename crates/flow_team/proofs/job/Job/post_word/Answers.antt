@@ -6,7 +6,7 @@ use Rattle.flow_team.proofs.job.Job.post_word.Goals as goal
 
 pub returns-then-mask-eq0-clause-posted : goal.returns-then-mask-eq0-clause-posted
 returns-then-mask-eq0-clause-posted g c = λ p bit want low high at.
-    let wanted = g.S.Wanted.wants c.args.self.now.wanted in
+    let wanted = g.W.Wanted.wants c.args.self.now.wanted in
     let slice = c.args.slice.now in
     let has = word_has wanted slice.lo slice.hi c.args.point c.args.word c.word-mask.result
     (λ k small. subst (λ (n : ℕ). (has_bit n k ≡ true) ↔ ((slice.lo ≤ 64 * c.args.word + k) × (64 * c.args.word + k < slice.hi) × wanted c.args.point (64 * c.args.word + k)))
@@ -15,7 +15,7 @@ returns-then-mask-eq0-clause-posted g c = λ p bit want low high at.
 
 pub returns-clause-posted : goal.returns-clause-posted
 returns-clause-posted g c = λ p bit want low high at.
-    let wanted = g.S.Wanted.wants c.args.self.now.wanted in
+    let wanted = g.W.Wanted.wants c.args.self.now.wanted in
     let slice = c.args.slice.now in
     let has = word_has wanted slice.lo slice.hi c.args.point c.args.word c.word-mask.result
     (λ k small. subst (λ (n : ℕ). (has_bit n k ≡ true) ↔ ((slice.lo ≤ 64 * c.args.word + k) × (64 * c.args.word + k < slice.hi) × wanted c.args.point (64 * c.args.word + k)))

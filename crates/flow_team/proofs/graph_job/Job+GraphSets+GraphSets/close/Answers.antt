@@ -6,7 +6,7 @@ use Rattle.flow_team.specs.Beginnings.{IsBeginningOf}
 use Rattle.flow_team.proofs.Beginnings.{beginning_is_table}
 use Rattle.flow_team.proofs.Sent.{solver_crosses}
 use Rattle.flow_team.proofs.Words.{rows_are_meet}
-use Rattle.flow_team.proofs.graph_job.Job+GraphSets.close.Goals as goal
+use Rattle.flow_team.proofs.graph_job.Job+GraphSets+GraphSets.close.Goals as goal
 
 pub table-requires-clause-meet : goal.table-requires-clause-meet
 table-requires-clause-meet c =
@@ -27,3 +27,9 @@ close_words-requires-send-S c = λ κs lives. search solver_crosses depth 60
 
 pub close_words-requires-sync-S : goal.close_words-requires-sync-S
 close_words-requires-sync-S c = λ κs lives. search solver_crosses depth 60
+
+pub close_words-requires-send-W : goal.close_words-requires-send-W
+close_words-requires-send-W c = λ κs lives. search solver_crosses depth 60
+
+pub close_words-requires-sync-W : goal.close_words-requires-sync-W
+close_words-requires-sync-W c = λ κs lives. search solver_crosses depth 60

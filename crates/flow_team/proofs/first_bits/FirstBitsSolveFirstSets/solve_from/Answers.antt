@@ -2,7 +2,7 @@ use Rattle.std.proofs.Common.{◌≤◌, ap, subst, arith}
 use Rattle.gk_solve.specs.Solved.{TellWords}
 use Rattle.flow_team.specs.code.FirstSets.{FirstForm, IsInFirstSet}
 use Rattle.flow_team.proofs.Words.{words_tell_first}
-use Rattle.flow_team.proofs.first_bits.FirstBitsSolve.solve_from.Goals as goal
+use Rattle.flow_team.proofs.first_bits.FirstBitsSolveFirstSets.solve_from.Goals as goal
 
 pub returns-clause-words : goal.returns-clause-words
 returns-clause-words c =
