@@ -8,6 +8,7 @@ mod analysis;
 mod bit_table;
 mod directed_edges;
 mod edge;
+mod edge_list;
 mod effect;
 mod effects;
 pub mod examples;
