@@ -10,6 +10,7 @@ use crate::analysis::Analysis;
 use crate::edge::Edge;
 use crate::edge_list::EdgeList;
 use crate::graph::Graph;
+use crate::walk::Walk;
 use std::alloc::Global;
 
 /// Whether an analysis goes from the end of `main` backwards.
@@ -62,8 +63,11 @@ impl EdgeList for TurnedEdges {
 fn put_all<E: EdgeList>(edges: &mut E, graph: &Graph<'_>) -> Result<(), OutOfMemory>
     ensures { OnOk result (E.listed edges.new ≡ E.listed edges.old ++ edges_of graph.now) }
 {
+    let mut walk = Walk::new(graph.program());
     for point in 0..graph.points() {
-        graph.put_succ(edges, point)?;
+        let (stmt, next) = walk.step();
+        graph.put_succ(edges, point, stmt)?;
+        walk = next;
     }
     Ok(())
 }

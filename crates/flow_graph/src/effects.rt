@@ -1,10 +1,10 @@
 // What each statement of a program does with the bits of an analysis.
 
 ghost use Rattle.std.specs.List.{list_any};
-ghost use Rattle.std.specs.Prelude.{◌≡◌, ◌*◌, ◌/◌, ◌<◌, ◌≤◌, ◌&&◌, ◌||◌, ℕ, IfOk, IfSome, length, nat_eq, option_map, Some};
+ghost use Rattle.std.specs.Prelude.{◌≡◌, ◌*◌, ◌/◌, ◌<◌, ◌≤◌, ◌&&◌, ◌||◌, ℕ, IfOk, IfSome, length, nat_eq, option_copied, option_map, Some};
 ghost use Rattle.flow_graph.specs.code.BitTables.{table_has};
 ghost use Rattle.flow_graph.specs.code.Effects.{AreDependenceWords, AreEffects, IsDependence, IsNumberedEffect, depends, marks, owns_numbered};
-ghost use Rattle.flow_graph.specs.Points.{kind_at, point_count};
+ghost use Rattle.flow_graph.specs.Points.{kind_at, point_count, statement_at};
 ghost use Rattle.flow_graph.specs.Transfers.{has_operand, names_variable, operands_of};
 ghost use Rattle.flow_graph.specs.Universes.{bits};
 ghost use Rattle.tac_reader.specs.Sound.{IsSound};
@@ -15,8 +15,9 @@ use crate::effect::Effect;
 use crate::expression::Expr;
 use crate::graph::Graph;
 use crate::universes::target;
+use crate::walk::Walk;
 use std::alloc::{AllocError, Global};
-use tac_reader::{Operand, StmtKind};
+use tac_reader::{Operand, Stmt, StmtKind};
 
 /// The variable that an operand is.
 fn variable(operand: Operand) -> Option<u32>
@@ -118,12 +119,21 @@ fn statement_effect(
     }
 }
 
-/// What the statement at a point does, where the next definition has this number: nothing at a procedure's end.
-fn effect(graph: &Graph<'_>, analysis: Analysis, number: u32, point: u32) -> Effect
-    requires { point < point_count graph.now }
+/// What the statement before which a point stands does, where the next definition has this number: nothing at a
+/// procedure's end.
+fn effect(
+    graph: &Graph<'_>,
+    analysis: Analysis,
+    number: u32,
+    point: u32,
+    stmt: Option<&Stmt>,
+) -> Effect
+    requires point { point < point_count graph.now }
+    requires stmt { option_copied stmt ≡ statement_at graph.now point }
+    requires sound { IsSound graph.now }
     ensures { IsNumberedEffect graph.now analysis number point result }
 {
-    match graph.stmt(point) {
+    match stmt {
         None => Effect {
             first: None,
             second: None,
@@ -144,13 +154,16 @@ pub(crate) fn effects(
     let mut effects = Vec::with_capacity(alloc, graph.points() as usize)?;
     // The dummies come first, one for each variable.
     let mut number = graph.bits(Analysis::Live);
+    let mut walk = Walk::new(graph.program());
     for point in 0..graph.points() {
-        let effect = effect(graph, analysis, number, point);
+        let (stmt, next) = walk.step();
+        let effect = effect(graph, analysis, number, point, stmt);
         effects.push(effect)?;
         match effect.written {
             Some(_) => number += 1,
             None => {},
         }
+        walk = next;
     }
     Ok(effects)
 }

@@ -26,6 +26,7 @@ pub mod program_laws;
 mod sites;
 mod succ;
 mod universes;
+mod walk;
 mod words;
 
 pub use analysis::Analysis;

@@ -1,10 +1,10 @@
 // The edges out of a point.
 
-ghost use Rattle.std.specs.Prelude.{◌≡◌, ◌<◌, suc, [], ◌∷◌, ◌++◌, length, map, All, Some, IfOk, OnOk};
+ghost use Rattle.std.specs.Prelude.{◌≡◌, ◌<◌, suc, [], ◌∷◌, ◌++◌, length, map, All, Some, IfOk, OnOk, option_copied};
 ghost use Rattle.flow_graph.specs.Edges.{edges_from, edges_of, label_point, two_steps};
 ghost use Rattle.flow_graph.specs.code.Labels.{labels_at};
 ghost use Rattle.flow_graph.specs.Limits.{HasFewPoints, most_points};
-ghost use Rattle.flow_graph.specs.Points.{end_point, entry_point, kind_at, point_count, procedure_at};
+ghost use Rattle.flow_graph.specs.Points.{end_point, entry_point, kind_at, point_count, procedure_at, statement_at};
 ghost use Rattle.flow_graph.specs.declared.edge.Edge.TheVariants.{Step, Call, Ret};
 ghost use Rattle.tac_reader.specs.Sound.{IsSound};
 
@@ -15,7 +15,7 @@ use crate::graph::Graph;
 use crate::points::Points;
 use smallvec::SmallVec;
 use std::alloc::Global;
-use tac_reader::StmtKind;
+use tac_reader::{Stmt, StmtKind};
 
 /// The point that a label of a point's procedure stands for.
 fn label_target(points: &Points<'_>, point: u32, label: u32) -> u32
@@ -133,12 +133,20 @@ fn put_statement<E: EdgeList>(
 }
 
 impl<'p> Graph<'p> {
-    /// Puts the edges out of a point last.
-    pub(crate) fn put_succ<E: EdgeList>(&self, edges: &mut E, point: u32) -> Result<(), OutOfMemory>
-        requires { point < point_count self.now }
+    /// Puts the edges out of a point last. It is passed the statement before which the point stands.
+    pub(crate) fn put_succ<E: EdgeList>(
+        &self,
+        edges: &mut E,
+        point: u32,
+        stmt: Option<&Stmt>,
+    ) -> Result<(), OutOfMemory>
+        requires point { point < point_count self.now }
+        requires stmt { option_copied stmt ≡ statement_at self.now point }
         ensures { OnOk result (E.listed edges.new ≡ E.listed edges.old ++ edges_from self.now point) }
     {
-        match self.points.stmt(point) {
+        // Its contract tells that the program is sound and has few points.
+        let _ = self.points.count();
+        match stmt {
             Some(stmt) => put_statement(edges, &self.points, point, &stmt.kind),
             None => {
                 let procedure = self.points.place(point).procedure;
@@ -155,7 +163,7 @@ impl<'p> Graph<'p> {
     {
         // Two edges have room in place: only a call of more callees and more returns take memory.
         let mut edges = SmallVec::new(alloc);
-        self.put_succ(&mut edges, point)?;
+        self.put_succ(&mut edges, point, self.points.stmt(point))?;
         Ok(edges)
     }
 }
