@@ -2,8 +2,7 @@
 use Rattle.std.specs.Prelude.{◌≡◌, ◌<◌, ◌⊎◌, ℕ, true, ◌+◌, ◌*◌, Bool, not, ◌&&◌, nat_lt, if◌then◌else◌}
 use Rattle.bit_rows.specs.Words.{has_bit}
 use Rattle.tac_reader.specs.Programs.{Program}
-use Rattle.flow_graph.specs.Analyses.{is_backward, is_must}
-use Rattle.flow_graph.specs.Paths.{Edge, reversed_edge}
+use Rattle.flow_graph.specs.Analyses.{is_must}
 use Rattle.flow_graph.specs.Transfers.{gens, kills, is_in_boundary}
 use Rattle.flow_graph.specs.Universes.{Analysis}
 
@@ -23,10 +22,6 @@ may_kills form point bit = if is_must form.analysis then gens form.program form.
 
 abbrev pub may_boundary : MayForm → ℕ → Bool
 may_boundary form bit = if is_must form.analysis then not (is_in_boundary form.program form.analysis bit) else is_in_boundary form.program form.analysis bit
-
--- an edge of the graph as an edge of the may form
-abbrev pub directed_edge : Analysis → Edge → Edge
-directed_edge analysis edge = if is_backward analysis then reversed_edge edge else edge
 
 -- A word of a set of bits: its place k is 1 exactly where bit 64 * word + k is there and is in the set.
 abbrev pub IsWordOf : (ℕ → Bool) → ℕ → ℕ → ℕ → Type 0

@@ -6,3 +6,4 @@ pub mod NumberLists
 pub mod PointTables
 pub mod Searching
 pub mod Sites
+pub mod Walks

@@ -1,14 +1,16 @@
 // The edges of a may form.
 
 ghost use Rattle.std.specs.Prelude.{◌≡◌, ◌++◌, IfOk, OnOk, map};
+ghost use Rattle.flow_graph.specs.Edges.{edges as edges_of};
 ghost use Rattle.flow_graph.specs.Analyses.{is_backward as is_backward_of, may_shape};
 ghost use Rattle.flow_graph.specs.Paths.{reversed_edge};
-ghost use Rattle.flow_graph.specs.Problems.{directed_edge};
 
 use crate::OutOfMemory;
 use crate::analysis::Analysis;
 use crate::edge::Edge;
+use crate::edge_list::EdgeList;
 use crate::graph::Graph;
+use crate::walk::Walk;
 use std::alloc::Global;
 
 /// Whether an analysis goes from the end of `main` backwards.
@@ -42,27 +44,30 @@ fn turned(edge: Edge) -> Edge
     }
 }
 
-/// An edge as the analysis follows it.
-fn directed(analysis: Analysis, edge: Edge) -> Edge
-    ensures { result ≡ directed_edge analysis edge }
-{
-    if is_backward(analysis) {
-        turned(edge)
-    } else {
-        edge
+/// The edges of a problem that goes backwards: each is turned round as it is put.
+#[derive(Drop)]
+struct TurnedEdges {
+    edges: Vec<Edge>,
+}
+
+impl EdgeList for TurnedEdges {
+    ghost listed = { λ list. map reversed_edge list.edges.items };
+
+    fn put(&mut self, edge: Edge) -> Result<(), OutOfMemory> {
+        self.edges.push(turned(edge))?;
+        Ok(())
     }
 }
 
-/// Puts edges last, as the analysis follows them.
-fn put_directed(
-    edges: &mut Vec<Edge>,
-    analysis: Analysis,
-    added: &[Edge],
-) -> Result<(), OutOfMemory>
-    ensures { OnOk result (edges.new.items ≡ edges.old.items ++ map (directed_edge analysis) added.now) }
+/// Puts all edges of a graph last, in the order of the points that they leave in it.
+fn put_all<E: EdgeList>(edges: &mut E, graph: &Graph<'_>) -> Result<(), OutOfMemory>
+    ensures { OnOk result (E.listed edges.new ≡ E.listed edges.old ++ edges_of graph.now) }
 {
-    for edge in added {
-        edges.push(directed(analysis, *edge))?;
+    let mut walk = Walk::new(graph.program());
+    for point in 0..graph.points() {
+        let (stmt, next) = walk.step();
+        graph.put_succ(edges, point, stmt)?;
+        walk = next;
     }
     Ok(())
 }
@@ -75,10 +80,14 @@ pub(crate) fn directed_edges(
 ) -> Result<Vec<Edge>, OutOfMemory>
     ensures { IfOk result (λ edges. edges.items ≡ (may_shape graph.now analysis).edges) }
 {
-    let mut edges = Vec::new(alloc);
-    for point in 0..graph.points() {
-        let leaving = graph.succ(alloc, point)?;
-        put_directed(&mut edges, analysis, leaving.as_slice())?;
+    // Most points are left by one edge. With as many places again for what tests and calls add, the list does not move.
+    let mut edges = Vec::with_capacity(alloc, graph.points() as usize * 2)?;
+    if is_backward(analysis) {
+        let mut list = TurnedEdges { edges };
+        put_all(&mut list, graph)?;
+        Ok(list.edges)
+    } else {
+        put_all(&mut edges, graph)?;
+        Ok(edges)
     }
-    Ok(edges)
 }

@@ -1,12 +1,13 @@
 // What each statement of a program does with the bits of an analysis.
 
 ghost use Rattle.std.specs.List.{list_any};
-ghost use Rattle.std.specs.Prelude.{◌≡◌, ◌*◌, ◌/◌, ◌<◌, ◌≤◌, ◌&&◌, ◌||◌, ℕ, IfOk, IfSome, length, nat_eq, option_map};
+ghost use Rattle.std.specs.Prelude.{◌≡◌, ◌*◌, ◌/◌, ◌<◌, ◌≤◌, ◌&&◌, ◌||◌, ℕ, IfOk, IfSome, length, nat_eq, option_copied, option_map, Some};
 ghost use Rattle.flow_graph.specs.code.BitTables.{table_has};
 ghost use Rattle.flow_graph.specs.code.Effects.{AreDependenceWords, AreEffects, IsDependence, IsNumberedEffect, depends, marks, owns_numbered};
-ghost use Rattle.flow_graph.specs.Points.{point_count};
-ghost use Rattle.flow_graph.specs.Transfers.{has_operand, names_variable, operands_of, reads};
-ghost use Rattle.flow_graph.specs.Universes.{bits, target_at};
+ghost use Rattle.flow_graph.specs.Points.{kind_at, point_count, statement_at};
+ghost use Rattle.flow_graph.specs.Transfers.{has_operand, names_variable, operands_of};
+ghost use Rattle.flow_graph.specs.Universes.{bits};
+ghost use Rattle.tac_reader.specs.Sound.{IsSound};
 
 use crate::analysis::Analysis;
 use crate::bit_table::BitTable;
@@ -14,8 +15,9 @@ use crate::effect::Effect;
 use crate::expression::Expr;
 use crate::graph::Graph;
 use crate::universes::target;
+use crate::walk::Walk;
 use std::alloc::{AllocError, Global};
-use tac_reader::{Operand, StmtKind};
+use tac_reader::{Operand, Stmt, StmtKind};
 
 /// The variable that an operand is.
 fn variable(operand: Operand) -> Option<u32>
@@ -66,29 +68,6 @@ fn bit_variables(graph: &Graph<'_>, analysis: Analysis, bit: u32) -> (Option<u32
     }
 }
 
-/// The variable that the statement at a point writes.
-fn written_variable(graph: &Graph<'_>, point: u32) -> Option<u32>
-    requires { point < point_count graph.now }
-    ensures target { result ≡ target_at graph.now point }
-    ensures within { IfSome result (λ x. x < length graph.now.variable_names) }
-{
-    match graph.stmt(point) {
-        None => None,
-        Some(stmt) => target(&stmt.kind),
-    }
-}
-
-/// The variables that the statement at a point reads.
-fn variables_read(graph: &Graph<'_>, point: u32) -> (Option<u32>, Option<u32>)
-    requires { point < point_count graph.now }
-    ensures { (x : ℕ) → (marks result.0 x || marks result.1 x) ≡ reads graph.now point x }
-{
-    match graph.stmt(point) {
-        None => (None, None),
-        Some(stmt) => read_variables(&stmt.kind),
-    }
-}
-
 /// This number, if a variable is written.
 fn definition_number(written: Option<u32>, number: u32) -> Option<u32>
     ensures { result ≡ option_map (λ x. number) written }
@@ -99,37 +78,68 @@ fn definition_number(written: Option<u32>, number: u32) -> Option<u32>
     }
 }
 
-/// The own bits of the statement at a point, where the next definition has this number.
+/// The own bits of a statement, where the next definition has this number.
 fn own_bits(
     graph: &Graph<'_>,
     analysis: Analysis,
     number: u32,
     point: u32,
+    kind: &StmtKind,
 ) -> (Option<u32>, Option<u32>)
-    requires { point < point_count graph.now }
+    requires point { point < point_count graph.now }
+    requires kind { kind_at graph.now point ≡ Some kind.now }
     ensures { (bit : ℕ) → (marks result.0 bit || marks result.1 bit) ≡ owns_numbered graph.now analysis number point bit }
 {
     match analysis {
-        Analysis::Reach => (
-            definition_number(written_variable(graph, point), number),
-            None,
-        ),
-        Analysis::Live => variables_read(graph, point),
+        Analysis::Reach => (definition_number(target(kind), number), None),
+        Analysis::Live => read_variables(kind),
         Analysis::Avail => (graph.evaluated(point), None),
         Analysis::Busy => (graph.evaluated(point), None),
     }
 }
 
-/// What the statement at a point does, where the next definition has this number.
-fn effect(graph: &Graph<'_>, analysis: Analysis, number: u32, point: u32) -> Effect
-    requires { point < point_count graph.now }
+/// What a statement does, where the next definition has this number.
+fn statement_effect(
+    graph: &Graph<'_>,
+    analysis: Analysis,
+    number: u32,
+    point: u32,
+    kind: &StmtKind,
+) -> Effect
+    requires point { point < point_count graph.now }
+    requires kind { kind_at graph.now point ≡ Some kind.now }
+    requires sound { IsSound graph.now }
     ensures { IsNumberedEffect graph.now analysis number point result }
 {
-    let (first, second) = own_bits(graph, analysis, number, point);
+    let (first, second) = own_bits(graph, analysis, number, point, kind);
     Effect {
         first,
         second,
-        written: written_variable(graph, point),
+        written: target(kind),
+    }
+}
+
+/// What the statement before which a point stands does, where the next definition has this number: nothing at a
+/// procedure's end.
+fn effect(
+    graph: &Graph<'_>,
+    analysis: Analysis,
+    number: u32,
+    point: u32,
+    stmt: Option<&Stmt>,
+) -> Effect
+    requires point { point < point_count graph.now }
+    requires stmt { option_copied stmt ≡ statement_at graph.now point }
+    requires sound { IsSound graph.now }
+    ensures { IsNumberedEffect graph.now analysis number point result }
+{
+    match stmt {
+        None => Effect {
+            first: None,
+            second: None,
+            written: None,
+        },
+        Some(stmt) => statement_effect(graph, analysis, number, point, &stmt.kind),
     }
 }
 
@@ -144,13 +154,16 @@ pub(crate) fn effects(
     let mut effects = Vec::with_capacity(alloc, graph.points() as usize)?;
     // The dummies come first, one for each variable.
     let mut number = graph.bits(Analysis::Live);
+    let mut walk = Walk::new(graph.program());
     for point in 0..graph.points() {
-        let effect = effect(graph, analysis, number, point);
+        let (stmt, next) = walk.step();
+        let effect = effect(graph, analysis, number, point, stmt);
         effects.push(effect)?;
         match effect.written {
             Some(_) => number += 1,
             None => {},
         }
+        walk = next;
     }
     Ok(effects)
 }
@@ -173,40 +186,25 @@ fn mark(table: &mut BitTable, rows: u32, row: Option<u32>, bit: u32)
     }
 }
 
-/// The bits that depend on each variable.
+/// The bits that depend on each variable, and the words of 64 bits in which some bit does.
 pub(crate) fn dependence(
     alloc: Global,
     graph: &Graph<'_>,
     analysis: Analysis,
-) -> Result<BitTable, AllocError>
-    ensures { IfOk result (λ t. IsDependence graph.now analysis t.words.items t.width) }
+) -> Result<(BitTable, BitTable), AllocError>
+    ensures bits { IfOk result (λ r. IsDependence graph.now analysis (r.0).words.items (r.0).width) }
+    ensures words { IfOk result (λ r. AreDependenceWords graph.now analysis (r.1).words.items (r.1).width) }
 {
     let rows = graph.program().variables();
     let bits = graph.bits(analysis);
     let mut table = BitTable::blank(alloc, rows, bits)?;
+    let mut words = BitTable::blank(alloc, rows, 64)?;
     for bit in 0..bits {
         let (first, second) = bit_variables(graph, analysis, bit);
         mark(&mut table, rows, first, bit);
         mark(&mut table, rows, second, bit);
+        mark(&mut words, rows, first, bit / 64);
+        mark(&mut words, rows, second, bit / 64);
     }
-    Ok(table)
-}
-
-/// The words of 64 bits in which some bit depends on each variable.
-pub(crate) fn dependence_words(
-    alloc: Global,
-    graph: &Graph<'_>,
-    analysis: Analysis,
-) -> Result<BitTable, AllocError>
-    ensures { IfOk result (λ t. AreDependenceWords graph.now analysis t.words.items t.width) }
-{
-    let rows = graph.program().variables();
-    let bits = graph.bits(analysis);
-    let mut table = BitTable::blank(alloc, rows, 64)?;
-    for bit in 0..bits {
-        let (first, second) = bit_variables(graph, analysis, bit);
-        mark(&mut table, rows, first, bit / 64);
-        mark(&mut table, rows, second, bit / 64);
-    }
-    Ok(table)
+    Ok((table, words))
 }

@@ -8,6 +8,7 @@ mod analysis;
 mod bit_table;
 mod directed_edges;
 mod edge;
+mod edge_list;
 mod effect;
 mod effects;
 pub mod examples;
@@ -25,6 +26,7 @@ pub mod program_laws;
 mod sites;
 mod succ;
 mod universes;
+mod walk;
 mod words;
 
 pub use analysis::Analysis;

@@ -15,7 +15,7 @@ use crate::bit_table::BitTable;
 use crate::directed_edges::{directed_edges, is_backward};
 use crate::edge::Edge;
 use crate::effect::Effect;
-use crate::effects::{dependence, dependence_words, effects};
+use crate::effects::{dependence, effects};
 use crate::graph::Graph;
 use crate::words::{full_word, generated, killed, own_word, word_mark};
 use std::alloc::Global;
@@ -73,8 +73,7 @@ impl<'g, 'p> Problem<'g, 'p> {
         let _ = graph.program().procs();
         let edges = directed_edges(alloc, graph, analysis)?;
         let effects = effects(alloc, graph, analysis)?;
-        let dependence = dependence(alloc, graph, analysis)?;
-        let dependence_words = dependence_words(alloc, graph, analysis)?;
+        let (dependence, dependence_words) = dependence(alloc, graph, analysis)?;
         Ok(Problem {
             graph,
             analysis,

@@ -10,7 +10,7 @@ reversed_edge-twice (Step x y) = refl
 reversed_edge-twice (Call site x y) = refl
 reversed_edge-twice (Ret site x y) = refl
 
-edges-twice : (edges : List Edge) → map reversed_edge (map reversed_edge edges) ≡ edges
+pub edges-twice : (edges : List Edge) → map reversed_edge (map reversed_edge edges) ≡ edges
 edges-twice [] = refl
 edges-twice (edge ∷ edges) = ap₂ ◌∷◌ (reversed_edge-twice edge) (edges-twice edges)
 

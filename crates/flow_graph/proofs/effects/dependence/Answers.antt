@@ -11,3 +11,8 @@ blank-requires-clause-rows c =
 
 pub loop-bit-preserved : goal.loop-bit-preserved
 loop-bit-preserved c = grind (arith, common_steps)
+
+pub blank-requires-2-clause-rows : goal.blank-requires-2-clause-rows
+blank-requires-2-clause-rows c =
+    let few : length c.args.graph.now.variable_names ≤ 4096 = c.bits-bits.ensures.few Live in
+    omega (arith, few, c.variables-rows.ensures, ap (λ (p : Program). length p.variable_names) c.program.ensures)

@@ -1,6 +1,7 @@
 use Rattle.std.proofs.Common.{rules, ◌≡◌, ◌+◌, ◌∷◌, [], ℕ, ◌<◌, ◌≤◌, List, Option, flat_map, length, get_or, ap, ◌∙◌, sym, subst, arith, length-append}
 use Rattle.std.specs.List.{range_with_len}
 use Rattle.flow_graph.specs.code.Effects.{IsEffect}
+use Rattle.flow_graph.specs.code.Walks.{WalkAt}
 use Rattle.flow_graph.specs.Points.{point_count}
 use Rattle.flow_graph.specs.Universes.{Live, definition_at}
 use Rattle.flow_graph.specs.declared.effect.Effect.{Effect}
@@ -35,6 +36,7 @@ loop-point-preserved c =
           (omega (arith, w.number-is, here), omega (arith, w.number-is))
     ] in
     record {
+      walks = c.step-next.ensures.next ∙ ap (λ (w : WalkAt). let v : WalkAt = record { program = w.program; point = w.point + 1 } in v) invariant.walks;
       numbered = step c.match-effect.number number_is.0;
       few = omega (arith, invariant.few, number_is.1);
       so_many = ap length c.in_ok-push.ensures.items ∙ length-append c.loop-point.effects.items (effect ∷ []) ∙ ap (λ m. m + 1) invariant.so_many;

@@ -7,6 +7,7 @@ use Rattle.flow_graph.proofs.effects.effects.Given as goal
 
 abbrev pub invariant-loop-point : goal.invariant-loop-point
 invariant-loop-point l = record {
+  walks : l.walk ≡ record { program = l.fn.graph; point = l.point };
   numbered : l.number ≡ length l.fn.graph.variable_names + length (flat_map (definition_at l.fn.graph) (range_with_len 0 l.point));
   few : l.number ≤ length l.fn.graph.variable_names + l.point;
   so_many : length l.effects.items ≡ l.point;
