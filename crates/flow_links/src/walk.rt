@@ -1,10 +1,21 @@
-// The points in reverse post-order of a walk along the steps of each procedure. Which order it is bears on the time alone.
-ghost use Rattle.std.specs.Prelude.{◌≡◌, ℕ, ◌<◌, IfOk, length, slice_index};
+// Walks along the steps of a procedure, for the points in reverse post-order. Which order it is bears on the time alone.
+ghost use Rattle.std.specs.Prelude.{◌≡◌, ◌<◌, ◌^◌, length};
 ghost use Rattle.flow_graph.specs.Points.{point_count};
 
 use crate::OutOfMemory;
 use crate::links::Links;
 use std::alloc::Global;
+
+/// How far a walk is with a point.
+#[derive(Clone, Copy)]
+pub(crate) enum Mark {
+    /// It was not entered.
+    New,
+    /// It was entered, and it is not left.
+    Open,
+    /// It was left.
+    Left,
+}
 
 // What is still to be done on a walk.
 #[derive(Clone, Copy)]
@@ -13,39 +24,83 @@ enum Visit {
     Leave(u16),
 }
 
-// A walk: what is still to be done, and the points that are left behind, in this order.
+/// A walk: what is still to be done, the points that are left behind, in this order, and how many steps did not lead onward.
 #[derive(Drop)]
-struct Walk {
+pub(crate) struct Walk {
     stack: Vec<Visit>,
     left: Vec<u16>,
+    back: u32,
 }
 
-// Enters a point that was not seen before: those after it come first, and then it is left.
+impl Walk {
+    /// A walk before its first point, with room for so many.
+    pub(crate) fn new(alloc: Global, points: usize) -> Result<Walk, OutOfMemory> {
+        Ok(Walk {
+            stack: Vec::with_capacity(alloc, points)?,
+            left: Vec::with_capacity(alloc, points)?,
+            back: 0,
+        })
+    }
+
+    /// The points that are left behind, each after those to which its steps lead but for steps that did not lead onward.
+    pub(crate) fn left(&self) -> &[u16] {
+        self.left.as_slice()
+    }
+}
+
+// Enters a point that was not entered before, if it is one: those after it come before it is left. The last of them is told, to go
+// on with, and the others wait on the stack.
+#[inline(always)]
 fn enter(
     links: &Links<'_, '_>,
     walk: &mut Walk,
-    seen: &mut [bool],
+    marks: &mut [Mark],
     point: u16,
-) -> Result<(), OutOfMemory>
-    requires { length seen.old ≡ point_count links.now.program }
+) -> Result<Option<u16>, OutOfMemory>
+    requires { length marks.old ≡ point_count links.now.program }
 {
-    match seen.get_mut(point as usize) {
-        None => return Ok(()),
-        Some(flag) => {
-            if *flag {
-                return Ok(());
+    match marks.get_mut(point as usize) {
+        None => return Ok(None),
+        Some(mark) => match *mark {
+            Mark::New => *mark = Mark::Open,
+            Mark::Open => {
+                walk.back = walk.back.saturating_add(1);
+                return Ok(None);
             }
-            *flag = true;
-        }
+            Mark::Left => return Ok(None),
+        },
     }
     walk.stack.push(Visit::Leave(point))?;
-    // All calls of a point lead to one point after them.
-    if let Some(call) = links.calls_from(u32::from(point)).first() {
-        walk.stack.push(Visit::Enter(call.after))?;
-    }
+    let mut next = point_after(links, marks, point);
     for target in links.steps_from(u32::from(point)) {
-        walk.stack.push(Visit::Enter(*target))?;
+        if let Some(other) = next {
+            walk.stack.push(Visit::Enter(other))?;
+        }
+        next = Some(*target);
     }
+    Ok(next)
+}
+
+// The one point to which all calls of a point lead after them. One that is open is not told: it would count as a step back.
+#[inline(always)]
+fn point_after(links: &Links<'_, '_>, marks: &[Mark], point: u16) -> Option<u16>
+    requires { point < point_count links.now.program }
+{
+    let Some(call) = links.calls_from(u32::from(point)).first() else {
+        return None;
+    };
+    match marks.get(call.after as usize) {
+        Some(Mark::Open) => None,
+        _ => Some(call.after),
+    }
+}
+
+// Leaves a point.
+fn leave(walk: &mut Walk, marks: &mut [Mark], point: u16) -> Result<(), OutOfMemory> {
+    if let Some(mark) = marks.get_mut(point as usize) {
+        *mark = Mark::Left;
+    }
+    walk.left.push(point)?;
     Ok(())
 }
 
@@ -53,74 +108,52 @@ fn enter(
 fn walk_from(
     links: &Links<'_, '_>,
     walk: &mut Walk,
-    seen: &mut [bool],
+    marks: &mut [Mark],
     point: u16,
     most: u64,
 ) -> Result<(), OutOfMemory>
-    requires { length seen.old ≡ point_count links.now.program }
+    requires { length marks.old ≡ point_count links.now.program }
 {
-    enter(links, walk, seen, point)?;
+    let mut next = Some(point);
     for _ in 0..most {
-        match walk.stack.pop() {
-            None => return Ok(()),
-            Some(Visit::Enter(next)) => enter(links, walk, seen, next)?,
-            Some(Visit::Leave(last)) => walk.left.push(last)?,
-        }
+        next = match next {
+            Some(point) => enter(links, walk, marks, point)?,
+            None => match walk.stack.pop() {
+                None => return Ok(()),
+                Some(Visit::Enter(other)) => Some(other),
+                Some(Visit::Leave(last)) => {
+                    leave(walk, marks, last)?;
+                    None
+                }
+            },
+        };
     }
     Ok(())
 }
 
-// Walks from each procedure's entry on, and then from the points that were not seen.
-fn walk_all(links: &Links<'_, '_>, walk: &mut Walk, seen: &mut [bool]) -> Result<(), OutOfMemory>
-    requires { length seen.old ≡ point_count links.now.program }
-{
-    let points = links.points();
-    // Each point is left once, and entered by its steps and its calls: no walk has as many visits.
-    let most = 32 * u64::from(points);
-    for procedure in 0..links.procedures() {
-        let entry = links.entry(procedure) as u16;
-        walk_from(links, walk, seen, entry, most)?;
-    }
-    for point in 0..points {
-        walk_from(links, walk, seen, point as u16, most)?;
-    }
-    Ok(())
-}
-
-// A walk over all points, none of which was seen before.
-fn whole_walk(
-    alloc: Global,
+/// Walks from an entry on, and then from the points of a row that were not entered, and tells how many steps do not lead onward in
+/// reverse post-order: those to a point that is left later, or to their own.
+pub(crate) fn walk_row(
     links: &Links<'_, '_>,
-    seen: &mut [bool],
-) -> Result<Vec<u16>, OutOfMemory>
-    requires { length seen.old ≡ point_count links.now.program }
+    walk: &mut Walk,
+    marks: &mut [Mark],
+    entry: u32,
+    first: u32,
+    last: u32,
+) -> Result<u32, OutOfMemory>
+    requires marks { length marks.old ≡ point_count links.now.program }
+    requires entry { entry < point_count links.now.program }
+    requires last { last < point_count links.now.program }
 {
-    let left = Vec::with_capacity(alloc, links.points() as usize)?;
-    let stack = Vec::new(alloc);
-    let mut walk = Walk { stack, left };
-    walk_all(links, &mut walk, seen)?;
-    let Walk { stack: _, left } = walk;
-    Ok(left)
-}
-
-// The points in the order in which they are left.
-fn points_left(alloc: Global, links: &Links<'_, '_>) -> Result<Vec<u16>, OutOfMemory> {
-    let mut seen = vec![in alloc; false; links.points() as usize]?;
-    whole_walk(alloc, links, seen.as_mut_slice())
-}
-
-/// For each point its place from behind in reverse post-order: how many points are left before it.
-pub(crate) fn walk_positions(alloc: Global, links: &Links<'_, '_>) -> Result<Vec<u16>, OutOfMemory>
-    ensures { IfOk result (λ positions. (length positions.items ≡ point_count links.now.program)
-        × ((k : ℕ) → k < length positions.items → slice_index positions.items k < point_count links.now.program)) }
-{
-    let left = points_left(alloc, links)?;
-    let points = links.points() as usize;
-    let mut positions = vec![in alloc; 0u16; points]?;
-    for (place, point) in left.iter().enumerate() {
-        if let Some(position) = positions.get_mut(*point as usize) {
-            *position = place.min(points - 1) as u16;
+    // Each point is left once, and entered by its steps and its calls: no walk has as many visits.
+    let most = 32 * u64::from(links.points());
+    walk.left.clear();
+    walk.back = 0;
+    walk_from(links, walk, marks, entry as u16, most)?;
+    for point in first..last + 1 {
+        if let Mark::New = marks[point as usize] {
+            walk_from(links, walk, marks, point as u16, most)?;
         }
     }
-    Ok(positions)
+    Ok(walk.back)
 }
