@@ -1,5 +1,5 @@
 // Walks along the steps of a procedure, for the points in reverse post-order. Which order it is bears on the time alone.
-ghost use Rattle.std.specs.Prelude.{◌≡◌, ◌<◌, ◌^◌, length};
+ghost use Rattle.std.specs.Prelude.{◌≡◌, ◌<◌, ◌≤◌, ◌^◌, length};
 ghost use Rattle.flow_graph.specs.Points.{point_count};
 
 use crate::OutOfMemory;
@@ -24,61 +24,51 @@ enum Visit {
     Leave(u16),
 }
 
-/// A walk: what is still to be done, the points that are left behind, in this order, and how many steps did not lead onward.
+/// Room for walks: what is still to be done, and the points that are left behind.
 #[derive(Drop)]
-pub(crate) struct Walk {
+pub(crate) struct WalkRoom {
     stack: Vec<Visit>,
     left: Vec<u16>,
-    back: u32,
 }
 
-impl Walk {
-    /// A walk before its first point, with room for so many.
-    pub(crate) fn new(alloc: Global, points: usize) -> Result<Walk, OutOfMemory> {
-        Ok(Walk {
-            stack: Vec::with_capacity(alloc, points)?,
-            left: Vec::with_capacity(alloc, points)?,
-            back: 0,
+/// How far a walk went: how many points it left behind, and how many steps did not lead onward.
+#[derive(Clone, Copy)]
+pub(crate) struct Walked {
+    pub left: usize,
+    pub back: u32,
+}
+
+impl WalkRoom {
+    /// Room for walks over so many points.
+    pub(crate) fn new(alloc: Global, points: u32) -> Result<WalkRoom, OutOfMemory>
+        requires { points ≤ 2 ^ 16 }
+    {
+        // A point waits once to be left, and for all steps and calls but one of each point another to be entered: a statement has at
+        // most two.
+        let stack = vec![in alloc; Visit::Leave(0); 3 * points as usize]?;
+        Ok(WalkRoom {
+            stack,
+            left: vec![in alloc; 0u16; points as usize]?,
         })
     }
 
-    /// The points that are left behind, each after those to which its steps lead but for steps that did not lead onward.
-    pub(crate) fn left(&self) -> &[u16] {
-        self.left.as_slice()
+    /// The points that were left behind, so many, each after those to which its steps lead onward.
+    pub(crate) fn left(&self, count: usize) -> &[u16] {
+        let left = self.left.as_slice();
+        &left[..count.min(left.len())]
     }
 }
 
-// Enters a point that was not entered before, if it is one: those after it come before it is left. The last of them is told, to go
-// on with, and the others wait on the stack.
+// Puts a visit on the stack, and tells how high it is now.
 #[inline(always)]
-fn enter(
-    links: &Links<'_, '_>,
-    walk: &mut Walk,
-    marks: &mut [Mark],
-    point: u16,
-) -> Result<Option<u16>, OutOfMemory>
-    requires { length marks.old ≡ point_count links.now.program }
-{
-    match marks.get_mut(point as usize) {
-        None => return Ok(None),
-        Some(mark) => match *mark {
-            Mark::New => *mark = Mark::Open,
-            Mark::Open => {
-                walk.back = walk.back.saturating_add(1);
-                return Ok(None);
-            }
-            Mark::Left => return Ok(None),
-        },
-    }
-    walk.stack.push(Visit::Leave(point))?;
-    let mut next = point_after(links, marks, point);
-    for target in links.steps_from(u32::from(point)) {
-        if let Some(other) = next {
-            walk.stack.push(Visit::Enter(other))?;
+fn put(stack: &mut [Visit], height: usize, visit: Visit) -> usize {
+    match stack.get_mut(height) {
+        None => height,
+        Some(place) => {
+            *place = visit;
+            height + 1
         }
-        next = Some(*target);
     }
-    Ok(next)
 }
 
 // The one point to which all calls of a point lead after them. One that is open is not told: it would count as a step back.
@@ -95,65 +85,119 @@ fn point_after(links: &Links<'_, '_>, marks: &[Mark], point: u16) -> Option<u16>
     }
 }
 
-// Leaves a point.
-fn leave(walk: &mut Walk, marks: &mut [Mark], point: u16) -> Result<(), OutOfMemory> {
+// Enters a point: those after it come before it is left. The last of them is told, to go on with, and the others wait on the stack,
+// whose height is told too.
+#[inline(always)]
+fn enter(
+    links: &Links<'_, '_>,
+    stack: &mut [Visit],
+    marks: &[Mark],
+    height: usize,
+    point: u16,
+) -> (Option<u16>, usize)
+    requires { point < point_count links.now.program }
+{
+    let mut height = put(stack, height, Visit::Leave(point));
+    let mut next = point_after(links, marks, point);
+    for target in links.steps_from(u32::from(point)) {
+        if let Some(other) = next {
+            height = put(stack, height, Visit::Enter(other));
+        }
+        next = Some(*target);
+    }
+    (next, height)
+}
+
+// Leaves a point, behind so many others, and tells how many there are now.
+#[inline(always)]
+fn leave(left: &mut [u16], marks: &mut [Mark], count: usize, point: u16) -> usize {
     if let Some(mark) = marks.get_mut(point as usize) {
         *mark = Mark::Left;
     }
-    walk.left.push(point)?;
-    Ok(())
+    match left.get_mut(count) {
+        None => count,
+        Some(place) => {
+            *place = point;
+            count + 1
+        }
+    }
 }
 
 // Walks from a point on, for at most so many visits.
 fn walk_from(
     links: &Links<'_, '_>,
-    walk: &mut Walk,
+    stack: &mut [Visit],
+    left: &mut [u16],
     marks: &mut [Mark],
     point: u16,
-    most: u64,
-) -> Result<(), OutOfMemory>
+    walked: Walked,
+) -> Walked
     requires { length marks.old ≡ point_count links.now.program }
 {
+    // Each point is left once, and entered by its steps and its calls: no walk has as many visits.
+    let most = 32 * u64::from(links.points());
+    let mut walked = walked;
+    let mut height = 0;
     let mut next = Some(point);
     for _ in 0..most {
-        next = match next {
-            Some(point) => enter(links, walk, marks, point)?,
-            None => match walk.stack.pop() {
-                None => return Ok(()),
-                Some(Visit::Enter(other)) => Some(other),
-                Some(Visit::Leave(last)) => {
-                    leave(walk, marks, last)?;
-                    None
-                }
+        match next {
+            Some(point) => match marks.get_mut(point as usize) {
+                Some(mark) => match *mark {
+                    Mark::New => {
+                        *mark = Mark::Open;
+                        let entered = enter(links, stack, marks, height, point);
+                        next = entered.0;
+                        height = entered.1;
+                    }
+                    Mark::Open => {
+                        walked.back = walked.back.saturating_add(1);
+                        next = None;
+                    }
+                    Mark::Left => next = None,
+                },
+                None => next = None,
             },
-        };
+            None => {
+                if height == 0 {
+                    return walked;
+                }
+                height -= 1;
+                match stack.get(height) {
+                    None => return walked,
+                    Some(Visit::Enter(other)) => next = Some(*other),
+                    Some(Visit::Leave(last)) => {
+                        walked.left = leave(left, marks, walked.left, *last);
+                    }
+                }
+            }
+        }
     }
-    Ok(())
+    walked
 }
 
-/// Walks from an entry on, and then from the points of a row that were not entered, and tells how many steps do not lead onward in
-/// reverse post-order: those to a point that is left later, or to their own.
+/// Walks from an entry on, and then from the points of a row that were not entered, and tells how many points it left and how many
+/// steps do not lead onward in reverse post-order: those to a point that is left later, or to their own.
 pub(crate) fn walk_row(
     links: &Links<'_, '_>,
-    walk: &mut Walk,
+    room: &mut WalkRoom,
     marks: &mut [Mark],
     entry: u32,
     first: u32,
     last: u32,
-) -> Result<u32, OutOfMemory>
+) -> Walked
     requires marks { length marks.old ≡ point_count links.now.program }
     requires entry { entry < point_count links.now.program }
     requires last { last < point_count links.now.program }
 {
-    // Each point is left once, and entered by its steps and its calls: no walk has as many visits.
-    let most = 32 * u64::from(links.points());
-    walk.left.clear();
-    walk.back = 0;
-    walk_from(links, walk, marks, entry as u16, most)?;
+    let _ = links.points();
+    let stack = room.stack.as_mut_slice();
+    let left = room.left.as_mut_slice();
+    let begun = Walked { left: 0, back: 0 };
+    let mut walked = walk_from(links, stack, left, marks, entry as u16, begun);
     for point in first..last + 1 {
         if let Mark::New = marks[point as usize] {
-            walk_from(links, walk, marks, point as u16, most)?;
+            walked = walk_from(links, stack, left, marks, point as u16, walked);
         }
     }
-    Ok(walk.back)
+    walked
 }
