@@ -43,8 +43,7 @@ impl WalkRoom {
     pub(crate) fn new(alloc: Global, points: u32) -> Result<WalkRoom, OutOfMemory>
         requires { points ≤ 2 ^ 16 }
     {
-        // A point waits once to be left, and for all steps and calls but one of each point another to be entered: a statement has at
-        // most two.
+        // Each point waits once to be left, and points wait at most twice as often to be entered: a statement leads to two at most.
         let stack = vec![in alloc; Visit::Leave(0); 3 * points as usize]?;
         Ok(WalkRoom {
             stack,
@@ -123,40 +122,56 @@ fn leave(left: &mut [u16], marks: &mut [Mark], count: usize, point: u16) -> usiz
     }
 }
 
-// Walks from a point on, for at most so many visits.
+// Goes to a point: enters it if it is new, and counts the step if it is open. Tells what `enter` does.
+#[inline(always)]
+fn go_to(
+    links: &Links<'_, '_>,
+    stack: &mut [Visit],
+    marks: &mut [Mark],
+    height: usize,
+    point: u16,
+    walked: &mut Walked,
+) -> (Option<u16>, usize)
+    requires { length marks.old ≡ point_count links.now.program }
+{
+    match marks.get_mut(point as usize) {
+        Some(mark) => match *mark {
+            Mark::New => {
+                *mark = Mark::Open;
+                enter(links, stack, marks, height, point)
+            }
+            Mark::Open => {
+                walked.back = walked.back.saturating_add(1);
+                (None, height)
+            }
+            Mark::Left => (None, height),
+        },
+        None => (None, height),
+    }
+}
+
+// Walks from a point on, and tells how far, with what went before.
 fn walk_from(
     links: &Links<'_, '_>,
     stack: &mut [Visit],
     left: &mut [u16],
     marks: &mut [Mark],
     point: u16,
-    walked: Walked,
+    mut walked: Walked,
 ) -> Walked
     requires { length marks.old ≡ point_count links.now.program }
 {
     // Each point is left once, and entered by its steps and its calls: no walk has as many visits.
     let most = 32 * u64::from(links.points());
-    let mut walked = walked;
     let mut height = 0;
     let mut next = Some(point);
     for _ in 0..most {
         match next {
-            Some(point) => match marks.get_mut(point as usize) {
-                Some(mark) => match *mark {
-                    Mark::New => {
-                        *mark = Mark::Open;
-                        let entered = enter(links, stack, marks, height, point);
-                        next = entered.0;
-                        height = entered.1;
-                    }
-                    Mark::Open => {
-                        walked.back = walked.back.saturating_add(1);
-                        next = None;
-                    }
-                    Mark::Left => next = None,
-                },
-                None => next = None,
-            },
+            Some(point) => {
+                let gone = go_to(links, stack, marks, height, point, &mut walked);
+                next = gone.0;
+                height = gone.1;
+            }
             None => {
                 if height == 0 {
                     return walked;
