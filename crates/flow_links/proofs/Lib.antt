@@ -1,3 +1,4 @@
+pub mod CallLemmas
 pub mod ListLemmas
 pub mod ShapeLemmas
 pub mod Written

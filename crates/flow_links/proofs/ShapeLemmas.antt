@@ -1,5 +1,5 @@
 -- The points, procedures and edges of a program, in either direction
-use Rattle.std.proofs.Common.{◌≡◌, ℕ, ◌<◌, ◌≤◌, ◌^◌, Bool, true, false, List, length, get_or, map, refl, ap, subst, ◌∙◌, arith, Contains}
+use Rattle.std.proofs.Common.{◌≡◌, ℕ, ◌<◌, ◌≤◌, ◌^◌, Bool, true, false, List, length, get_or, map, refl, ap, subst, ◌∙◌, arith}
 use Rattle.std.proofs.lemmas.List.{length-map, get_or-map}
 use Rattle.std.proofs.lemmas.List.Elements.{All-contains_itself}
 use Rattle.tac_reader.specs.Programs.{Program}
@@ -15,7 +15,7 @@ use Rattle.flow_graph.specs.Limits.{HasFewPoints}
 use Rattle.flow_graph.proofs.graphs.GraphLaws.{graphs_are_well_formed, edges_join_points, entry_in, end_in, calls_return_behind_sites, returns_have_calls_at_sites}
 use Rattle.flow_graph.proofs.places.PointLemmas.{points_have_places}
 use Rattle.flow_graph.proofs.paths.Reversal.{edge_reversed, edge_back, reversed_is_well_formed}
-use Rattle.flow_links.specs.Tables.EdgeLists.{key_of, keys_of}
+use Rattle.flow_links.specs.Tables.EdgeLists.{AreEdges, key_of, keys_of}
 use Rattle.flow_links.specs.declared.list_kind.ListKind.{ListKind}
 use Rattle.flow_links.specs.declared.list_kind.ListKind.TheVariants.{Steps, Calls, Callers, Sites}
 use Rattle.flow_links.specs.Shapes.{directed_shape, IsNumbered}
@@ -135,20 +135,14 @@ pub key_fits : {program : Program} {analysis : Analysis} → AreInRange program 
     → key_of kind (may_shape program analysis) (point_count program) edge < 2 ^ 16
 key_fits range kind edge there = let low = key_low range kind edge there in let few = keys_few range kind in omega (arith, low, few)
 
--- an element of the list of edges is an edge
-pub element_of : (edges : List Edge) (all : List Edge) → edges ≡ all → (i : ℕ) (d : Edge) → i < length edges → Contains all (get_or edges i d)
-element_of edges all same i d within = subst (λ es. Contains es (get_or edges i d)) same (All-contains_itself edges i d within)
-
-pub keys_low : {program : Program} {analysis : Analysis} → AreInRange program analysis → (kind : ListKind) (keys : List ℕ)
-    → keys ≡ map (key_of kind (may_shape program analysis) (point_count program)) (may_shape program analysis).edges → (i : ℕ) → i < length keys
-    → get_or keys i 0 ≤ keys_of kind (may_shape program analysis) (point_count program)
-keys_low {program = program} {analysis = analysis} range kind keys are i within =
-    let edges : List Edge = (may_shape program analysis).edges in
+pub keys_low : {program : Program} {analysis : Analysis} → AreInRange program analysis → (kind : ListKind) (edges : List Edge) → AreEdges (may_shape program analysis) edges → (keys : List ℕ)
+    → keys ≡ map (key_of kind (may_shape program analysis) (point_count program)) edges → (i : ℕ) → i < length keys → get_or keys i 0 ≤ keys_of kind (may_shape program analysis) (point_count program)
+keys_low {program = program} {analysis = analysis} range kind edges all keys are i within =
     let count : length keys ≡ length edges = ap length are ∙ length-map edges (key_of kind (may_shape program analysis) (point_count program)) in
     let inside : i < length edges = omega (arith, count, within) in
     let is : get_or keys i 0 ≡ key_of kind (may_shape program analysis) (point_count program) (get_or edges i (Step 0 0)) =
     ap (λ ks. get_or ks i 0) are ∙ get_or-map (key_of kind (may_shape program analysis) (point_count program)) edges i (Step 0 0) 0 inside in
-    let low = key_low range kind (get_or edges i (Step 0 0)) (All-contains_itself edges i (Step 0 0) inside) in
+    let low = key_low range kind (get_or edges i (Step 0 0)) (all _ (All-contains_itself edges i (Step 0 0) inside)) in
     omega (arith, is, low)
 
 pub link_is_call : {program : Program} {analysis : Analysis} {site x y : ℕ} → AreInRange program analysis → (edge : Edge) → IsEdge (may_shape program analysis) edge → edge ≡ Call site x y → IsEdge (may_shape program analysis) (Call site x y)

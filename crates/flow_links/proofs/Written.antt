@@ -1,5 +1,5 @@
 -- Lists that are lent out of a vector, and what stands in them
-use Rattle.std.proofs.Common.{◌≡◌, ℕ, ◌<◌, ◌++◌, List, length, get_or, take, drop, map, replicate, sym, ap, subst, ◌∙◌, arith}
+use Rattle.std.proofs.Common.{◌≡◌, ℕ, ◌<◌, ◌++◌, List, length, get_or, take, drop, map, replicate, ap, ◌∙◌, arith}
 use Rattle.std.proofs.lemmas.List.{get_or-replicate, get_or-take, length-map, length-replicate, length-take}
 use Rattle.std.proofs.lemmas.Grind.{common_steps}
 use Rattle.flow_graph.specs.declared.edge.Edge.{Edge}

@@ -1,6 +1,7 @@
 //! The edges of a problem by point, and the orders in which a solver takes points and procedures.
 #![tactic(auto)]
 
+mod call_edges;
 mod call_walk;
 mod keys;
 mod link;

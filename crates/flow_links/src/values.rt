@@ -2,7 +2,7 @@
 ghost use Rattle.std.specs.Prelude.{◌≡◌, ℕ, ◌<◌, IfOk, length, map, slice_index};
 ghost use Rattle.flow_graph.specs.Analyses.{is_backward as is_backward_of, may_shape};
 ghost use Rattle.flow_graph.specs.Paths.{IsEdge};
-ghost use Rattle.flow_links.specs.Tables.EdgeLists.{call_link, call_source, edge_at, site_link, step_target};
+ghost use Rattle.flow_links.specs.Tables.EdgeLists.{AreEdges, call_link, call_source, edge_at, site_link, step_target};
 
 use crate::OutOfMemory;
 use crate::link::{CallLink, SiteLink};
@@ -82,16 +82,17 @@ fn site_of(problem: &Problem<'_, '_>, edge: Edge) -> SiteLink
     }
 }
 
-/// The targets of the edges at these places.
+/// The targets of the steps at these places among these edges.
 pub(crate) fn targets(
     alloc: Global,
     problem: &Problem<'_, '_>,
+    edges: &[Edge],
     places: &[u32],
 ) -> Result<Vec<u16>, OutOfMemory>
-    requires { (j : ℕ) → j < length places.now → slice_index places.now j < length (may_shape problem.now.program problem.now.analysis).edges }
-    ensures { IfOk result (λ list. list.items ≡ map (λ place. step_target (edge_at (may_shape problem.now.program problem.now.analysis).edges place)) places.now) }
+    requires edges { AreEdges (may_shape problem.now.program problem.now.analysis) edges.now }
+    requires places { (j : ℕ) → j < length places.now → slice_index places.now j < length edges.now }
+    ensures { IfOk result (λ list. list.items ≡ map (λ place. step_target (edge_at edges.now place)) places.now) }
 {
-    let edges = problem.edges();
     let mut list = Vec::with_capacity(alloc, places.len())?;
     for place in places {
         list.push(target(problem, edges[*place as usize]))?;
@@ -99,16 +100,17 @@ pub(crate) fn targets(
     Ok(list)
 }
 
-/// The sources of the calls at these places.
+/// The sources of the calls at these places among these edges.
 pub(crate) fn sources(
     alloc: Global,
     problem: &Problem<'_, '_>,
+    edges: &[Edge],
     places: &[u32],
 ) -> Result<Vec<u16>, OutOfMemory>
-    requires { (j : ℕ) → j < length places.now → slice_index places.now j < length (may_shape problem.now.program problem.now.analysis).edges }
-    ensures { IfOk result (λ list. list.items ≡ map (λ place. call_source (edge_at (may_shape problem.now.program problem.now.analysis).edges place)) places.now) }
+    requires edges { AreEdges (may_shape problem.now.program problem.now.analysis) edges.now }
+    requires places { (j : ℕ) → j < length places.now → slice_index places.now j < length edges.now }
+    ensures { IfOk result (λ list. list.items ≡ map (λ place. call_source (edge_at edges.now place)) places.now) }
 {
-    let edges = problem.edges();
     let mut list = Vec::with_capacity(alloc, places.len())?;
     for place in places {
         list.push(source(problem, edges[*place as usize]))?;
@@ -116,17 +118,18 @@ pub(crate) fn sources(
     Ok(list)
 }
 
-/// Where the calls at these places lead.
+/// Where the calls at these places among these edges lead.
 pub(crate) fn links(
     alloc: Global,
     problem: &Problem<'_, '_>,
+    edges: &[Edge],
     places: &[u32],
 ) -> Result<Vec<CallLink>, OutOfMemory>
-    requires { (j : ℕ) → j < length places.now → slice_index places.now j < length (may_shape problem.now.program problem.now.analysis).edges }
+    requires edges { AreEdges (may_shape problem.now.program problem.now.analysis) edges.now }
+    requires places { (j : ℕ) → j < length places.now → slice_index places.now j < length edges.now }
     ensures { IfOk result (λ list. list.items ≡ map (λ place. call_link (may_shape problem.now.program problem.now.analysis) (is_backward_of problem.now.analysis)
-        (edge_at (may_shape problem.now.program problem.now.analysis).edges place)) places.now) }
+        (edge_at edges.now place)) places.now) }
 {
-    let edges = problem.edges();
     let mut list = Vec::with_capacity(alloc, places.len())?;
     for place in places {
         list.push(link_of(problem, edges[*place as usize]))?;
@@ -134,17 +137,18 @@ pub(crate) fn links(
     Ok(list)
 }
 
-/// The calls at these places, in their procedures.
+/// The calls at these places among these edges, in their procedures.
 pub(crate) fn sites(
     alloc: Global,
     problem: &Problem<'_, '_>,
+    edges: &[Edge],
     places: &[u32],
 ) -> Result<Vec<SiteLink>, OutOfMemory>
-    requires { (j : ℕ) → j < length places.now → slice_index places.now j < length (may_shape problem.now.program problem.now.analysis).edges }
+    requires edges { AreEdges (may_shape problem.now.program problem.now.analysis) edges.now }
+    requires places { (j : ℕ) → j < length places.now → slice_index places.now j < length edges.now }
     ensures { IfOk result (λ list. list.items ≡ map (λ place. site_link (may_shape problem.now.program problem.now.analysis)
-        (edge_at (may_shape problem.now.program problem.now.analysis).edges place)) places.now) }
+        (edge_at edges.now place)) places.now) }
 {
-    let edges = problem.edges();
     let mut list = Vec::with_capacity(alloc, places.len())?;
     for place in places {
         list.push(site_of(problem, edges[*place as usize]))?;

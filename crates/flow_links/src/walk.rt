@@ -1,10 +1,21 @@
-// The points in reverse post-order of a walk along the steps of each procedure. Which order it is bears on the time alone.
-ghost use Rattle.std.specs.Prelude.{◌≡◌, ℕ, ◌<◌, IfOk, length, slice_index};
+// Walks along the steps of a procedure, for the points in reverse post-order. Which order it is bears on the time alone.
+ghost use Rattle.std.specs.Prelude.{◌≡◌, ◌<◌, ◌≤◌, ◌^◌, length};
 ghost use Rattle.flow_graph.specs.Points.{point_count};
 
 use crate::OutOfMemory;
 use crate::links::Links;
 use std::alloc::Global;
+
+/// How far a walk is with a point.
+#[derive(Clone, Copy)]
+pub(crate) enum Mark {
+    /// It was not entered.
+    New,
+    /// It was entered, and it is not left.
+    Open,
+    /// It was left.
+    Left,
+}
 
 // What is still to be done on a walk.
 #[derive(Clone, Copy)]
@@ -13,114 +24,195 @@ enum Visit {
     Leave(u16),
 }
 
-// A walk: what is still to be done, and the points that are left behind, in this order.
+/// Room for walks: what is still to be done, and the points that are left behind.
 #[derive(Drop)]
-struct Walk {
+pub(crate) struct WalkRoom {
     stack: Vec<Visit>,
     left: Vec<u16>,
 }
 
-// Enters a point that was not seen before: those after it come first, and then it is left.
+/// How far a walk went: how many points it left behind, and how many steps did not lead onward.
+#[derive(Clone, Copy)]
+pub(crate) struct Walked {
+    pub left: usize,
+    pub back: u32,
+}
+
+impl WalkRoom {
+    /// Room for walks over so many points.
+    pub(crate) fn new(alloc: Global, points: u32) -> Result<WalkRoom, OutOfMemory>
+        requires { points ≤ 2 ^ 16 }
+    {
+        // Each point waits once to be left, and points wait at most twice as often to be entered: a statement leads to two at most.
+        let stack = vec![in alloc; Visit::Leave(0); 3 * points as usize]?;
+        Ok(WalkRoom {
+            stack,
+            left: vec![in alloc; 0u16; points as usize]?,
+        })
+    }
+
+    /// The points that were left behind, so many, each after those to which its steps lead onward.
+    pub(crate) fn left(&self, count: usize) -> &[u16] {
+        let left = self.left.as_slice();
+        &left[..count.min(left.len())]
+    }
+}
+
+// Puts a visit on the stack, and tells how high it is now.
+#[inline(always)]
+fn put(stack: &mut [Visit], height: usize, visit: Visit) -> usize {
+    match stack.get_mut(height) {
+        None => height,
+        Some(place) => {
+            *place = visit;
+            height + 1
+        }
+    }
+}
+
+// The one point to which all calls of a point lead after them. One that is open is not told: it would count as a step back.
+#[inline(always)]
+fn point_after(links: &Links<'_, '_>, marks: &[Mark], point: u16) -> Option<u16>
+    requires { point < point_count links.now.program }
+{
+    let Some(call) = links.calls_from(u32::from(point)).first() else {
+        return None;
+    };
+    match marks.get(call.after as usize) {
+        Some(Mark::Open) => None,
+        _ => Some(call.after),
+    }
+}
+
+// Enters a point: those after it come before it is left. The last of them is told, to go on with, and the others wait on the stack,
+// whose height is told too.
+#[inline(always)]
 fn enter(
     links: &Links<'_, '_>,
-    walk: &mut Walk,
-    seen: &mut [bool],
+    stack: &mut [Visit],
+    marks: &[Mark],
+    height: usize,
     point: u16,
-) -> Result<(), OutOfMemory>
-    requires { length seen.old ≡ point_count links.now.program }
+) -> (Option<u16>, usize)
+    requires { point < point_count links.now.program }
 {
-    match seen.get_mut(point as usize) {
-        None => return Ok(()),
-        Some(flag) => {
-            if *flag {
-                return Ok(());
-            }
-            *flag = true;
-        }
-    }
-    walk.stack.push(Visit::Leave(point))?;
-    // All calls of a point lead to one point after them.
-    if let Some(call) = links.calls_from(u32::from(point)).first() {
-        walk.stack.push(Visit::Enter(call.after))?;
-    }
+    let mut height = put(stack, height, Visit::Leave(point));
+    let mut next = point_after(links, marks, point);
     for target in links.steps_from(u32::from(point)) {
-        walk.stack.push(Visit::Enter(*target))?;
+        if let Some(other) = next {
+            height = put(stack, height, Visit::Enter(other));
+        }
+        next = Some(*target);
     }
-    Ok(())
+    (next, height)
 }
 
-// Walks from a point on, for at most so many visits.
+// Leaves a point, behind so many others, and tells how many there are now.
+#[inline(always)]
+fn leave(left: &mut [u16], marks: &mut [Mark], count: usize, point: u16) -> usize {
+    if let Some(mark) = marks.get_mut(point as usize) {
+        *mark = Mark::Left;
+    }
+    match left.get_mut(count) {
+        None => count,
+        Some(place) => {
+            *place = point;
+            count + 1
+        }
+    }
+}
+
+// Goes to a point: enters it if it is new, and counts the step if it is open. Tells what `enter` does.
+#[inline(always)]
+fn go_to(
+    links: &Links<'_, '_>,
+    stack: &mut [Visit],
+    marks: &mut [Mark],
+    height: usize,
+    point: u16,
+    walked: &mut Walked,
+) -> (Option<u16>, usize)
+    requires { length marks.old ≡ point_count links.now.program }
+{
+    match marks.get_mut(point as usize) {
+        Some(mark) => match *mark {
+            Mark::New => {
+                *mark = Mark::Open;
+                enter(links, stack, marks, height, point)
+            }
+            Mark::Open => {
+                walked.back = walked.back.saturating_add(1);
+                (None, height)
+            }
+            Mark::Left => (None, height),
+        },
+        None => (None, height),
+    }
+}
+
+// Walks from a point on, and tells how far, with what went before.
 fn walk_from(
     links: &Links<'_, '_>,
-    walk: &mut Walk,
-    seen: &mut [bool],
+    stack: &mut [Visit],
+    left: &mut [u16],
+    marks: &mut [Mark],
     point: u16,
-    most: u64,
-) -> Result<(), OutOfMemory>
-    requires { length seen.old ≡ point_count links.now.program }
+    mut walked: Walked,
+) -> Walked
+    requires { length marks.old ≡ point_count links.now.program }
 {
-    enter(links, walk, seen, point)?;
-    for _ in 0..most {
-        match walk.stack.pop() {
-            None => return Ok(()),
-            Some(Visit::Enter(next)) => enter(links, walk, seen, next)?,
-            Some(Visit::Leave(last)) => walk.left.push(last)?,
-        }
-    }
-    Ok(())
-}
-
-// Walks from each procedure's entry on, and then from the points that were not seen.
-fn walk_all(links: &Links<'_, '_>, walk: &mut Walk, seen: &mut [bool]) -> Result<(), OutOfMemory>
-    requires { length seen.old ≡ point_count links.now.program }
-{
-    let points = links.points();
     // Each point is left once, and entered by its steps and its calls: no walk has as many visits.
-    let most = 32 * u64::from(points);
-    for procedure in 0..links.procedures() {
-        let entry = links.entry(procedure) as u16;
-        walk_from(links, walk, seen, entry, most)?;
-    }
-    for point in 0..points {
-        walk_from(links, walk, seen, point as u16, most)?;
-    }
-    Ok(())
-}
-
-// A walk over all points, none of which was seen before.
-fn whole_walk(
-    alloc: Global,
-    links: &Links<'_, '_>,
-    seen: &mut [bool],
-) -> Result<Vec<u16>, OutOfMemory>
-    requires { length seen.old ≡ point_count links.now.program }
-{
-    let left = Vec::with_capacity(alloc, links.points() as usize)?;
-    let stack = Vec::new(alloc);
-    let mut walk = Walk { stack, left };
-    walk_all(links, &mut walk, seen)?;
-    let Walk { stack: _, left } = walk;
-    Ok(left)
-}
-
-// The points in the order in which they are left.
-fn points_left(alloc: Global, links: &Links<'_, '_>) -> Result<Vec<u16>, OutOfMemory> {
-    let mut seen = vec![in alloc; false; links.points() as usize]?;
-    whole_walk(alloc, links, seen.as_mut_slice())
-}
-
-/// For each point its place from behind in reverse post-order: how many points are left before it.
-pub(crate) fn walk_positions(alloc: Global, links: &Links<'_, '_>) -> Result<Vec<u16>, OutOfMemory>
-    ensures { IfOk result (λ positions. (length positions.items ≡ point_count links.now.program)
-        × ((k : ℕ) → k < length positions.items → slice_index positions.items k < point_count links.now.program)) }
-{
-    let left = points_left(alloc, links)?;
-    let points = links.points() as usize;
-    let mut positions = vec![in alloc; 0u16; points]?;
-    for (place, point) in left.iter().enumerate() {
-        if let Some(position) = positions.get_mut(*point as usize) {
-            *position = place.min(points - 1) as u16;
+    let most = 32 * u64::from(links.points());
+    let mut height = 0;
+    let mut next = Some(point);
+    for _ in 0..most {
+        match next {
+            Some(point) => {
+                let gone = go_to(links, stack, marks, height, point, &mut walked);
+                next = gone.0;
+                height = gone.1;
+            }
+            None => {
+                if height == 0 {
+                    return walked;
+                }
+                height -= 1;
+                match stack.get(height) {
+                    None => return walked,
+                    Some(Visit::Enter(other)) => next = Some(*other),
+                    Some(Visit::Leave(last)) => {
+                        walked.left = leave(left, marks, walked.left, *last);
+                    }
+                }
+            }
         }
     }
-    Ok(positions)
+    walked
+}
+
+/// Walks from an entry on, and then from the points of a row that were not entered, and tells how many points it left and how many
+/// steps do not lead onward in reverse post-order: those to a point that is left later, or to their own.
+pub(crate) fn walk_row(
+    links: &Links<'_, '_>,
+    room: &mut WalkRoom,
+    marks: &mut [Mark],
+    entry: u32,
+    first: u32,
+    last: u32,
+) -> Walked
+    requires marks { length marks.old ≡ point_count links.now.program }
+    requires entry { entry < point_count links.now.program }
+    requires last { last < point_count links.now.program }
+{
+    let _ = links.points();
+    let stack = room.stack.as_mut_slice();
+    let left = room.left.as_mut_slice();
+    let begun = Walked { left: 0, back: 0 };
+    let mut walked = walk_from(links, stack, left, marks, entry as u16, begun);
+    for point in first..last + 1 {
+        if let Mark::New = marks[point as usize] {
+            walked = walk_from(links, stack, left, marks, point as u16, walked);
+        }
+    }
+    walked
 }

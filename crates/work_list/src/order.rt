@@ -41,16 +41,24 @@ fn leads_back(there: &[u16], back: &[u16]) -> bool
     true
 }
 
+// Writes to each place its number.
+fn write_numbers(places: &mut [u16])
+    requires { length places.old ≤ 2 ^ 16 }
+    ensures { (k : ℕ) → k < length places.new → slice_index places.new k ≡ k }
+{
+    for number in 0..places.len() {
+        places[number] = number as u16;
+    }
+}
+
 // The numbers below a count.
-fn numbers(alloc: Global, count: u32) -> Result<Vec<u16>, OutOfMemory>
+fn numbers_below(alloc: Global, count: u32) -> Result<Vec<u16>, OutOfMemory>
     requires { count ≤ 2 ^ 16 }
     ensures { IfOk result (λ numbers. (length numbers.items ≡ count)
         × ((k : ℕ) → k < count → slice_index numbers.items k ≡ k)) }
 {
-    let mut numbers = Vec::with_capacity(alloc, count as usize)?;
-    for number in 0..count {
-        numbers.push(number as u16)?;
-    }
+    let mut numbers = vec![in alloc; 0u16; count as usize]?;
+    write_numbers(numbers.as_mut_slice());
     Ok(numbers)
 }
 
@@ -69,6 +77,18 @@ fn ranks_of(alloc: Global, points: &[u16]) -> Result<Vec<u16>, OutOfMemory>
 }
 
 impl Order {
+    /// The order of the numbers below a count, each of which is its own rank.
+    pub fn numbers(alloc: Global, count: u32) -> Result<Order, OutOfMemory>
+        requires { count ≤ 2 ^ 16 }
+        ensures { IfOk result (λ order. (length order ≡ count) × ((k : ℕ) → k < count → slice_index order k ≡ k)) }
+    {
+        let numbers = numbers_below(alloc, count)?;
+        Ok(Order {
+            ranks: numbers.as_slice().to_vec(alloc)?,
+            points: numbers,
+        })
+    }
+
     /// The order in which the points are listed, if each number below their count is; else that of the numbers.
     pub fn of(alloc: Global, points: Vec<u16>) -> Result<Order, OutOfMemory>
         requires { length points.items ≤ 2 ^ 16 }
@@ -80,11 +100,7 @@ impl Order {
         {
             return Ok(Order { ranks, points });
         }
-        let count = points.len() as u32;
-        Ok(Order {
-            ranks: numbers(alloc, count)?,
-            points: numbers(alloc, count)?,
-        })
+        Order::numbers(alloc, points.len() as u32)
     }
 
     /// How many points it has.

@@ -1,14 +1,24 @@
 -- Lists of what edges lead to, side by side in one block, by the numbers at which they stand.
-use Rattle.std.specs.Prelude.{◌≡◌, ℕ, ◌+◌, ◌<◌, ◌≤◌, Bool, List, length, slice_index, slice_index_or, Contains}
+use Rattle.std.specs.Prelude.{◌≡◌, ℕ, ◌+◌, ◌<◌, ◌≤◌, Bool, true, false, List, length, slice_index, slice_index_or, Contains}
 use Rattle.flow_graph.specs.declared.edge.Edge.{Edge}
 use Rattle.flow_graph.specs.declared.edge.Edge.TheVariants.{Step, Call, Ret}
-use Rattle.flow_graph.specs.Paths.{Shape}
+use Rattle.flow_graph.specs.Paths.{Shape, IsEdge}
 use Rattle.work_list.specs.Groups.{IsPlaceOf}
 use Rattle.flow_links.specs.Shapes.{after_site}
 use Rattle.flow_links.specs.declared.link.CallLink.{CallLink}
 use Rattle.flow_links.specs.declared.link.SiteLink.{SiteLink}
 use Rattle.flow_links.specs.declared.list_kind.ListKind.{ListKind}
 use Rattle.flow_links.specs.declared.list_kind.ListKind.TheVariants.{Steps, Calls, Callers, Sites}
+
+-- each edge of a list is one of the shape's
+abbrev pub AreEdges : Shape → List Edge → Type 0
+AreEdges shape edges = (edge : Edge) → Contains edges edge → IsEdge shape edge
+
+-- whether an edge is a call
+abbrev pub is_call : Edge → Bool
+is_call (Step x y) = false
+is_call (Call site x y) = true
+is_call (Ret site x y) = false
 
 -- the number at which an edge stands in a list; the one behind the last where it stands in none
 abbrev pub key_of : ListKind → Shape → ℕ → Edge → ℕ

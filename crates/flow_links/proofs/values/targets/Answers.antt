@@ -1,13 +1,12 @@
-use Rattle.std.proofs.Common.{get_or, arith, length, ap}
+use Rattle.std.proofs.Common.{get_or, arith}
 use Rattle.std.proofs.lemmas.Grind.{common_steps}
-use Rattle.flow_links.proofs.ShapeLemmas.{element_of}
+use Rattle.std.proofs.lemmas.List.Elements.{Contains-get_or}
 use Rattle.flow_links.proofs.values.targets.Goals as goal
 
 pub target-requires : goal.target-requires
 target-requires c =
-    let low = c.requires c.loop-place.place-index (omega arith) in
-    let same = ap length c.edges-edges.ensures.edges in
-    element_of c.edges-edges.result.now _ c.edges-edges.ensures.edges (get_or c.args.places.now c.loop-place.place-index 0) _ (omega (arith, low, same))
+    let low = c.requires.places c.loop-place.place-index (omega arith) in
+    c.requires.edges _ (Contains-get_or c.args.edges.now (get_or c.args.places.now c.loop-place.place-index 0) _ (omega (arith, low)))
 
 pub loop-place-preserved : goal.loop-place-preserved
 loop-place-preserved c = grind (arith, common_steps)

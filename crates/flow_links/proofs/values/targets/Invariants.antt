@@ -1,7 +1,6 @@
 use Rattle.std.proofs.Common.{◌≡◌, map, take}
-use Rattle.flow_graph.specs.Analyses.{may_shape}
 use Rattle.flow_links.specs.Tables.EdgeLists.{step_target, edge_at}
 use Rattle.flow_links.proofs.values.targets.Given as goal
 
 abbrev pub invariant-loop-place : goal.invariant-loop-place
-invariant-loop-place l = l.list.items ≡ map (λ place. step_target (edge_at (may_shape l.fn.problem.program l.fn.problem.analysis).edges place)) (take l.place-index l.places)
+invariant-loop-place l = l.list.items ≡ map (λ place. step_target (edge_at l.fn.edges place)) (take l.place-index l.places)
