@@ -6,3 +6,9 @@ with_last_slice-requires-send-S g c = λ κs lives. search solver_crosses depth 
 
 pub with_last_slice-requires-sync-S : goal.with_last_slice-requires-sync-S
 with_last_slice-requires-sync-S g c = λ κs lives. search solver_crosses depth 60
+
+pub with_last_slice-requires-send-W : goal.with_last_slice-requires-send-W
+with_last_slice-requires-send-W g c = λ κs lives. search solver_crosses depth 60
+
+pub with_last_slice-requires-sync-W : goal.with_last_slice-requires-sync-W
+with_last_slice-requires-sync-W g c = λ κs lives. search solver_crosses depth 60

@@ -6,3 +6,9 @@ with_two_slices-requires-send-S g c = λ κs lives. search solver_crosses depth 
 
 pub with_two_slices-requires-sync-S : goal.with_two_slices-requires-sync-S
 with_two_slices-requires-sync-S g c = λ κs lives. search solver_crosses depth 60
+
+pub with_two_slices-requires-send-W : goal.with_two_slices-requires-send-W
+with_two_slices-requires-send-W g c = λ κs lives. search solver_crosses depth 60
+
+pub with_two_slices-requires-sync-W : goal.with_two_slices-requires-sync-W
+with_two_slices-requires-sync-W g c = λ κs lives. search solver_crosses depth 60

@@ -6,3 +6,9 @@ with_refusals-requires-send-S g c = λ κs lives. search solver_crosses depth 60
 
 pub with_refusals-requires-sync-S : goal.with_refusals-requires-sync-S
 with_refusals-requires-sync-S g c = λ κs lives. search solver_crosses depth 60
+
+pub with_refusals-requires-send-W : goal.with_refusals-requires-send-W
+with_refusals-requires-send-W g c = λ κs lives. search solver_crosses depth 60
+
+pub with_refusals-requires-sync-W : goal.with_refusals-requires-sync-W
+with_refusals-requires-sync-W g c = λ κs lives. search solver_crosses depth 60
