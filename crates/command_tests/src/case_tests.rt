@@ -3,7 +3,7 @@
 use crate::devices::{ALONE, blank_page};
 use crate::tacflow_tests::{check, check_all, told};
 use crate::texts::{numbered, push_numbered};
-use flow_commands::tacflow::Show;
+use flow_commands::Show;
 use std::process::Abort;
 use std::test::Fail;
 use std::thread::Threads;

@@ -2,7 +2,7 @@
 
 use crate::devices::{ALONE, blank_page};
 use crate::tacflow_tests::{check, check_by, told};
-use flow_commands::tacflow::Show;
+use flow_commands::Show;
 use std::alloc::Global;
 use std::process::Abort;
 use std::test::Fail;

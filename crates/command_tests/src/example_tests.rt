@@ -2,7 +2,7 @@
 
 use crate::devices::ALONE;
 use crate::tacflow_tests::check_by;
-use flow_commands::tacflow::Show;
+use flow_commands::Show;
 use std::test::Fail;
 
 // Each text, its report, and one of its tables.

@@ -3,7 +3,7 @@
 use crate::answers::check_same;
 use crate::tacflow_tests::{ALL_WORDS, NAME, check_growths, check_line, check_options, named_by};
 use clap::error::ErrorKind;
-use flow_commands::tacflow::Show;
+use flow_commands::Show;
 use flow_runs::{Fault, fault_line};
 use std::process::Abort;
 use std::test::Fail;

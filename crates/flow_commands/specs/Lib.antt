@@ -1,3 +1,4 @@
-pub mod tacflow
-pub mod tacview
+pub mod Runs
+pub mod Shows
+pub mod Commands
 pub mod code

@@ -1,2 +1,1 @@
-pub mod TacflowMatches
-pub mod TacviewMatches
+pub mod Matches

@@ -1,7 +1,10 @@
-//! What each of the two programs does with its words and its streams: the options that the words name, what is shown of a program,
-//! and a run from the bytes of a source to the bytes of a sink.
+//! What `tacflow` does with its words and its streams: a program's listing, the table of an analysis, or a report.
 #![tactic(auto)]
 
-mod ranges;
-pub mod tacflow;
-pub mod tacview;
+mod options;
+mod runs;
+mod shows;
+mod words;
+
+pub use options::{Options, Show};
+pub use runs::run;

@@ -1,3 +1,4 @@
+pub mod Cases
 pub mod Deliveries
 pub mod Entries
 pub mod HeldValues

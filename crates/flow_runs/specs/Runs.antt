@@ -7,8 +7,8 @@ use Rattle.flow_graph.specs.declared.fault.GraphFault.TheVariants as graph_fault
 use Rattle.tac_reader.specs.Faults.{refusal_of}
 use Rattle.tac_reader.specs.Programs.{Program, program_of}
 use Rattle.tac_reader.specs.declared.refusal.Refusal.{Refusal}
-use Rattle.flow_texts.specs.Devices.{AppendsBeginning}
-use Rattle.flow_texts.specs.Pulls.{PullsUpTo}
+use Rattle.text_pieces.specs.Devices.{AppendsBeginning}
+use Rattle.text_pieces.specs.Pulls.{PullsUpTo}
 
 -- At most one byte more than the longest text has is pulled.
 abbrev pub PullsAll : Option (List ℕ) → Option (List ℕ) → Bool → List ℕ → Type 0

@@ -7,7 +7,7 @@ ghost use Rattle.flow_runs.specs.Runs.{HasNoGraph, LacksProcedure, Shows};
 
 use crate::fault::Fault;
 use crate::showing::Shown;
-use flow_texts::Sink;
+use text_pieces::Sink;
 use std::alloc::Global;
 use std::thread::Threads;
 use tac_reader::{ReadFault, read};

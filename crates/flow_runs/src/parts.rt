@@ -2,13 +2,13 @@
 
 ghost use Rattle.std.specs.Prelude.{◌≡◌, ◌<◌, ◌+◌, ◌-◌, ◌^◌, ◌⊎◌, true, false, IfOk, IfErr, OnOk};
 ghost use Rattle.flow_graph.specs.Limits.{HasFewBits, HasFewPoints};
-ghost use Rattle.flow_texts.specs.Pulls.{PullsUpTo};
+ghost use Rattle.text_pieces.specs.Pulls.{PullsUpTo};
 ghost use Rattle.flow_runs.specs.Faults.{Delivers, OfProgram, read_faults_in, write_faults_in};
 ghost use Rattle.flow_runs.specs.Runs.{IsOverLimit};
 
 use crate::fault::Fault;
 use flow_graph::{Graph, GraphFault};
-use flow_texts::{Sink, Source, Text, TransferFault, deliver, pull_all};
+use text_pieces::{Sink, Source, Text, TransferFault, deliver, pull_all};
 use std::alloc::Global;
 use tac_reader::Program;
 

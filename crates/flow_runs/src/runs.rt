@@ -9,7 +9,7 @@ use crate::answer::answer;
 use crate::fault::Fault;
 use crate::parts::pull_text;
 use crate::showing::Shown;
-use flow_texts::{Sink, Source};
+use text_pieces::{Sink, Source};
 use std::alloc::Global;
 use std::thread::Threads;
 

@@ -7,7 +7,7 @@ ghost use Rattle.flow_runs.specs.Faults.{Delivers, OfProgram, WhereNoGraph, writ
 ghost use Rattle.flow_runs.specs.Runs.{HasItsGraph, IsOverLimit};
 
 use crate::fault::Fault;
-use flow_texts::Sink;
+use text_pieces::Sink;
 use std::alloc::Global;
 use std::thread::Threads;
 use tac_reader::Program;

@@ -1,6 +1,4 @@
 pub mod BitRuns
-pub mod Blocks
-pub mod Buffers
 pub mod Doubts
 pub mod KnownReports
 pub mod ListTexts
@@ -8,4 +6,3 @@ pub mod RangeLines
 pub mod RemarkLines
 pub mod Rising
 pub mod SafeReports
-pub mod Taking

@@ -6,9 +6,10 @@ use Rattle.std.proofs.lemmas.List.{map-append}
 use Rattle.std.proofs.lemmas.Grind.{flat_map-append}
 use Rattle.std.proofs.lemmas.List.Elements.{filter-append}
 use Rattle.flow_texts.proofs.RangeLines.{range_split}
-use Rattle.flow_texts.specs.Pieces.{Outlet, Takes}
-use Rattle.flow_texts.proofs.Taking.{takes_nothing, takes_then}
-use Rattle.flow_texts.specs.code.Lists.{Named, Wrote, after, members, some_stand}
+use Rattle.text_pieces.specs.Pieces.{Outlet, Takes}
+use Rattle.text_pieces.proofs.Taking.{takes_nothing, takes_then}
+use Rattle.text_pieces.specs.code.Lists.{after, some_stand}
+use Rattle.flow_texts.specs.code.Members.{Named, Wrote, members}
 use Rattle.flow_texts.specs.Tables.{listed}
 
 pub after-append : (between : List ℕ) (others : Bool) (xs ys : List (List ℕ))

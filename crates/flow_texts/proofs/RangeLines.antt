@@ -7,9 +7,9 @@ use Rattle.bit_rows.specs.RowSet.{RowSet, IsWordOf, contains}
 use Rattle.bit_rows.specs.Words.{has_bit}
 use Rattle.bit_rows.proofs.WordBits.{has_bit-zero}
 use Rattle.flow_texts.specs.code.Findings.{texts_where}
-use Rattle.flow_texts.specs.Pieces.{Outlet, Takes}
+use Rattle.text_pieces.specs.Pieces.{Outlet, Takes}
 use Rattle.flow_texts.proofs.RemarkLines.{one_text}
-use Rattle.flow_texts.proofs.Taking.{takes_as, takes_then}
+use Rattle.text_pieces.proofs.Taking.{takes_as, takes_then}
 
 -- a range in two
 pub range_split : (a m k : ℕ) → range_with_len a (m + k) ≡ range_with_len a m ++ range_with_len (a + m) k

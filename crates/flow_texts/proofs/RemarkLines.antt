@@ -22,7 +22,7 @@ use Rattle.flow_graph.proofs.edges.EdgeLemmas.{next_in}
 use Rattle.flow_graph.proofs.bits.SetWords.{nat_eq-same}
 use Rattle.flow_graph.proofs.places.Standing.{Stands, stands}
 use Rattle.flow_texts.specs.code.Findings.{remark_name, texts_where, words_before, words_behind}
-use Rattle.flow_texts.specs.code.Lists.{some_stand}
+use Rattle.text_pieces.specs.code.Lists.{some_stand}
 use Rattle.flow_texts.specs.Reports.{Knowledge, assigned, busy_at, computed_at, dead_at, is_test, remark_text, remarks_at, remarks_when_reached, unset_at}
 use Rattle.flow_texts.specs.declared.remark.Remark.{Remark}
 use Rattle.flow_texts.specs.declared.remark.Remark.TheVariants.{NeverReached, Unset, Computed, VeryBusy, Dead}

@@ -1,7 +1,3 @@
-pub mod Devices
-pub mod Transfers
-pub mod Pieces
-pub mod Pulls
 pub mod Ranges
 pub mod Tables
 pub mod Reports

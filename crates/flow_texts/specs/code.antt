@@ -1,5 +1,4 @@
-pub mod Blocks
 pub mod Findings
-pub mod Lists
+pub mod Members
 pub mod Operands
 pub mod Runs

@@ -3,14 +3,11 @@
 ghost use Rattle.std.specs.Prelude.{◌≡◌, ◌++◌, ◌<◌, IfOk, OnOk, codes, decimal};
 ghost use Rattle.flow_graph.specs.Points.{point_count};
 ghost use Rattle.flow_graph.specs.Universes.{IsDefinitionIn, bits as bits_of};
-ghost use Rattle.flow_texts.specs.code.Blocks.{HoldsTexts};
-ghost use Rattle.flow_texts.specs.Pieces.{IsOpen, Takes, outlet};
+ghost use Rattle.text_pieces.specs.code.Blocks.{HoldsTexts};
+ghost use Rattle.text_pieces.specs.Pieces.{IsOpen, Takes, outlet};
 ghost use Rattle.flow_texts.specs.Tables.{bit_text, definition_text, expression_text, line_at};
 
-use crate::block::TextBlock;
-use crate::device::Sink;
-use crate::pieces::Pieces;
-use crate::separator::Separator;
+use text_pieces::{Pieces, Separator, Sink, TextBlock};
 use flow_graph::{Analysis, Expr, Graph, OutOfMemory};
 use itoa::Buffer;
 use std::alloc::Global;

@@ -5,7 +5,7 @@ ghost use Rattle.flow_texts.specs.code.Findings.{AreFindings, TellDoubtful, know
 ghost use Rattle.flow_texts.specs.Reports.{AreTablesOf, IsKnowledge, TellReport};
 
 use crate::bit_texts::texts_of_bits;
-use crate::block::TextBlock;
+use text_pieces::TextBlock;
 use crate::doubt::doubtful_points;
 use crate::tables::Tables;
 use flow_graph::{Analysis, Graph, OutOfMemory};

@@ -5,14 +5,13 @@ ghost use Rattle.std.specs.List.{range_with_len};
 ghost use Rattle.bit_rows.specs.RowSet.{contains as is_in};
 ghost use Rattle.bit_rows.specs.RowTable.{set_at};
 ghost use Rattle.bit_rows.specs.Words.{has_bit};
-ghost use Rattle.flow_texts.specs.code.Lists.{Wrote, after, chosen, some_stand, text_at};
+ghost use Rattle.text_pieces.specs.code.Lists.{after, some_stand, text_at};
+ghost use Rattle.flow_texts.specs.code.Members.{Wrote, chosen};
 ghost use Rattle.flow_texts.specs.code.Runs.{IsRunBefore};
-ghost use Rattle.flow_texts.specs.Pieces.{IsOpen, Takes, outlet};
+ghost use Rattle.text_pieces.specs.Pieces.{IsOpen, Takes, outlet};
 ghost use Rattle.flow_texts.specs.Tables.{listed};
 
-use crate::block::TextBlock;
-use crate::device::Sink;
-use crate::pieces::Pieces;
+use text_pieces::{Pieces, Sink, TextBlock};
 use flow_team::Table;
 
 /// Bits that lie side by side in a set and are not written yet, and whether other texts stand already.

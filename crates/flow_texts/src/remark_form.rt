@@ -4,12 +4,11 @@ ghost use Rattle.std.specs.Prelude.{◌≡◌, ◌<◌, ℕ, List};
 ghost use Rattle.flow_graph.specs.Points.{point_count};
 ghost use Rattle.tac_reader.specs.Programs.{Program};
 ghost use Rattle.flow_texts.specs.code.Findings.{AreFindings, IsRemarkIn};
-ghost use Rattle.flow_texts.specs.Pieces.{IsOpen, Takes, outlet};
+ghost use Rattle.text_pieces.specs.Pieces.{IsOpen, Takes, outlet};
 ghost use Rattle.flow_texts.specs.declared.remark.Remark.{Remark as RemarkValue};
 
-use crate::device::Sink;
+use text_pieces::{Pieces, Sink};
 use crate::findings::Findings;
-use crate::pieces::Pieces;
 use crate::remark::Remark;
 
 /// How one remark is written, as the line of a report.

@@ -3,20 +3,17 @@
 ghost use Rattle.std.specs.Prelude.{◌≡◌, ◌+◌, ◌<◌, ◌≤◌, ◌++◌, IfOk, codes, decimal, length, take};
 ghost use Rattle.flow_graph.specs.Points.{point_count};
 ghost use Rattle.flow_texts.specs.code.Findings.{AreFindings, knowledge_of, line_behind, words_before, words_behind};
-ghost use Rattle.flow_texts.specs.Pieces.{IsOpen, Takes, outlet};
+ghost use Rattle.text_pieces.specs.Pieces.{IsOpen, Takes, outlet};
 ghost use Rattle.flow_texts.specs.Reports.{IsReport, ListsSafely, TellReport, count_line, lines_at, report_of};
 ghost use Rattle.flow_texts.specs.Tables.{line_at};
 
 use crate::bit_texts::{line, write_number};
-use crate::device::Sink;
+use text_pieces::{Pieces, Sink, Text, whole_text};
 use crate::findings::Findings;
-use crate::pieces::Pieces;
 use crate::remark::Remark;
 use crate::remark_form::RemarkForm;
 use crate::remarks::words_before_name;
 use crate::tables::Tables;
-use crate::text::Text;
-use crate::whole::whole_text;
 use flow_graph::{Analysis, Graph, OutOfMemory};
 use itoa::Buffer;
 use std::alloc::Global;

@@ -4,17 +4,13 @@ ghost use Rattle.std.specs.Prelude.{◌≡◌, ◌<◌, IfOk, codes, if◌then�
 ghost use Rattle.flow_graph.specs.Points.{point_count};
 ghost use Rattle.flow_graph.specs.Universes.{bits as bits_of};
 ghost use Rattle.flow_team.specs.Tables.{IsTableOf, facts_of};
-ghost use Rattle.flow_texts.specs.code.Blocks.{HoldsTexts};
-ghost use Rattle.flow_texts.specs.Pieces.{IsOpen, Takes, outlet};
+ghost use Rattle.text_pieces.specs.code.Blocks.{HoldsTexts};
+ghost use Rattle.text_pieces.specs.Pieces.{IsOpen, Takes, outlet};
 ghost use Rattle.flow_texts.specs.Tables.{IsTableText, bit_text, place_text, point_line};
 
 use crate::bit_texts::{texts_of_bits, write_number};
-use crate::block::TextBlock;
-use crate::device::Sink;
+use text_pieces::{Pieces, Sink, Text, TextBlock, whole_text};
 use crate::members::write_set;
-use crate::pieces::Pieces;
-use crate::text::Text;
-use crate::whole::whole_text;
 use flow_graph::{Graph, OutOfMemory};
 use flow_team::Table;
 use std::alloc::Global;
@@ -81,7 +77,7 @@ impl<'a> Model for TableText<'a> {
     ghost use Rattle.std.specs.Prelude.{List, ℕ, codes};
     ghost use Rattle.flow_graph.specs.Universes.{bits as bits_of};
     ghost use Rattle.flow_team.specs.Tables.{IsTableOf, facts_of};
-    ghost use Rattle.flow_texts.specs.code.Blocks.{HoldsTexts};
+    ghost use Rattle.text_pieces.specs.code.Blocks.{HoldsTexts};
     ghost use Rattle.flow_texts.specs.Tables.{bit_text, table_text_of};
 
     ghost Value = { List ℕ };

@@ -2,8 +2,8 @@
 use Rattle.std.proofs.Common.{◌≡◌, ℕ, ◌+◌, ◌<◌, Bool, true, false, ◌||◌, ◌==◌, List, [], ◌∷◌, ◌++◌, length, take, get_or, cond, codes, if◌then◌else◌, refl, sym, ap, ap₂, ◌∙◌, append-nil}
 use Rattle.std.proofs.lemmas.Grind.{flat_map-append}
 use Rattle.std.proofs.lemmas.List.{take_more}
-use Rattle.flow_texts.specs.Pieces.{Outlet, Takes}
-use Rattle.flow_texts.proofs.Taking.{takes_as, takes_then}
+use Rattle.text_pieces.specs.Pieces.{Outlet, Takes}
+use Rattle.text_pieces.proofs.Taking.{takes_as, takes_then}
 use Rattle.flow_views.specs.Strings.{escaped, escaped_byte}
 
 pub escaped-append : (first second : List ℕ) → escaped (first ++ second) ≡ escaped first ++ escaped second

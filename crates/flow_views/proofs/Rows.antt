@@ -5,7 +5,7 @@ use Rattle.std.proofs.lemmas.List.{map-append, take_more}
 use Rattle.std.proofs.Math.Seq.{take-length}
 use Rattle.tac_reader.specs.Listings.{name_at}
 use Rattle.flow_texts.specs.Tables.{listed}
-use Rattle.flow_texts.specs.code.Lists.{after, some_stand}
+use Rattle.text_pieces.specs.code.Lists.{after, some_stand}
 use Rattle.flow_texts.proofs.ListTexts.{some_stand-map}
 use Rattle.flow_views.specs.Json.{joined}
 use Rattle.flow_views.specs.Strings.{escaped}

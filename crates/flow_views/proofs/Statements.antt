@@ -8,7 +8,7 @@ use Rattle.tac_reader.specs.Sound.{IsSound, IsSoundStatement}
 use Rattle.tac_reader.specs.declared.program.StmtKind.{StmtKind}
 use Rattle.flow_graph.specs.Points.{kind_at, point_count}
 use Rattle.flow_graph.proofs.places.Standing.{Stands, stands}
-use Rattle.flow_texts.specs.code.Lists.{some_stand}
+use Rattle.text_pieces.specs.code.Lists.{some_stand}
 use Rattle.flow_views.specs.Views.{names_at}
 
 abbrev labels_of : Option Procedure → List (List ℕ)

@@ -23,7 +23,7 @@ use Rattle.flow_graph.proofs.edges.EdgeLemmas.{IsFrom, a_step, a_call, a_return,
 use Rattle.flow_texts.specs.Reports.{AreTablesOf, Knowledge, assigned, dead_at, unset_at}
 use Rattle.flow_texts.specs.Tables.{bits_at}
 use Rattle.flow_texts.specs.code.Findings.{AreFindings}
-use Rattle.flow_texts.specs.code.Lists.{some_stand}
+use Rattle.text_pieces.specs.code.Lists.{some_stand}
 use Rattle.flow_texts.proofs.ListTexts.{map-members}
 use Rattle.flow_views.specs.Dots.{arrow, calls_at, passed_call, text_if_some}
 use Rattle.flow_views.specs.Json.{array, boolean, span_fields}

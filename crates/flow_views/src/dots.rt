@@ -4,7 +4,7 @@ ghost use Rattle.std.specs.Prelude.{◌≡◌, ◌++◌, ◌<◌, ◌≤◌, All
 ghost use Rattle.flow_graph.specs.Paths.{target_of};
 ghost use Rattle.flow_graph.specs.Points.{point_count, procedure_at, statement_at};
 ghost use Rattle.flow_texts.specs.code.Findings.{knowledge_of};
-ghost use Rattle.flow_texts.specs.Pieces.{IsOpen, Takes, outlet};
+ghost use Rattle.text_pieces.specs.Pieces.{IsOpen, Takes, outlet};
 ghost use Rattle.flow_texts.specs.Reports.{AreTablesOf, dead_at, remark_text, unset_at};
 ghost use Rattle.flow_texts.specs.Tables.{line_at};
 ghost use Rattle.tac_reader.specs.Listings.{statement_text};
@@ -20,10 +20,8 @@ use crate::shown::{Numbers, Shown, name_of};
 use crate::strings::{write_escaped, write_escaped_number, write_quoted};
 use crate::view::View;
 use flow_graph::{Analysis, Edge, Graph, OutOfMemory};
-use flow_texts::{
-    Findings, Pieces, Remark, RemarkForm, Sink, Tables, Text, line, words_before_name,
-    words_behind_name, write_number, write_set,
-};
+use flow_texts::{Findings, Remark, RemarkForm, Tables, line, words_before_name, words_behind_name, write_number, write_set};
+use text_pieces::{Pieces, Sink, Text};
 use std::alloc::Global;
 use std::marker::Model;
 use tac_reader::{Stmt, StmtKind};

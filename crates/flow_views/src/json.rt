@@ -6,8 +6,8 @@ ghost use Rattle.bit_rows.specs.RowSet.{contains as is_in};
 ghost use Rattle.bit_rows.specs.RowTable.{set_at};
 ghost use Rattle.flow_graph.specs.Points.{place_of, point_count, procedure_at, statement_at};
 ghost use Rattle.flow_texts.specs.code.Findings.{AreFindings, IsRemarkIn, knowledge_of};
-ghost use Rattle.flow_texts.specs.code.Lists.{text_at};
-ghost use Rattle.flow_texts.specs.Pieces.{IsOpen, Takes, outlet};
+ghost use Rattle.text_pieces.specs.code.Lists.{text_at};
+ghost use Rattle.text_pieces.specs.Pieces.{IsOpen, Takes, outlet};
 ghost use Rattle.flow_texts.specs.Reports.{AreTablesOf};
 ghost use Rattle.tac_reader.specs.Listings.{statement_text};
 ghost use Rattle.flow_views.specs.code.Shown.{AreShown, numbers_of};
@@ -23,10 +23,8 @@ use crate::strings::write_quoted;
 use crate::view::View;
 use flow_graph::{Analysis, Edge, Graph, OutOfMemory};
 use flow_team::Table;
-use flow_texts::{
-    Findings, Pieces, Remark, RemarkForm, Sink, Tables, Text, TextBlock, write_members,
-    write_number,
-};
+use flow_texts::{Findings, Remark, RemarkForm, Tables, write_members, write_number};
+use text_pieces::{Pieces, Sink, Text, TextBlock};
 use itoa::Buffer;
 use std::alloc::Global;
 use std::marker::Model;

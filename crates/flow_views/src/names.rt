@@ -1,13 +1,14 @@
 // What the bits of the analyses are called, made once for all sets.
 
 ghost use Rattle.std.specs.Prelude.{◌≡◌, ◌++◌, IfOk, OnOk, codes, decimal};
-ghost use Rattle.flow_texts.specs.code.Blocks.{HoldsTexts, separator_text};
+ghost use Rattle.text_pieces.specs.code.Blocks.{HoldsTexts, separator_text};
 ghost use Rattle.flow_views.specs.code.Names.{AreNames, AreNamesOf, between, name_in, numbered as numbered_of};
 ghost use Rattle.flow_views.specs.declared.names.NameForm.TheVariants.{Quoted};
 
 use crate::strings::{push_escaped, push_quoted};
 use flow_graph::{Analysis, Graph, OutOfMemory};
-use flow_texts::{Separator, TextBlock, texts_of_bits};
+use flow_texts::texts_of_bits;
+use text_pieces::{Separator, TextBlock};
 use itoa::Buffer;
 use std::alloc::Global;
 

@@ -1,9 +1,9 @@
 // A text that is written or not.
 
 ghost use Rattle.std.specs.Prelude.{◌≡◌, [], if◌then◌else◌};
-ghost use Rattle.flow_texts.specs.Pieces.{IsOpen, Takes, outlet};
+ghost use Rattle.text_pieces.specs.Pieces.{IsOpen, Takes, outlet};
 
-use flow_texts::{Pieces, Sink};
+use text_pieces::{Pieces, Sink};
 
 /// Writes a text where it is wanted.
 pub(crate) fn write_if<K: Sink>(out: &mut Pieces<'_, K>, wanted: bool, text: &[u8])

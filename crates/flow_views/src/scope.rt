@@ -1,7 +1,7 @@
 // The text of a statement, as it stands between quotes.
 
 ghost use Rattle.std.specs.Prelude.{◌≡◌, ◌++◌, ◌<◌, All, codes, length};
-ghost use Rattle.flow_texts.specs.Pieces.{IsOpen, Takes, outlet};
+ghost use Rattle.text_pieces.specs.Pieces.{IsOpen, Takes, outlet};
 ghost use Rattle.tac_reader.specs.Listings.{binary_text, callees_text, goto_text, name_at, operand_text, statement_text, unary_text};
 ghost use Rattle.tac_reader.specs.Sound.{IsSoundOperand, IsSoundStatement};
 ghost use Rattle.tac_reader.specs.declared.program.StmtKind.TheVariants as kind_of;
@@ -10,7 +10,7 @@ ghost use Rattle.flow_views.specs.Views.{names_in};
 
 use crate::optional::write_if;
 use crate::strings::{write_escaped, write_escaped_number};
-use flow_texts::{Pieces, Sink};
+use text_pieces::{Pieces, Sink};
 use tac_reader::{Op, Operand, Program, StmtKind};
 
 /// A procedure of a program, whose names the numbers in a statement stand for.

@@ -1,10 +1,11 @@
 // What stands between quotes.
 
 ghost use Rattle.std.specs.Prelude.{◌≡◌, ◌++◌, ◌==◌, ◌||◌, true, decimal, OnOk};
-ghost use Rattle.flow_texts.specs.Pieces.{IsOpen, Takes, outlet};
+ghost use Rattle.text_pieces.specs.Pieces.{IsOpen, Takes, outlet};
 ghost use Rattle.flow_views.specs.Strings.{escaped, escaped_byte, quoted};
 
-use flow_texts::{OutOfMemory, Pieces, Sink};
+use flow_texts::OutOfMemory;
+use text_pieces::{Pieces, Sink};
 use itoa::Buffer;
 
 // Whether a byte has a backslash before it.

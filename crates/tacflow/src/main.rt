@@ -1,9 +1,9 @@
 //! `tacflow`: reads a program of three-address code, and writes its listing, the table of an analysis, or a report.
 #![tactic(auto)]
 
-use flow_commands::tacflow::{Options, run};
+use flow_commands::{Options, run};
 use flow_runs::{fault_line, tell_line, tell_no_words, tell_words};
-use flow_texts::{FromRead, ToWrite};
+use text_pieces::{FromRead, ToWrite};
 use std::process::ExitCode;
 use std::thread::Threads;
 use std::{env, io};

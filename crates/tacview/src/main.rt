@@ -2,9 +2,9 @@
 //! lines of JSON.
 #![tactic(auto)]
 
-use flow_commands::tacview::{Options, line_of, run};
+use view_commands::{Options, line_of, run};
 use flow_runs::{tell_line, tell_no_words, tell_words};
-use flow_texts::{FromRead, ToWrite};
+use text_pieces::{FromRead, ToWrite};
 use std::process::ExitCode;
 use std::thread::Threads;
 use std::{env, io};

@@ -5,9 +5,8 @@ ghost use Rattle.flow_team.specs.Tables.{IsTableOf};
 
 use flow_graph::{Analysis, Graph};
 use flow_team::Table;
-use flow_texts::{
-    Bytes, Pieces, Sink, TableText, ToWrite, TransferFault, deliver, table_of, table_text,
-};
+use flow_texts::{TableText, table_of, table_text};
+use text_pieces::{Bytes, Pieces, Sink, ToWrite, TransferFault, deliver};
 use std::alloc::Global;
 use std::io;
 use std::io::{ErrorKind, Write};

@@ -8,10 +8,8 @@ ghost use Rattle.flow_texts.specs.Reports.{TellReport};
 
 use flow_graph::{Analysis, Graph, OutOfMemory};
 use flow_team::Table;
-use flow_texts::{
-    FromRead, ReportText, Source, TableText, Tables, TransferFault, pull_all, report, table_of,
-    table_text, whole_text,
-};
+use flow_texts::{ReportText, TableText, Tables, report, table_of, table_text};
+use text_pieces::{FromRead, Source, TransferFault, pull_all, whole_text};
 use std::alloc::Global;
 use std::process::Abort;
 use std::test::Fail;

@@ -4,7 +4,8 @@ ghost use Rattle.std.specs.Prelude.{◌<◌, length, IfSome};
 ghost use Rattle.flow_texts.specs.Reports.{AreTablesOf};
 
 use flow_graph::Graph;
-use flow_texts::{Tables, ToWrite, deliver};
+use flow_texts::Tables;
+use text_pieces::{ToWrite, deliver};
 use flow_views::{Chosen, DotText, JsonText, View};
 use std::alloc::Global;
 use std::io;

@@ -8,7 +8,7 @@ use Rattle.flow_graph.specs.Universes.{bits}
 use Rattle.flow_graph.specs.declared.analysis.Analysis.TheVariants.{Avail, Busy}
 use Rattle.tac_reader.specs.Programs.{Program}
 use Rattle.tac_reader.specs.Sound.{IsSound}
-use Rattle.flow_texts.specs.code.Lists.{AreTexts}
+use Rattle.text_pieces.specs.code.Lists.{AreTexts}
 use Rattle.flow_texts.specs.Reports.{Knowledge, TellReport, remark_text}
 use Rattle.flow_team.specs.Tables.{facts_of}
 use Rattle.flow_texts.specs.Tables.{bit_text, variable_text}

@@ -1,5 +1,5 @@
 use Rattle.std.specs.Prelude.{codes}
-use Rattle.flow_texts.specs.code.Blocks.{HoldsTexts}
+use Rattle.text_pieces.specs.code.Blocks.{HoldsTexts}
 use Rattle.flow_texts.specs.Tables.{bit_text}
 use Rattle.flow_texts.proofs.bit_texts.texts_of_bits.Given as goal
 

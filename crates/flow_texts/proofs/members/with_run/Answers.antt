@@ -1,4 +1,4 @@
-use Rattle.flow_texts.specs.code.Lists.{chosen}
+use Rattle.flow_texts.specs.code.Members.{chosen}
 use Rattle.flow_texts.proofs.ListTexts.{wrote-run}
 use Rattle.flow_texts.proofs.members.with_run.Goals as goal
 

@@ -1,9 +1,9 @@
 use Rattle.std.proofs.Common.{sym}
 use Rattle.bit_rows.specs.RowSet.{contains}
 use Rattle.bit_rows.specs.RowTable.{set_at}
-use Rattle.flow_texts.specs.code.Lists.{Named, chosen}
+use Rattle.flow_texts.specs.code.Members.{Named, chosen}
 use Rattle.flow_texts.proofs.ListTexts.{set_empty, set_written}
-use Rattle.flow_texts.proofs.Taking.{takes_as, takes_then}
+use Rattle.text_pieces.proofs.Taking.{takes_as, takes_then}
 use Rattle.flow_texts.proofs.members.write_set.Goals as goal
 
 pub returns-then-write_members-clause-takes : goal.returns-then-write_members-clause-takes

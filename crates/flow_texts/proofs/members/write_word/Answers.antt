@@ -1,11 +1,11 @@
 use Rattle.std.proofs.Common.{◌≡◌, ℕ, ◌+◌, ◌-◌, true, false, min, refl, ◌∙◌, subst, arith}
-use Rattle.flow_texts.specs.code.Lists.{Named, Wrote, chosen}
+use Rattle.flow_texts.specs.code.Members.{Named, Wrote, chosen}
 use Rattle.flow_texts.specs.code.Runs.{IsRunBefore}
-use Rattle.flow_texts.specs.Pieces.{Outlet, outlet}
-use Rattle.flow_texts.specs.declared.pieces.Pieces.{Pieces}
+use Rattle.text_pieces.specs.Pieces.{Outlet, outlet}
+use Rattle.text_pieces.specs.declared.pieces.Pieces.{Pieces}
 use Rattle.flow_texts.proofs.BitRuns.{bits_of_word, run_further}
 use Rattle.flow_texts.proofs.ListTexts.{wrote-none, wrote-further}
-use Rattle.flow_texts.proofs.Taking.{stays_open}
+use Rattle.text_pieces.proofs.Taking.{stays_open}
 use Rattle.flow_texts.proofs.members.write_word.Goals as goal
 
 pub loop-place-init : goal.loop-place-init

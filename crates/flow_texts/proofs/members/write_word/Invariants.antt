@@ -1,8 +1,8 @@
 use Rattle.std.proofs.Common.{◌≡◌, ◌+◌, ◌-◌, ◌<◌, ◌≤◌, true, min}
 use Rattle.bit_rows.specs.Words.{has_bit}
-use Rattle.flow_texts.specs.code.Lists.{Wrote, chosen}
+use Rattle.flow_texts.specs.code.Members.{Wrote, chosen}
 use Rattle.flow_texts.specs.code.Runs.{IsRunBefore}
-use Rattle.flow_texts.specs.Pieces.{outlet}
+use Rattle.text_pieces.specs.Pieces.{outlet}
 use Rattle.flow_texts.proofs.members.write_word.Given as goal
 
 abbrev pub ghost-with_run : goal.ghost-with_run

@@ -1,11 +1,11 @@
 use Rattle.std.proofs.Common.{◌≡◌, ℕ, ◌+◌, ◌*◌, ◌<◌, false, min, ◌∙◌, subst, arith}
 use Rattle.std.proofs.lemmas.Grind.{div_ceil_times}
-use Rattle.flow_texts.specs.code.Lists.{Named, chosen}
+use Rattle.flow_texts.specs.code.Members.{Named, chosen}
 use Rattle.flow_texts.specs.code.Runs.{IsRunBefore}
-use Rattle.flow_texts.specs.Pieces.{Outlet, outlet}
-use Rattle.flow_texts.specs.declared.pieces.Pieces.{Pieces}
+use Rattle.text_pieces.specs.Pieces.{Outlet, outlet}
+use Rattle.text_pieces.specs.declared.pieces.Pieces.{Pieces}
 use Rattle.flow_texts.proofs.ListTexts.{wrote-first, wrote-run}
-use Rattle.flow_texts.proofs.Taking.{stays_open}
+use Rattle.text_pieces.proofs.Taking.{stays_open}
 use Rattle.flow_texts.proofs.members.write_words.Goals as goal
 
 pub write_word-run-requires : goal.write_word-run-requires

@@ -1,7 +1,7 @@
 use Rattle.std.proofs.Common.{◌≡◌, ◌*◌, false, min}
-use Rattle.flow_texts.specs.code.Lists.{Wrote, chosen}
+use Rattle.flow_texts.specs.code.Members.{Wrote, chosen}
 use Rattle.flow_texts.specs.code.Runs.{IsRunBefore}
-use Rattle.flow_texts.specs.Pieces.{outlet}
+use Rattle.text_pieces.specs.Pieces.{outlet}
 use Rattle.flow_texts.proofs.members.write_words.Given as goal
 
 abbrev pub ghost-write_word : goal.ghost-write_word

@@ -5,10 +5,10 @@ use Rattle.bit_rows.specs.RowSet.{contains}
 use Rattle.bit_rows.specs.RowTable.{flag_at, set_at}
 use Rattle.flow_graph.specs.Universes.{bits as bits_of}
 use Rattle.flow_team.specs.Tables.{facts_of}
-use Rattle.flow_texts.specs.code.Lists.{text_at}
+use Rattle.text_pieces.specs.code.Lists.{text_at}
 use Rattle.flow_texts.specs.Tables.{bit_text, bits_at, listed, place_text}
 use Rattle.flow_texts.proofs.ListTexts.{map-members}
-use Rattle.flow_texts.proofs.Taking.{takes_as, takes_then}
+use Rattle.text_pieces.proofs.Taking.{takes_as, takes_then}
 use Rattle.flow_texts.proofs.table_texts.write_point.Goals as goal
 
 pub returns-clause-takes : goal.returns-clause-takes

@@ -2,8 +2,8 @@ use Rattle.std.proofs.Common.{List, ℕ, false, ◌++◌, codes, map, filter, ap
 use Rattle.std.specs.List.{range_with_len}
 use Rattle.bit_rows.specs.RowSet.{contains}
 use Rattle.bit_rows.specs.RowTable.{set_at}
-use Rattle.flow_texts.specs.code.Lists.{after, text_at}
-use Rattle.flow_texts.proofs.Taking.{takes_as, takes_then}
+use Rattle.text_pieces.specs.code.Lists.{after, text_at}
+use Rattle.text_pieces.proofs.Taking.{takes_as, takes_then}
 use Rattle.flow_views.proofs.Rows.{after-joined}
 use Rattle.flow_views.proofs.json.write_array.Goals as goal
 

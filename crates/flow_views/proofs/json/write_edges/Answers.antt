@@ -1,6 +1,6 @@
 use Rattle.std.proofs.Common.{codes, ◌∙◌, arith}
 use Rattle.flow_graph.proofs.edges.SourceLemmas.{get_or_any}
-use Rattle.flow_texts.proofs.Taking.{takes_as, takes_then}
+use Rattle.text_pieces.proofs.Taking.{takes_as, takes_then}
 use Rattle.flow_views.specs.Json.{edge_object}
 use Rattle.flow_views.proofs.Rows.{joined_all, joined_behind}
 use Rattle.flow_views.proofs.json.write_edges.Goals as goal

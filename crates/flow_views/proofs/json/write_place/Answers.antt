@@ -1,5 +1,5 @@
 use Rattle.std.proofs.Common.{sym}
-use Rattle.flow_texts.proofs.Taking.{takes_as}
+use Rattle.text_pieces.proofs.Taking.{takes_as}
 use Rattle.flow_views.proofs.Tables.{no_span}
 use Rattle.flow_views.proofs.json.write_place.Goals as goal
 

@@ -1,5 +1,5 @@
 use Rattle.flow_texts.specs.Tables.{bit_text}
-use Rattle.flow_texts.specs.code.Blocks.{HoldsTexts}
+use Rattle.text_pieces.specs.code.Blocks.{HoldsTexts}
 use Rattle.flow_views.specs.code.Names.{between, name_in}
 use Rattle.flow_views.proofs.names.names_of.Given as goal
 

@@ -1,5 +1,5 @@
 use Rattle.std.proofs.Common.{◌∙◌, sym}
-use Rattle.flow_texts.proofs.Taking.{takes_as, takes_then}
+use Rattle.text_pieces.proofs.Taking.{takes_as, takes_then}
 use Rattle.flow_views.proofs.Escapes.{escaped_more}
 use Rattle.flow_views.proofs.strings.write_escaped.Goals as goal
 

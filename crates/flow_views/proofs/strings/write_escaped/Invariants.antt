@@ -1,5 +1,5 @@
 use Rattle.std.proofs.Common.{◌≡◌, take}
-use Rattle.flow_texts.specs.Pieces.{Takes, outlet}
+use Rattle.text_pieces.specs.Pieces.{Takes, outlet}
 use Rattle.flow_views.specs.Strings.{escaped}
 use Rattle.flow_views.proofs.strings.write_escaped.Given as goal
 

@@ -1,7 +1,7 @@
 use Rattle.std.proofs.Common.{ℕ, [], ◌∷◌, ◌||◌, ap, ◌∙◌, sym}
 use Rattle.tac_reader.specs.Programs.{Program}
 use Rattle.flow_texts.specs.code.Findings.{knowledge_of}
-use Rattle.flow_texts.specs.code.Lists.{some_stand}
+use Rattle.text_pieces.specs.code.Lists.{some_stand}
 use Rattle.flow_texts.specs.Reports.{Knowledge}
 use Rattle.flow_texts.proofs.RemarkLines.{AreRead, variables_are_there, unset_are, first_of, second_of, one_passes, two_pass}
 use Rattle.flow_texts.proofs.findings.Findings.reads_unset.Goals as goal

@@ -1,7 +1,7 @@
 use Rattle.std.proofs.Common.{◌≡◌, ◌++◌, flat_map}
 use Rattle.std.specs.List.{range_with_len}
 use Rattle.flow_texts.specs.code.Findings.{knowledge_of}
-use Rattle.flow_texts.specs.Pieces.{Takes, outlet}
+use Rattle.text_pieces.specs.Pieces.{Takes, outlet}
 use Rattle.flow_texts.specs.Reports.{count_line, lines_at}
 use Rattle.flow_texts.proofs.findings.Findings.write.Given as goal
 

@@ -3,7 +3,7 @@ use Rattle.tac_reader.specs.Programs.{Program}
 use Rattle.flow_texts.specs.code.Findings.{knowledge_of}
 use Rattle.flow_texts.specs.declared.remark.Remark.TheVariants.{VeryBusy}
 use Rattle.flow_texts.proofs.RemarkLines.{busy_is}
-use Rattle.flow_texts.proofs.Taking.{takes_as, takes_nothing}
+use Rattle.text_pieces.proofs.Taking.{takes_as, takes_nothing}
 use Rattle.flow_texts.proofs.findings.Findings.write_busy.Goals as goal
 
 pub returns-clause-takes : goal.returns-clause-takes

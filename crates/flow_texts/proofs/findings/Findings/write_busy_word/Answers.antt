@@ -2,11 +2,11 @@
 use Rattle.std.proofs.Common.{◌≡◌, ℕ, ◌-◌, ◌<◌, Bool, List, min, refl, sym, ap, ◌∙◌, arith}
 use Rattle.std.specs.List.{range_with_len}
 use Rattle.flow_texts.specs.code.Findings.{knowledge_of, texts_where}
-use Rattle.flow_texts.specs.Pieces.{Outlet, outlet}
-use Rattle.flow_texts.specs.declared.pieces.Pieces.{Pieces}
+use Rattle.text_pieces.specs.Pieces.{Outlet, outlet}
+use Rattle.text_pieces.specs.declared.pieces.Pieces.{Pieces}
 use Rattle.flow_texts.specs.declared.remark.Remark.TheVariants.{VeryBusy}
 use Rattle.flow_texts.proofs.RangeLines.{next_member, none_texts}
-use Rattle.flow_texts.proofs.Taking.{takes_as, takes_nothing}
+use Rattle.text_pieces.proofs.Taking.{takes_as, takes_nothing}
 use Rattle.flow_texts.proofs.findings.Findings.write_busy_word.Goals as goal
 
 pub loop-place-init : goal.loop-place-init

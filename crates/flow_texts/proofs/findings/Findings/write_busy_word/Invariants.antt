@@ -2,7 +2,7 @@ use Rattle.std.proofs.Common.{◌≡◌, ◌-◌, ◌<◌, ◌≤◌, true, min}
 use Rattle.std.specs.List.{range_with_len}
 use Rattle.bit_rows.specs.Words.{has_bit}
 use Rattle.flow_texts.specs.code.Findings.{knowledge_of, texts_where}
-use Rattle.flow_texts.specs.Pieces.{Takes, outlet}
+use Rattle.text_pieces.specs.Pieces.{Takes, outlet}
 use Rattle.flow_texts.specs.declared.remark.Remark.TheVariants.{VeryBusy}
 use Rattle.flow_texts.proofs.findings.Findings.write_busy_word.Given as goal
 

@@ -5,11 +5,11 @@ use Rattle.bit_rows.specs.RowSet.{RowSet}
 use Rattle.bit_rows.specs.RowTable.{set_at}
 use Rattle.flow_graph.specs.Universes.{expressions}
 use Rattle.flow_texts.specs.code.Findings.{knowledge_of}
-use Rattle.flow_texts.specs.Pieces.{Outlet, Takes, outlet}
-use Rattle.flow_texts.specs.declared.pieces.Pieces.{Pieces}
+use Rattle.text_pieces.specs.Pieces.{Outlet, Takes, outlet}
+use Rattle.text_pieces.specs.declared.pieces.Pieces.{Pieces}
 use Rattle.flow_texts.specs.declared.remark.Remark.TheVariants.{VeryBusy}
 use Rattle.flow_texts.proofs.RangeLines.{next_word, no_texts, texts_between}
-use Rattle.flow_texts.proofs.Taking.{takes_as, takes_nothing}
+use Rattle.text_pieces.proofs.Taking.{takes_as, takes_nothing}
 use Rattle.flow_texts.proofs.findings.Findings.write_busy_words.Goals as goal
 use Rattle.flow_texts.proofs.findings.Findings.write_busy_words.Goals.{then-ones-ne0, else-ones-ne0}
 

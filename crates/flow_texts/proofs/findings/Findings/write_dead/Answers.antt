@@ -5,7 +5,7 @@ use Rattle.tac_reader.specs.Programs.{Program}
 use Rattle.flow_texts.specs.code.Findings.{knowledge_of}
 use Rattle.flow_texts.specs.declared.remark.Remark.TheVariants.{Dead}
 use Rattle.flow_texts.proofs.RemarkLines.{assigned_there, dead_is, next_below}
-use Rattle.flow_texts.proofs.Taking.{takes_as}
+use Rattle.text_pieces.proofs.Taking.{takes_as}
 use Rattle.flow_texts.proofs.findings.Findings.write_dead.Goals as goal
 
 pub is_dead_after-requires-clause-next : goal.is_dead_after-requires-clause-next

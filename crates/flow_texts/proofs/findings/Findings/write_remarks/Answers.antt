@@ -4,7 +4,7 @@ use Rattle.flow_texts.specs.code.Findings.{knowledge_of}
 use Rattle.flow_texts.specs.declared.remark.Remark.{Remark}
 use Rattle.flow_texts.specs.declared.remark.Remark.TheVariants.{NeverReached}
 use Rattle.flow_texts.proofs.RemarkLines.{remarks_if}
-use Rattle.flow_texts.proofs.Taking.{takes_as}
+use Rattle.text_pieces.proofs.Taking.{takes_as}
 use Rattle.flow_texts.proofs.findings.Findings.write_remarks.Goals as goal
 
 pub returns-then-has_path-clause-takes : goal.returns-then-has_path-clause-takes

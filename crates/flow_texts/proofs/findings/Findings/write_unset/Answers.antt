@@ -3,7 +3,7 @@ use Rattle.tac_reader.specs.Programs.{Program}
 use Rattle.flow_texts.specs.code.Findings.{knowledge_of}
 use Rattle.flow_texts.specs.Reports.{Knowledge}
 use Rattle.flow_texts.specs.declared.remark.Remark.TheVariants.{Unset}
-use Rattle.flow_texts.proofs.Taking.{takes_as, takes_nothing, takes_then}
+use Rattle.text_pieces.proofs.Taking.{takes_as, takes_nothing, takes_then}
 use Rattle.flow_texts.proofs.RemarkLines.{AreRead, variables_are_there, unset_are, first_of, second_of, two_texts}
 use Rattle.flow_texts.proofs.findings.Findings.write_unset.Goals as goal
 

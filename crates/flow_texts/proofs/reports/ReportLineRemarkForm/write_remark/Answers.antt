@@ -5,7 +5,7 @@ use Rattle.flow_texts.specs.code.Findings.{remark_name, words_before, words_behi
 use Rattle.flow_texts.specs.Reports.{remark_text}
 use Rattle.flow_texts.specs.declared.remark.Remark.{Remark}
 use Rattle.flow_texts.proofs.RemarkLines.{text_is}
-use Rattle.flow_texts.proofs.Taking.{takes_as, takes_then}
+use Rattle.text_pieces.proofs.Taking.{takes_as, takes_then}
 use Rattle.flow_texts.proofs.reports.ReportLineRemarkForm.write_remark.Goals as goal
 
 regroup : (h b n e t : List ℕ) → h ++ b ++ n ++ (e ++ t) ≡ h ++ (b ++ n ++ e) ++ t

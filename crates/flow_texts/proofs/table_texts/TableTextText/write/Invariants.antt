@@ -1,7 +1,7 @@
 use Rattle.std.proofs.Common.{◌≡◌, flat_map}
 use Rattle.std.specs.List.{range_with_len}
 use Rattle.flow_team.specs.Tables.{facts_of}
-use Rattle.flow_texts.specs.Pieces.{Takes, outlet}
+use Rattle.text_pieces.specs.Pieces.{Takes, outlet}
 use Rattle.flow_texts.specs.Tables.{point_line}
 use Rattle.flow_texts.proofs.table_texts.TableTextText.write.Given as goal
 

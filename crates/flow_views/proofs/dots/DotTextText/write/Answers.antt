@@ -1,4 +1,4 @@
-use Rattle.flow_texts.proofs.Taking.{takes_as}
+use Rattle.text_pieces.proofs.Taking.{takes_as}
 use Rattle.flow_views.proofs.dots.DotTextText.write.Goals as goal
 
 pub returns-clause-takes : goal.returns-clause-takes

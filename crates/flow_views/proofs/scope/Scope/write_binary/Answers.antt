@@ -1,5 +1,5 @@
 use Rattle.std.proofs.Common.{List, ℕ, ◌++◌, codes, ap}
-use Rattle.flow_texts.proofs.Taking.{takes_as}
+use Rattle.text_pieces.proofs.Taking.{takes_as}
 use Rattle.tac_reader.specs.Listings.{operand_text}
 use Rattle.tac_reader.specs.Programs.{Names, sign_of}
 use Rattle.flow_views.specs.Strings.{escaped}

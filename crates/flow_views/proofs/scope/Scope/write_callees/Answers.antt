@@ -1,5 +1,5 @@
 use Rattle.std.proofs.Common.{ℕ, List, [], ◌++◌, take, get_or, nat_lt, codes, unwrap_or, if◌then◌else◌, ap, sym, ◌∙◌}
-use Rattle.flow_texts.proofs.Taking.{takes_as}
+use Rattle.text_pieces.proofs.Taking.{takes_as}
 use Rattle.tac_reader.specs.Listings.{callees_text, name_at}
 use Rattle.tac_reader.specs.Programs.{Names}
 use Rattle.flow_views.specs.Strings.{escaped}

@@ -1,5 +1,5 @@
 use Rattle.std.proofs.Common.{codes, slice_get, ap}
-use Rattle.flow_texts.proofs.Taking.{takes_as}
+use Rattle.text_pieces.proofs.Taking.{takes_as}
 use Rattle.tac_reader.specs.Listings.{name_at}
 use Rattle.tac_reader.specs.Programs.{Names}
 use Rattle.flow_views.specs.Strings.{escaped}

@@ -1,5 +1,5 @@
 use Rattle.std.proofs.Common.{[], unwrap_or, ap, sym}
-use Rattle.flow_texts.proofs.Taking.{takes_as}
+use Rattle.text_pieces.proofs.Taking.{takes_as}
 use Rattle.flow_views.specs.Strings.{escaped}
 use Rattle.flow_views.proofs.scope.Scope.write_variable.Goals as goal
 

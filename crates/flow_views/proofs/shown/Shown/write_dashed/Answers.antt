@@ -1,5 +1,5 @@
 use Rattle.std.proofs.Common.{◌++◌, codes, decimal, ap}
-use Rattle.flow_texts.proofs.Taking.{takes_as, takes_then}
+use Rattle.text_pieces.proofs.Taking.{takes_as, takes_then}
 use Rattle.flow_views.specs.Dots.{arrow}
 use Rattle.flow_views.proofs.shown.Shown.write_dashed.Goals as goal
 

@@ -1,5 +1,5 @@
 use Rattle.std.proofs.Common.{ap, sym}
-use Rattle.flow_texts.proofs.Taking.{takes_as, takes_then}
+use Rattle.text_pieces.proofs.Taking.{takes_as, takes_then}
 use Rattle.flow_views.specs.Dots.{edge_line}
 use Rattle.flow_views.proofs.shown.Shown.write_edge.Goals as goal
 

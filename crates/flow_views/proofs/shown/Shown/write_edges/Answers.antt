@@ -2,7 +2,7 @@ use Rattle.std.proofs.Common.{List, flat_map, get_or, All, sym, subst, ap}
 use Rattle.std.proofs.lemmas.List.Elements.{All-contains_itself}
 use Rattle.flow_graph.specs.Edges.{edges_from}
 use Rattle.flow_graph.specs.declared.edge.Edge.{Edge}
-use Rattle.flow_texts.proofs.Taking.{takes_as, takes_then}
+use Rattle.text_pieces.proofs.Taking.{takes_as, takes_then}
 use Rattle.tac_reader.specs.Programs.{Program}
 use Rattle.flow_views.specs.Dots.{shown_edge}
 use Rattle.flow_views.specs.code.Shown.{IsSiteIn}

@@ -1,6 +1,6 @@
 use Rattle.std.proofs.Common.{codes, ap, ◌∙◌}
 use Rattle.flow_graph.specs.Points.{procedure_at}
-use Rattle.flow_texts.proofs.Taking.{takes_as}
+use Rattle.text_pieces.proofs.Taking.{takes_as}
 use Rattle.flow_views.specs.Strings.{escaped}
 use Rattle.flow_views.specs.Views.{procedure_name}
 use Rattle.tac_reader.specs.Programs.{Program}

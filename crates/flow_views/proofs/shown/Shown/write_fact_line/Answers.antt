@@ -1,11 +1,11 @@
 use Rattle.std.proofs.Common.{List, ℕ, ◌++◌, codes, map, ap, subst, ◌∙◌, arith}
 use Rattle.flow_graph.specs.declared.analysis.Analysis.{Analysis}
 use Rattle.flow_texts.specs.Tables.{bit_text, bits_at, listed}
-use Rattle.flow_texts.specs.code.Blocks.{SeparatedTexts}
+use Rattle.text_pieces.specs.code.Blocks.{SeparatedTexts}
 use Rattle.flow_texts.specs.code.Findings.{knowledge_of}
-use Rattle.flow_texts.specs.code.Lists.{text_at}
+use Rattle.text_pieces.specs.code.Lists.{text_at}
 use Rattle.flow_texts.specs.Reports.{Knowledge}
-use Rattle.flow_texts.proofs.Taking.{takes_as, takes_then}
+use Rattle.text_pieces.proofs.Taking.{takes_as, takes_then}
 use Rattle.tac_reader.specs.Programs.{Program}
 use Rattle.flow_views.specs.Strings.{escaped}
 use Rattle.flow_views.specs.Views.{analysis_name, told_by}

@@ -2,11 +2,11 @@ use Rattle.std.proofs.Common.{◌≡◌, codes, decimal, length, ap, subst, ◌�
 use Rattle.flow_graph.specs.declared.analysis.Analysis.{Analysis}
 use Rattle.flow_team.specs.Tables.{Facts}
 use Rattle.flow_texts.specs.Tables.{bit_text}
-use Rattle.flow_texts.specs.code.Blocks.{HoldsTexts, SeparatedTexts}
+use Rattle.text_pieces.specs.code.Blocks.{HoldsTexts, SeparatedTexts}
 use Rattle.flow_texts.specs.code.Findings.{knowledge_of}
-use Rattle.flow_texts.specs.code.Lists.{text_at}
+use Rattle.text_pieces.specs.code.Lists.{text_at}
 use Rattle.flow_texts.specs.Reports.{Knowledge}
-use Rattle.flow_texts.proofs.Taking.{takes_as, takes_then}
+use Rattle.text_pieces.proofs.Taking.{takes_as, takes_then}
 use Rattle.tac_reader.specs.Programs.{Program}
 use Rattle.flow_views.specs.Strings.{quoted}
 use Rattle.flow_views.specs.Views.{told_by}

@@ -1,5 +1,5 @@
 use Rattle.std.proofs.Common.{◌∙◌, sym}
-use Rattle.flow_texts.proofs.Taking.{takes_as, takes_then}
+use Rattle.text_pieces.proofs.Taking.{takes_as, takes_then}
 use Rattle.flow_views.proofs.Tables.{passed_is}
 use Rattle.flow_views.proofs.shown.Shown.write_passed_call.Goals as goal
 

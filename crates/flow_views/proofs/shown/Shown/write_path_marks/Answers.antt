@@ -1,6 +1,6 @@
 use Rattle.std.proofs.Common.{List, ℕ, ◌++◌, codes, if◌then◌else◌, ap, ap₂, sym, ◌∙◌}
 use Rattle.flow_texts.specs.Reports.{dead_at, unset_at}
-use Rattle.flow_texts.proofs.Taking.{takes_as, takes_nothing}
+use Rattle.text_pieces.proofs.Taking.{takes_as, takes_nothing}
 use Rattle.tac_reader.specs.Programs.{Program}
 use Rattle.flow_texts.specs.code.Findings.{knowledge_of}
 use Rattle.flow_texts.specs.Reports.{Knowledge}

@@ -1,6 +1,6 @@
 use Rattle.std.proofs.Common.{◌≡◌, ◌-◌, flat_map}
 use Rattle.std.specs.List.{range_with_len}
-use Rattle.flow_texts.specs.Pieces.{Takes, outlet}
+use Rattle.text_pieces.specs.Pieces.{Takes, outlet}
 use Rattle.flow_views.specs.Dots.{edge_lines}
 use Rattle.flow_views.proofs.shown.Shown.write_procedure_edges.Given as goal
 

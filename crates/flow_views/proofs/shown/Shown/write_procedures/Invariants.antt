@@ -1,5 +1,5 @@
 use Rattle.std.proofs.Common.{◌≡◌, ◌++◌, codes, map, take}
-use Rattle.flow_texts.specs.Pieces.{Takes, outlet}
+use Rattle.text_pieces.specs.Pieces.{Takes, outlet}
 use Rattle.flow_views.specs.Json.{joined}
 use Rattle.flow_views.specs.Strings.{quoted}
 use Rattle.flow_views.proofs.shown.Shown.write_procedures.Given as goal

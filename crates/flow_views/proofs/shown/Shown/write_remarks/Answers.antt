@@ -1,6 +1,6 @@
 use Rattle.std.proofs.Common.{◌≡◌, ◌-◌, flat_map, ap, ◌∙◌, arith}
 use Rattle.std.specs.List.{range_with_len}
-use Rattle.flow_texts.proofs.Taking.{takes_as, takes_then}
+use Rattle.text_pieces.proofs.Taking.{takes_as, takes_then}
 use Rattle.flow_texts.specs.code.Findings.{knowledge_of}
 use Rattle.flow_views.specs.Json.{remark_lines}
 use Rattle.flow_views.proofs.Walks.{walk_more}

@@ -1,6 +1,6 @@
 use Rattle.std.proofs.Common.{◌≡◌, ◌-◌, flat_map}
 use Rattle.std.specs.List.{range_with_len}
-use Rattle.flow_texts.specs.Pieces.{Takes, outlet}
+use Rattle.text_pieces.specs.Pieces.{Takes, outlet}
 use Rattle.flow_texts.specs.code.Findings.{knowledge_of}
 use Rattle.flow_views.specs.Json.{remark_lines}
 use Rattle.flow_views.proofs.shown.Shown.write_remarks.Given as goal

@@ -1,5 +1,5 @@
 use Rattle.std.proofs.Common.{◌∙◌}
-use Rattle.flow_texts.proofs.Taking.{takes_as, takes_then}
+use Rattle.text_pieces.proofs.Taking.{takes_as, takes_then}
 use Rattle.flow_views.specs.Dots.{shown_edge}
 use Rattle.flow_views.proofs.Walks.{walk_next}
 use Rattle.flow_views.proofs.shown.Shown.write_shown_edges.Goals as goal

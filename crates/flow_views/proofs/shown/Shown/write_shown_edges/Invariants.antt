@@ -1,5 +1,5 @@
 use Rattle.std.proofs.Common.{◌≡◌, flat_map, take}
-use Rattle.flow_texts.specs.Pieces.{Takes, outlet}
+use Rattle.text_pieces.specs.Pieces.{Takes, outlet}
 use Rattle.flow_views.specs.Dots.{shown_edge}
 use Rattle.flow_views.proofs.shown.Shown.write_shown_edges.Given as goal
 

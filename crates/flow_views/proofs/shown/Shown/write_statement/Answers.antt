@@ -1,5 +1,5 @@
 use Rattle.std.proofs.Common.{ℕ, length, option_map, sym, ap, subst, ◌∙◌}
-use Rattle.flow_texts.proofs.Taking.{takes_as}
+use Rattle.text_pieces.proofs.Taking.{takes_as}
 use Rattle.tac_reader.specs.Listings.{statement_text}
 use Rattle.tac_reader.specs.Programs.{Program}
 use Rattle.tac_reader.specs.Sound.{IsSoundStatement}

@@ -1,0 +1,164 @@
+// What is written of a program.
+
+ghost use Rattle.std.specs.Prelude.{◌≡◌, ◌+◌, ◌-◌, ◌^◌, ◌<◌, IfErr, OnOk, true};
+ghost use Rattle.std.specs.Thread.{IsSync};
+ghost use Rattle.flow_graph.specs.Limits.{HasFewBits, HasFewPoints};
+ghost use Rattle.flow_team.specs.Tables.{IsTableOf};
+ghost use Rattle.flow_texts.specs.Reports.{IsReport, ListsSafely, TellReport};
+ghost use Rattle.flow_texts.specs.Tables.{IsTableText};
+ghost use Rattle.flow_runs.specs.Faults.{Delivers, OfProgram, write_faults_in};
+ghost use Rattle.flow_runs.specs.Runs.{IsOverLimit};
+ghost use Rattle.flow_commands.specs.Runs.{IsShown, needs_graph as kind_needs_graph};
+
+use crate::options::{Options, Show};
+use flow_graph::{Analysis, Graph};
+use flow_runs::{Fault, Shown, graph_of, push_text};
+use flow_team::Table;
+use flow_texts::{ReportText, TableText, Tables, table_of};
+use text_pieces::{Bytes, Sink};
+use std::alloc::Global;
+use std::thread::Threads;
+use tac_reader::{Program, listing};
+
+// Writes a table of a graph. It is not owned here, so that no way out drops it.
+fn push_table<K: Sink>(
+    alloc: Global,
+    graph: &Graph<'_>,
+    table: &Table,
+    sink: &mut K,
+) -> Result<(), Fault>
+    requires table { IsTableOf graph.now table.now }
+    requires below { K.faults sink.old < 2 ^ 32 - 1 }
+    ensures delivers { Delivers (IsTableText graph.now table.now.analysis) (K.contents sink.old) (K.contents sink.new) result }
+    ensures flushed { OnOk result (K.flushed sink.new ≡ true) }
+    ensures fault { IfErr result (OfProgram (λ _. ⊥) ⊥) }
+    ensures faults { K.faults sink.new ≡ K.faults sink.old + write_faults_in result }
+{
+    let text = TableText::of(alloc, graph, table)?;
+    push_text(alloc, &text, sink)
+}
+
+// Writes the table of an analysis of a graph. The graph is not owned here, and the table where it is made.
+fn table_of_graph<R: Threads + Sync, K: Sink>(
+    rt: &R,
+    alloc: Global,
+    graph: &Graph<'_>,
+    analysis: Analysis,
+    options: Options,
+    sink: &mut K,
+) -> Result<(), Fault>
+    requires threads { IsSync R.row }
+    requires below { K.faults sink.old < 2 ^ 32 - 1 }
+    ensures delivers { Delivers (IsTableText graph.now analysis) (K.contents sink.old) (K.contents sink.new) result }
+    ensures flushed { OnOk result (K.flushed sink.new ≡ true) }
+    ensures fault { IfErr result (OfProgram (λ _. ⊥) ⊥) }
+    ensures faults { K.faults sink.new ≡ K.faults sink.old + write_faults_in result }
+{
+    let table = table_of(rt, alloc, graph, analysis, options.workers, options.cut)?;
+    push_table(alloc, graph, &table, sink)
+}
+
+// Writes the table of an analysis.
+fn show_table<R: Threads + Sync, K: Sink>(
+    rt: &R,
+    alloc: Global,
+    program: &Program,
+    analysis: Analysis,
+    options: Options,
+    sink: &mut K,
+) -> Result<(), Fault>
+    requires threads { IsSync R.row }
+    requires below { K.faults sink.old < 2 ^ 32 - 1 }
+    ensures delivers { Delivers (λ out. HasFewPoints program.now × HasFewBits program.now × IsTableText program.now analysis out) (K.contents sink.old) (K.contents sink.new) result }
+    ensures flushed { OnOk result (K.flushed sink.new ≡ true) }
+    ensures fault { IfErr result (OfProgram (IsOverLimit program.now) ⊥) }
+    ensures faults { K.faults sink.new ≡ K.faults sink.old + write_faults_in result }
+{
+    let graph = graph_of(alloc, program)?;
+    table_of_graph(rt, alloc, &graph, analysis, options, sink)
+}
+
+// Writes the report of a graph with its tables. They are not owned here, so that no way out drops them.
+fn push_report<K: Sink>(
+    alloc: Global,
+    graph: &Graph<'_>,
+    tables: &Tables,
+    sink: &mut K,
+) -> Result<(), Fault>
+    requires tables { TellReport graph.now tables.now }
+    requires below { K.faults sink.old < 2 ^ 32 - 1 }
+    ensures delivers { Delivers (λ out. IsReport graph.now out × ListsSafely graph.now out) (K.contents sink.old) (K.contents sink.new) result }
+    ensures flushed { OnOk result (K.flushed sink.new ≡ true) }
+    ensures fault { IfErr result (OfProgram (λ _. ⊥) ⊥) }
+    ensures faults { K.faults sink.new ≡ K.faults sink.old + write_faults_in result }
+{
+    let text = ReportText::of(alloc, graph, tables)?;
+    push_text(alloc, &text, sink)
+}
+
+// Writes the report of a graph. The graph is not owned here, and the tables where they are made.
+fn report_of_graph<R: Threads + Sync, K: Sink>(
+    rt: &R,
+    alloc: Global,
+    graph: &Graph<'_>,
+    options: Options,
+    sink: &mut K,
+) -> Result<(), Fault>
+    requires threads { IsSync R.row }
+    requires below { K.faults sink.old < 2 ^ 32 - 1 }
+    ensures delivers { Delivers (λ out. IsReport graph.now out × ListsSafely graph.now out) (K.contents sink.old) (K.contents sink.new) result }
+    ensures flushed { OnOk result (K.flushed sink.new ≡ true) }
+    ensures fault { IfErr result (OfProgram (λ _. ⊥) ⊥) }
+    ensures faults { K.faults sink.new ≡ K.faults sink.old + write_faults_in result }
+{
+    let tables = Tables::for_report(rt, alloc, graph, options.workers, options.cut)?;
+    push_report(alloc, graph, &tables, sink)
+}
+
+// Writes the report.
+fn show_report<R: Threads + Sync, K: Sink>(
+    rt: &R,
+    alloc: Global,
+    program: &Program,
+    options: Options,
+    sink: &mut K,
+) -> Result<(), Fault>
+    requires threads { IsSync R.row }
+    requires below { K.faults sink.old < 2 ^ 32 - 1 }
+    ensures delivers { Delivers (λ out. HasFewPoints program.now × HasFewBits program.now × IsReport program.now out × ListsSafely program.now out) (K.contents sink.old) (K.contents sink.new) result }
+    ensures flushed { OnOk result (K.flushed sink.new ≡ true) }
+    ensures fault { IfErr result (OfProgram (IsOverLimit program.now) ⊥) }
+    ensures faults { K.faults sink.new ≡ K.faults sink.old + write_faults_in result }
+{
+    let graph = graph_of(alloc, program)?;
+    report_of_graph(rt, alloc, &graph, options, sink)
+}
+
+impl Shown for Options {
+    ghost needs_graph = { λ options. kind_needs_graph options.show };
+
+    ghost is_shown = { λ options. IsShown options.show };
+
+    ghost lacks = { λ _ _. ⊥ };
+
+    fn show<R: Threads + Sync, K: Sink>(
+        &self,
+        rt: &R,
+        alloc: Global,
+        program: &Program,
+        sink: &mut K,
+    ) -> Result<(), Fault> {
+        let options = *self;
+        match options.show {
+            Show::List => {
+                let text = listing(alloc, program)?;
+                push_text(alloc, &Bytes(&text), sink)
+            }
+            Show::Report => show_report(rt, alloc, program, options, sink),
+            Show::Reach => show_table(rt, alloc, program, Analysis::Reach, options, sink),
+            Show::Live => show_table(rt, alloc, program, Analysis::Live, options, sink),
+            Show::Avail => show_table(rt, alloc, program, Analysis::Avail, options, sink),
+            Show::Busy => show_table(rt, alloc, program, Analysis::Busy, options, sink),
+        }
+    }
+}

@@ -1,0 +1,5 @@
+pub mod Devices
+pub mod Transfers
+pub mod Pieces
+pub mod Pulls
+pub mod code

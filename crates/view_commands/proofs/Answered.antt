@@ -1,0 +1,55 @@
+-- What `tacview` answers to the words, by what `clap` answered
+use Rattle.std.proofs.Common.{◌≡◌, ◌⊎◌, subst, sym, inl, inr, true, Bool, List, Result, Ok, Err}
+use Rattle.std.specs.Prelude.{[], ◌∷◌, IfOk, IfErr, if◌then◌else◌}
+use Rattle.std.specs.Borrow.{Bor}
+use Rattle.clap.specs.Kinds.{Kinds, or_else}
+use Rattle.clap.specs.Words.{FailsBy, HasKind, Row, Text, fault_of, kind_of, matches_of, takes}
+use Rattle.clap.specs.declared.builder.possible_value.PossibleValue.{PossibleValue}
+use Rattle.clap.specs.declared.error.Error.{Error}
+use Rattle.clap.specs.declared.error.kind.ErrorKind.TheVariants.{InvalidValue, OutOfMemory}
+use Rattle.flow_runs.specs.Words.{AreKindsOf}
+use Rattle.view_commands.specs.Commands.{AnswersWords, NamesOptions, facts_kinds, knows_facts, tacview_command}
+use Rattle.view_commands.specs.Kinds.{formats}
+use Rattle.view_commands.specs.declared.options.Options.{Options}
+
+-- an error of facts that are known is want of memory
+known_refused : (rows : List Row) (r : Result Options Error) → FailsBy (facts_kinds rows) r → IfErr r (λ e. knows_facts rows ≡ true → kind_of e ≡ OutOfMemory)
+known_refused rows (Ok options) fails = tt
+known_refused rows (Err e) fails = λ known. elim (none_but_memory (subst (λ (b : Bool). HasKind (if b then [] else InvalidValue ∷ []) e) known fails)) [ inl is ↦ is | inr none ↦ absurd none ]
+  where
+    none_but_memory : HasKind [] e → (kind_of e ≡ OutOfMemory) ⊎ ⊥
+    none_but_memory h = h
+
+unless_taken : (P : Type 0) (r : Result Options Error) (Q : Error → Type 0) → IfErr r Q → IfErr r (λ e. P → Q e)
+unless_taken P (Ok options) Q told = tt
+unless_taken P (Err e) Q told = λ _. told
+
+-- where `clap` has taken the words, the facts decide
+pub answered : (words : List Text) (values : Bor (List PossibleValue)) → AreKindsOf formats values.now → (r : Result Options Error) (rows : List Row)
+    → rows ≡ matches_of (tacview_command values) words → IfOk r (NamesOptions rows) → FailsBy (facts_kinds rows) r
+    → fault_of (tacview_command values) words ≡ [] → AnswersWords words r
+answered words values are r rows is named fails faultless = record {
+  values = values;
+  are_formats = are;
+  named = subst (λ (x : List Row). IfOk r (NamesOptions x)) is named;
+  refused = unless_taken _ r _ (subst (λ (x : List Row). IfErr r (λ e. knows_facts x ≡ true → kind_of e ≡ OutOfMemory)) is (known_refused rows r fails));
+  faults = subst (λ (k : Kinds). FailsBy (or_else k (facts_kinds (matches_of (tacview_command values) words))) r) (sym faultless)
+      (subst (λ (x : List Row). FailsBy (facts_kinds x) r) is fails);
+}
+
+-- where it has refused them, it has
+earlier : (k next : Kinds) (e : Error) → HasKind k e → HasKind (or_else k next) e
+earlier [] next e (inl memory) = inl memory
+earlier [] next e (inr none) = absurd none
+earlier (k ∷ ks) next e has = has
+
+pub refused : (words : List Text) (values : Bor (List PossibleValue)) → AreKindsOf formats values.now → (e : Error)
+    → (takes (tacview_command values) words ≡ true → kind_of e ≡ OutOfMemory) → HasKind (fault_of (tacview_command values) words) e
+    → AnswersWords words (Err e)
+refused words values are e passes has = record {
+  values = values;
+  are_formats = are;
+  named = tt;
+  refused = λ taken _. passes taken;
+  faults = earlier _ _ e has;
+}

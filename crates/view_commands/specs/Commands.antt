@@ -1,0 +1,58 @@
+-- The command line, and the options that its words name.
+use Rattle.std.specs.Prelude.{◌≡◌, ℕ, List, [], ◌∷◌, Bool, Option, Some, Result, IfOk, IfErr, codes, true, is_some, option_and_then, option_map, if◌then◌else◌}
+use Rattle.std.specs.Borrow.{Bor}
+use Rattle.std.specs.Option.{option_map_or}
+use Rattle.std.specs.String.{string_bytes}
+use Rattle.clap.specs.Kinds.{Kinds, or_else}
+use Rattle.clap.specs.Words.{App, FailsBy, Row, Rule, Text, fault_of, first_of, kind_of, matches_of, new_app, new_rule, takes, with_rule}
+use Rattle.clap.specs.declared.builder.action.ArgAction.TheVariants.{Set}
+use Rattle.clap.specs.declared.builder.possible_value.PossibleValue.{PossibleValue}
+use Rattle.clap.specs.declared.error.Error.{Error}
+use Rattle.clap.specs.declared.error.kind.ErrorKind.TheVariants.{InvalidValue, OutOfMemory}
+use Rattle.flow_runs.specs.Words.{AreKindsOf, NamesNumber, kind_rule, number_rule}
+use Rattle.view_commands.specs.Kinds.{facts_asked, facts_named, format_named, formats}
+use Rattle.view_commands.specs.declared.options.Options.{Options}
+
+-- `--NAME TEXT`, any text, with no default.
+abbrev pub text_rule : Text → Rule
+text_rule name = record (new_rule name) { long = Some name; value_names = 1; action = Some Set }
+
+-- `tacview [--format KIND] [--facts LIST] [--procedure NAME]`, and behind them `[--workers N] [--cut N]`
+abbrev pub view_command : Bor (List PossibleValue) → App
+view_command values =
+    with_rule (with_rule (with_rule (new_app (codes "tacview"))
+    (kind_rule (codes "format") (codes "dot") values)) (text_rule (codes "facts"))) (text_rule (codes "procedure"))
+
+abbrev pub tacview_command : Bor (List PossibleValue) → App
+tacview_command values =
+    with_rule (with_rule (view_command values) (number_rule (codes "workers") (codes "1") 64)) (number_rule (codes "cut") (codes "64") 4096)
+
+-- The name of the procedure that is asked for.
+abbrev pub name_asked : Options → Option (List ℕ)
+name_asked options = option_map string_bytes options.procedure
+
+-- The matches name these options.
+pub record NamesOptions (rows : List Row) (options : Options) : Type 0 where
+  pub named_format : option_and_then format_named (first_of (codes "format") rows) ≡ Some options.format
+  pub named_facts : facts_asked options.format (first_of (codes "facts") rows) ≡ Some options.facts
+  pub named_procedure : name_asked options ≡ first_of (codes "procedure") rows
+  pub named_workers : NamesNumber rows (codes "workers") options.workers
+  pub named_cut : NamesNumber rows (codes "cut") options.cut
+
+-- Whether the list of facts, where there is one, names facts. `clap` takes any text for it.
+abbrev pub knows_facts : List Row → Bool
+knows_facts rows = option_map_or (λ list. is_some (facts_named list)) (first_of (codes "facts") rows) true
+
+-- The kind of error for a list that names no facts.
+abbrev pub facts_kinds : List Row → Kinds
+facts_kinds rows = if knows_facts rows then [] else InvalidValue ∷ []
+
+-- What is answered to the words: the options that the command's matches name, or an error. The
+-- command holds the formats by reference, and where they lie is left open.
+pub record AnswersWords (words : List Text) (answer : Result Options Error) : Type 0 where
+  pub values : Bor (List PossibleValue)
+  pub are_formats : AreKindsOf formats values.now
+  pub named : IfOk answer (NamesOptions (matches_of (tacview_command values) words))
+  pub refused : IfErr answer (λ e. takes (tacview_command values) words ≡ true
+      → knows_facts (matches_of (tacview_command values) words) ≡ true → kind_of e ≡ OutOfMemory)
+  pub faults : FailsBy (or_else (fault_of (tacview_command values) words) (facts_kinds (matches_of (tacview_command values) words))) answer

@@ -1,0 +1,58 @@
+-- The words of the formats and of the facts.
+use Rattle.std.specs.Prelude.{◌==◌, ℕ, Bool, true, false, List, [], ◌∷◌, Option, None, Some, bytes_eq, codes, if◌then◌else◌}
+use Rattle.std.specs.List.{list_all, list_any, slice_split}
+use Rattle.flow_runs.specs.Words.{kind_named}
+use Rattle.flow_views.specs.declared.view.Chosen.{Chosen}
+use Rattle.view_commands.specs.declared.options.Format.{Format}
+use Rattle.view_commands.specs.declared.options.Format.TheVariants as format
+
+-- Each format with its word.
+abbrev pub formats : List (List ℕ × Format)
+formats = (codes "dot", format.Dot) ∷ (codes "json", format.Json) ∷ []
+
+-- The format that a word names.
+abbrev pub format_named : List ℕ → Option Format
+format_named = kind_named formats
+
+abbrev pub no_facts : Chosen
+no_facts = record { reach = false; live = false; avail = false; busy = false }
+
+abbrev pub all_facts : Chosen
+all_facts = record { reach = true; live = true; avail = true; busy = true }
+
+-- The word of each analysis.
+abbrev pub is_fact : List ℕ → Bool
+is_fact word = list_any (λ known. bytes_eq known word) (codes "reach" ∷ codes "live" ∷ codes "avail" ∷ codes "busy" ∷ [])
+
+-- The words between the commas of a list.
+abbrev pub words_in : List ℕ → List (List ℕ)
+words_in list = slice_split (λ b. b == 44) list
+
+abbrev pub has_word : List ℕ → List ℕ → Bool
+has_word word list = list_any (λ w. bytes_eq w word) (words_in list)
+
+-- The analyses whose words a list has.
+abbrev pub chosen_in : List ℕ → Chosen
+chosen_in list = record {
+  reach = has_word (codes "reach") list;
+  live = has_word (codes "live") list;
+  avail = has_word (codes "avail") list;
+  busy = has_word (codes "busy") list;
+}
+
+-- The facts that a list names: `none`, `all`, or those of the analyses whose words it has, where it has no other word.
+abbrev pub facts_named : List ℕ → Option Chosen
+facts_named list =
+    if bytes_eq list (codes "none") then Some no_facts
+    else (if bytes_eq list (codes "all") then Some all_facts
+    else (if list_all is_fact (words_in list) then Some (chosen_in list) else None))
+
+-- The facts that are shown where no list says which.
+abbrev pub facts_by_format : Format → Chosen
+facts_by_format format.Dot = no_facts
+facts_by_format format.Json = all_facts
+
+-- The facts that are asked for, by a list or by none.
+abbrev pub facts_asked : Format → Option (List ℕ) → Option Chosen
+facts_asked format None = Some (facts_by_format format)
+facts_asked format (Some list) = facts_named list

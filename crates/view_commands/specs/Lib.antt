@@ -1,0 +1,5 @@
+pub mod Views
+pub mod Kinds
+pub mod Commands
+pub mod Lines
+pub mod code

@@ -1,0 +1,14 @@
+//! What `tacview` does with its words and its streams: a program's flow graph with what holds at its points, for Graphviz or as
+//! lines of JSON.
+#![tactic(auto)]
+
+mod facts;
+mod lines;
+mod options;
+mod runs;
+mod views;
+mod words;
+
+pub use lines::line_of;
+pub use options::{Format, Options};
+pub use runs::run;

@@ -1,0 +1,59 @@
+// What the program is asked to do.
+
+ghost use Rattle.std.specs.Prelude.{◌≡◌, ◌≤◌, ◌↔◌, IsSome, IfSome};
+ghost use Rattle.flow_texts.specs.Ranges.{AreInRange};
+
+use flow_runs::are_in_range;
+use flow_views::Chosen;
+
+/// Which text is written.
+#[derive(Clone, Copy, Debug, PartialEq, Eq)]
+pub enum Format {
+    /// A graph for Graphviz.
+    Dot,
+    /// Lines of JSON.
+    Json,
+}
+
+/// What to show, by how many workers, in slices of how many bits.
+#[derive(Drop)]
+pub struct Options {
+    /// How many workers, 1 to 64.
+    pub workers: u32,
+    /// The width of a slice, 1 to 4,096 bits.
+    pub cut: u32,
+    /// Which text is written.
+    pub format: Format,
+    /// Which analyses' facts stand in it.
+    pub facts: Chosen,
+    /// The name of the one procedure that is shown; without it all are.
+    pub procedure: Option<String>,
+    pub ghost in_range: { AreInRange workers cut },
+}
+
+impl Options {
+    /// Options of these values: 1 to 64 workers, and slices of 1 to 4,096 bits. None for a value
+    /// outside its range.
+    pub fn new(
+        workers: u32,
+        cut: u32,
+        format: Format,
+        facts: Chosen,
+        procedure: Option<String>,
+    ) -> Option<Options>
+        ensures answered { IsSome result ↔ AreInRange workers cut }
+        ensures options { IfSome result (λ options. (options.workers ≡ workers) × (options.cut ≡ cut) × (options.format ≡ format) × (options.facts ≡ facts) × (options.procedure ≡ procedure)) }
+    {
+        if are_in_range(workers, cut) {
+            Some(Options {
+                workers,
+                cut,
+                format,
+                facts,
+                procedure,
+            })
+        } else {
+            None
+        }
+    }
+}

@@ -1,0 +1,181 @@
+// What is written of a program.
+
+ghost use Rattle.std.specs.Prelude.{◌≡◌, ◌+◌, ◌-◌, ◌^◌, ◌<◌, Some, IfOk, IfErr, IfSome, OnOk, MatchOption, length, true};
+ghost use Rattle.std.specs.Thread.{IsSync};
+ghost use Rattle.flow_graph.specs.Limits.{HasFewBits, HasFewPoints};
+ghost use Rattle.flow_runs.specs.Faults.{Delivers, OfProgram, write_faults_in};
+ghost use Rattle.flow_runs.specs.Runs.{IsOverLimit};
+ghost use Rattle.flow_texts.specs.Reports.{AreTablesOf};
+ghost use Rattle.flow_views.specs.Dots.{IsDot};
+ghost use Rattle.flow_views.specs.Json.{IsJson};
+ghost use Rattle.view_commands.specs.Commands.{name_asked};
+ghost use Rattle.view_commands.specs.Views.{HasProcedure, IsShown, IsText, LacksProcedure, ShowsProcedure};
+
+use crate::options::{Format, Options};
+use flow_graph::Graph;
+use flow_runs::{Fault, Shown, graph_of, push_text};
+use flow_texts::Tables;
+use text_pieces::Sink;
+use flow_views::{DotText, JsonText, View};
+use std::alloc::Global;
+use std::thread::Threads;
+use tac_reader::Program;
+
+// The number of the procedure of this name.
+fn procedure_named(program: &Program, name: &[u8]) -> Option<u32>
+    ensures { MatchOption result (LacksProcedure (Some name.now) program.now) (HasProcedure program.now name.now) }
+{
+    for number in 0..program.procs().len() as u32 {
+        if program.procedure(number) == name {
+            return Some(number);
+        }
+    }
+    None
+}
+
+// What the options ask for of this program.
+fn view_of(program: &Program, options: &Options) -> Result<View, Fault>
+    ensures facts { IfOk result (λ view. view.facts ≡ options.now.facts) }
+    ensures procedure { IfOk result (λ view. ShowsProcedure program.now (name_asked options.now) view.procedure) }
+    ensures there { IfOk result (λ view. IfSome view.procedure (λ number. number < length program.now.procedure_names)) }
+    ensures lacks { IfErr result (λ fault. (fault ≡ Fault.NoProcedure) × LacksProcedure (name_asked options.now) program.now) }
+{
+    let facts = options.facts;
+    let Some(name) = &options.procedure else {
+        return Ok(View {
+            facts,
+            procedure: None,
+        });
+    };
+    match procedure_named(program, name.as_bytes()) {
+        Some(number) => Ok(View {
+            facts,
+            procedure: Some(number),
+        }),
+        None => Err(Fault::NoProcedure),
+    }
+}
+
+// Writes the graph for Graphviz.
+fn push_dot<K: Sink>(
+    alloc: Global,
+    graph: &Graph<'_>,
+    tables: &Tables,
+    view: View,
+    sink: &mut K,
+) -> Result<(), Fault>
+    requires tables { AreTablesOf graph.now tables.now }
+    requires below { K.faults sink.old < 2 ^ 32 - 1 }
+    requires there { IfSome view.procedure (λ number. number < length graph.now.procedure_names) }
+    ensures delivers { Delivers (λ out. IsDot graph.now view out) (K.contents sink.old) (K.contents sink.new) result }
+    ensures flushed { OnOk result (K.flushed sink.new ≡ true) }
+    ensures fault { IfErr result (OfProgram (λ _. ⊥) ⊥) }
+    ensures faults { K.faults sink.new ≡ K.faults sink.old + write_faults_in result }
+{
+    let text = DotText::of(alloc, graph, tables, view)?;
+    push_text(alloc, &text, sink)
+}
+
+// Writes the lines of JSON.
+fn push_json<K: Sink>(
+    alloc: Global,
+    graph: &Graph<'_>,
+    tables: &Tables,
+    view: View,
+    sink: &mut K,
+) -> Result<(), Fault>
+    requires tables { AreTablesOf graph.now tables.now }
+    requires below { K.faults sink.old < 2 ^ 32 - 1 }
+    requires there { IfSome view.procedure (λ number. number < length graph.now.procedure_names) }
+    ensures delivers { Delivers (λ out. IsJson graph.now view out) (K.contents sink.old) (K.contents sink.new) result }
+    ensures flushed { OnOk result (K.flushed sink.new ≡ true) }
+    ensures fault { IfErr result (OfProgram (λ _. ⊥) ⊥) }
+    ensures faults { K.faults sink.new ≡ K.faults sink.old + write_faults_in result }
+{
+    let text = JsonText::of(alloc, graph, tables, view)?;
+    push_text(alloc, &text, sink)
+}
+
+// Writes the text of a format, with tables that are not owned here, so that no way out drops them.
+fn push_view<K: Sink>(
+    alloc: Global,
+    graph: &Graph<'_>,
+    tables: &Tables,
+    format: Format,
+    view: View,
+    sink: &mut K,
+) -> Result<(), Fault>
+    requires tables { AreTablesOf graph.now tables.now }
+    requires below { K.faults sink.old < 2 ^ 32 - 1 }
+    requires there { IfSome view.procedure (λ number. number < length graph.now.procedure_names) }
+    ensures delivers { Delivers (IsText format graph.now view) (K.contents sink.old) (K.contents sink.new) result }
+    ensures flushed { OnOk result (K.flushed sink.new ≡ true) }
+    ensures fault { IfErr result (OfProgram (λ _. ⊥) ⊥) }
+    ensures faults { K.faults sink.new ≡ K.faults sink.old + write_faults_in result }
+{
+    match format {
+        Format::Dot => push_dot(alloc, graph, tables, view, sink),
+        Format::Json => push_json(alloc, graph, tables, view, sink),
+    }
+}
+
+// Writes what the options ask for of a graph. The graph is not owned here, and the tables where they are made.
+fn view_of_graph<R: Threads + Sync, K: Sink>(
+    rt: &R,
+    alloc: Global,
+    graph: &Graph<'_>,
+    view: View,
+    options: &Options,
+    sink: &mut K,
+) -> Result<(), Fault>
+    requires threads { IsSync R.row }
+    requires below { K.faults sink.old < 2 ^ 32 - 1 }
+    requires there { IfSome view.procedure (λ number. number < length graph.now.procedure_names) }
+    ensures delivers { Delivers (IsText options.now.format graph.now view) (K.contents sink.old) (K.contents sink.new) result }
+    ensures flushed { OnOk result (K.flushed sink.new ≡ true) }
+    ensures fault { IfErr result (OfProgram (λ _. ⊥) ⊥) }
+    ensures faults { K.faults sink.new ≡ K.faults sink.old + write_faults_in result }
+{
+    let tables = Tables::of(rt, alloc, graph, options.workers, options.cut)?;
+    push_view(alloc, graph, &tables, options.format, view, sink)
+}
+
+// Writes what the options ask for of this program, but for the procedure, which is found.
+fn show_view<R: Threads + Sync, K: Sink>(
+    rt: &R,
+    alloc: Global,
+    program: &Program,
+    view: View,
+    options: &Options,
+    sink: &mut K,
+) -> Result<(), Fault>
+    requires threads { IsSync R.row }
+    requires below { K.faults sink.old < 2 ^ 32 - 1 }
+    requires there { IfSome view.procedure (λ number. number < length program.now.procedure_names) }
+    ensures delivers { Delivers (λ out. HasFewPoints program.now × HasFewBits program.now × IsText options.now.format program.now view out) (K.contents sink.old) (K.contents sink.new) result }
+    ensures flushed { OnOk result (K.flushed sink.new ≡ true) }
+    ensures fault { IfErr result (OfProgram (IsOverLimit program.now) ⊥) }
+    ensures faults { K.faults sink.new ≡ K.faults sink.old + write_faults_in result }
+{
+    let graph = graph_of(alloc, program)?;
+    view_of_graph(rt, alloc, &graph, view, options, sink)
+}
+
+impl Shown for Options {
+    ghost needs_graph = { λ _. true };
+
+    ghost is_shown = { λ options. IsShown options.format options.facts (name_asked options) };
+
+    ghost lacks = { λ options. LacksProcedure (name_asked options) };
+
+    fn show<R: Threads + Sync, K: Sink>(
+        &self,
+        rt: &R,
+        alloc: Global,
+        program: &Program,
+        sink: &mut K,
+    ) -> Result<(), Fault> {
+        let view = view_of(program, self)?;
+        show_view(rt, alloc, program, view, self, sink)
+    }
+}

@@ -1,0 +1,187 @@
+// The program's words, read by `clap`.
+
+ghost use Rattle.std.specs.Prelude.{◌≡◌, Some, false, map, codes, is_some, IfOk, IfSome, option_and_then, option_map};
+ghost use Rattle.std.specs.String.{string_bytes};
+ghost use Rattle.clap.specs.Words.{FailsBy, app_of, first_of, found_of, rows_of, rule_of};
+ghost use Rattle.flow_runs.specs.Words.{AreKindsOf, kind_rule};
+ghost use Rattle.flow_runs.specs.code.Matches.{HoldsKind};
+ghost use Rattle.view_commands.specs.Commands.{AnswersWords, NamesOptions, facts_kinds, knows_facts, tacview_command, text_rule, view_command};
+ghost use Rattle.view_commands.specs.Kinds.{facts_asked, format_named, formats as known_formats};
+ghost use Rattle.view_commands.specs.code.Matches.{HoldsOptions};
+
+use crate::facts::{facts_by, facts_of};
+use crate::options::{Format, Options};
+use clap::builder::PossibleValue;
+use clap::error::ErrorKind;
+use clap::{Arg, ArgAction, ArgMatches, Command, Error};
+use flow_runs::{cut_option, kind_word, number_of, workers_option};
+use flow_views::Chosen;
+use std::alloc::{AllocError, Global};
+
+const ABOUT: &str =
+    "Reads a program of three-address code from standard input, and writes its flow graph to standard output, with what holds at its points.";
+
+const AFTER_HELP: &str =
+    "Examples:\n  tacview < program.tac | dot -Tsvg > program.svg\n  tacview --format json --facts reach,live --procedure main < program.tac\n\nExit status:\n  0  it was written, or help was asked for\n  1  the text was refused, the procedure is not there, or reading, writing or memory failed; standard error has one line on it\n  2  the words were refused";
+
+const NO_FACTS: &str =
+    "the value of '--facts <LIST>' is none, all, or words of reach, live, avail and busy with commas between them";
+
+fn format_of(word: &str) -> Option<Format>
+    ensures { result ≡ format_named word.now }
+{
+    match word {
+        "dot" => Some(Format::Dot),
+        "json" => Some(Format::Json),
+        _ => None,
+    }
+}
+
+fn formats<'a>() -> [PossibleValue<'a>; 2]
+    ensures { AreKindsOf known_formats result }
+{
+    [
+        PossibleValue::new("dot").help("A graph for Graphviz"),
+        PossibleValue::new("json").help("Lines of JSON, one object a line"),
+    ]
+}
+
+fn format_option<'a>(alloc: Global, formats: &'a [PossibleValue<'a>]) -> Arg<'a>
+    ensures rule { rule_of result ≡ kind_rule (codes "format") (codes "dot") formats.entry }
+    ensures own { result.global ≡ false }
+{
+    Arg::new(alloc, "format")
+        .long("format")
+        .value_name("KIND")
+        .action(ArgAction::Set)
+        .value_parser(formats)
+        .default_value("dot")
+        .help("What to write")
+}
+
+fn facts_option<'a>(alloc: Global) -> Arg<'a>
+    ensures rule { rule_of result ≡ text_rule (codes "facts") }
+    ensures own { result.global ≡ false }
+{
+    Arg::new(alloc, "facts")
+        .long("facts")
+        .value_name("LIST")
+        .action(ArgAction::Set)
+        .help(
+            "What is shown of each point: none, all, or words of reach, live, avail and busy with commas between them; without it none in a graph and all in JSON",
+        )
+}
+
+fn procedure_option<'a>(alloc: Global) -> Arg<'a>
+    ensures rule { rule_of result ≡ text_rule (codes "procedure") }
+    ensures own { result.global ≡ false }
+{
+    Arg::new(alloc, "procedure")
+        .long("procedure")
+        .value_name("NAME")
+        .action(ArgAction::Set)
+        .help("The one procedure to show; without it all are")
+}
+
+// The command with the options that say what is shown.
+fn view_command<'a>(
+    alloc: Global,
+    formats: &'a [PossibleValue<'a>],
+) -> Result<Command<'a>, AllocError>
+    ensures { IfOk result (λ c. app_of c ≡ view_command formats.entry) }
+{
+    Command::new(alloc, "tacview")
+        .about(ABOUT)
+        .after_help(AFTER_HELP)
+        .arg(format_option(alloc, formats))?
+        .arg(facts_option(alloc))?
+        .arg(procedure_option(alloc))
+}
+
+fn command<'a>(alloc: Global, formats: &'a [PossibleValue<'a>]) -> Result<Command<'a>, AllocError>
+    ensures { IfOk result (λ c. app_of c ≡ tacview_command formats.entry) }
+{
+    view_command(alloc, formats)?
+        .arg(workers_option(alloc))?
+        .arg(cut_option(alloc))
+}
+
+// The format that was found.
+fn format_by(matches: &ArgMatches<'_>) -> Format
+    requires { HoldsKind known_formats (rows_of (found_of matches.now)) (codes "format") }
+    ensures { option_and_then format_named (first_of (codes "format") (rows_of (found_of matches.now))) ≡ Some result }
+{
+    format_of(kind_word(matches, "format")).unwrap()
+}
+
+// The facts that were asked for. None where the list that was found names no facts.
+fn facts_found(matches: &ArgMatches<'_>, format: Format) -> Option<Chosen>
+    ensures { result ≡ facts_asked format (first_of (codes "facts") (rows_of (found_of matches.now))) }
+{
+    match matches.get_str("facts") {
+        Some(list) => facts_of(list),
+        None => Some(facts_by(format)),
+    }
+}
+
+// A copy of the name that was found.
+fn procedure_found(alloc: Global, matches: &ArgMatches<'_>) -> Result<Option<String>, AllocError>
+    ensures { IfOk result (λ name. option_map string_bytes name ≡ first_of (codes "procedure") (rows_of (found_of matches.now))) }
+{
+    match matches.get_str("procedure") {
+        Some(name) => Ok(Some(String::from_str(alloc, name)?)),
+        None => Ok(None),
+    }
+}
+
+// The options that the matches name. None where the list of facts names no facts.
+fn options_of(alloc: Global, matches: &ArgMatches<'_>) -> Result<Option<Options>, AllocError>
+    requires { HoldsOptions (rows_of (found_of matches.now)) }
+    ensures options { IfOk result (λ options. IfSome options (NamesOptions (rows_of (found_of matches.now)))) }
+    ensures known { IfOk result (λ options. is_some options ≡ knows_facts (rows_of (found_of matches.now))) }
+{
+    let workers = number_of(matches, "workers");
+    let cut = number_of(matches, "cut");
+    let format = format_by(matches);
+    let Some(facts) = facts_found(matches, format) else {
+        return Ok(None);
+    };
+    let procedure = procedure_found(alloc, matches)?;
+    Ok(Options::new(workers, cut, format, facts, procedure))
+}
+
+// The options that the matches name, or an error of the command where the list of facts names no facts.
+fn named_options(
+    alloc: Global,
+    command: &mut Command<'_>,
+    matches: &ArgMatches<'_>,
+) -> Result<Options, Error>
+    requires { HoldsOptions (rows_of (found_of matches.now)) }
+    ensures options { IfOk result (NamesOptions (rows_of (found_of matches.now))) }
+    ensures faults { FailsBy (facts_kinds (rows_of (found_of matches.now))) result }
+{
+    match options_of(alloc, matches)? {
+        Some(options) => Ok(options),
+        None => Err(command.error(ErrorKind::InvalidValue, NO_FACTS)?),
+    }
+}
+
+impl Options {
+    /// The options that the program's words name, of which the first is the program's own name:
+    /// `tacview [--format KIND] [--facts LIST] [--procedure NAME] [--workers N] [--cut N]`. Without an option stands its default:
+    /// `dot`, no facts for it and all for `json`, all procedures, 1 and 64.
+    ///
+    /// Refuses words that the command does not take, a number outside its range, a word that is no format and a list that names
+    /// no facts among them, and a call for help; or memory was refused.
+    pub fn from_words<'a>(alloc: Global, words: &'a [&'a str]) -> Result<Options, Error>
+        ensures { AnswersWords (map (λ w. w.now) words.entry.now) result }
+    {
+        let formats = formats();
+        let mut command = command(alloc, formats.as_slice())?;
+        let words: &[&str] = words;
+        match command.try_get_matches_from_mut(words) {
+            Ok(matches) => named_options(alloc, &mut command, &matches),
+            Err(error) => Err(error),
+        }
+    }
+}
