@@ -68,7 +68,7 @@ impl TextBlock {
     /// The texts of the numbers from the first on and before the end, with the separator between them, and before the first too
     /// where others stand already.
     #[inline]
-    pub(crate) fn range(&self, first: usize, end: usize, others: bool) -> &[u8]
+    pub fn range(&self, first: usize, end: usize, others: bool) -> &[u8]
         requires some { first < end }
         requires end { end ≤ length self.now.texts }
         ensures { result.now ≡ after self.now.between others (map (text_at self.now.texts) (range_with_len first (end - first))) }
