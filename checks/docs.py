@@ -114,10 +114,13 @@ class Repository:
         return [path for path in self.files + sorted(self.folders) if path.endswith("/" + name)]
 
     def has_member(self, owner, member):
-        """Whether some source file has an item of this name beside a type, a module or a trait of that one."""
+        """Whether some source file declares an item of this name for a type, a trait, a module or a crate of that one."""
+        owns = re.compile(rf"\b(impl\b.*|struct |enum |trait |type ){owner}\b")
+        declares = re.compile(rf"\b(fn|const|static|struct|enum|trait|type) {member}\b|^\s*(pub )?{member}\b\s*(,|:|\(|\{{)", re.M)
         for path in self.files:
             if path.endswith((".rt", ".rs")) and member in self.words_in(path):
-                if owner in self.words_in(path) or owner == os.path.splitext(os.path.basename(path))[0] or owner in path.split("/"):
+                is_module = owner == os.path.splitext(os.path.basename(path))[0] or owner in path.split("/")
+                if (is_module or owns.search(self.text(path))) and declares.search(self.text(path)):
                     return True
         return False
 
@@ -201,7 +204,7 @@ def fault_of_span(page, span, crates):
         return None
     parts = name.split("::")
     if len(parts) > 1:
-        if parts[0] in ("std", "core"):
+        if parts[0] in ("std", "core", "u32", "u64", "usize"):
             return None
         return None if repository.has_member(parts[-2], parts[-1]) else f"`{span}`: there is no such item"
     parts = [part for part in re.split(r"\.", name) if part]
