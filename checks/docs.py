@@ -12,7 +12,7 @@ import tempfile
 
 WIDTH = 140
 # How long a document may be; all others below docs/ may have OTHER_SIZE lines.
-SIZES = {"docs/ARCHITECTURE.md": 200, "docs/TRUST.md": 200, "docs/PROVING.md": 350, "docs/GLOSSARY.md": 80, "README.md": 160}
+SIZES = {"docs/ARCHITECTURE.md": 200, "docs/TRUST.md": 200, "docs/PROVING.md": 350, "docs/GLOSSARY.md": 80, "README.md": 180}
 OTHER_SIZE = 300
 CRATE_PAGE = (10, 60)
 # The page that lists the definitions a contract rests on, table by table: each is closed under imports with those above it.
@@ -214,7 +214,7 @@ def fault_of_span(page, span, crates):
 
 
 def benchmarks_of(root):
-    """The names that `bench/run --list` tells; none where it cannot be run."""
+    """The words of `bench/run --list`: benchmarks, kinds and shapes; none where it cannot be run."""
     command = os.path.join(root, "bench/run")
     if not os.access(command, os.X_OK):
         return set()
@@ -222,13 +222,15 @@ def benchmarks_of(root):
         listed = subprocess.run([command, "--list"], capture_output=True, text=True, timeout=60, check=False)
     except (OSError, subprocess.TimeoutExpired):
         return set()
-    return set(listed.stdout.split())
+    return set(re.findall(r"[a-z][a-z-]*[a-z]", listed.stdout))
 
 
 def benchmarks_told(page, number, line, benchmarks, faults):
+    """A benchmark is KIND-SHAPE or KIND-SHAPE-WORKERS."""
     for words in re.findall(r"`bench/run ([^`]+)`", line):
         for name in words.split():
-            if benchmarks and re.match(r"^[a-z]", name) and name not in benchmarks:
+            parts = re.fullmatch(r"([a-z]+)-([a-z-]*[a-z])(-[0-9]+)?", name)
+            if benchmarks and re.match(r"[a-z]", name) and not (parts and {parts.group(1), parts.group(2)} <= benchmarks):
                 faults.append((page.path, number, f"`bench/run {name}`: there is no such benchmark"))
 
 
