@@ -342,6 +342,16 @@ def reading_told(page, faults):
     return headline
 
 
+def pages_named(repository, faults):
+    """The documents that sources name are there."""
+    for path in repository.files:
+        if repository.is_source(path):
+            for number, line in enumerate(repository.lines(path), 1):
+                for name in re.findall(r"\bdocs/[A-Z]+\.md\b", line):
+                    if name not in repository.known:
+                        faults.append((path, number, f"there is no {name}"))
+
+
 def size_told(page, faults):
     least, most = CRATE_PAGE if page.own and page.path.endswith("README.md") else (1, SIZES.get(page.path, OTHER_SIZE))
     if page.path.startswith("docs/") or page.path == "README.md" or page.own:
@@ -369,6 +379,7 @@ def faults_of(root):
             benchmarks_told(page, number, line, benchmarks, faults)
             counts_told(page, number, line, crates, headline, faults)
         size_told(page, faults)
+    pages_named(repository, faults)
     for crate in repository.crates:
         if f"crates/{crate}/README.md" not in repository.known:
             faults.append((f"crates/{crate}", 1, "it has no README.md"))
