@@ -62,10 +62,13 @@ class Repository:
         self.crates = sorted({path.split("/")[1] for path in self.files if path.startswith("crates/") and path.count("/") > 1})
         self.texts = {}
         self.words = set()
+        self.bench_words = set()
         for path in self.files:
+            # what a name means is never the plain program's, which has functions of the same names
+            words = self.bench_words if path.startswith("bench/") else self.words
             if self.is_source(path):
-                self.words |= self.words_in(path)
-            self.words |= {os.path.basename(path), os.path.splitext(os.path.basename(path))[0]}
+                words |= self.words_in(path)
+            words |= {os.path.basename(path), os.path.splitext(os.path.basename(path))[0]}
         self.words |= set(self.crates) | OUTSIDE
 
     @staticmethod
@@ -207,8 +210,8 @@ def fault_of_span(page, span, crates):
         if parts[0] in ("std", "core", "u32", "u64", "usize"):
             return None
         return None if repository.has_member(parts[-2], parts[-1]) else f"`{span}`: there is no such item"
-    parts = [part for part in re.split(r"\.", name) if part]
-    if name in repository.words or all(part in repository.words for part in parts):
+    words = repository.words | repository.bench_words if page.path.startswith("bench/") else repository.words
+    if name in words or all(part in words for part in name.split(".") if part):
         return None
     return f"`{span}`: no source has this name"
 
@@ -419,12 +422,12 @@ def plants():
         ("a name that is gone", lambda root: appended(root, "docs/GLOSSARY.md", "\n`no_such_function_here`\n"), "no source has this name"),
         ("a member that is gone", lambda root: appended(root, "docs/GLOSSARY.md", "\n`Graph::no_such_call`\n"), "no such item"),
         ("a name of another file", lambda root: appended(root, "docs/GLOSSARY.md", "\n`graph.rt`: `take_up`\n"), "is not in"),
-        ("an edit that is gone", lambda root: appended(root, "docs/TRUST.md", "\n`bit_rows`: `row_that_never_was`\n"), "no source has this name"),
+        ("an edit that is gone", lambda root: appended(root, READING, "\n`bit_rows`: `row_that_never_was`\n"), "no source has this name"),
         ("a file that is gone", lambda root: appended(root, "docs/GLOSSARY.md", "\n`docs/GONE.md`\n"), "no such file"),
         ("a link that leads nowhere", lambda root: appended(root, "README.md", "\n[gone](docs/GONE.md)\n"), "leads nowhere"),
         ("a wrong count of edits", lambda root: appended(root, "crates/bit_rows/README.md", "\nIt has 9,999 edits.\n"), "9,999 edits"),
         ("a wrong count of crates", lambda root: appended(root, "README.md", "\nThere are 9,999 crates.\n"), "9,999 crates"),
-        ("a wrong sum of definitions", lambda root: appended(root, "README.md", "\nIt rests on 3 lines of definitions.\n"), "3 lines of definitions"),
+        ("a wrong sum of definitions", lambda root: appended(root, "README.md", "\nOn 3 lines of definitions.\n"), "3 lines of definitions"),
         ("a definition that grew", lambda root: appended(root, "crates/flow_graph/specs/Paths.antt", "\n-- more\n"), "Paths.antt has"),
         ("a list that is not closed", without_first_row, "which is not listed"),
         ("a type that is not listed", lambda root: replaced(root, READING, "`StmtKind`", "-"), "not among the types"),
