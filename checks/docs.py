@@ -22,6 +22,8 @@ TEXT_ENDINGS = (".rt", ".antt", ".rs", ".c", ".h", ".py", ".sh", ".toml", ".tac"
 PATH_ENDINGS = re.compile(r"\.(rt|antt|rs|c|h|py|md|tac|edit|svg|txt|report|a)$")
 # Names of the C library and of this system, files that are made, and words that stand for any: no source of the repository has them.
 OUTSIDE = set("rustc perf valgrind memset errno atexit qsort signal fopencookie libtacflow.a program.tac unop binop relop".split())
+# What is made and not kept here: what a build leaves, runs of benchmarks, and what stands below the folder of an installation.
+MADE = re.compile(r"(^|/)out(/|$)|^bench/runs\b|^(bin|lib|libexec|include|share)/")
 PLACEHOLDER = re.compile(r"\b(NAME|CRATE|FILE|F|M|X|PREFIX)\b")
 SPAN = re.compile(r"`([^`]+)`")
 IDENTIFIER = re.compile(r"^[A-Za-z_][A-Za-z0-9_+'-]*(?:(?:::|\.)[A-Za-z_][A-Za-z0-9_+'-]*)*$")
@@ -194,10 +196,10 @@ def fault_of_span(page, span, crates):
     if " " in name:
         for word in name.split():
             if re.match(r"^(\./[a-z]|(crates|docs|checks|bench|bindings|frontends|examples|\.ci)/)", word):
-                if not repository.found(word.rstrip(",;:."), crates, page.near):
+                if not MADE.search(word) and not repository.found(word.rstrip(",;:."), crates, page.near):
                     return f"`{span}`: there is no {word}"
         return None
-    if name.startswith(("/", "-", "~", "<")) or "://" in name or name.split("/")[0] == "out":
+    if name.startswith(("/", "-", "~", "<")) or "://" in name or MADE.search(name):
         return None
     if re.match(r"^[A-Za-z0-9_.*+/-]+$", name) and ("/" in name or PATH_ENDINGS.search(name)):
         if name in OUTSIDE or re.fullmatch(r"[0-9/+*-]+", name):
@@ -231,7 +233,7 @@ def benchmarks_of(root):
 def benchmarks_told(page, number, line, benchmarks, faults):
     """A benchmark is KIND-SHAPE or KIND-SHAPE-WORKERS."""
     for words in re.findall(r"`bench/run ([^`]+)`", line):
-        for name in words.split():
+        for name in re.sub(r"--\S+ \S+", "", words).split():
             parts = re.fullmatch(r"([a-z]+)-([a-z-]*[a-z])(-[0-9]+)?", name)
             if benchmarks and re.match(r"[a-z]", name) and not (parts and {parts.group(1), parts.group(2)} <= benchmarks):
                 faults.append((page.path, number, f"`bench/run {name}`: there is no such benchmark"))
