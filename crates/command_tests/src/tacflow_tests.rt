@@ -7,13 +7,13 @@ use clap::error;
 use flow_commands::{Options, Show, run};
 use flow_graph::GraphFault;
 use flow_runs::{Fault, fault_line};
-use text_pieces::{FromRead, ToWrite};
 use std::alloc::Global;
 use std::io::{ErrorKind, Read};
 use std::process::Abort;
 use std::test::Fail;
 use std::thread::Threads;
 use tac_reader::{Refusal, RefusalKind};
+use text_pieces::{FromRead, ToWrite};
 
 /// The program's name, which its lines begin with.
 pub(crate) const NAME: &str = "tacflow";

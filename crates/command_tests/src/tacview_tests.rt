@@ -4,16 +4,16 @@ use crate::answers::{check_fault, check_outcome, check_same, check_team};
 use crate::devices::{ALONE, Page, Pieces, TEAMS, blank_page};
 use crate::texts::repeated;
 use clap::error;
-use view_commands::{Format, Options, line_of, run};
 use flow_graph::GraphFault;
 use flow_runs::Fault;
-use text_pieces::{FromRead, ToWrite};
 use flow_views::Chosen;
 use std::alloc::Global;
 use std::io::{ErrorKind, Read};
 use std::process::Abort;
 use std::test::Fail;
 use std::thread::Threads;
+use text_pieces::{FromRead, ToWrite};
+use view_commands::{Format, Options, line_of, run};
 
 const NONE: Chosen = Chosen {
     reach: false,

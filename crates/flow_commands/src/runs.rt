@@ -8,9 +8,9 @@ ghost use Rattle.flow_commands.specs.Runs.{IsShown, needs_graph};
 
 use crate::options::Options;
 use flow_runs::Fault;
-use text_pieces::{Sink, Source};
 use std::alloc::Global;
 use std::thread::Threads;
+use text_pieces::{Sink, Source};
 
 /// Pulls the text until the source has ended or 1,048,577 bytes are in hand, finds what is to be shown of it, pushes that and
 /// nothing else, in pieces of 65,536 bytes, and flushes. All that it needs memory for it has before the first push. Tables are

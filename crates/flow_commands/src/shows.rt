@@ -15,10 +15,10 @@ use flow_graph::{Analysis, Graph};
 use flow_runs::{Fault, Shown, graph_of, push_text};
 use flow_team::Table;
 use flow_texts::{ReportText, TableText, Tables, table_of};
-use text_pieces::{Bytes, Sink};
 use std::alloc::Global;
 use std::thread::Threads;
 use tac_reader::{Program, listing};
+use text_pieces::{Bytes, Sink};
 
 // Writes a table of a graph. It is not owned here, so that no way out drops it.
 fn push_table<K: Sink>(

@@ -7,10 +7,10 @@ ghost use Rattle.flow_runs.specs.Runs.{HasNoGraph, LacksProcedure, Shows};
 
 use crate::fault::Fault;
 use crate::showing::Shown;
-use text_pieces::Sink;
 use std::alloc::Global;
 use std::thread::Threads;
 use tac_reader::{ReadFault, read};
+use text_pieces::Sink;
 
 /// Writes what is to be shown of a text. All that it needs memory for is made before the first push.
 pub(crate) fn answer<R: Threads + Sync, K: Sink, W: Shown>(

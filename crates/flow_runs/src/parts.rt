@@ -8,9 +8,9 @@ ghost use Rattle.flow_runs.specs.Runs.{IsOverLimit};
 
 use crate::fault::Fault;
 use flow_graph::{Graph, GraphFault};
-use text_pieces::{Sink, Source, Text, TransferFault, deliver, pull_all};
 use std::alloc::Global;
 use tac_reader::Program;
+use text_pieces::{Sink, Source, Text, TransferFault, deliver, pull_all};
 
 /// Pulls up to the source's end, or this many bytes.
 pub(crate) fn pull_text<S: Source>(

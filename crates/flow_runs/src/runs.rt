@@ -9,9 +9,9 @@ use crate::answer::answer;
 use crate::fault::Fault;
 use crate::parts::pull_text;
 use crate::showing::Shown;
-use text_pieces::{Sink, Source};
 use std::alloc::Global;
 use std::thread::Threads;
+use text_pieces::{Sink, Source};
 
 /// How many bytes are pulled at most: one more than the longest text has.
 const MOST_PULLED: usize = 1_048_577;

@@ -7,10 +7,10 @@ ghost use Rattle.flow_runs.specs.Faults.{Delivers, OfProgram, WhereNoGraph, writ
 ghost use Rattle.flow_runs.specs.Runs.{HasItsGraph, IsOverLimit};
 
 use crate::fault::Fault;
-use text_pieces::Sink;
 use std::alloc::Global;
 use std::thread::Threads;
 use tac_reader::Program;
+use text_pieces::Sink;
 
 /// What a run shows of a program, and how.
 pub trait Shown {

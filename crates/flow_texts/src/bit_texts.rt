@@ -7,11 +7,11 @@ ghost use Rattle.text_pieces.specs.code.Blocks.{HoldsTexts};
 ghost use Rattle.text_pieces.specs.Pieces.{IsOpen, Takes, outlet};
 ghost use Rattle.flow_texts.specs.Tables.{bit_text, definition_text, expression_text, line_at};
 
-use text_pieces::{Pieces, Separator, Sink, TextBlock};
 use flow_graph::{Analysis, Expr, Graph, OutOfMemory};
 use itoa::Buffer;
 use std::alloc::Global;
 use tac_reader::{write_binary_expression, write_unary_expression};
+use text_pieces::{Pieces, Separator, Sink, TextBlock};
 
 /// Writes a number in decimal.
 pub fn write_number<K: Sink>(out: &mut Pieces<'_, K>, number: u32)

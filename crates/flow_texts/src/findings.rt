@@ -5,11 +5,11 @@ ghost use Rattle.flow_texts.specs.code.Findings.{AreFindings, TellDoubtful, know
 ghost use Rattle.flow_texts.specs.Reports.{AreTablesOf, IsKnowledge, TellReport};
 
 use crate::bit_texts::texts_of_bits;
-use text_pieces::TextBlock;
 use crate::doubt::doubtful_points;
 use crate::tables::Tables;
 use flow_graph::{Analysis, Graph, OutOfMemory};
 use std::alloc::Global;
+use text_pieces::TextBlock;
 
 /// What was found of a program: its tables, for each point whether it is doubtful, and what its expressions are called.
 #[derive(Drop)]

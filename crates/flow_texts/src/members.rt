@@ -11,8 +11,8 @@ ghost use Rattle.flow_texts.specs.code.Runs.{IsRunBefore};
 ghost use Rattle.text_pieces.specs.Pieces.{IsOpen, Takes, outlet};
 ghost use Rattle.flow_texts.specs.Tables.{listed};
 
-use text_pieces::{Pieces, Sink, TextBlock};
 use flow_team::Table;
+use text_pieces::{Pieces, Sink, TextBlock};
 
 /// Bits that lie side by side in a set and are not written yet, and whether other texts stand already.
 #[derive(Clone, Copy)]

@@ -7,9 +7,9 @@ ghost use Rattle.flow_texts.specs.code.Findings.{AreFindings, IsRemarkIn};
 ghost use Rattle.text_pieces.specs.Pieces.{IsOpen, Takes, outlet};
 ghost use Rattle.flow_texts.specs.declared.remark.Remark.{Remark as RemarkValue};
 
-use text_pieces::{Pieces, Sink};
 use crate::findings::Findings;
 use crate::remark::Remark;
+use text_pieces::{Pieces, Sink};
 
 /// How one remark is written, as the line of a report.
 pub trait RemarkForm {

@@ -12,7 +12,6 @@ ghost use Rattle.text_pieces.specs.Pieces.{IsOpen, Takes, outlet};
 ghost use Rattle.flow_texts.specs.Reports.{busy_at, computed_at, dead_at, is_test as is_test_of, remarks_at, remarks_when_reached, unset_at};
 ghost use Rattle.flow_texts.specs.declared.remark.Remark.TheVariants.{Computed, Dead, Unset, VeryBusy};
 
-use text_pieces::{Pieces, Sink};
 use crate::findings::Findings;
 use crate::members::next_one;
 use crate::operands::{VariablesRead, assigned, is_test, variables_read};
@@ -20,6 +19,7 @@ use crate::remark::Remark;
 use crate::remark_form::RemarkForm;
 use flow_graph::Analysis;
 use tac_reader::StmtKind;
+use text_pieces::{Pieces, Sink};
 
 /// What a remark says before what it names.
 pub fn words_before_name(remark: Remark) -> &'static [u8]

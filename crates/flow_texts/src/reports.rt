@@ -8,7 +8,6 @@ ghost use Rattle.flow_texts.specs.Reports.{IsReport, ListsSafely, TellReport, co
 ghost use Rattle.flow_texts.specs.Tables.{line_at};
 
 use crate::bit_texts::{line, write_number};
-use text_pieces::{Pieces, Sink, Text, whole_text};
 use crate::findings::Findings;
 use crate::remark::Remark;
 use crate::remark_form::RemarkForm;
@@ -18,6 +17,7 @@ use flow_graph::{Analysis, Graph, OutOfMemory};
 use itoa::Buffer;
 use std::alloc::Global;
 use std::marker::Model;
+use text_pieces::{Pieces, Sink, Text, whole_text};
 
 // Writes a count behind what is counted.
 fn write_count<K: Sink>(out: &mut Pieces<'_, K>, counted: &[u8], count: u32)

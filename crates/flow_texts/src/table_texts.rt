@@ -9,12 +9,12 @@ ghost use Rattle.text_pieces.specs.Pieces.{IsOpen, Takes, outlet};
 ghost use Rattle.flow_texts.specs.Tables.{IsTableText, bit_text, place_text, point_line};
 
 use crate::bit_texts::{texts_of_bits, write_number};
-use text_pieces::{Pieces, Sink, Text, TextBlock, whole_text};
 use crate::members::write_set;
 use flow_graph::{Graph, OutOfMemory};
 use flow_team::Table;
 use std::alloc::Global;
 use std::marker::Model;
+use text_pieces::{Pieces, Sink, Text, TextBlock, whole_text};
 
 /// Writes the procedure of a point and its place there.
 fn write_place<K: Sink>(out: &mut Pieces<'_, K>, graph: &Graph<'_>, point: u32)

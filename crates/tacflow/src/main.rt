@@ -3,10 +3,10 @@
 
 use flow_commands::{Options, run};
 use flow_runs::{fault_line, tell_line, tell_no_words, tell_words};
-use text_pieces::{FromRead, ToWrite};
 use std::process::ExitCode;
 use std::thread::Threads;
 use std::{env, io};
+use text_pieces::{FromRead, ToWrite};
 
 /// The program's name, which its lines begin with.
 const NAME: &str = "tacflow";

@@ -2,12 +2,12 @@
 //! lines of JSON.
 #![tactic(auto)]
 
-use view_commands::{Options, line_of, run};
 use flow_runs::{tell_line, tell_no_words, tell_words};
-use text_pieces::{FromRead, ToWrite};
 use std::process::ExitCode;
 use std::thread::Threads;
 use std::{env, io};
+use text_pieces::{FromRead, ToWrite};
+use view_commands::{Options, line_of, run};
 
 /// The program's name, which its lines begin with.
 const NAME: &str = "tacview";

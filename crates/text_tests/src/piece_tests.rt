@@ -6,7 +6,6 @@ ghost use Rattle.flow_team.specs.Tables.{IsTableOf};
 use flow_graph::{Analysis, Graph};
 use flow_team::Table;
 use flow_texts::{TableText, table_of, table_text};
-use text_pieces::{Bytes, Pieces, Sink, ToWrite, TransferFault, deliver};
 use std::alloc::Global;
 use std::io;
 use std::io::{ErrorKind, Write};
@@ -14,6 +13,7 @@ use std::process::Abort;
 use std::test::Fail;
 use std::thread::Threads;
 use tac_reader::{Program, read};
+use text_pieces::{Bytes, Pieces, Sink, ToWrite, TransferFault, deliver};
 
 // Takes so many bytes a call at most, and after so many in all it fails.
 #[derive(Drop)]

@@ -9,12 +9,12 @@ ghost use Rattle.flow_texts.specs.Reports.{TellReport};
 use flow_graph::{Analysis, Graph, OutOfMemory};
 use flow_team::Table;
 use flow_texts::{ReportText, TableText, Tables, report, table_of, table_text};
-use text_pieces::{FromRead, Source, TransferFault, pull_all, whole_text};
 use std::alloc::Global;
 use std::process::Abort;
 use std::test::Fail;
 use std::thread::Threads;
 use tac_reader::{Program, read};
+use text_pieces::{FromRead, Source, TransferFault, pull_all, whole_text};
 
 // The calls.
 #[derive(Clone, Copy)]

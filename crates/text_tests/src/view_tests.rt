@@ -5,7 +5,6 @@ ghost use Rattle.flow_texts.specs.Reports.{AreTablesOf};
 
 use flow_graph::Graph;
 use flow_texts::Tables;
-use text_pieces::{ToWrite, deliver};
 use flow_views::{Chosen, DotText, JsonText, View};
 use std::alloc::Global;
 use std::io;
@@ -13,6 +12,7 @@ use std::io::Write;
 use std::process::Abort;
 use std::test::Fail;
 use tac_reader::{Program, read};
+use text_pieces::{ToWrite, deliver};
 
 // Keeps what is written.
 #[derive(Drop)]

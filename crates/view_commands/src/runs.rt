@@ -9,9 +9,9 @@ ghost use Rattle.view_commands.specs.Views.{IsShown, LacksProcedure};
 
 use crate::options::Options;
 use flow_runs::Fault;
-use text_pieces::{Sink, Source};
 use std::alloc::Global;
 use std::thread::Threads;
+use text_pieces::{Sink, Source};
 
 /// Pulls the text until the source has ended or 1,048,577 bytes are in hand, makes the text of the options' format of it, with the
 /// facts and of the procedures that they name, pushes that and nothing else, in pieces of 65,536 bytes, and flushes. All that it

@@ -15,11 +15,11 @@ use crate::options::{Format, Options};
 use flow_graph::Graph;
 use flow_runs::{Fault, Shown, graph_of, push_text};
 use flow_texts::Tables;
-use text_pieces::Sink;
 use flow_views::{DotText, JsonText, View};
 use std::alloc::Global;
 use std::thread::Threads;
 use tac_reader::Program;
+use text_pieces::Sink;
 
 // The number of the procedure of this name.
 fn procedure_named(program: &Program, name: &[u8]) -> Option<u32>
