@@ -1,0 +1,208 @@
+//! The least solution of the equations for one group of bits, block by block.
+
+use crate::flow::{Flow, Section};
+use crate::graph::{Graph, NONE};
+use crate::transfer::Transfer;
+use crate::words::{Effects, Words};
+use std::ops::Range;
+
+/// The ways from a procedure's entry to a block, and those through it.
+#[derive(Clone, Copy)]
+struct Cell<const N: usize> {
+    here: Effects<N>,
+    through: Effects<N>,
+}
+
+pub struct Solver<'g, const N: usize> {
+    graph: &'g Graph,
+    flow: &'g Flow,
+    cells: Vec<Cell<N>>,
+    /// By set of callees: the ways through any of them.
+    sets: Vec<Effects<N>>,
+    dirty: Vec<u64>,
+    /// By section: the bits that valid paths bring to its entry.
+    brought: Vec<Words<N>>,
+}
+
+impl<'g, const N: usize> Solver<'g, N> {
+    pub fn new(graph: &'g Graph, flow: &'g Flow) -> Solver<'g, N> {
+        let cell = Cell { here: Effects::NONE, through: Effects::SAME };
+        Solver {
+            graph,
+            flow,
+            cells: vec![cell; flow.blocks.len()],
+            sets: vec![Effects::NONE; flow.returns.len()],
+            dirty: vec![0; flow.blocks.len().div_ceil(64)],
+            brought: vec![Words::NONE; flow.sections.len()],
+        }
+    }
+
+    pub fn solve(&mut self, transfer: &impl Transfer<N>, beginning: Words<N>) {
+        self.begin(transfer);
+        let flow = self.flow;
+        for component in &flow.components {
+            let sections = &flow.sections[component.clone()];
+            let mut is_settled = false;
+            while !is_settled {
+                is_settled = true;
+                for section in sections {
+                    if self.next_dirty(section.positions.clone()).is_some() {
+                        self.settle(section);
+                        is_settled = false;
+                    }
+                }
+            }
+        }
+        self.bring(beginning);
+    }
+
+    /// The bits that valid paths bring to a block.
+    pub fn bits(&self, position: usize) -> Words<N> {
+        self.cells[position].here.of(&self.brought[self.flow.section_at[position] as usize])
+    }
+
+    /// The bits that come through a call, out of those before it.
+    pub fn through_call(&self, position: usize, bits: &Words<N>) -> Words<N> {
+        match self.flow.calls[position] {
+            NONE => *bits,
+            set => self.sets[set as usize].of(bits),
+        }
+    }
+
+    fn begin(&mut self, transfer: &impl Transfer<N>) {
+        self.sets.fill(Effects::NONE);
+        self.dirty.fill(u64::MAX);
+        self.brought.fill(Words::NONE);
+        let flow = self.flow;
+        for (cell, block) in self.cells.iter_mut().zip(&flow.blocks) {
+            cell.here = Effects::NONE;
+            let mut through = Effects::SAME;
+            let effects = &self.graph.effects[self.graph.points_of(*block as usize)];
+            if flow.is_backward {
+                effects.iter().rev().for_each(|effect| transfer.apply(effect, &mut through));
+            } else {
+                effects.iter().for_each(|effect| transfer.apply(effect, &mut through));
+            }
+            cell.through = through;
+        }
+        for section in &flow.sections {
+            self.cells[section.entry].here = Effects::SAME;
+        }
+    }
+
+    fn next_dirty(&self, positions: Range<usize>) -> Option<usize> {
+        let mut word = positions.start / 64;
+        let mut bits = *self.dirty.get(word)? & u64::MAX << (positions.start % 64);
+        while bits == 0 {
+            word += 1;
+            if word * 64 >= positions.end {
+                return None;
+            }
+            bits = self.dirty[word];
+        }
+        let position = word * 64 + bits.trailing_zeros() as usize;
+        (position < positions.end).then_some(position)
+    }
+
+    fn mark(&mut self, position: usize) {
+        self.dirty[position / 64] |= 1 << (position % 64);
+    }
+
+    /// Visits a section's blocks, part by part, until none of them has news.
+    fn settle(&mut self, section: &Section) {
+        let mut at = section.positions.start;
+        while let Some(first) = self.next_dirty(at..section.positions.end) {
+            at = self.flow.part_end[first] as usize;
+            let start = self.flow.part_start[first] as usize;
+            while let Some(position) = self.next_dirty(start..at) {
+                self.sweep(section, position, at);
+            }
+        }
+    }
+
+    fn sweep(&mut self, section: &Section, mut from: usize, end: usize) {
+        while let Some(position) = self.next_dirty(from..end) {
+            self.dirty[position / 64] &= !(1 << (position % 64));
+            self.visit(section, position);
+            from = position + 1;
+        }
+    }
+
+    fn visit(&mut self, section: &Section, position: usize) {
+        let flow = self.flow;
+        let cell = &self.cells[position];
+        let call = flow.calls[position];
+        let mut way = if flow.is_backward { cell.here } else { cell.here.then(&cell.through) };
+        if call != NONE {
+            way = way.then(&self.sets[call as usize]);
+        }
+        if flow.is_backward {
+            way = way.then(&cell.through);
+        }
+        for next in flow.next_start[position]..flow.next_start[position + 1] {
+            let next = flow.next[next as usize] as usize;
+            if self.cells[next].here.join(&way) {
+                self.mark(next);
+            }
+        }
+        if position as u32 == section.exit {
+            self.leave(section, &way);
+        }
+    }
+
+    /// The ways to a procedure's exit are ways through its calls.
+    fn leave(&mut self, section: &Section, way: &Effects<N>) {
+        let flow = self.flow;
+        for set in &self.graph.sets.with[section.procedure as usize] {
+            if self.sets[*set as usize].join(way) {
+                for caller in &flow.callers[*set as usize] {
+                    self.mark(*caller as usize);
+                }
+            }
+        }
+    }
+
+    /// Brings bits from callers to callees, until none of them has news.
+    fn bring(&mut self, beginning: Words<N>) {
+        let flow = self.flow;
+        self.brought[flow.section_of[self.graph.main] as usize] = beginning;
+        let ways: Vec<Effects<N>> = flow.sites.iter().map(|sites| self.way_to(&sites.positions)).collect();
+        let mut is_dirty = vec![true; flow.sections.len()];
+        for component in flow.components.iter().rev() {
+            while is_dirty[component.clone()].contains(&true) {
+                for section in component.clone().rev() {
+                    if std::mem::replace(&mut is_dirty[section], false) {
+                        self.bring_from(section, &ways, &mut is_dirty);
+                    }
+                }
+            }
+        }
+    }
+
+    fn bring_from(&mut self, section: usize, ways: &[Effects<N>], is_dirty: &mut [bool]) {
+        let flow = self.flow;
+        for site in flow.sections[section].sites.clone() {
+            let bits = ways[site].of(&self.brought[section]);
+            for member in &self.graph.sets.members[flow.sites[site].set as usize] {
+                let callee = flow.section_of[*member as usize] as usize;
+                if self.brought[callee].join(&bits) {
+                    is_dirty[callee] = true;
+                }
+            }
+        }
+    }
+
+    /// The ways from a procedure's entry to any of these calls.
+    fn way_to(&self, positions: &[u32]) -> Effects<N> {
+        let mut all = Effects::NONE;
+        for position in positions {
+            let cell = &self.cells[*position as usize];
+            if self.flow.is_backward {
+                all.join(&cell.here);
+            } else {
+                all.join(&cell.here.then(&cell.through));
+            }
+        }
+        all
+    }
+}
