@@ -1,6 +1,7 @@
 //! The task of `tacflow` in plain Rust, with no proof: the yardstick of its speed (`bench/README.md`).
 
 mod bit_names;
+mod components;
 mod facts;
 mod fault;
 mod flow;
