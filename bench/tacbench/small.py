@@ -19,6 +19,7 @@ class Small:
         self.several = draw.random() < 0.6
         self.calls = draw.choice([0.05, 0.15, 0.4])
         self.jumps = draw.choice([0.1, 0.25, 0.5])
+        self.endless = draw.choice([0.05, 0.3, 1])
 
     def variable(self):
         return self.draw.choice(self.variables)
@@ -43,11 +44,20 @@ class Small:
             return "call " + " | ".join(draw.sample(self.names, draw.randint(1, most)))
         if kind < self.calls + self.jumps and labels:
             target = draw.choice(labels)
-            tests = ["if %s" % self.operand(), "ifFalse %s" % self.operand(),
-                     "if %s %s %s" % (self.operand(), draw.choice(COMPARISON), self.operand()), ""]
-            return ("%s goto %s" % (draw.choice(tests), target)).strip()
+            return ("%s goto %s" % ("" if draw.random() < 0.1 else self.test(), target)).strip()
         rest = ["print %s" % self.operand(), "read %s" % self.variable(), "skip"] + ["%s = %s" % (self.variable(), self.value())] * 6
-        return "return" if draw.random() < 0.06 else draw.choice(rest)
+        return "return" if draw.random() < 0.02 else draw.choice(rest)
+
+    def test(self):
+        draw = self.draw
+        return draw.choice(["if %s" % self.operand(), "ifFalse %s" % self.operand(),
+                            "if %s %s %s" % (self.operand(), draw.choice(COMPARISON), self.operand())])
+
+    def guarded(self, statement, number):
+        """A call is often gone round by a test, so that recursion can end."""
+        if not statement.startswith("call") or self.draw.random() < self.endless:
+            return [statement]
+        return ["%s goto G%d" % (self.test(), number), statement, "G%d :" % number]
 
     def procedure(self, name):
         """Lines of tokens."""
@@ -58,10 +68,9 @@ class Small:
         lines = ["proc " + name]
         for place in range(size + 1):
             begin = "".join(label + " : " for label, at in zip(labels, places) if at == place)
-            if place < size:
-                lines.append(begin + self.statement(labels))
-            elif begin:
-                lines.append(begin)
+            made = self.guarded(self.statement(labels), place) if place < size else [""]
+            made[0] = begin + made[0]
+            lines += made
         return [*lines, "end"]
 
     def lines(self):
