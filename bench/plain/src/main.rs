@@ -7,6 +7,7 @@ mod fault;
 mod flow;
 mod graph;
 mod listing;
+mod loops;
 mod names;
 mod options;
 mod output;

@@ -2,6 +2,7 @@
 
 use crate::flow::{Flow, Section};
 use crate::graph::{Graph, NONE};
+use crate::loops::{HEAD, Schedule, Step};
 use crate::transfer::Transfer;
 use crate::words::{Effects, Words};
 use std::ops::Range;
@@ -17,6 +18,9 @@ pub struct Solver<'g, const N: usize> {
     graph: &'g Graph,
     flow: &'g Flow,
     cells: Vec<Cell<N>>,
+    /// By position: the ways from the head of a loop, while loops are put together.
+    ways: Vec<Effects<N>>,
+    is_fresh: Vec<bool>,
     /// By set of callees: the ways through any of them.
     sets: Vec<Effects<N>>,
     dirty: Vec<u64>,
@@ -31,6 +35,8 @@ impl<'g, const N: usize> Solver<'g, N> {
             graph,
             flow,
             cells: vec![cell; flow.blocks.len()],
+            ways: vec![Effects::NONE; flow.blocks.len()],
+            is_fresh: vec![true; flow.sections.len()],
             sets: vec![Effects::NONE; flow.returns.len()],
             dirty: vec![0; flow.blocks.len().div_ceil(64)],
             brought: vec![Words::NONE; flow.sections.len()],
@@ -72,6 +78,7 @@ impl<'g, const N: usize> Solver<'g, N> {
     fn begin(&mut self, transfer: &impl Transfer<N>) {
         self.sets.fill(Effects::NONE);
         self.dirty.fill(u64::MAX);
+        self.is_fresh.fill(true);
         self.brought.fill(Words::NONE);
         let flow = self.flow;
         for (cell, block) in self.cells.iter_mut().zip(&flow.blocks) {
@@ -110,12 +117,19 @@ impl<'g, const N: usize> Solver<'g, N> {
 
     /// Visits a section's blocks, part by part, until none of them has news.
     fn settle(&mut self, section: &Section) {
+        let flow = self.flow;
+        let is_fresh = std::mem::replace(&mut self.is_fresh[flow.section_at[section.entry] as usize], false);
         let mut at = section.positions.start;
         while let Some(first) = self.next_dirty(at..section.positions.end) {
-            at = self.flow.part_end[first] as usize;
-            let start = self.flow.part_start[first] as usize;
-            while let Some(position) = self.next_dirty(start..at) {
-                self.sweep(section, position, at);
+            at = flow.part_end[first] as usize;
+            let start = flow.part_start[first] as usize;
+            match flow.schedules.get(flow.schedule_at[start] as usize) {
+                Some(schedule) if is_fresh => self.put_together(section, start..at, schedule),
+                _ => {
+                    while let Some(position) = self.next_dirty(start..at) {
+                        self.sweep(section, position, at);
+                    }
+                }
             }
         }
     }
@@ -128,17 +142,61 @@ impl<'g, const N: usize> Solver<'g, N> {
         }
     }
 
+    /// Finds the ways to the blocks of a part that facts enter at its first block alone, and that none was visited of before.
+    fn put_together(&mut self, section: &Section, part: Range<usize>, schedule: &Schedule) {
+        for step in &schedule.steps {
+            self.take(schedule, *step);
+        }
+        let entry = self.cells[part.start].here.then(&self.ways[part.start]);
+        for position in part.clone() {
+            self.cells[position].here = if position == part.start { entry } else { entry.then(&self.ways[position]) };
+            self.dirty[position / 64] &= !(1 << (position % 64));
+        }
+        for position in part {
+            self.visit(section, position);
+        }
+    }
+
+    fn take(&mut self, schedule: &Schedule, step: Step) {
+        match step {
+            Step::Join { to, first, end, is_head } => {
+                let ways = self.through_any(&schedule.lists[first as usize..end as usize]);
+                let to = to as usize;
+                self.ways[to] = if is_head { ways.then(&self.ways[to]) } else { ways };
+            }
+            Step::Lengthen { to, by } => self.ways[to as usize] = self.ways[by as usize].then(&self.ways[to as usize]),
+            Step::Close { head, first, end } => {
+                let ways = self.through_any(&schedule.lists[first as usize..end as usize]);
+                self.ways[head as usize] = Effects { made: ways.made, kept: Words::ALL };
+            }
+        }
+    }
+
+    /// The ways from the head of a loop through any of these blocks.
+    fn through_any(&self, list: &[u32]) -> Effects<N> {
+        let mut all = Effects::NONE;
+        for entry in list {
+            let position = (entry & !HEAD) as usize;
+            let before = if entry & HEAD == 0 { &self.ways[position] } else { &Effects::SAME };
+            all.join(&self.through(position, before));
+        }
+        all
+    }
+
+    /// These ways, and then through a block and its call.
+    #[inline(always)]
+    fn through(&self, position: usize, before: &Effects<N>) -> Effects<N> {
+        let through = &self.cells[position].through;
+        match (self.flow.calls[position], self.flow.is_backward) {
+            (NONE, _) => before.then(through),
+            (call, false) => before.then(through).then(&self.sets[call as usize]),
+            (call, true) => before.then(&self.sets[call as usize]).then(through),
+        }
+    }
+
     fn visit(&mut self, section: &Section, position: usize) {
         let flow = self.flow;
-        let cell = &self.cells[position];
-        let call = flow.calls[position];
-        let mut way = if flow.is_backward { cell.here } else { cell.here.then(&cell.through) };
-        if call != NONE {
-            way = way.then(&self.sets[call as usize]);
-        }
-        if flow.is_backward {
-            way = way.then(&cell.through);
-        }
+        let way = self.through(position, &self.cells[position].here);
         for next in flow.next_start[position]..flow.next_start[position + 1] {
             let next = flow.next[next as usize] as usize;
             if self.cells[next].here.join(&way) {
