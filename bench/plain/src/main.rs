@@ -2,12 +2,13 @@
 
 mod bit_names;
 mod components;
+mod elimination;
 mod facts;
 mod fault;
 mod flow;
 mod graph;
 mod listing;
-mod loops;
+
 mod names;
 mod options;
 mod output;

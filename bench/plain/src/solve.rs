@@ -1,8 +1,8 @@
 //! The least solution of the equations for one group of bits, block by block.
 
+use crate::elimination::Plan;
 use crate::flow::{Flow, Section};
 use crate::graph::{Graph, NONE};
-use crate::loops::{HEAD, Schedule, Step};
 use crate::transfer::Transfer;
 use crate::words::{Effects, Words};
 use std::ops::Range;
@@ -14,13 +14,15 @@ struct Cell<const N: usize> {
     through: Effects<N>,
 }
 
+/// So many visits for each block of a part, and it is solved without rounds where it can be.
+const VISITS: usize = 6;
+
 pub struct Solver<'g, const N: usize> {
     graph: &'g Graph,
     flow: &'g Flow,
     cells: Vec<Cell<N>>,
-    /// By position: the ways from the head of a loop, while loops are put together.
-    ways: Vec<Effects<N>>,
-    is_fresh: Vec<bool>,
+    /// The ways along the edges of a part that is solved without rounds.
+    edges: Vec<Effects<N>>,
     /// By set of callees: the ways through any of them.
     sets: Vec<Effects<N>>,
     dirty: Vec<u64>,
@@ -35,8 +37,7 @@ impl<'g, const N: usize> Solver<'g, N> {
             graph,
             flow,
             cells: vec![cell; flow.blocks.len()],
-            ways: vec![Effects::NONE; flow.blocks.len()],
-            is_fresh: vec![true; flow.sections.len()],
+            edges: Vec::new(),
             sets: vec![Effects::NONE; flow.returns.len()],
             dirty: vec![0; flow.blocks.len().div_ceil(64)],
             brought: vec![Words::NONE; flow.sections.len()],
@@ -78,7 +79,6 @@ impl<'g, const N: usize> Solver<'g, N> {
     fn begin(&mut self, transfer: &impl Transfer<N>) {
         self.sets.fill(Effects::NONE);
         self.dirty.fill(u64::MAX);
-        self.is_fresh.fill(true);
         self.brought.fill(Words::NONE);
         let flow = self.flow;
         for (cell, block) in self.cells.iter_mut().zip(&flow.blocks) {
@@ -117,70 +117,70 @@ impl<'g, const N: usize> Solver<'g, N> {
 
     /// Visits a section's blocks, part by part, until none of them has news.
     fn settle(&mut self, section: &Section) {
-        let flow = self.flow;
-        let is_fresh = std::mem::replace(&mut self.is_fresh[flow.section_at[section.entry] as usize], false);
         let mut at = section.positions.start;
         while let Some(first) = self.next_dirty(at..section.positions.end) {
-            at = flow.part_end[first] as usize;
-            let start = flow.part_start[first] as usize;
-            match flow.schedules.get(flow.schedule_at[start] as usize) {
-                Some(schedule) if is_fresh => self.put_together(section, start..at, schedule),
-                _ => {
-                    while let Some(position) = self.next_dirty(start..at) {
-                        self.sweep(section, position, at);
-                    }
+            at = self.flow.part_end[first] as usize;
+            self.settle_part(section, self.flow.part_start[first] as usize..at);
+        }
+    }
+
+    fn settle_part(&mut self, section: &Section, part: Range<usize>) {
+        let mut visits = 0;
+        while let Some(position) = self.next_dirty(part.clone()) {
+            visits += self.sweep(section, position..part.end);
+            if visits > VISITS * part.len() {
+                visits = 0;
+                if let Some(plan) = self.flow.plan_of(part.clone()) {
+                    self.eliminate(section, part.clone(), plan);
                 }
             }
         }
     }
 
-    fn sweep(&mut self, section: &Section, mut from: usize, end: usize) {
-        while let Some(position) = self.next_dirty(from..end) {
-            self.dirty[position / 64] &= !(1 << (position % 64));
+    /// Visits the blocks with news once, in order, and counts them.
+    fn sweep(&mut self, section: &Section, part: Range<usize>) -> usize {
+        let mut from = part.start;
+        let mut visits = 0;
+        while let Some(position) = self.next_dirty(from..part.end) {
             self.visit(section, position);
             from = position + 1;
+            visits += 1;
         }
+        visits
     }
 
-    /// Finds the ways to the blocks of a part that facts enter at its first block alone, and that none was visited of before.
-    fn put_together(&mut self, section: &Section, part: Range<usize>, schedule: &Schedule) {
-        for step in &schedule.steps {
-            self.take(schedule, *step);
+    fn eliminate(&mut self, section: &Section, part: Range<usize>, plan: &Plan) {
+        self.edges.clear();
+        for source in &plan.sources {
+            let way = self.through(*source as usize, &Effects::SAME);
+            self.edges.push(way);
         }
-        let entry = self.cells[part.start].here.then(&self.ways[part.start]);
-        for position in part.clone() {
-            self.cells[position].here = if position == part.start { entry } else { entry.then(&self.ways[position]) };
-            self.dirty[position / 64] &= !(1 << (position % 64));
-        }
-        for position in part {
-            self.visit(section, position);
-        }
-    }
-
-    fn take(&mut self, schedule: &Schedule, step: Step) {
-        match step {
-            Step::Join { to, first, end, is_head } => {
-                let ways = self.through_any(&schedule.lists[first as usize..end as usize]);
-                let to = to as usize;
-                self.ways[to] = if is_head { ways.then(&self.ways[to]) } else { ways };
+        self.edges.resize(plan.edges, Effects::NONE);
+        for removal in &plan.removals {
+            if let Some(own) = self.edges.get(removal.own as usize).map(|own| own.made) {
+                self.cells[removal.block as usize].here.made.add(&own);
+                let own = Effects { made: own, kept: Words::ALL };
+                for end in &removal.behind {
+                    self.edges[end.edge as usize] = own.then(&self.edges[end.edge as usize]);
+                }
             }
-            Step::Lengthen { to, by } => self.ways[to as usize] = self.ways[by as usize].then(&self.ways[to as usize]),
-            Step::Close { head, first, end } => {
-                let ways = self.through_any(&schedule.lists[first as usize..end as usize]);
-                self.ways[head as usize] = Effects { made: ways.made, kept: Words::ALL };
+            let here = self.cells[removal.block as usize].here;
+            for end in &removal.behind {
+                self.cells[end.block as usize].here.join(&here.then(&self.edges[end.edge as usize]));
+            }
+            for join in &plan.joins[removal.joins.clone()] {
+                let both = self.edges[join.first as usize].then(&self.edges[join.second as usize]);
+                self.edges[join.both as usize].join(&both);
             }
         }
-    }
-
-    /// The ways from the head of a loop through any of these blocks.
-    fn through_any(&self, list: &[u32]) -> Effects<N> {
-        let mut all = Effects::NONE;
-        for entry in list {
-            let position = (entry & !HEAD) as usize;
-            let before = if entry & HEAD == 0 { &self.ways[position] } else { &Effects::SAME };
-            all.join(&self.through(position, before));
+        for removal in plan.removals.iter().rev() {
+            let mut here = self.cells[removal.block as usize].here;
+            for end in &removal.before {
+                here.join(&self.cells[end.block as usize].here.then(&self.edges[end.edge as usize]));
+            }
+            self.cells[removal.block as usize].here = here;
         }
-        all
+        part.for_each(|position| self.visit(section, position));
     }
 
     /// These ways, and then through a block and its call.
@@ -196,11 +196,11 @@ impl<'g, const N: usize> Solver<'g, N> {
 
     fn visit(&mut self, section: &Section, position: usize) {
         let flow = self.flow;
+        self.dirty[position / 64] &= !(1 << (position % 64));
         let way = self.through(position, &self.cells[position].here);
-        for next in flow.next_start[position]..flow.next_start[position + 1] {
-            let next = flow.next[next as usize] as usize;
-            if self.cells[next].here.join(&way) {
-                self.mark(next);
+        for next in flow.next_of(position) {
+            if self.cells[*next as usize].here.join(&way) {
+                self.mark(*next as usize);
             }
         }
         if position as u32 == section.exit {
