@@ -334,6 +334,60 @@ def hops(points=16000, bits=4000, calls=0):
     return filled([main, *idle, unused], points)
 
 
+def laid_out(count, order, draw):
+    """The numbers of blocks in an order of the text: as they run, reversed, from both ends by turns, or at random."""
+    numbers = list(range(count))
+    if order == 1:
+        return numbers[::-1]
+    if order == 2:
+        return numbers[::2] + numbers[1::2][::-1]
+    if order == 3:
+        draw.shuffle(numbers)
+    return numbers
+
+
+def woven_callees(kind, number, procedures, callees, draw):
+    near = {0: [], 1: [number + 1], 2: [(number + 1) % procedures], 3: draw.sample(range(procedures), min(callees, procedures)),
+            4: [number + 1, number - 1]}[kind]
+    first = [callee for callee in near if 0 <= callee < procedures]
+    more = [(first[0] + step) % procedures for step in range(1, callees)] if first and kind in (2, 4) else []
+    later = [callee for callee in range(number + 2, number + 1 + callees) if callee < procedures] if kind == 1 else []
+    return list(dict.fromkeys(first + more + later))[:8]
+
+
+def woven(points=16000, bits=4000, procedures=16, order=0, jump=3, stride=7, calls=1, callees=1, guard=1, every=4, late=0, seed=1):
+    """a pattern of many keys: `order` of blocks in the text 0 to 3, `jump` 0 to 4 by `stride`, `calls` 0 to 4, every `every`th block, `late` 0 to 2"""
+    procedures, every, callees = max(1, min(procedures, 256)), max(1, every), max(1, min(callees, 8))
+    draw = random.Random(seed)
+    size = points // procedures
+    count = (size - 3) // 4
+    need(count >= 1, "so few points are too few for so many procedures")
+    defined = {0: range(procedures), 1: [procedures - 1], 2: [0]}[late % 3]
+    places = count * len(defined)
+    definitions = Definitions(variables_for(bits), places)
+    made = []
+    for number in range(procedures):
+        blocks = []
+        for at in range(count):
+            target = {0: at + 1, 1: at + stride, 2: at - stride, 3: draw.randrange(count), 4: count - 1 - at}[jump % 5]
+            target = "b%d" % max(0, target) if target < count else "out"
+            place = defined.index(number) * count + at if number in defined else None
+            statements = ["skip" if place is None else definitions.statement(place)]
+            called = woven_callees(calls % 5, number, procedures, callees, draw) if at % every == 0 else []
+            if called:
+                call = "call " + " | ".join(name_of(callee) for callee in called)
+                rest = ["if v0 goto a%d" % at, call, "a%d: %s" % (at, step(at, count))] if guard % 2 else [call, "if v0 goto " + target, step(at, count)]
+            else:
+                rest = ["if v0 goto " + target, step(at, count)]
+            blocks.append(("b%d" % at, statements + rest))
+        procedure = Procedure(name_of(number))
+        procedure.add("goto b0")
+        put_blocks(procedure, [blocks[at] for at in laid_out(count, order % 4, draw)])
+        procedure.label("out")
+        made.append(procedure)
+    return filled(made, points)
+
+
 SHAPES = {"shuffled": shuffled, "upward": upward, "zigzag": zigzag, "nest": nest, "irreducible": irreducible, "feeders": feeders,
           "ladder": ladder, "ring": ring, "tower": tower, "neighbours": neighbours, "web": web, "drip": drip, "drip-back": drip_back,
-          "hops": hops}
+          "hops": hops, "woven": woven}
