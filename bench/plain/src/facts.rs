@@ -1,10 +1,10 @@
 //! What is asked of the four analyses, found group by group, by one thread or several.
 
 use crate::flow::Flow;
-use crate::graph::{Effect, Graph, NONE};
+use crate::graph::{Graph, NONE};
 use crate::solve::Solver;
 use crate::transfer::{Analysis, Available, Busy, Group, Kills, Live, Reach, Transfer, Unset};
-use crate::words::{Effects, Words};
+use crate::words::Words;
 use std::sync::OnceLock;
 use std::sync::atomic::{AtomicUsize, Ordering};
 
@@ -96,7 +96,7 @@ struct Found {
 
 /// The blocks that end with a test.
 pub fn tests(graph: &Graph) -> Vec<u32> {
-    (0..graph.blocks.len() as u32).filter(|block| graph.blocks[*block as usize].next[1] != NONE).collect()
+    (0..graph.blocks.len() as u32).filter(|block| graph.blocks[*block as usize].is_test).collect()
 }
 
 struct Worker<'w, const N: usize> {
@@ -217,45 +217,30 @@ impl<'w, const N: usize> Worker<'w, N> {
         list
     }
 
-    /// Goes over the points of each block that facts come to, in their direction; `look` sees the bits before a statement is applied.
-    fn walk(&mut self, solver: &Solver<N>, transfer: &impl Transfer<N>, look: impl Fn(&Effect, &Words<N>) -> u8) {
-        let flow = self.flows.get(false);
-        for (position, block) in flow.blocks.iter().enumerate() {
-            let mut way = Effects { made: solver.bits(position), kept: Words::NONE };
-            for point in self.graph.points_of(*block as usize) {
-                let effect = &self.graph.effects[point];
-                self.found.remarks[point] |= look(effect, &way.made);
-                transfer.apply(effect, &mut way);
-            }
-        }
-    }
-
     fn find_unset(&mut self, solver: &Solver<N>, group: Group<N>, transfer: &impl Transfer<N>) {
-        self.walk(solver, transfer, |effect, bits| {
+        let remarks = &mut self.found.remarks;
+        solver.walk(transfer, |point, effect, bits| {
             let is_unset = |variable| group.place(variable).is_some_and(|bit| bits.has(bit));
-            let first = if is_unset(effect.uses[0]) { UNSET_FIRST } else { 0 };
-            first | if is_unset(effect.uses[1]) { UNSET_SECOND } else { 0 }
+            remarks[point] |= if is_unset(effect.uses[0]) { UNSET_FIRST } else { 0 };
+            remarks[point] |= if is_unset(effect.uses[1]) { UNSET_SECOND } else { 0 };
         });
     }
 
     fn find_computed(&mut self, solver: &Solver<N>, group: Group<N>, transfer: &impl Transfer<N>) {
-        self.walk(solver, transfer, |effect, bits| match group.place(effect.expression) {
-            Some(bit) if !bits.has(bit) => COMPUTED,
-            _ => 0,
+        let remarks = &mut self.found.remarks;
+        solver.walk(transfer, |point, effect, bits| {
+            if group.place(effect.expression).is_some_and(|bit| !bits.has(bit)) {
+                remarks[point] |= COMPUTED;
+            }
         });
     }
 
     fn find_dead(&mut self, solver: &Solver<N>, group: Group<N>, transfer: &impl Transfer<N>) {
-        let flow = self.flows.get(true);
-        for (position, block) in flow.blocks.iter().enumerate() {
-            let mut way = Effects { made: solver.through_call(position, &solver.bits(position)), kept: Words::NONE };
-            for point in self.graph.points_of(*block as usize).rev() {
-                let effect = &self.graph.effects[point];
-                if group.place(effect.write).is_some_and(|bit| !way.made.has(bit)) {
-                    self.found.remarks[point] |= DEAD;
-                }
-                transfer.apply(effect, &mut way);
+        let remarks = &mut self.found.remarks;
+        solver.walk(transfer, |point, effect, bits| {
+            if group.place(effect.write).is_some_and(|bit| !bits.has(bit)) {
+                remarks[point] |= DEAD;
             }
-        }
+        });
     }
 }

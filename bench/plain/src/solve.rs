@@ -2,7 +2,7 @@
 
 use crate::elimination::Plan;
 use crate::flow::{Flow, Section};
-use crate::graph::{Graph, NONE};
+use crate::graph::{Effect, Graph, NONE};
 use crate::transfer::Transfer;
 use crate::words::{Effects, Words};
 use std::ops::Range;
@@ -21,6 +21,8 @@ pub struct Solver<'g, const N: usize> {
     graph: &'g Graph,
     flow: &'g Flow,
     cells: Vec<Cell<N>>,
+    /// The statements that touch the group, in the direction of the facts: position and point.
+    touched: Vec<(u32, u32)>,
     /// The ways along the edges of a part that is solved without rounds.
     edges: Vec<Effects<N>>,
     /// By set of callees: the ways through any of them.
@@ -37,6 +39,7 @@ impl<'g, const N: usize> Solver<'g, N> {
             graph,
             flow,
             cells: vec![cell; flow.blocks.len()],
+            touched: Vec::new(),
             edges: Vec::new(),
             sets: vec![Effects::NONE; flow.returns.len()],
             dirty: vec![0; flow.blocks.len().div_ceil(64)],
@@ -81,19 +84,44 @@ impl<'g, const N: usize> Solver<'g, N> {
         self.dirty.fill(u64::MAX);
         self.brought.fill(Words::NONE);
         let flow = self.flow;
-        for (cell, block) in self.cells.iter_mut().zip(&flow.blocks) {
-            cell.here = Effects::NONE;
-            let mut through = Effects::SAME;
-            let effects = &self.graph.effects[self.graph.points_of(*block as usize)];
+        for cell in &mut self.cells {
+            *cell = Cell { here: Effects::NONE, through: Effects::SAME };
+        }
+        self.touched.clear();
+        for (position, block) in flow.blocks.iter().enumerate() {
+            let points = self.graph.points_of(*block as usize);
             if flow.is_backward {
-                effects.iter().rev().for_each(|effect| transfer.apply(effect, &mut through));
+                points.rev().for_each(|point| self.touch(transfer, position, point));
             } else {
-                effects.iter().for_each(|effect| transfer.apply(effect, &mut through));
+                points.for_each(|point| self.touch(transfer, position, point));
             }
-            cell.through = through;
         }
         for section in &flow.sections {
             self.cells[section.entry].here = Effects::SAME;
+        }
+    }
+
+    #[inline(always)]
+    fn touch(&mut self, transfer: &impl Transfer<N>, position: usize, point: usize) {
+        let effect = &self.graph.effects[point];
+        if transfer.touches(effect) {
+            self.touched.push((position as u32, point as u32));
+            transfer.apply(effect, &mut self.cells[position].through);
+        }
+    }
+
+    /// Goes over the statements that touch the group; `look` sees a point and the bits that come to it in the direction of the facts.
+    pub fn walk(&self, transfer: &impl Transfer<N>, mut look: impl FnMut(usize, &Effect, &Words<N>)) {
+        for statements in self.touched.chunk_by(|one, next| one.0 == next.0) {
+            let position = statements[0].0 as usize;
+            let bits = self.bits(position);
+            let bits = if self.flow.is_backward { self.through_call(position, &bits) } else { bits };
+            let mut way = Effects { made: bits, kept: Words::NONE };
+            for (_, point) in statements {
+                let effect = &self.graph.effects[*point as usize];
+                look(*point as usize, effect, &way.made);
+                transfer.apply(effect, &mut way);
+            }
         }
     }
 

@@ -43,6 +43,8 @@ impl Analysis {
 
 /// A statement of a way, in the direction of the facts.
 pub trait Transfer<const N: usize> {
+    /// Whether it does anything to the group's bits, or asks for one of them.
+    fn touches(&self, effect: &Effect) -> bool;
     fn apply(&self, effect: &Effect, way: &mut Effects<N>);
 }
 
@@ -63,7 +65,20 @@ impl<const N: usize> Group<N> {
 
 pub struct Unset<const N: usize>(pub Group<N>);
 
+impl<const N: usize> Group<N> {
+    #[inline(always)]
+    fn has_any(self, effect: &Effect) -> bool {
+        let has = |bit: u16| usize::from(bit).wrapping_sub(self.first) < 64 * N;
+        has(effect.write) | has(effect.uses[0]) | has(effect.uses[1])
+    }
+}
+
 impl<const N: usize> Transfer<N> for Unset<N> {
+    #[inline(always)]
+    fn touches(&self, effect: &Effect) -> bool {
+        self.0.has_any(effect)
+    }
+
     #[inline(always)]
     fn apply(&self, effect: &Effect, way: &mut Effects<N>) {
         if let Some(bit) = self.0.place(effect.write) {
@@ -76,6 +91,11 @@ impl<const N: usize> Transfer<N> for Unset<N> {
 pub struct Live<const N: usize>(pub Group<N>);
 
 impl<const N: usize> Transfer<N> for Live<N> {
+    #[inline(always)]
+    fn touches(&self, effect: &Effect) -> bool {
+        self.0.has_any(effect)
+    }
+
     #[inline(always)]
     fn apply(&self, effect: &Effect, way: &mut Effects<N>) {
         if let Some(bit) = self.0.place(effect.write) {
@@ -130,6 +150,11 @@ pub struct Reach<const N: usize>(pub Group<N>, pub Kills<N>);
 
 impl<const N: usize> Transfer<N> for Reach<N> {
     #[inline(always)]
+    fn touches(&self, effect: &Effect) -> bool {
+        self.1.of(effect.write).is_some()
+    }
+
+    #[inline(always)]
     fn apply(&self, effect: &Effect, way: &mut Effects<N>) {
         if let Some(kills) = self.1.of(effect.write) {
             way.made.remove(kills);
@@ -144,6 +169,11 @@ impl<const N: usize> Transfer<N> for Reach<N> {
 pub struct Available<const N: usize>(pub Group<N>, pub Kills<N>);
 
 impl<const N: usize> Transfer<N> for Available<N> {
+    #[inline(always)]
+    fn touches(&self, effect: &Effect) -> bool {
+        self.0.place(effect.expression).is_some() || self.1.of(effect.write).is_some()
+    }
+
     #[inline(always)]
     fn apply(&self, effect: &Effect, way: &mut Effects<N>) {
         if let Some(bit) = self.0.place(effect.expression) {
@@ -162,6 +192,11 @@ impl<const N: usize> Transfer<N> for Available<N> {
 pub struct Busy<const N: usize>(pub Group<N>, pub Kills<N>);
 
 impl<const N: usize> Transfer<N> for Busy<N> {
+    #[inline(always)]
+    fn touches(&self, effect: &Effect) -> bool {
+        self.0.place(effect.expression).is_some() || self.1.of(effect.write).is_some()
+    }
+
     #[inline(always)]
     fn apply(&self, effect: &Effect, way: &mut Effects<N>) {
         if let Some(kills) = self.1.of(effect.write) {
