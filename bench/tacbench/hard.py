@@ -239,7 +239,7 @@ def drip_ladder(procedure, heads, period, head, forward):
 
 
 def drip(points=16000, bits=4000, heads=256, callees=8, period=6, recursive=0):
-    """one bit after the other comes late to the exits of eight callees, of all of which the rest of `main` consists of calls; recursive=1: they may call `main`"""
+    """one bit after the other comes late to the exits of eight callees, which thousands of calls list; recursive=1: they may call `main`"""
     source = Procedure("q0")
     rungs = heads * period
     if recursive:
@@ -356,7 +356,7 @@ def woven_callees(kind, number, procedures, callees, draw):
 
 
 def woven(points=16000, bits=4000, procedures=16, order=0, jump=3, stride=7, calls=1, callees=1, guard=1, every=4, late=0, seed=1):
-    """a pattern of many keys: `order` of blocks in the text 0 to 3, `jump` 0 to 4 by `stride`, `calls` 0 to 4, every `every`th block, `late` 0 to 2"""
+    """a pattern for the search: `order` of the text 0 to 3, `jump` 0 to 4 by `stride`, `calls` 0 to 4 in every `every`th block, `late` 0 to 2"""
     procedures, every, callees = max(1, min(procedures, 256)), max(1, every), max(1, min(callees, 8))
     draw = random.Random(seed)
     size = points // procedures
@@ -376,7 +376,8 @@ def woven(points=16000, bits=4000, procedures=16, order=0, jump=3, stride=7, cal
             called = woven_callees(calls % 5, number, procedures, callees, draw) if at % every == 0 else []
             if called:
                 call = "call " + " | ".join(name_of(callee) for callee in called)
-                rest = ["if v0 goto a%d" % at, call, "a%d: %s" % (at, step(at, count))] if guard % 2 else [call, "if v0 goto " + target, step(at, count)]
+                around = ["if v0 goto a%d" % at, call, "a%d: %s" % (at, step(at, count))]
+                rest = around if guard % 2 else [call, "if v0 goto " + target, step(at, count)]
             else:
                 rest = ["if v0 goto " + target, step(at, count)]
             blocks.append(("b%d" % at, statements + rest))

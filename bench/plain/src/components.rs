@@ -82,8 +82,12 @@ fn ordered(callees: &[Vec<(u32, u32)>], component: Vec<u32>) -> Vec<u32> {
         let member = left.swap_remove(chosen);
         is_left[member as usize] = false;
         if leaf.is_some() { first.push(member) } else { last.push(member) }
-        callees[member as usize].iter().filter(|(callee, _)| is_left[*callee as usize]).for_each(|(callee, count)| got[*callee as usize] -= i64::from(*count));
-        callers[member as usize].iter().for_each(|(caller, count)| made[*caller as usize] -= i64::from(*count));
+        for (callee, count) in callees[member as usize].iter().filter(|(callee, _)| is_left[*callee as usize]) {
+            got[*callee as usize] -= i64::from(*count);
+        }
+        for (caller, count) in &callers[member as usize] {
+            made[*caller as usize] -= i64::from(*count);
+        }
     }
     first.extend(last.into_iter().rev());
     first

@@ -8,45 +8,71 @@ use crate::program::{Form, Program, Statement};
 use crate::transfer::Analysis;
 use std::io;
 
-/// By block: whether some path, valid or not, leads from it to a point with no valid path to the end of `main`.
+/// Which blocks lead to a point with no valid path to the end of `main`, by any path, valid or not.
+struct Doubt<'g> {
+    graph: &'g Graph,
+    is_doubtful: Vec<bool>,
+    stack: Vec<u32>,
+    /// The blocks before each block, and the calls of each set of callees.
+    before: Vec<Vec<u32>>,
+    callers: Vec<Vec<u32>>,
+    /// Sets of callees and procedures that were gone back over.
+    is_entry_done: Vec<bool>,
+    is_end_done: Vec<bool>,
+}
+
 fn doubtful_blocks(graph: &Graph, has_path: &[bool]) -> Vec<bool> {
-    let mut before: Vec<Vec<u32>> = vec![Vec::new(); graph.blocks.len()];
-    let mut callers: Vec<Vec<u32>> = vec![Vec::new(); graph.sets.members.len()];
+    let mut doubt = Doubt {
+        graph,
+        is_doubtful: has_path.iter().map(|has_path| !has_path).collect(),
+        stack: (0..graph.blocks.len() as u32).filter(|block| !has_path[*block as usize]).collect(),
+        before: vec![Vec::new(); graph.blocks.len()],
+        callers: vec![Vec::new(); graph.sets.members.len()],
+        is_entry_done: vec![false; graph.sets.members.len()],
+        is_end_done: vec![false; graph.first_block.len() - 1],
+    };
     for (number, block) in graph.blocks.iter().enumerate() {
         match block.call {
-            NONE => block.next.iter().filter(|next| **next != NONE).for_each(|next| before[*next as usize].push(number as u32)),
-            call => callers[call as usize].push(number as u32),
+            NONE => block.next.iter().filter(|next| **next != NONE).for_each(|next| doubt.before[*next as usize].push(number as u32)),
+            call => doubt.callers[call as usize].push(number as u32),
         }
     }
-    let mut is_doubtful: Vec<bool> = has_path.iter().map(|has_path| !has_path).collect();
-    let mut stack: Vec<u32> = (0..graph.blocks.len() as u32).filter(|block| is_doubtful[*block as usize]).collect();
-    let mut has_doubtful_entry = vec![false; graph.sets.members.len()];
-    let mut has_doubtful_return = vec![false; graph.first_block.len() - 1];
-    while let Some(block) = stack.pop() {
-        let mut found = |block: u32| {
-            if !std::mem::replace(&mut is_doubtful[block as usize], true) {
-                stack.push(block);
+    while let Some(block) = doubt.stack.pop() {
+        doubt.go_back(block as usize);
+    }
+    doubt.is_doubtful
+}
+
+impl Doubt<'_> {
+    fn add(&mut self, blocks: Vec<u32>) {
+        for block in blocks {
+            if !std::mem::replace(&mut self.is_doubtful[block as usize], true) {
+                self.stack.push(block);
             }
-        };
-        before[block as usize].iter().for_each(|block| found(*block));
-        let procedure = graph.blocks[block as usize].procedure as usize;
-        if block == graph.first_block[procedure] {
+        }
+    }
+
+    fn go_back(&mut self, block: usize) {
+        let graph = self.graph;
+        let before = std::mem::take(&mut self.before[block]);
+        self.add(before);
+        let procedure = graph.blocks[block].procedure as usize;
+        if block == graph.first_block[procedure] as usize {
             for set in &graph.sets.with[procedure] {
-                if !std::mem::replace(&mut has_doubtful_entry[*set as usize], true) {
-                    callers[*set as usize].iter().for_each(|block| found(*block));
+                if !std::mem::replace(&mut self.is_entry_done[*set as usize], true) {
+                    let callers = std::mem::take(&mut self.callers[*set as usize]);
+                    self.add(callers);
                 }
             }
         }
-        // the point behind a call: facts come to it from the ends of all callees
-        if let Some(call) = (block as usize).checked_sub(1).map(|last| graph.blocks[last].call).filter(|call| *call != NONE) {
-            for callee in &graph.sets.members[call as usize] {
-                if !std::mem::replace(&mut has_doubtful_return[*callee as usize], true) {
-                    found(graph.first_block[*callee as usize + 1] - 1);
-                }
+        // from the point behind a call back to the ends of its callees
+        let call = block.checked_sub(1).map_or(NONE, |last| graph.blocks[last].call);
+        for callee in graph.sets.members.get(call as usize).into_iter().flatten() {
+            if !std::mem::replace(&mut self.is_end_done[*callee as usize], true) {
+                self.add(vec![graph.first_block[*callee as usize + 1] - 1]);
             }
         }
     }
-    is_doubtful
 }
 
 struct ReportWriter<'w> {
