@@ -11,6 +11,7 @@ GROUPS = [
     ("long texts that are hard on a reader", texts.SHAPES),
     ("small programs", small.SHAPES),
 ]
+POSITIVE = {"points", "bits", "procedures", "variables", "statements", "heads", "period", "size"}
 ALL = {name: maker for _, shapes in GROUPS for name, maker in shapes.items()}
 
 
@@ -35,9 +36,11 @@ def generate(name, keys):
     if name not in ALL:
         raise Fault("there is no %r; generate --list tells all" % name)
     known = defaults_of(name)
-    for key in keys:
+    for key, value in keys.items():
         if key not in known:
             raise Fault("%s has no key %r; it has %s" % (name, key, ", ".join(known)))
+        if value < (1 if key in POSITIVE else 0):
+            raise Fault("%s=%d is too small" % (key, value))
     text = ALL[name](**keys)
     return text if isinstance(text, bytes) else text.encode()
 

@@ -165,6 +165,7 @@ def ladder(points=16000, bits=4000):
 
 def procedures_with(points, bits, procedures, order, calls_of):
     """Procedures in an order, each with its part of the definitions, and the calls that `calls_of` tells, each behind a test."""
+    need(procedures <= 256, "a program has at most 256 procedures")
     size = points // procedures
     share = max(0, min(size - 12, variables_for(bits) // procedures))
     definitions = Definitions(max(1, share * procedures), max(1, share * procedures))
@@ -209,7 +210,7 @@ def web(points=16000, bits=4000, procedures=256, seed=1):
     """each statement of a procedure is a call of eight others, near and far, both ways"""
     draw = random.Random(seed)
     size = points // procedures
-    need(procedures >= 9 and size >= 5, "nine procedures and five points for each are needed")
+    need(256 >= procedures >= 9 and size >= 5, "nine procedures and five points for each are needed")
     count = min(procedures, variables_for(bits))
     definitions = Definitions(count, count)
     made = []
@@ -304,6 +305,7 @@ def relay(number, forward):
 
 
 def calls_of_all(points, callees, evaluated):
+    need(len(callees) <= 8, "a call lists at most eight procedures")
     main = Procedure("main")
     main.add("read c")
     used = main.points + len(evaluated) + sum(callee.points for callee in callees)

@@ -140,8 +140,9 @@ fn run<const N: usize>(graph: &Graph, flows: &Flows, tests: &[u32], queue: &Queu
     let work = |number: usize| {
         let found = Found { remarks: vec![0; if is_table { 0 } else { graph.points }], groups: Vec::new() };
         let mut worker = Worker::<N> { graph, flows, tests, is_table, found };
+        let mut solver = None;
         for direction in [number % 2, 1 - number % 2] {
-            worker.work(queue, direction);
+            worker.work(queue, direction, &mut solver);
         }
         worker.found
     };
@@ -156,11 +157,16 @@ fn run<const N: usize>(graph: &Graph, flows: &Flows, tests: &[u32], queue: &Queu
 }
 
 impl<'w, const N: usize> Worker<'w, N> {
-    fn work(&mut self, queue: &Queue, direction: usize) {
-        let mut solver = None;
+    /// Solves the groups of a direction, as long as there are any.
+    fn work(&mut self, queue: &Queue, direction: usize, solver: &mut Option<Solver<'w, N>>) {
+        let (graph, flows) = (self.graph, self.flows);
+        let mut is_turned = false;
         while let Some(task) = queue.take(direction) {
-            let (graph, flows) = (self.graph, self.flows);
-            let solver = solver.get_or_insert_with(|| Solver::<N>::new(graph, flows.get(direction == 1)));
+            let flow = flows.get(direction == 1);
+            let solver = solver.get_or_insert_with(|| Solver::new(graph, flow));
+            if !std::mem::replace(&mut is_turned, true) {
+                solver.turn(flow);
+            }
             let group = Group { first: task.group * 64 * N };
             let kills = |analysis| Kills::new(graph, analysis, group);
             match task.analysis {

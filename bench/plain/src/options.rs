@@ -43,7 +43,8 @@ pub fn read(words: impl Iterator<Item = OsString>) -> Result<Words, String> {
             _ => (word.as_str(), None),
         };
         match (name, &value) {
-            ("--help" | "-h", None) => return Ok(Words::Help),
+            ("--help", None) => return Ok(Words::Help),
+            (short, _) if short.starts_with("-h") => return Ok(Words::Help),
             ("--", None) => match words.next() {
                 None => break,
                 Some(word) => return Err(format!("unexpected argument '{word}'")),

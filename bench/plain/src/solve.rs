@@ -7,26 +7,26 @@ use crate::transfer::Transfer;
 use crate::words::{Effects, Words};
 use std::ops::Range;
 
-/// The ways from a procedure's entry to a block, and those through it.
-#[derive(Clone, Copy)]
-struct Cell<const N: usize> {
-    here: Effects<N>,
-    through: Effects<N>,
-}
-
 /// So many visits for each block of a part, and it is solved without rounds where it can be.
 const VISITS: usize = 6;
 
 pub struct Solver<'g, const N: usize> {
     graph: &'g Graph,
     flow: &'g Flow,
-    cells: Vec<Cell<N>>,
+    /// By position: the ways from the procedure's entry.
+    here: Vec<Effects<N>>,
+    /// The ways through the blocks that do anything to the group, and by position which of these, or NONE.
+    through: Vec<Effects<N>>,
+    through_at: Vec<u32>,
     /// The statements that touch the group, in the direction of the facts: position and point.
     touched: Vec<(u32, u32)>,
     /// The ways along the edges of a part that is solved without rounds.
     edges: Vec<Effects<N>>,
-    /// By set of callees: the ways through any of them.
+    /// By procedure: the ways from its entry to its exit.
+    exits: Vec<Effects<N>>,
+    /// By set of callees: the ways through any of them, and whether an exit has had news since.
     sets: Vec<Effects<N>>,
+    is_stale: Vec<bool>,
     dirty: Vec<u64>,
     /// By section: the bits that valid paths bring to its entry.
     brought: Vec<Words<N>>,
@@ -34,17 +34,31 @@ pub struct Solver<'g, const N: usize> {
 
 impl<'g, const N: usize> Solver<'g, N> {
     pub fn new(graph: &'g Graph, flow: &'g Flow) -> Solver<'g, N> {
-        let cell = Cell { here: Effects::NONE, through: Effects::SAME };
-        Solver {
+        let mut solver = Solver {
             graph,
             flow,
-            cells: vec![cell; flow.blocks.len()],
+            here: Vec::new(),
+            through: Vec::new(),
+            through_at: Vec::new(),
             touched: Vec::new(),
             edges: Vec::new(),
+            exits: vec![Effects::NONE; graph.first_block.len() - 1],
             sets: vec![Effects::NONE; flow.returns.len()],
-            dirty: vec![0; flow.blocks.len().div_ceil(64)],
-            brought: vec![Words::NONE; flow.sections.len()],
-        }
+            is_stale: vec![false; flow.returns.len()],
+            dirty: Vec::new(),
+            brought: Vec::new(),
+        };
+        solver.turn(flow);
+        solver
+    }
+
+    /// Goes on with another flow of the same graph, in the same memory.
+    pub fn turn(&mut self, flow: &'g Flow) {
+        self.flow = flow;
+        self.here.resize(flow.blocks.len(), Effects::NONE);
+        self.through_at.resize(flow.blocks.len(), NONE);
+        self.dirty.resize(flow.blocks.len().div_ceil(64), 0);
+        self.brought.resize(flow.sections.len(), Words::NONE);
     }
 
     pub fn solve(&mut self, transfer: &impl Transfer<N>, beginning: Words<N>) {
@@ -68,7 +82,7 @@ impl<'g, const N: usize> Solver<'g, N> {
 
     /// The bits that valid paths bring to a block.
     pub fn bits(&self, position: usize) -> Words<N> {
-        self.cells[position].here.of(&self.brought[self.flow.section_at[position] as usize])
+        self.here[position].of(&self.brought[self.flow.section_at[position] as usize])
     }
 
     /// The bits that come through a call, out of those before it.
@@ -80,13 +94,14 @@ impl<'g, const N: usize> Solver<'g, N> {
     }
 
     fn begin(&mut self, transfer: &impl Transfer<N>) {
+        self.exits.fill(Effects::NONE);
         self.sets.fill(Effects::NONE);
         self.dirty.fill(u64::MAX);
         self.brought.fill(Words::NONE);
         let flow = self.flow;
-        for cell in &mut self.cells {
-            *cell = Cell { here: Effects::NONE, through: Effects::SAME };
-        }
+        self.here.fill(Effects::NONE);
+        self.through.clear();
+        self.through_at.fill(NONE);
         self.touched.clear();
         for (position, block) in flow.blocks.iter().enumerate() {
             let points = self.graph.points_of(*block as usize);
@@ -97,7 +112,7 @@ impl<'g, const N: usize> Solver<'g, N> {
             }
         }
         for section in &flow.sections {
-            self.cells[section.entry].here = Effects::SAME;
+            self.here[section.entry] = Effects::SAME;
         }
     }
 
@@ -106,7 +121,11 @@ impl<'g, const N: usize> Solver<'g, N> {
         let effect = &self.graph.effects[point];
         if transfer.touches(effect) {
             self.touched.push((position as u32, point as u32));
-            transfer.apply(effect, &mut self.cells[position].through);
+            if self.through_at[position] == NONE {
+                self.through_at[position] = self.through.len() as u32;
+                self.through.push(Effects::SAME);
+            }
+            transfer.apply(effect, self.through.last_mut().unwrap());
         }
     }
 
@@ -185,16 +204,17 @@ impl<'g, const N: usize> Solver<'g, N> {
         }
         self.edges.resize(plan.edges, Effects::NONE);
         for removal in &plan.removals {
+            let block = removal.block as usize;
             if let Some(own) = self.edges.get(removal.own as usize).map(|own| own.made) {
-                self.cells[removal.block as usize].here.made.add(&own);
+                self.here[block].made.add(&own);
                 let own = Effects { made: own, kept: Words::ALL };
                 for end in &removal.behind {
                     self.edges[end.edge as usize] = own.then(&self.edges[end.edge as usize]);
                 }
             }
-            let here = self.cells[removal.block as usize].here;
+            let here = self.here[block];
             for end in &removal.behind {
-                self.cells[end.block as usize].here.join(&here.then(&self.edges[end.edge as usize]));
+                self.here[end.block as usize].join(&here.then(&self.edges[end.edge as usize]));
             }
             for join in &plan.joins[removal.joins.clone()] {
                 let both = self.edges[join.first as usize].then(&self.edges[join.second as usize]);
@@ -202,32 +222,54 @@ impl<'g, const N: usize> Solver<'g, N> {
             }
         }
         for removal in plan.removals.iter().rev() {
-            let mut here = self.cells[removal.block as usize].here;
+            let mut here = self.here[removal.block as usize];
             for end in &removal.before {
-                here.join(&self.cells[end.block as usize].here.then(&self.edges[end.edge as usize]));
+                here.join(&self.here[end.block as usize].then(&self.edges[end.edge as usize]));
             }
-            self.cells[removal.block as usize].here = here;
+            self.here[removal.block as usize] = here;
         }
         part.for_each(|position| self.visit(section, position));
     }
 
     /// These ways, and then through a block and its call.
     #[inline(always)]
-    fn through(&self, position: usize, before: &Effects<N>) -> Effects<N> {
-        let through = &self.cells[position].through;
-        match (self.flow.calls[position], self.flow.is_backward) {
-            (NONE, _) => before.then(through),
-            (call, false) => before.then(through).then(&self.sets[call as usize]),
-            (call, true) => before.then(&self.sets[call as usize]).then(through),
+    fn through(&mut self, position: usize, before: &Effects<N>) -> Effects<N> {
+        let call = self.flow.calls[position];
+        if call == NONE {
+            return self.through_block(position, before);
+        }
+        self.refresh(call as usize);
+        if self.flow.is_backward {
+            self.through_block(position, &before.then(&self.sets[call as usize]))
+        } else {
+            self.through_block(position, before).then(&self.sets[call as usize])
+        }
+    }
+
+    #[inline(always)]
+    fn through_block(&self, position: usize, before: &Effects<N>) -> Effects<N> {
+        match self.through.get(self.through_at[position] as usize) {
+            Some(through) => before.then(through),
+            None => *before,
+        }
+    }
+
+    /// Takes the news of a set's exits up.
+    fn refresh(&mut self, set: usize) {
+        if std::mem::replace(&mut self.is_stale[set], false) {
+            for member in &self.graph.sets.members[set] {
+                self.sets[set].join(&self.exits[*member as usize]);
+            }
         }
     }
 
     fn visit(&mut self, section: &Section, position: usize) {
         let flow = self.flow;
         self.dirty[position / 64] &= !(1 << (position % 64));
-        let way = self.through(position, &self.cells[position].here);
+        let here = self.here[position];
+        let way = self.through(position, &here);
         for next in flow.next_of(position) {
-            if self.cells[*next as usize].here.join(&way) {
+            if self.here[*next as usize].join(&way) {
                 self.mark(*next as usize);
             }
         }
@@ -238,12 +280,13 @@ impl<'g, const N: usize> Solver<'g, N> {
 
     /// The ways to a procedure's exit are ways through its calls.
     fn leave(&mut self, section: &Section, way: &Effects<N>) {
-        let flow = self.flow;
-        for set in &self.graph.sets.with[section.procedure as usize] {
-            if self.sets[*set as usize].join(way) {
-                for caller in &flow.callers[*set as usize] {
-                    self.mark(*caller as usize);
-                }
+        let procedure = section.procedure as usize;
+        if self.exits[procedure].join(way) {
+            for set in &self.graph.sets.with[procedure] {
+                self.is_stale[*set as usize] = true;
+            }
+            for caller in &self.flow.callers[procedure] {
+                self.dirty[*caller as usize / 64] |= 1 << (caller % 64);
             }
         }
     }
@@ -282,11 +325,11 @@ impl<'g, const N: usize> Solver<'g, N> {
     fn way_to(&self, positions: &[u32]) -> Effects<N> {
         let mut all = Effects::NONE;
         for position in positions {
-            let cell = &self.cells[*position as usize];
+            let here = &self.here[*position as usize];
             if self.flow.is_backward {
-                all.join(&cell.here);
+                all.join(here);
             } else {
-                all.join(&cell.here.then(&cell.through));
+                all.join(&self.through_block(*position as usize, here));
             }
         }
         all
