@@ -31,8 +31,9 @@ use std::io::{self, Read};
 use std::process::ExitCode;
 use transfer::Analysis;
 
-/// The widest group that is quick, in words of 64 bits.
-const WIDTH: usize = 8;
+/// The width that is quick, in words of 64 bits, of one thread and of several, which have to share the groups.
+const WIDTH: usize = 16;
+const SHARED_WIDTH: usize = 8;
 
 fn main() -> ExitCode {
     let options = match options::read(std::env::args_os().skip(1)) {
@@ -83,7 +84,8 @@ fn show(options: &Options, program: &Program, graph: &Graph, output: &mut Output
 
 /// How many words are solved at once: no more than there are.
 fn width(options: &Options, bits: usize) -> usize {
-    let most = options.cut.map_or(WIDTH, |cut| cut.div_ceil(64).next_power_of_two());
+    let quick = if options.workers == 1 { WIDTH } else { SHARED_WIDTH };
+    let most = options.cut.map_or(quick, |cut| cut.div_ceil(64).next_power_of_two());
     most.min(bits.div_ceil(64).max(1).next_power_of_two())
 }
 

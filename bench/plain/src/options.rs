@@ -23,7 +23,7 @@ Usage: tacflow-plain [OPTIONS]
 
 Options:
       --workers <N>  How many threads work, 1 to 64 [default: 1]
-      --cut <N>      How many bits a thread solves at a time, 1 to 4096 [default: 512]
+      --cut <N>      How many bits a thread solves at a time, 1 to 4096 [default: 1024, of several threads 512]
       --show <KIND>  What to write [default: report] [possible values: report, list, reach, live, avail, busy]
   -h, --help         Print help
 ";
