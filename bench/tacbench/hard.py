@@ -55,16 +55,18 @@ def step(number, count):
 
 
 def shuffled(points=16000, bits=4000, far=0, callees=0, seed=1):
-    """blocks in a random order, each of which may go far away (far=0 anywhere, 1 by half, 2 back by one), and with callees=N calls"""
+    """blocks in a random order, each of which may go away (far=0 anywhere, 1 back by one in two jumps, 2 in one), and with callees=N calls"""
     size = 4 if callees else 3
     count = (points - 4 - callees) // size
+    # two jumps over half of an odd number of blocks lead back by one
+    count -= far % 3 == 1 and count % 2 == 0
     need(count >= 2 and callees <= 8, "so few points are too few for this shape, or so many callees too many for one call")
     draw = random.Random(seed)
     definitions = Definitions(variables_for(bits), count)
     call = ["call " + " | ".join("q%d" % callee for callee in range(callees))] if callees else []
     blocks = []
     for number in range(count):
-        target = {0: draw.randrange(count), 1: (number + (count // 2 | 1)) % count, 2: max(0, number - 1)}[far % 3]
+        target = {0: draw.randrange(count), 1: (number + count // 2) % count, 2: max(0, number - 1)}[far % 3]
         test = "if v%d goto b%d" % (number * definitions.count // count, target)
         blocks.append(("b%d" % number, [definitions.statement(number), *call, test, step(number, count)]))
     draw.shuffle(blocks)
