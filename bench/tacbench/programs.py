@@ -83,7 +83,7 @@ def build_plain(target="native"):
 
 
 def plain(target="native"):
-    return Program("plain", build_plain(target) / "tacflow-plain")
+    return Program("plain", build_plain(target) / "tacflow-plain", environment=launcher_environment())
 
 
 def other(word):

@@ -1,7 +1,7 @@
 //! The least solution of the equations for one group of bits, block by block.
 
 use crate::elimination::Plan;
-use crate::flow::{Flow, Section};
+use crate::flow::{Flow, Part, Section};
 use crate::graph::{Effect, Graph, NONE};
 use crate::transfer::Transfer;
 use crate::words::{Effects, Words};
@@ -164,21 +164,29 @@ impl<'g, const N: usize> Solver<'g, N> {
 
     /// Visits a section's blocks, part by part, until none of them has news.
     fn settle(&mut self, section: &Section) {
+        let flow = self.flow;
         let mut at = section.positions.start;
         while let Some(first) = self.next_dirty(at..section.positions.end) {
-            at = self.flow.part_end[first] as usize;
-            self.settle_part(section, self.flow.part_start[first] as usize..at);
+            at = first + 1;
+            if let Some(part) = flow.parts.get(flow.part_at[first] as usize) {
+                at = part.positions.end;
+                self.settle_part(section, part);
+                continue;
+            }
+            while self.next_dirty(first..at).is_some() {
+                self.visit(section, first);
+            }
         }
     }
 
-    fn settle_part(&mut self, section: &Section, part: Range<usize>) {
+    fn settle_part(&mut self, section: &Section, part: &Part) {
         let mut visits = 0;
-        while let Some(position) = self.next_dirty(part.clone()) {
-            visits += self.sweep(section, position..part.end);
-            if visits > VISITS * part.len() {
+        while let Some(position) = self.next_dirty(part.positions.clone()) {
+            visits += self.sweep(section, position..part.positions.end);
+            if visits > VISITS * part.positions.len() {
                 visits = 0;
-                if let Some(plan) = self.flow.plan_of(part.clone()) {
-                    self.eliminate(section, part.clone(), plan);
+                if let Some(plan) = self.flow.plan_of(part) {
+                    self.eliminate(section, part.positions.clone(), plan);
                 }
             }
         }
