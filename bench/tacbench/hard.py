@@ -218,7 +218,7 @@ def web(points=16000, bits=4000, procedures=256, seed=1):
     made = []
     for number in range(procedures):
         procedure = Procedure(name_of(number))
-        procedure.add("if v0 goto z", definitions.definition(number % count))
+        procedure.add("if v0 goto z", definitions.definition(number) if number < count else "skip")
         for _ in range(size - 4):
             callees = draw.sample(range(procedures), 8)
             procedure.add("call " + " | ".join(name_of(callee) for callee in callees))
@@ -244,6 +244,7 @@ def drip_ladder(procedure, heads, period, head, forward):
 def drip(points=16000, bits=4000, heads=256, callees=8, period=6, recursive=0):
     """one bit after the other comes late to the exits of eight callees, which thousands of calls list; recursive=1: they may call `main`"""
     source = Procedure("q0")
+    heads = max(1, min(heads, bits // 4))
     rungs = heads * period
     if recursive:
         source.add("if c goto a0", "call main")
@@ -263,6 +264,7 @@ def drip(points=16000, bits=4000, heads=256, callees=8, period=6, recursive=0):
 def drip_back(points=16000, bits=4000, heads=256, callees=8, period=6, recursive=0):
     """`drip` against the flow of control, for the backward analyses"""
     source = Procedure("q0")
+    heads = max(1, min(heads, bits // 4))
     rungs = heads * period
     source.add("goto b0")
     if recursive:
