@@ -81,7 +81,11 @@ fn ordered(callees: &[Vec<(u32, u32)>], component: Vec<u32>) -> Vec<u32> {
         let chosen = leaf.unwrap_or_else(|| (0..left.len()).max_by_key(|place| caller(&left[*place])).unwrap());
         let member = left.swap_remove(chosen);
         is_left[member as usize] = false;
-        if leaf.is_some() { first.push(member) } else { last.push(member) }
+        if leaf.is_some() {
+            first.push(member)
+        } else {
+            last.push(member)
+        }
         for (callee, count) in callees[member as usize].iter().filter(|(callee, _)| is_left[*callee as usize]) {
             got[*callee as usize] -= i64::from(*count);
         }

@@ -80,7 +80,8 @@ impl Planner {
     /// The edge between two blocks, which is made where it is not there.
     fn edge(&mut self, from: u32, to: u32) -> u32 {
         let (first, second) = (self.at(from), self.at(to));
-        let known = if from == to { Some(self.own[first]) } else { self.behind[first].iter().find(|end| end.block == to).map(|end| end.edge) };
+        let known =
+            if from == to { Some(self.own[first]) } else { self.behind[first].iter().find(|end| end.block == to).map(|end| end.edge) };
         if let Some(edge) = known.filter(|edge| *edge != NONE) {
             return edge;
         }

@@ -110,10 +110,7 @@ struct Worker<'w, const N: usize> {
 
 pub fn report<const N: usize>(graph: &Graph, flows: &Flows, tests: &[u32], workers: usize) -> Findings {
     let queue = Queue::new(graph, &[Analysis::Unset, Analysis::Available, Analysis::Busy, Analysis::Live], 64 * N);
-    let mut findings = Findings {
-        remarks: vec![0; graph.points],
-        busy: Sets::new(N, graph.expressions().div_ceil(64 * N)),
-    };
+    let mut findings = Findings { remarks: vec![0; graph.points], busy: Sets::new(N, graph.expressions().div_ceil(64 * N)) };
     for found in run::<N>(graph, flows, tests, &queue, false, workers) {
         for (all, some) in findings.remarks.iter_mut().zip(&found.remarks) {
             *all |= some;

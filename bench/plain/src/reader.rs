@@ -53,7 +53,11 @@ pub fn read(text: &[u8]) -> Result<Program<'_>, Refused> {
     let mut reader = Reader::new(text);
     while !reader.tokens.is_at_end() {
         reader.line += 1;
-        if reader.is_inside { reader.line_inside()? } else { reader.line_outside()? }
+        if reader.is_inside {
+            reader.line_inside()?
+        } else {
+            reader.line_outside()?
+        }
         if reader.tokens.is_at_end() {
             break;
         }

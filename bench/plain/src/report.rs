@@ -87,9 +87,7 @@ struct ReportWriter<'w> {
     head: Vec<u8>,
 }
 
-pub fn write(
-    program: &Program, graph: &Graph, flows: &Flows, findings: &Findings, tests: &[u32], output: &mut Output,
-) -> io::Result<()> {
+pub fn write(program: &Program, graph: &Graph, flows: &Flows, findings: &Findings, tests: &[u32], output: &mut Output) -> io::Result<()> {
     let sizes = [graph.points, graph.variables, graph.definitions(), graph.expressions()];
     output.put(format!("points {}, variables {}, definitions {}, expressions {}\n", sizes[0], sizes[1], sizes[2], sizes[3]).as_bytes())?;
     let has_path = &flows.get(true).is_reached;

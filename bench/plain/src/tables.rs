@@ -117,7 +117,11 @@ impl TableWriter<'_> {
             self.names.write_set(bits, &mut self.text);
         }
         let text = &self.text[SKIPPED..];
-        if text.len() >= LARGE { output.put_large(text)? } else { output.put(text)? }
+        if text.len() >= LARGE {
+            output.put_large(text)?
+        } else {
+            output.put(text)?
+        }
         output.put(b"\n")
     }
 }
