@@ -1,0 +1,400 @@
+"""Programs that are laid out against a solver: so many points, at most so many definitions."""
+
+import random
+
+from .writing import Procedure, name_of, need, text_of
+
+
+class Definitions:
+    """Assignments to `count` variables, each of an expression of its own, dealt out evenly over `places`."""
+
+    def __init__(self, count, places):
+        self.count = max(1, min(count, places))
+        self.places = max(1, places)
+
+    def statement(self, place):
+        number = place * self.count // self.places
+        is_first = place == 0 or (place - 1) * self.count // self.places != number
+        return self.definition(number) if is_first else "skip"
+
+    def definition(self, number):
+        return "v%d = v%d + %d" % (number, (number + 1) % self.count, number)
+
+
+def filled(procedures, points, at=0):
+    """With `skip` at the end of one procedure, up to the number of points."""
+    used = sum(procedure.points for procedure in procedures)
+    need(used <= points, "so few points are too few for this shape")
+    procedures[at].add(*["skip"] * (points - used))
+    return text_of(procedures)
+
+
+def variables_for(bits):
+    """Each variable has two definitions: at the beginning, and its own."""
+    return max(1, bits // 2 - 1)
+
+
+def put_blocks(procedure, blocks):
+    """Blocks of a label and statements, in this order."""
+    for label, statements in blocks:
+        procedure.label(label)
+        procedure.add(*statements)
+
+
+def one_procedure(blocks, points, first):
+    main = Procedure("main")
+    main.add("goto " + first)
+    put_blocks(main, blocks)
+    main.label("out")
+    main.add("print v0")
+    return filled([main], points)
+
+
+def step(number, count):
+    return "goto b%d" % (number + 1) if number + 1 < count else "goto out"
+
+
+def shuffled(points=16000, bits=4000, far=0, callees=0, seed=1):
+    """blocks in a random order, each of which may go away (far=0 anywhere, 1 back by one in two jumps, 2 in one), and with callees=N calls"""
+    size = 4 if callees else 3
+    count = (points - 4 - callees) // size
+    # two jumps over half of an odd number of blocks lead back by one
+    count -= far % 3 == 1 and count % 2 == 0
+    need(count >= 2 and callees <= 8, "so few points are too few for this shape, or so many callees too many for one call")
+    draw = random.Random(seed)
+    definitions = Definitions(variables_for(bits), count)
+    call = ["call " + " | ".join("q%d" % callee for callee in range(callees))] if callees else []
+    blocks = []
+    for number in range(count):
+        target = {0: draw.randrange(count), 1: (number + count // 2) % count, 2: max(0, number - 1)}[far % 3]
+        test = "if v%d goto b%d" % (number * definitions.count // count, target)
+        blocks.append(("b%d" % number, [definitions.statement(number), *call, test, step(number, count)]))
+    draw.shuffle(blocks)
+    main = Procedure("main")
+    main.add("goto b0")
+    put_blocks(main, blocks)
+    main.label("out")
+    return filled([main, *(Procedure("q%d" % callee) for callee in range(callees))], points)
+
+
+def upward(points=16000, bits=4000, size=1):
+    """blocks of `size` statements in reverse order, each with a jump to the one above"""
+    count = (points - 4) // (size + 1)
+    need(count >= 1, "so few points are too few for this shape")
+    definitions = Definitions(variables_for(bits), count)
+    blocks = [("b%d" % number, [definitions.statement(number)] + ["skip"] * (size - 1) + [step(number, count)]) for number in range(count)]
+    return one_procedure(blocks[::-1], points, "b0")
+
+
+def zigzag(points=16000, bits=4000, tests=1):
+    """definitions, then blocks that are gone over from both ends by turns; with tests=1 each may leave"""
+    count = (points - 4) * 2 // (3 if tests else 2) // 2
+    kinds = Definitions(min(variables_for(bits), count // 3), count)
+    count = (points - 4 - kinds.count) // (2 if tests else 1)
+    need(count >= 2, "so few points are too few for this shape")
+    order = list(range(0, count, 2)) + list(range(1, count, 2))[::-1]
+    test = ["if v0 goto out"] if tests else []
+    blocks = [("b%d" % number, [*test, step(number, count)]) for number in order]
+    begin = ("defs", [kinds.definition(number) for number in range(kinds.count)] + ["goto b0"])
+    return one_procedure([begin, *blocks], points, "defs")
+
+
+def nest(points=16000, bits=4000, reversed=0):
+    """loops within one another, as deep as there is room; with reversed=1 their blocks in reverse order"""
+    depth = (points - 4) // 5
+    need(depth >= 1, "so few points are too few for this shape")
+    definitions = Definitions(variables_for(bits), depth)
+    heads, tails = [], []
+    for level in range(depth):
+        inner = "h%d" % (level + 1) if level + 1 < depth else "t%d" % level
+        outer = "t%d" % (level - 1) if level else "out"
+        heads.append(("h%d" % level, ["if v0 goto t%d" % level, "goto " + inner]))
+        tails.append(("t%d" % level, [definitions.statement(level), "if v0 goto h%d" % level, "goto " + outer]))
+    blocks = heads + tails[::-1]
+    return one_procedure(blocks[::-1] if reversed else blocks, points, "h0")
+
+
+def irreducible(points=16000, bits=4000, seed=1):
+    """two chains that may jump into one another anywhere, one downwards in the text, one upwards"""
+    count = (points - 6) // 5
+    need(count >= 2, "so few points are too few for this shape")
+    draw = random.Random(seed)
+    definitions = Definitions(variables_for(bits), count)
+    down, up = [], []
+    for number in range(count):
+        last = number + 1 == count
+        test = "if v0 goto u%d" % draw.randrange(count)
+        down.append(("d%d" % number, [definitions.statement(number), test, "goto out" if last else "goto d%d" % (number + 1)]))
+        test = "if v0 goto d%d" % draw.randrange(count)
+        up.append(("u%d" % number, [test, "goto out" if last else "goto u%d" % (number + 1)]))
+    begin = ("fork", ["if v0 goto d0", "goto u0"])
+    return one_procedure([begin, *down, *up[::-1]], points, "fork")
+
+
+def feeders(points=16000, bits=4000, far=0, loop=0):
+    """each definition takes one jump back more than the one before to a long chain of tests; far=1: every second jump is long; loop=1: round it"""
+    count = max(1, min(variables_for(bits), points // 8))
+    length = points - 3 * count - 6
+    need(length >= 2, "so few points are too few for this shape")
+    definitions = Definitions(count, count)
+    heads = []
+    for number in range(count):
+        onward = "h%d" % (number + 1) if number + 1 < count else "d%d" % number
+        heads.append(("h%d" % number, ["if v0 goto " + onward]))
+        heads.append(("d%d" % number, [definitions.definition(number), "goto h%d" % (number - 1) if number else "goto c0"]))
+    chain = [("c%d" % at, ["if v0 goto " + ("c%d" % (at + 2) if at + 2 < length else "out")]) for at in range(length)]
+    chain.append(("leave", ["if v0 goto h0" if loop else "goto out"]))
+    pairs = [heads[at:at + 2] for at in range(0, len(heads), 2)]
+    if far:
+        blocks = [block for pair in pairs[::2] for block in pair] + chain + [block for pair in pairs[1::2] for block in pair]
+    else:
+        blocks = chain + heads
+    return one_procedure([*blocks, ("after", ["goto out"])], points, "h0")
+
+
+def ladder(points=16000, bits=4000):
+    """ways into a ladder of assignments, each of which kills one definition less than the one before, and behind it a chain of tests"""
+    count = max(1, min(variables_for(bits), points // 8))
+    length = points - 3 * count - 8
+    need(length >= 2, "so few points are too few for this shape")
+    definitions = Definitions(count, count)
+    chain = [("c%d" % at, ["if v0 goto " + ("c%d" % (at + 2) if at + 2 < length else "out")]) for at in range(length)]
+    ways = [("w%d" % number, ["if v0 goto r%d" % number, "goto " + ("w%d" % (number + 1) if number + 1 < count else "c0")])
+            for number in range(count)]
+    rungs = [("r%d" % number, [definitions.definition(number)]) for number in range(count)]
+    return one_procedure([*chain, ("leave", ["goto out"]), *ways[::-1], *rungs, ("back", ["goto c0"])], points, "w0")
+
+
+def procedures_with(points, bits, procedures, order, calls_of):
+    """Procedures in an order, each with its part of the definitions, and the calls that `calls_of` tells, each behind a test."""
+    need(procedures <= 256, "a program has at most 256 procedures")
+    size = points // procedures
+    share = max(0, min(size - 12, variables_for(bits) // procedures))
+    definitions = Definitions(max(1, share * procedures), max(1, share * procedures))
+    made = []
+    for number in order:
+        procedure = Procedure(name_of(number))
+        for place, callee in enumerate(calls_of(number)):
+            procedure.add("if v0 goto a%d" % place, "call " + callee)
+            procedure.label("a%d" % place)
+        procedure.add(*[definitions.definition(number * share + at) for at in range(share)])
+        room = size - procedure.points
+        need(room >= 0, "so few points are too few for this shape")
+        procedure.add(*["print v0"] * room)
+        made.append(procedure)
+    return filled(made, points, at=order.index(0))
+
+
+def order_of(procedures, seed):
+    order = list(range(procedures))
+    random.Random(seed).shuffle(order)
+    return order
+
+
+def ring(points=16000, bits=4000, procedures=256, seed=1):
+    """procedures in a random order; each may call the next, and the last the first"""
+    return procedures_with(points, bits, procedures, order_of(procedures, seed), lambda number: [name_of((number + 1) % procedures)])
+
+
+def tower(points=16000, bits=4000, procedures=256, seed=1):
+    """procedures in a random order; each but the last may call the next: no recursion"""
+    onward = lambda number: [name_of(number + 1)] if number + 1 < procedures else []
+    return procedures_with(points, bits, procedures, order_of(procedures, seed), onward)
+
+
+def neighbours(points=16000, bits=4000, procedures=256, seed=1):
+    """each procedure may call the next one and the one before"""
+    both = lambda number: [name_of(min(number + 1, procedures - 1)), name_of(max(0, number - 1))]
+    return procedures_with(points, bits, procedures, order_of(procedures, seed), both)
+
+
+def web(points=16000, bits=4000, procedures=256, seed=1):
+    """each statement of a procedure is a call of eight others, near and far, both ways"""
+    draw = random.Random(seed)
+    size = points // procedures
+    need(256 >= procedures >= 9 and size >= 5, "nine procedures and five points for each are needed")
+    count = min(procedures, variables_for(bits))
+    definitions = Definitions(count, count)
+    made = []
+    for number in range(procedures):
+        procedure = Procedure(name_of(number))
+        procedure.add("if v0 goto z", definitions.definition(number) if number < count else "skip")
+        for _ in range(size - 4):
+            callees = draw.sample(range(procedures), 8)
+            procedure.add("call " + " | ".join(name_of(callee) for callee in callees))
+        procedure.label("z")
+        procedure.add("skip")
+        made.append(procedure)
+    return filled(made, points)
+
+
+def drip_ladder(procedure, heads, period, head, forward):
+    """Two rows of tests that jump into one another, so that what stands at rung n comes out n jumps back later, one head each `period` rungs."""
+    rungs = heads * period
+    row = range(rungs) if forward else range(rungs - 1, -1, -1)
+    for rung in row:
+        if forward and rung % period == 0:
+            procedure.add(*head(rung // period))
+        procedure.label("a%d" % rung)
+        procedure.add("if c goto b%d" % (rung if forward else min(rung + 1, rungs - 1)))
+        if not forward and rung % period == 0:
+            procedure.add(*head(rung // period))
+
+
+def drip(points=16000, bits=4000, heads=256, callees=8, period=6, recursive=0):
+    """one bit after the other comes late to the exits of eight callees, which thousands of calls list; recursive=1: they may call `main`"""
+    source = Procedure("q0")
+    heads = max(1, min(heads, bits // 4))
+    rungs = heads * period
+    if recursive:
+        source.add("if c goto a0", "call main")
+    drip_ladder(source, heads, period, lambda number: ["w%d = 1" % number], True)
+    source.label("stuck")
+    source.add("goto stuck")
+    for rung in range(rungs):
+        source.label("b%d" % rung)
+        source.add("if c goto " + ("a%d" % (rung - 1) if rung else "z"))
+    source.add("goto stuck")
+    source.label("z")
+    relays = [relay(number, True) for number in range(1, callees)]
+    evaluated = ["x = w%d + %d" % (at % heads, at // heads) for at in range(max(0, bits - 2 * heads - 4) // 2)]
+    return calls_of_all(points, [source, *relays], evaluated)
+
+
+def drip_back(points=16000, bits=4000, heads=256, callees=8, period=6, recursive=0):
+    """`drip` against the flow of control, for the backward analyses"""
+    source = Procedure("q0")
+    heads = max(1, min(heads, bits // 4))
+    rungs = heads * period
+    source.add("goto b0")
+    if recursive:
+        source.label("again")
+        source.add("call main", "goto b0")
+    for rung in range(rungs - 1, -1, -1):
+        source.label("b%d" % rung)
+        last = "if c goto again" if recursive else "skip"
+        source.add("if c goto a%d" % rung if rung else last)
+    source.add("goto a0")
+    source.label("stuck")
+    source.add("goto stuck")
+    for rung in range(rungs - 1, -1, -1):
+        source.label("a%d" % rung)
+        source.add("if c goto b%d" % (rung + 1) if rung + 1 < rungs else "skip")
+        if rung % period == 0:
+            source.add("w%d = w%d - 1" % (rung // period, rung // period))
+    relays = [relay(number, False) for number in range(1, callees)]
+    evaluated = ["x = w%d + %d" % (at % heads, at // heads) for at in range(max(0, bits - 3 * heads - 4) // 2)]
+    return calls_of_all(points, [source, *relays], evaluated)
+
+
+def relay(number, forward):
+    """Calls the one before, and comes out behind it by a step that is one back for whoever goes with the text, or against it."""
+    procedure = Procedure("q%d" % number)
+    call = "call q%d" % (number - 1)
+    if forward:
+        procedure.add("goto below")
+        procedure.label("above")
+        procedure.add("goto z")
+        procedure.label("below")
+        procedure.add(call, "goto above")
+        procedure.label("z")
+    else:
+        procedure.add("goto above")
+        procedure.label("below")
+        procedure.add(call, "goto z")
+        procedure.label("above")
+        procedure.add("goto below")
+        procedure.label("z")
+    return procedure
+
+
+def calls_of_all(points, callees, evaluated):
+    need(len(callees) <= 8, "a call lists at most eight procedures")
+    main = Procedure("main")
+    main.add("read c")
+    used = main.points + len(evaluated) + sum(callee.points for callee in callees)
+    need(used + 1 <= points, "so few points are too few for so many heads and such a period")
+    call = "call " + " | ".join(callee.name for callee in callees)
+    main.add(*[call] * (points - used))
+    main.add(*evaluated)
+    return filled([main, *callees], points)
+
+
+def hops(points=16000, bits=4000, calls=0):
+    """a chain of jumps over its own length, each behind a test that leaves for an endless loop, and never reached jumps to each of its blocks"""
+    count = (points - 40 - calls) // 5
+    need(count >= 4, "so few points are too few for this shape")
+    kinds = Definitions(min(variables_for(bits), count), count)
+    order = list(range(0, count, 2)) + list(range(1, count, 2))[::-1]
+    blocks = [("defs", [kinds.definition(number) for number in range(kinds.count)] + ["goto b0"])]
+    blocks += [("b%d" % number, ["if v0 goto endless", step(number, count)]) for number in order]
+    blocks += [("endless", ["goto endless"]), ("never", ["if v1 goto b%d" % number for number in range(count)] + ["goto endless"])]
+    main = Procedure("main")
+    main.add("goto defs")
+    put_blocks(main, blocks)
+    main.label("out")
+    main.add("print v0")
+    idle = [Procedure("q%d" % number) for number in range(8)]
+    unused = Procedure("unused")
+    unused.add(*["call " + " | ".join(procedure.name for procedure in idle)] * calls)
+    return filled([main, *idle, unused], points)
+
+
+def laid_out(count, order, draw):
+    """The numbers of blocks in an order of the text: as they run, reversed, from both ends by turns, or at random."""
+    numbers = list(range(count))
+    if order == 1:
+        return numbers[::-1]
+    if order == 2:
+        return numbers[::2] + numbers[1::2][::-1]
+    if order == 3:
+        draw.shuffle(numbers)
+    return numbers
+
+
+def woven_callees(kind, number, procedures, callees, draw):
+    near = {0: [], 1: [number + 1], 2: [(number + 1) % procedures], 3: draw.sample(range(procedures), min(callees, procedures)),
+            4: [number + 1, number - 1]}[kind]
+    first = [callee for callee in near if 0 <= callee < procedures]
+    more = [(first[0] + step) % procedures for step in range(1, callees)] if first and kind in (2, 4) else []
+    later = [callee for callee in range(number + 2, number + 1 + callees) if callee < procedures] if kind == 1 else []
+    return list(dict.fromkeys(first + more + later))[:8]
+
+
+def woven(points=16000, bits=4000, procedures=16, order=0, jump=3, stride=7, calls=1, callees=1, guard=1, every=4, late=0, seed=1):
+    """a pattern for the search: `order` of the text 0 to 3, `jump` 0 to 4 by `stride`, `calls` 0 to 4 in every `every`th block, `late` 0 to 2"""
+    procedures, every, callees = max(1, min(procedures, 256)), max(1, every), max(1, min(callees, 8))
+    draw = random.Random(seed)
+    size = points // procedures
+    count = (size - 3) // 4
+    need(count >= 1, "so few points are too few for so many procedures")
+    defined = {0: range(procedures), 1: [procedures - 1], 2: [0]}[late % 3]
+    places = count * len(defined)
+    definitions = Definitions(variables_for(bits), places)
+    made = []
+    for number in range(procedures):
+        blocks = []
+        for at in range(count):
+            target = {0: at + 1, 1: at + stride, 2: at - stride, 3: draw.randrange(count), 4: count - 1 - at}[jump % 5]
+            target = "b%d" % max(0, target) if target < count else "out"
+            place = defined.index(number) * count + at if number in defined else None
+            statements = ["skip" if place is None else definitions.statement(place)]
+            called = woven_callees(calls % 5, number, procedures, callees, draw) if at % every == 0 else []
+            if called:
+                call = "call " + " | ".join(name_of(callee) for callee in called)
+                around = ["if v0 goto a%d" % at, call, "a%d: %s" % (at, step(at, count))]
+                rest = around if guard % 2 else [call, "if v0 goto " + target, step(at, count)]
+            else:
+                rest = ["if v0 goto " + target, step(at, count)]
+            blocks.append(("b%d" % at, statements + rest))
+        procedure = Procedure(name_of(number))
+        procedure.add("goto b0")
+        put_blocks(procedure, [blocks[at] for at in laid_out(count, order % 4, draw)])
+        procedure.label("out")
+        made.append(procedure)
+    return filled(made, points)
+
+
+SHAPES = {"shuffled": shuffled, "upward": upward, "zigzag": zigzag, "nest": nest, "irreducible": irreducible, "feeders": feeders,
+          "ladder": ladder, "ring": ring, "tower": tower, "neighbours": neighbours, "web": web, "drip": drip, "drip-back": drip_back,
+          "hops": hops, "woven": woven}

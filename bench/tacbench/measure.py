@@ -1,0 +1,62 @@
+"""One run of a program: its time by the clock and by the processor, its answer, its memory, its instructions."""
+
+import hashlib
+import os
+import re
+import subprocess
+import tempfile
+import time
+from typing import NamedTuple
+
+
+class Times(NamedTuple):
+    clock: float
+    processor: float
+
+
+class Answer(NamedTuple):
+    status: int
+    digest: str
+    error: bytes
+
+
+def timed(command, text, environment):
+    """Milliseconds; standard output goes to /dev/null."""
+    source, sink = os.open(text, os.O_RDONLY), os.open(os.devnull, os.O_WRONLY)
+    actions = [(os.POSIX_SPAWN_DUP2, source, 0), (os.POSIX_SPAWN_DUP2, sink, 1), (os.POSIX_SPAWN_DUP2, sink, 2)]
+    begin = time.perf_counter()
+    process = os.posix_spawn(command[0], command, environment, file_actions=actions)
+    _, _, usage = os.wait4(process, 0)
+    clock = time.perf_counter() - begin
+    os.close(source)
+    os.close(sink)
+    return Times(1000 * clock, 1000 * (usage.ru_utime + usage.ru_stime))
+
+
+def answer(command, text, environment):
+    """The answer's digest, as it may be of gigabytes."""
+    digest = hashlib.blake2b()
+    with open(text, "rb") as source, tempfile.TemporaryFile() as errors:
+        process = subprocess.Popen(command, stdin=source, stdout=subprocess.PIPE, stderr=errors, env=environment, bufsize=0)
+        while piece := process.stdout.read(1 << 20):
+            digest.update(piece)
+        process.stdout.close()
+        status = process.wait()
+        errors.seek(0)
+        return Answer(status, digest.hexdigest(), errors.read())
+
+
+def peak(helper, command, text, environment):
+    """The most memory of a run, in KiB."""
+    with open(text, "rb") as source, tempfile.NamedTemporaryFile() as told:
+        subprocess.run([helper, told.name, *command], stdin=source, stdout=subprocess.DEVNULL, stderr=subprocess.DEVNULL, env=environment)
+        return int(told.read() or 0)
+
+
+def instructions(command, text, environment):
+    """As callgrind counts them; None where it cannot."""
+    counted = ["valgrind", "--tool=callgrind", "--callgrind-out-file=/dev/null", *command]
+    with open(text, "rb") as source:
+        run = subprocess.run(counted, stdin=source, stdout=subprocess.DEVNULL, stderr=subprocess.PIPE, env=environment)
+    found = re.search(rb"Collected : (\d+)", run.stderr)
+    return int(found.group(1)) if found else None

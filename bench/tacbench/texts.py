@@ -1,0 +1,183 @@
+"""Long texts that are hard on a reader: at most so many bytes, and all but a few of them."""
+
+import itertools
+import random
+
+from .writing import need
+
+LIMIT = 1 << 20
+LETTERS = "abcdefghijklmnopqrstuvwxyzABCDEFGHIJKLMNOPQRSTUVWXYZ"
+SIGNS = LETTERS + "_0123456789"
+
+
+def repeated(head, line, tail, size):
+    """As many lines as fit; `line` makes each by its number, all of one length."""
+    count = (size - len(head) - len(tail)) // len(line(0))
+    need(count >= 1, "so few bytes are too few for this text")
+    return head + "".join(map(line, range(count))) + tail
+
+
+def padded(head, sign, tail, size):
+    need(size > len(head) + len(tail), "so few bytes are too few for this text")
+    return head + sign * (size - len(head) - len(tail)) + tail
+
+
+def labels(size=LIMIT):
+    """a label on each line"""
+    return repeated("proc main\n", lambda number: "n%07d:\n" % number, "end\n", size)
+
+
+def labels_in_a_row(size=LIMIT):
+    """labels, all on one line"""
+    return repeated("proc main\n", lambda number: "n%06d:" % number, "\nend\n", size)
+
+
+def variables(size=LIMIT):
+    """a new variable on each line"""
+    return repeated("proc main\n", lambda number: "read n%07d\n" % number, "end\n", size)
+
+
+def long_names(size=LIMIT):
+    """variables of 64 bytes that differ at their ends alone"""
+    return repeated("proc main\n", lambda number: "print %s%06d\n" % ("n" * 58, number), "end\n", size)
+
+
+def jumps(size=LIMIT):
+    """jumps to one label"""
+    return repeated("proc main\nn:", lambda number: "goto n\n", "end\n", size)
+
+
+def far_jumps(size=LIMIT):
+    """jumps to labels, the first to the last and so on"""
+    count = (size - 20) // len("n000000:goto n000000\n")
+    need(count >= 1, "so few bytes are too few for this text")
+    lines = ["n%06d:goto n%06d\n" % (number, count - 1 - number) for number in range(count)]
+    return "proc main\n" + "".join(lines) + "end\n"
+
+
+def comment(size=LIMIT):
+    """one comment"""
+    return padded("proc main\n#", "-", "\nend\n", size)
+
+
+def comments(size=LIMIT):
+    """comments of one byte"""
+    return repeated("proc main\n", lambda number: "#-\n", "end\n", size)
+
+
+def blanks(size=LIMIT):
+    """blanks before an end"""
+    return padded("proc main\n", " ", "end\n", size)
+
+
+def empty_lines(size=LIMIT):
+    """lines without tokens"""
+    return padded("proc main\n", "\n", "end\n", size)
+
+
+def returns(size=LIMIT):
+    """lines that end with CR and LF"""
+    return repeated("proc main\r\n", lambda number: "skip\r\n", "end\r\n", size)
+
+
+def digits(size=LIMIT):
+    """one number with zeros before it"""
+    return padded("proc main\nx = ", "0", "7\nend\n", size)
+
+
+def numbers(size=LIMIT):
+    """numbers of 19 digits"""
+    return repeated("proc main\n", lambda number: "print 9%018d\n" % number, "end\n", size)
+
+
+def skips(size=LIMIT):
+    """the shortest statements"""
+    return repeated("proc main\n", lambda number: "skip\n", "end\n", size)
+
+
+def expressions(size=LIMIT):
+    """an expression on each line"""
+    return repeated("proc main\n", lambda number: "x = y + %07d\n" % number, "end\n", size)
+
+
+def calls(size=LIMIT):
+    """calls of eight procedures with long names"""
+    names = ["q%d" % number + "q" * 62 for number in range(8)]
+    head = "".join("proc %s\nend\n" % name for name in names) + "proc main\n"
+    return repeated(head, lambda number: "call " + "|".join(names) + "\n", "end\n", size)
+
+
+def name_too_long(size=LIMIT):
+    """one name, which is refused"""
+    return padded("proc main\nx = ", "n", "\nend\n", size)
+
+
+def tokens_in_a_row(size=LIMIT):
+    """names on one line, which is refused at the second"""
+    return repeated("proc main\n", lambda number: "n ", "\nend\n", size)
+
+
+def unclosed(size=LIMIT):
+    """statements without an end, refused at the last byte"""
+    return repeated("proc main\n", lambda number: "skip\n", "", size)
+
+
+def unknown_label(size=LIMIT):
+    """jumps to labels that are there, and the last to one that is not"""
+    return repeated("proc main\nn:", lambda number: "goto n\n", "goto m\nend\n", size)
+
+
+def procedures(size=LIMIT):
+    """more procedures than a program may have, refused at the 257th"""
+    return repeated("proc main\nend\n", lambda number: "proc n%06d\nend\n" % number, "", size)
+
+
+def by_factor(factor):
+    """Names that are one under hash * factor + byte: pairs of signs that are so, one after the other."""
+    second = next((sign for sign in SIGNS if chr(ord(sign) + factor) in SIGNS), None)
+    need(second is not None, "there is no such pair of signs for this factor")
+    pairs = ("b" + second, "a" + chr(ord(second) + factor))
+    return ("".join(choice) for choice in itertools.product(pairs, repeat=15))
+
+
+def by_fnv(bits):
+    """Names whose hashes by FNV-1a end with the same bits: blocks of signs that lead from one end to another."""
+    prime, mask = 0x100000001B3 & ((1 << bits) - 1), (1 << bits) - 1
+    state = 0xCBF29CE484222325 & mask
+    draw, blocks = random.Random(bits), []
+    for _ in range(6):
+        ends = {}
+        while True:
+            block = draw.choice(LETTERS) + "".join(draw.choice(SIGNS) for _ in range(3))
+            end = state
+            for sign in block.encode():
+                end = (end ^ sign) * prime & mask
+            found = ends.setdefault(end, set())
+            found.add(block)
+            if len(found) == 8:
+                break
+        blocks.append(sorted(found))
+        state = end
+    return ("".join(choice) for choice in itertools.product(*blocks))
+
+
+def colliding(size=LIMIT, hash=31, as_labels=0):
+    """variables that fall together under hash * 31 + byte (hash=31, as in Java; 33 as well), or under FNV-1a (hash=0); as_labels=1: labels"""
+    names = by_fnv(12) if hash == 0 else by_factor(hash)
+    line = "%s:\n" if as_labels else "print %s\n"
+    head, tail, lines = "proc main\n", "end\n", []
+    room = size - len(head) - len(tail)
+    for name in names:
+        text = line % name
+        if len(text) > room:
+            break
+        room -= len(text)
+        lines.append(text)
+    return head + "".join(lines) + tail
+
+
+SHAPES = {"labels": labels, "labels-in-a-row": labels_in_a_row, "variables": variables, "long-names": long_names, "jumps": jumps,
+          "far-jumps": far_jumps, "comment": comment, "comments": comments, "blanks": blanks, "empty-lines": empty_lines,
+          "returns": returns, "digits": digits, "numbers": numbers, "skips": skips, "expressions": expressions, "calls": calls,
+          "colliding": colliding, "name-too-long": name_too_long, "tokens-in-a-row": tokens_in_a_row, "unclosed": unclosed,
+          "unknown-label": unknown_label, "procedures": procedures}
