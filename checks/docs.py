@@ -10,7 +10,7 @@ import subprocess
 import sys
 import tempfile
 
-WIDTH = 140
+WIDTH = 150
 # How long a document may be; all others below docs/ may have OTHER_SIZE lines.
 SIZES = {"docs/ARCHITECTURE.md": 200, "docs/TRUST.md": 200, "docs/PROVING.md": 350, "docs/GLOSSARY.md": 80, "README.md": 180}
 OTHER_SIZE = 300
@@ -231,10 +231,10 @@ def benchmarks_of(root):
 
 
 def benchmarks_told(page, number, line, benchmarks, faults):
-    """A benchmark is KIND-SHAPE or KIND-SHAPE-WORKERS."""
+    """A benchmark is KIND-SHAPE or KIND-SHAPE-WORKERS, and a colon and keys may follow."""
     for words in re.findall(r"`bench/run ([^`]+)`", line):
         for name in re.sub(r"--\S+ \S+", "", words).split():
-            parts = re.fullmatch(r"([a-z]+)-([a-z-]*[a-z])(-[0-9]+)?", name)
+            parts = re.fullmatch(r"([a-z]+)-([a-z-]*[a-z])(-[0-9]+)?", name.split(":")[0])
             if benchmarks and re.match(r"[a-z]", name) and not (parts and {parts.group(1), parts.group(2)} <= benchmarks):
                 faults.append((page.path, number, f"`bench/run {name}`: there is no such benchmark"))
 
