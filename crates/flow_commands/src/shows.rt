@@ -4,7 +4,8 @@ ghost use Rattle.std.specs.Prelude.{◌≡◌, ◌+◌, ◌-◌, ◌^◌, ◌<�
 ghost use Rattle.std.specs.Thread.{IsSync};
 ghost use Rattle.flow_graph.specs.Limits.{HasFewBits, HasFewPoints};
 ghost use Rattle.flow_team.specs.Tables.{IsTableOf};
-ghost use Rattle.flow_texts.specs.Reports.{IsReport, ListsSafely, TellReport};
+ghost use Rattle.flow_texts.specs.Reports.{IsReport, ListsSafely};
+ghost use Rattle.flow_texts.specs.code.Reported.{TellReport};
 ghost use Rattle.flow_texts.specs.Tables.{IsTableText};
 ghost use Rattle.flow_runs.specs.Faults.{Delivers, OfProgram, write_faults_in};
 ghost use Rattle.flow_runs.specs.Runs.{IsOverLimit};
@@ -14,7 +15,7 @@ use crate::options::{Options, Show};
 use flow_graph::{Analysis, Graph};
 use flow_runs::{Fault, Shown, graph_of, push_text};
 use flow_team::Table;
-use flow_texts::{ReportText, TableText, Tables, table_of};
+use flow_texts::{ReportAnswers, ReportText, TableText, table_of};
 use std::alloc::Global;
 use std::thread::Threads;
 use tac_reader::{Program, listing};
@@ -78,25 +79,25 @@ fn show_table<R: Threads + Sync, K: Sink>(
     table_of_graph(rt, alloc, &graph, analysis, options, sink)
 }
 
-// Writes the report of a graph with its tables. They are not owned here, so that no way out drops them.
+// Writes the report of a graph out of answers. They are not owned here, so that no way out drops them.
 fn push_report<K: Sink>(
     alloc: Global,
     graph: &Graph<'_>,
-    tables: &Tables,
+    answers: &ReportAnswers,
     sink: &mut K,
 ) -> Result<(), Fault>
-    requires tables { TellReport graph.now tables.now }
+    requires answers { TellReport graph.now answers.now }
     requires below { K.faults sink.old < 2 ^ 32 - 1 }
     ensures delivers { Delivers (λ out. IsReport graph.now out × ListsSafely graph.now out) (K.contents sink.old) (K.contents sink.new) result }
     ensures flushed { OnOk result (K.flushed sink.new ≡ true) }
     ensures fault { IfErr result (OfProgram (λ _. ⊥) ⊥) }
     ensures faults { K.faults sink.new ≡ K.faults sink.old + write_faults_in result }
 {
-    let text = ReportText::of(alloc, graph, tables)?;
+    let text = ReportText::of(alloc, graph, answers)?;
     push_text(alloc, &text, sink)
 }
 
-// Writes the report of a graph. The graph is not owned here, and the tables where they are made.
+// Writes the report of a graph. The graph is not owned here, and the answers where they are made.
 fn report_of_graph<R: Threads + Sync, K: Sink>(
     rt: &R,
     alloc: Global,
@@ -111,8 +112,8 @@ fn report_of_graph<R: Threads + Sync, K: Sink>(
     ensures fault { IfErr result (OfProgram (λ _. ⊥) ⊥) }
     ensures faults { K.faults sink.new ≡ K.faults sink.old + write_faults_in result }
 {
-    let tables = Tables::for_report(rt, alloc, graph, options.workers, options.cut)?;
-    push_report(alloc, graph, &tables, sink)
+    let answers = ReportAnswers::of(rt, alloc, graph, options.workers, options.cut)?;
+    push_report(alloc, graph, &answers, sink)
 }
 
 // Writes the report.

@@ -1,9 +1,10 @@
-pub mod Beginnings
-pub mod Blocks
-pub mod FactWords
+pub mod Done
 pub mod OneTable
+pub mod Placing
 pub mod Posts
 pub mod Sent
+pub mod TableAnswers
+pub mod Told
 pub mod TurnedTables
 pub mod Turns
 pub mod Words

@@ -10,7 +10,8 @@ use Rattle.slice_board.specs.Passes.{PassState, IsMarked, mark}
 use Rattle.slice_board.specs.declared.view.Mark.{Mark}
 use Rattle.slice_board.proofs.Calls.{one_of_bit}
 use Rattle.slice_board.proofs.Sums.{mark_here, marks_at-append}
-use Rattle.flow_team.specs.code.Posting.{IsPosted, PostsMore}
+use Rattle.flow_team.specs.code.Posting.{IsPosted}
+use Rattle.flow_team.specs.Teams.{PostsMore}
 
 -- what was marked is marked
 pub marked_still : (old more : List Mark) (point bit : ℕ) → IsMarked old point bit → IsMarked (old ++ more) point bit

@@ -1,4 +1,4 @@
--- That a solver may go to any thread, and be shared by several: its parts first, since one search over all of them is too large.
+-- That the sets of a graph, and what is asked of it, may go to any thread, and be shared by several: its parts first, since one search over all of them is too large.
 use denote.Ref.{NamedLft}
 use denote.Param.Send.{IsSend, IsSync, sendable}
 use Rattle.std.proofs.Crossing.{crosses}
@@ -10,13 +10,13 @@ use Rattle.gk_solve.specs.contracts.routes.Routes as Routes
 use Rattle.gk_solve.specs.contracts.solver.Solver as Solver
 use Rattle.work_list.specs.contracts.order.Order as Order
 use Rattle.flow_team.specs.contracts.sets.GraphSets as GraphSets
-use Rattle.flow_team.specs.contracts.first_bits.FirstBits as FirstBits
-use Rattle.flow_team.specs.contracts.first_job.Finding as Finding
+use Rattle.flow_team.specs.contracts.asked.AskedWords as AskedWords
+use Rattle.flow_team.specs.contracts.direction.Direction as Direction
 
 program_sync : IsSync Program.the_row
 program_sync = search (crosses, sendable) depth 60 fits 5000
 
-graph_sync : (p : NamedLft) → IsSync (Graph.the_row p)
+pub graph_sync : (p : NamedLft) → IsSync (Graph.the_row p)
 graph_sync p = search (program_sync, crosses, sendable) depth 60 fits 5000
 
 problem_send : (g p : NamedLft) → IsSend (Problem.the_row g p)
@@ -43,31 +43,32 @@ routes_send g p = search (links_send, crosses, sendable) depth 60
 routes_sync : (g p : NamedLft) → IsSync (Routes.the_row g p)
 routes_sync g p = search (links_sync, crosses, sendable) depth 60
 
-pub solver_send : (g p : NamedLft) → IsSend (Solver.the_row g p)
-solver_send g p = search (problem_send, routes_send, crosses, sendable) depth 60
+solver_send : (g p : NamedLft) → IsSend (Solver.the_row g p)
+solver_send g p = search (problem_send, crosses, sendable) depth 60 fits 5000
 
-pub solver_sync : (g p : NamedLft) → IsSync (Solver.the_row g p)
-solver_sync g p = search (problem_sync, routes_sync, crosses, sendable) depth 60
-
-pub ruleset solver_crosses = (solver_send, solver_sync, crosses, sendable)
+solver_sync : (g p : NamedLft) → IsSync (Solver.the_row g p)
+solver_sync g p = search (problem_sync, crosses, sendable) depth 60 fits 5000
 
 pub sets_send : (g p : NamedLft) → IsSend (GraphSets.the_row g p)
-sets_send g p = search (solver_send, crosses, sendable) depth 60
+sets_send g p = search (routes_send, solver_send, crosses, sendable) depth 60 fits 5000
 
 pub sets_sync : (g p : NamedLft) → IsSync (GraphSets.the_row g p)
-sets_sync g p = search (solver_sync, crosses, sendable) depth 60
+sets_sync g p = search (routes_sync, solver_sync, crosses, sendable) depth 60 fits 5000
 
-pub ruleset sets_cross = (sets_sync, crosses, sendable)
+pub ruleset sets_cross = (sets_send, sets_sync, crosses, sendable)
 
-pub first_send : (g p : NamedLft) → IsSend (FirstBits.the_row g p)
-first_send g p = search (sets_send, crosses, sendable) depth 60
+pub direction_send : (g p : NamedLft) → IsSend (Direction.the_row g p)
+direction_send g p = search (routes_send, solver_send, crosses, sendable) depth 60 fits 5000
 
-pub first_sync : (g p : NamedLft) → IsSync (FirstBits.the_row g p)
-first_sync g p = search (sets_sync, crosses, sendable) depth 60
+direction_sync : (g p : NamedLft) → IsSync (Direction.the_row g p)
+direction_sync g p = search (routes_sync, solver_sync, crosses, sendable) depth 60 fits 5000
 
-pub ruleset first_crosses = (first_send, first_sync, crosses, sendable)
+pub ruleset directions_cross = (graph_sync, direction_send, crosses, sendable)
 
-pub finding_send : (g p : NamedLft) → IsSend (Finding.the_row g p)
-finding_send g p = search (graph_sync, routes_send, crosses, sendable) depth 60 fits 5000
+pub asked_send : (g p : NamedLft) → IsSend (AskedWords.the_row g p)
+asked_send g p = search (direction_send, crosses, sendable) depth 60 fits 5000
 
-pub ruleset finding_crosses = (sets_send, finding_send, crosses, sendable)
+pub asked_sync : (g p : NamedLft) → IsSync (AskedWords.the_row g p)
+asked_sync g p = search (direction_sync, crosses, sendable) depth 60 fits 5000
+
+pub ruleset asked_cross = (asked_send, asked_sync, crosses, sendable)

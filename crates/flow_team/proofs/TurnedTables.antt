@@ -1,4 +1,4 @@
--- Words and sets that are turned, and what the solution of a may form says of a table's beginning.
+-- Words and sets that are turned, and what the solution of a may form says of a table.
 use Rattle.std.proofs.Common.{◌≡◌, ◌↔◌, ℕ, ◌+◌, ◌*◌, ◌<◌, ◌≤◌, Bool, true, false, not, ◌&&◌, nat_lt, length, inl, inr, refl, sym, ap, ap₂, subst, ◌∙◌, arith}
 use Rattle.std.specs.Prelude.{bit_xor}
 use Rattle.std.proofs.lemmas.Bool.{cases_lt, lt-ltb, le-ltb}
@@ -14,7 +14,7 @@ use Rattle.flow_graph.specs.declared.analysis.Analysis.{Analysis}
 use Rattle.flow_graph.proofs.graphs.MayForms.{flags_are_may_forms, may_tables_are_may_forms, must_tables_are_may_forms}
 use Rattle.gk_solve.specs.Solved.{IsMeetOverPaths}
 use Rattle.tac_reader.specs.Programs.{Program}
-use Rattle.flow_team.specs.Beginnings.{IsBeginningOf}
+use Rattle.flow_team.specs.Tables.{IsTableOf}
 use Rattle.flow_team.specs.code.Turned.{turned, turned_set, turned_table}
 use Rattle.flow_team.proofs.Turns.{has_bit-xor}
 
@@ -37,6 +37,12 @@ module _ (turns : Bool) (rows : RowTable) (point : ℕ) (there : point < length 
   pub contains-turned : (bit : ℕ) → bit < rows.hi → contains (set_at (turned_table turns rows) point) bit ≡ turned turns (contains (set_at rows point) bit)
   contains-turned bit below =
       ap (λ (s : RowSet). contains s bit) set_at-turned ∙ contains-set_of 0 rows.hi (λ b. turned turns (contains (set_at rows point) b)) bit (omega arith) below
+
+  -- nothing is past the last bit
+  pub none_past : (bit : ℕ) → rows.hi ≤ bit → contains (set_at (turned_table turns rows) point) bit ≡ false
+  none_past bit past =
+      ap (λ (s : RowSet). contains s bit) set_at-turned
+      ∙ contains-above (turned_set turns rows point) bit (omega (arith, past, hi_of-set_of 0 rows.hi (λ c. turned turns (contains (set_at rows point) c)) (omega arith)))
 
   -- a word of a set, turned at the places of its bits
   pub word_turned : (word value turn : ℕ) → ((bit : ℕ) → contains (set_at rows point) bit ≡ true → bit < rows.hi) → IsWordOf (set_at rows point) word value
@@ -68,20 +74,22 @@ module _ (program : Program) (analysis : Analysis) (point bit : ℕ) (set : Bool
       ((λ has. law.1 (turns.0 has)), (λ has. turns.1 (law.0 has)))
   turned_bit false is = let law = may_tables_are_may_forms program analysis point bit is in ((λ has. law.1 (told.0 has)), (λ has. told.1 (law.0 has)))
 
--- the sets of the may form over so many first bits, turned where the analysis is over every path, are the beginning of its table
-pub turned_is_beginning : (program : Program) (analysis : Analysis) (rows : RowTable) → rows.hi ≤ bits program analysis
-    → IsMeetOverPaths (record { program = program; analysis = analysis }) 0 rows.hi rows
-    → IsBeginningOf program (record { analysis = analysis; rows = turned_table (is_must analysis) rows })
-turned_is_beginning program analysis rows within meet = record {
+-- the sets of the may form, turned where the analysis is over every path, are its table
+pub turned_is_table : (program : Program) (analysis : Analysis) (rows : RowTable)
+    → IsMeetOverPaths (record { program = program; analysis = analysis }) 0 (bits program analysis) rows
+    → IsTableOf program (record { analysis = analysis; rows = turned_table (is_must analysis) rows })
+turned_is_table program analysis rows meet = record {
   from_first = refl;
-  within = within;
+  to_last = meet.same_hi;
   count = meet.count;
-  paths = λ point there.
-      let law = flags_are_may_forms program analysis point in
-      let told = meet.flag point there in
-      ((λ is. law.1 (told.0 is)), (λ path. told.1 (law.0 path)));
-  sets = λ point bit there below.
-      subst (λ (b : Bool). (b ≡ true) ↔ IsInTable program analysis point bit)
-      (sym (contains-turned (is_must analysis) rows point (omega (arith, there, meet.count)) bit below))
-      (turned_bit program analysis point bit (contains (set_at rows point) bit) (meet.bit point bit there (omega arith) below) (is_must analysis) refl);
+  facts = record {
+    paths = λ point there.
+        let law = flags_are_may_forms program analysis point in
+        let told = meet.flag point there in
+        ((λ is. law.1 (told.0 is)), (λ path. told.1 (law.0 path)));
+    sets = λ point bit there below.
+        subst (λ (b : Bool). (b ≡ true) ↔ IsInTable program analysis point bit)
+        (sym (contains-turned (is_must analysis) rows point (omega (arith, there, meet.count)) bit (omega (arith, below, meet.same_hi))))
+        (turned_bit program analysis point bit (contains (set_at rows point) bit) (meet.bit point bit there (omega arith) below) (is_must analysis) refl);
+  };
 }

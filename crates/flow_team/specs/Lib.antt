@@ -1,5 +1,5 @@
 pub mod Tables
-pub mod Beginnings
+pub mod Asks
 pub mod Laws
 pub mod Sets
 pub mod Teams

@@ -1,7 +1,4 @@
-pub mod Blocks
-pub mod FactWords
-pub mod FirstSets
-pub mod Jobs
-pub mod Kept
+pub mod Boards
+pub mod Directions
 pub mod Posting
 pub mod Turned

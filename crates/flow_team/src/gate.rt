@@ -8,11 +8,6 @@ use slice_board::{Pass, Wanted};
 ///
 /// It may hold the worker up, for instance until another one is there. The analysis answers where its gate returns.
 pub trait Gate: Sync {
-    /// Whether it wants to be told. Where it does not, a single worker draws no slices and solves all bits at once.
-    fn listens(&self) -> bool {
-        true
-    }
-
     /// A worker drew the slice, and has not yet begun to solve it.
     fn claimed(&self, worker: u32, slice: u32);
 
@@ -21,15 +16,11 @@ pub trait Gate: Sync {
         requires { 0 < times slice pass.now.finished };
 }
 
-/// The gate that holds nobody, and wants to be told of nothing.
+/// The gate that holds nobody.
 #[derive(Clone, Copy, Debug, Default, Drop)]
 pub struct OpenGate;
 
 impl Gate for OpenGate {
-    fn listens(&self) -> bool {
-        false
-    }
-
     fn claimed(&self, _worker: u32, _slice: u32) {}
 
     fn finished<W: Wanted>(&self, _worker: u32, _slice: u32, _pass: &Pass<W>) {}

@@ -6,8 +6,8 @@ use crate::OutOfMemory;
 use std::alloc::Global;
 use std::thread::{Threads, join};
 
-/// A half of a work, whatever it is of: a closure that goes to a thread cannot name the two lifetimes of a graph.
-pub(crate) trait Half<T> {
+/// A half of a work: a closure that goes to a thread cannot name the two lifetimes of a graph.
+pub(crate) trait Half<T>: Drop {
     // what it asks for
     ghost is_ready: { Self → Type 0 };
 
@@ -15,14 +15,13 @@ pub(crate) trait Half<T> {
     ghost gives: { Self → T → Type 0 };
 
     /// Finds it. Fails only where memory runs out.
-    fn find<R: Threads + Sync>(self, rt: &R, alloc: Global) -> Result<T, OutOfMemory>
-        requires sync { IsSync R.row }
-        requires ready { is_ready self }
+    fn find(self, alloc: Global) -> Result<T, OutOfMemory>
+        requires { is_ready self }
         ensures { IfOk result (gives self) };
 }
 
 // A half on a new thread, for which this one waits.
-fn find_on_thread<R: Threads + Sync, T: Send, F: Half<T> + Send + Drop>(
+fn find_on_thread<R: Threads + Sync, T: Send, F: Half<T> + Send>(
     rt: &R,
     alloc: Global,
     half: F,
@@ -33,73 +32,22 @@ fn find_on_thread<R: Threads + Sync, T: Send, F: Half<T> + Send + Drop>(
     let (found, ()) = join(
         rt,
         move || -> Result<T, OutOfMemory>
-            requires { IsSync R.row × F.is_ready half }
+            requires { F.is_ready half }
             ensures { IfOk result (F.gives half) }
-        { half.find(rt, alloc) },
+        { half.find(alloc) },
         || {},
     );
     found
 }
 
-// Both halves: the first on a new thread, the second on this one.
-fn started_beside<R: Threads + Sync, T: Send, U, F: Half<T> + Send + Drop, S: Half<U> + Drop>(
-    rt: &R,
-    alloc: Global,
-    first: F,
-    second: S,
-) -> (Result<T, OutOfMemory>, Result<U, OutOfMemory>)
-    requires first { F.is_ready first }
-    requires second { S.is_ready second }
-    ensures first { IfOk result.0 (F.gives first) }
-    ensures second { IfOk result.1 (S.gives second) }
-{
-    join(
-        rt,
-        move || -> Result<T, OutOfMemory>
-            requires { IsSync R.row × F.is_ready first }
-            ensures { IfOk result (F.gives first) }
-        { first.find(rt, alloc) },
-        move || -> Result<U, OutOfMemory>
-            requires { IsSync R.row × S.is_ready second }
-            ensures { IfOk result (S.gives second) }
-        { second.find(rt, alloc) },
-    )
-}
-
-/// Both halves: the first on a new thread, the second on this one. A thread that does nothing is started before them: the first that is
-/// started may be put on this one's processor, and is kept waiting there while this one works; the next goes to a processor that is idle.
-pub(crate) fn beside<R: Threads + Sync, T: Send, U, F: Half<T> + Send + Drop, S: Half<U> + Drop>(
-    rt: &R,
-    alloc: Global,
-    first: F,
-    second: S,
-) -> (Result<T, OutOfMemory>, Result<U, OutOfMemory>)
-    requires first { F.is_ready first }
-    requires second { S.is_ready second }
-    ensures first { IfOk result.0 (F.gives first) }
-    ensures second { IfOk result.1 (S.gives second) }
-{
-    let ((), both) = join(
-        rt,
-        || {},
-        move || -> (Result<T, OutOfMemory>, Result<U, OutOfMemory>)
-            requires { IsSync R.row × F.is_ready first × S.is_ready second }
-            ensures first { IfOk result.0 (F.gives first) }
-            ensures second { IfOk result.1 (S.gives second) }
-        { started_beside(rt, alloc, first, second) },
-    );
-    both
-}
-
 /// Both halves, each on a new thread. This one waits: where it went on with a half, the thread that it started could be kept waiting, on
 /// the same processor, for as long as the system lets one run.
-pub(crate) fn side_by_side<
-    R: Threads + Sync,
-    T: Send,
-    U: Send,
-    F: Half<T> + Send + Drop,
-    S: Half<U> + Send + Drop,
->(rt: &R, alloc: Global, first: F, second: S) -> (Result<T, OutOfMemory>, Result<U, OutOfMemory>)
+pub(crate) fn side_by_side<R: Threads + Sync, T: Send, F: Half<T> + Send, S: Half<T> + Send>(
+    rt: &R,
+    alloc: Global,
+    first: F,
+    second: S,
+) -> (Result<T, OutOfMemory>, Result<T, OutOfMemory>)
     requires first { F.is_ready first }
     requires second { S.is_ready second }
     ensures first { IfOk result.0 (F.gives first) }
@@ -108,10 +56,10 @@ pub(crate) fn side_by_side<
     join(
         rt,
         move || -> Result<T, OutOfMemory>
-            requires { IsSync R.row × F.is_ready first }
+            requires { F.is_ready first }
             ensures { IfOk result (F.gives first) }
-        { first.find(rt, alloc) },
-        move || -> Result<U, OutOfMemory>
+        { first.find(alloc) },
+        move || -> Result<T, OutOfMemory>
             requires { IsSync R.row × S.is_ready second }
             ensures { IfOk result (S.gives second) }
         { find_on_thread(rt, alloc, second) },

@@ -1,36 +1,58 @@
 // The sets of a graph's analysis, slice by slice.
-ghost use Rattle.std.specs.Prelude.{◌≡◌, ◌≤◌, IfOk};
+ghost use Rattle.std.specs.Prelude.{◌≡◌, ℕ, ◌+◌, ◌*◌, ◌<◌, ◌≤◌, ◌↔◌, true, length, IfOk};
+ghost use Rattle.bit_rows.specs.RowSet.{contains};
+ghost use Rattle.bit_rows.specs.RowTable.{set_at};
 ghost use Rattle.flow_graph.specs.Points.{point_count};
 ghost use Rattle.flow_graph.specs.Universes.{bits as bits_of};
-ghost use Rattle.gk_solve.specs.Solved.{HasPathFlags, IsMeetOverPaths, IsSliceOf, direction_of};
-ghost use Rattle.flow_team.specs.Sets.{HasMayPath, IsInMaySet};
-ghost use Rattle.flow_team.specs.Beginnings.{IsBeginningOf};
-ghost use Rattle.flow_team.specs.code.Blocks.{IsParting};
-ghost use Rattle.flow_team.specs.code.FactWords.{AreFactWords};
+ghost use Rattle.gk_solve.specs.Solved.{HasPathFlags, IsSliceOf};
+ghost use Rattle.slice_board.specs.Boards.{IsOf};
+ghost use Rattle.slice_board.specs.Passes.{IsMarked};
+ghost use Rattle.flow_team.specs.Sets.{IsInMaySet};
+ghost use Rattle.flow_team.specs.Tables.{IsTableOf};
+ghost use Rattle.flow_team.specs.Teams.{PostsMore};
+ghost use Rattle.flow_team.specs.code.Boards.{IsTableBoard};
 
 use crate::OutOfMemory;
+use crate::posting::post_words;
 use crate::solve::Solve;
 use crate::table::Table;
 use crate::turned_words::TurnedWords;
-use crate::word_block::{WordBlock, solved_words};
 use flow_graph::{Analysis, Graph, Problem};
 use gk_solve::{Routes, SliceWords, Solver};
-use slice_board::{PostedWords, Wanted};
+use slice_board::{Pass, PostedWords, Wanted, WordBoard};
 use std::alloc::Global;
 use std::marker::Model;
 
-/// The sets of an analysis of a graph, in its may form, and the solver that finds them.
-#[derive(Drop)]
+/// The sets of an analysis of a graph, in its may form, at all points, and the solver that finds them.
 pub struct GraphSets<'g, 'p> {
     solver: Solver<'g, 'p>,
+    routes: Routes<'g, 'p>,
 }
 
 impl<'g, 'p> Model for GraphSets<'g, 'p> {
+    ghost use Rattle.std.specs.Prelude.{◌≡◌};
     ghost use Rattle.flow_graph.specs.Problems.{MayForm};
+    ghost use Rattle.gk_solve.specs.Solved.{direction_of};
 
     ghost Value = { MayForm };
 
     ghost view = { λ sets. sets.solver };
+
+    ghost invariant = { λ sets. sets.routes ≡ direction_of sets.solver };
+}
+
+impl Drop for GraphSets<'_, '_> {
+    // By hand: who gives the sets up then makes one call.
+    fn drop(self) {
+        let GraphSets {
+            solver: _,
+            routes: _,
+        } = self;
+    }
+}
+
+impl<'g, 'p> Wanted for GraphSets<'g, 'p> {
+    ghost wants = { IsInMaySet };
 }
 
 impl<'g, 'p> GraphSets<'g, 'p> {
@@ -43,145 +65,73 @@ impl<'g, 'p> GraphSets<'g, 'p> {
         ensures { IfOk result (λ sets. sets ≡ record { program = graph.now; analysis = analysis }) }
     {
         let problem = Problem::of(alloc, graph, analysis)?;
-        Ok(GraphSets {
-            solver: Solver::of(alloc, problem)?,
-        })
-    }
-
-    /// The sets of an analysis of a graph, over edges and path flags that were found for another of the same direction.
-    pub(crate) fn over(
-        alloc: Global,
-        graph: &'g Graph<'p>,
-        analysis: Analysis,
-        routes: Routes<'g, 'p>,
-    ) -> Result<Self, OutOfMemory>
-        requires { routes ≡ direction_of (record { program = graph.now; analysis = analysis }) }
-        ensures { IfOk result (λ sets. sets ≡ record { program = graph.now; analysis = analysis }) }
-    {
-        let problem = Problem::of(alloc, graph, analysis)?;
-        Ok(GraphSets {
-            solver: Solver::over(alloc, problem, routes)?,
-        })
-    }
-
-    /// The edges and path flags, for another analysis of the same direction.
-    pub(crate) fn into_routes(self) -> Routes<'g, 'p>
-        ensures { result ≡ direction_of self.entry }
-    {
-        self.solver.into_routes()
+        let routes = Routes::of(alloc, &problem)?;
+        let solver = Solver::of(alloc, problem)?;
+        Ok(GraphSets { solver, routes })
     }
 
     /// The path flag of each point.
     pub(crate) fn flags(&self, alloc: Global) -> Result<Vec<bool>, OutOfMemory>
         ensures { IfOk result (λ flags. HasPathFlags self.now flags.items) }
     {
-        self.solver.flags(alloc)
+        self.solver.flags(alloc, &self.routes)
     }
 
-    /// The first bits of the analysis's table, of the words of its may form: complemented where the analysis is over every path.
+    /// The analysis's table, of the words of its may form: complemented where the analysis is over every path.
     pub(crate) fn table(&self, posted: PostedWords) -> Table
-        requires within { posted.hi ≤ bits_of self.now.program self.now.analysis }
-        requires meet { IsMeetOverPaths self.now 0 posted.hi posted }
+        requires range { (posted.lo ≡ 0) × (posted.hi ≡ bits_of self.now.program self.now.analysis) }
+        requires flags { HasPathFlags self.now posted.flags }
+        requires rows { (point bit : ℕ) → (contains (set_at posted point) bit ≡ true) ↔ IsInMaySet self.now point bit }
         ensures analysis { result.analysis ≡ self.now.analysis }
-        ensures bits { result.rows.hi ≡ posted.hi }
-        ensures beginning { IsBeginningOf self.now.program result }
+        ensures table { IsTableOf self.now.program result }
     {
         let problem = self.solver.problem();
         let words = TurnedWords::of(posted, problem.complements());
-        Table::with_posted(problem.analysis(), words)
+        Table::of(problem.analysis(), words)
     }
 
-    // The words of the first bits of the analysis's table, solved at once, and what another of the same direction can use.
-    fn words_with_routes(
-        self,
-        alloc: Global,
-        bits: u32,
-    ) -> Result<(WordBlock, Routes<'g, 'p>), OutOfMemory>
-        requires { bits ≤ bits_of self.program self.analysis }
-        ensures bits { IfOk result (λ r. r.0.hi ≡ bits) }
-        ensures beginning { IfOk result (λ r. IsBeginningOf self.entry.program (record { analysis = self.entry.analysis; rows = r.0 })) }
-        ensures routes { IfOk result (λ r. r.1 ≡ direction_of self.entry) }
-    {
-        let words = WordBlock::solved(alloc, &self.solver, bits)?;
-        Ok((words, self.into_routes()))
-    }
-
-    /// The words of the first bits of the table of an analysis of a graph, solved at once, and what another of the same direction can use.
-    pub(crate) fn first_words(
-        alloc: Global,
-        graph: &'g Graph<'p>,
-        analysis: Analysis,
-        bits: u32,
-    ) -> Result<(WordBlock, Routes<'g, 'p>), OutOfMemory>
-        requires { bits ≤ bits_of graph.now analysis }
-        ensures bits { IfOk result (λ r. r.0.hi ≡ bits) }
-        ensures beginning { IfOk result (λ r. IsBeginningOf graph.now (record { analysis = analysis; rows = r.0 })) }
-        ensures routes { IfOk result (λ r. r.1 ≡ direction_of (record { program = graph.now; analysis = analysis })) }
-    {
-        let sets = GraphSets::of(alloc, graph, analysis)?;
-        sets.words_with_routes(alloc, bits)
-    }
-
-    /// The same, over edges and path flags that were found for another analysis of the same direction.
-    pub(crate) fn first_words_over(
-        alloc: Global,
-        graph: &'g Graph<'p>,
-        analysis: Analysis,
-        bits: u32,
-        routes: Routes<'g, 'p>,
-    ) -> Result<(WordBlock, Routes<'g, 'p>), OutOfMemory>
-        requires bits { bits ≤ bits_of graph.now analysis }
-        requires routes { routes ≡ direction_of (record { program = graph.now; analysis = analysis }) }
-        ensures bits { IfOk result (λ r. r.0.hi ≡ bits) }
-        ensures beginning { IfOk result (λ r. IsBeginningOf graph.now (record { analysis = analysis; rows = r.0 })) }
-        ensures routes { IfOk result (λ r. r.1 ≡ direction_of (record { program = graph.now; analysis = analysis })) }
-    {
-        let sets = GraphSets::over(alloc, graph, analysis, routes)?;
-        sets.words_with_routes(alloc, bits)
-    }
-
-    /// The words of the first bits of the analysis's table from one on up to another.
-    pub(crate) fn words(
+    // Solves the words of a slice, and posts them.
+    fn post_groups(
         &self,
-        alloc: Global,
-        bits: u32,
-        from: u32,
-        until: u32,
-    ) -> Result<Vec<u64>, OutOfMemory>
-        requires bits { bits ≤ bits_of self.now.program self.now.analysis }
-        requires from { IsParting bits from }
-        requires until { IsParting bits until }
-        requires ordered { from ≤ until }
-        ensures { IfOk result (λ words. AreFactWords self.now.program self.now.analysis bits from until words.items) }
+        board: &WordBoard<GraphSets<'g, 'p>>,
+        pass: &mut Pass<GraphSets<'g, 'p>>,
+        slice: &mut SliceWords,
+        lo: u32,
+        hi: u32,
+    )
+        requires on { IsTableBoard self.now board.now }
+        requires of { IsOf board.now pass.old }
+        requires slice { IsSliceOf self.now slice.old }
+        requires range { (slice.old.lo ≡ lo) × (slice.old.hi ≡ hi) }
+        requires within { hi ≤ board.now.cut.bits }
+        ensures more { PostsMore pass.old pass.new }
+        ensures posted { (point bit : ℕ) → IsInMaySet self.now point bit → lo ≤ bit → bit < hi → IsMarked pass.new.posted point bit }
     {
-        solved_words(alloc, &self.solver, bits, from, until)
+        let mut word = lo / 64;
+        'groups: while word < hi.div_ceil(64) {
+            let until = self.solver.solve_from(&self.routes, slice, word);
+            post_words(board, pass, &*slice, word, until);
+            word = until;
+        }
     }
-}
-
-impl<'g, 'p> Wanted for GraphSets<'g, 'p> {
-    ghost wants = { IsInMaySet };
 }
 
 impl<'g, 'p> Solve<GraphSets<'g, 'p>> for GraphSets<'g, 'p> {
-    ghost sets = { λ sets. sets };
+    ghost is_on = { IsTableBoard };
 
-    ghost points = { λ form. point_count form.program };
-
-    ghost bits = { λ form. bits_of form.program form.analysis };
-
-    ghost has_path = { HasMayPath };
-
-    ghost is_slice = { IsSliceOf };
-
-    fn points(&self) -> u32 {
-        self.solver.problem().points()
-    }
-
-    fn slice(&self, alloc: Global, lo: u32, hi: u32) -> Result<SliceWords, OutOfMemory> {
-        self.solver.slice(alloc, lo, hi)
-    }
-
-    fn solve_from(&self, slice: &mut SliceWords, word: u32) -> u32 {
-        self.solver.solve_from(slice, word)
+    fn post_slice(
+        &self,
+        alloc: Global,
+        board: &WordBoard<GraphSets<'g, 'p>>,
+        pass: &mut Pass<GraphSets<'g, 'p>>,
+        slice: u32,
+    ) -> Result<(), OutOfMemory> {
+        let cut = board.cut();
+        // Its contract tells that the slices lie within the bits.
+        let _ = cut.slices();
+        let (lo, hi) = cut.range(slice);
+        let mut words = self.solver.slice(alloc, &self.routes, lo, hi)?;
+        self.post_groups(board, pass, &mut words, lo, hi);
+        Ok(())
     }
 }

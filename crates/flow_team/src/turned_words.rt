@@ -1,5 +1,5 @@
 // The words of a closed board, as a table's sets.
-ghost use Rattle.std.specs.Prelude.{◌≡◌, ℕ, ◌+◌, ◌-◌, ◌*◌, ◌^◌, ◌<◌, ◌≤◌, ◌&&◌, nat_lt, length};
+ghost use Rattle.std.specs.Prelude.{◌≡◌, ℕ, ◌+◌, ◌-◌, ◌*◌, ◌^◌, ◌<◌, ◌≤◌, ◌&&◌, false, nat_lt, length};
 ghost use Rattle.bit_rows.specs.RowSet.{IsWordOf};
 ghost use Rattle.bit_rows.specs.RowTable.{flag_at, set_at};
 ghost use Rattle.bit_rows.specs.Words.{has_bit};
@@ -65,7 +65,8 @@ impl TurnedWords {
     /// A word of the point's set, 0 at all places past the last bit.
     pub(crate) fn word(&self, point: u32, word: u32) -> u64
         requires { point < length self.now.flags }
-        ensures { IsWordOf (set_at self.now point) word result }
+        ensures set { IsWordOf (set_at self.now point) word result }
+        ensures past { (k : ℕ) → k < 64 → self.now.hi ≤ 64 * word + k → has_bit result k ≡ false }
     {
         self.posted.word(point, word) ^ turned_word(self.posted.bits(), self.turns, word)
     }

@@ -4,8 +4,8 @@ ghost use Rattle.std.specs.Thread.{IsSync};
 ghost use Rattle.slice_board.specs.Boards.{IsOf};
 
 use crate::OutOfMemory;
-use crate::gate::Gate;
-use crate::job::Job;
+use crate::gate::{Gate, OpenGate};
+use crate::slice_job::SliceJob;
 use crate::solve::Solve;
 use slice_board::{Pass, Wanted};
 use std::alloc::Global;
@@ -14,7 +14,7 @@ use std::thread::{Threads, join};
 // One worker: works until all slices are claimed.
 fn drain<W: Wanted + Sync + Send, S: Solve<W>, G: Gate>(
     alloc: Global,
-    job: &Job<W, S>,
+    job: &SliceJob<W, S>,
     gate: &G,
     worker: u32,
     pass: Pass<W>,
@@ -33,7 +33,7 @@ fn drain<W: Wanted + Sync + Send, S: Solve<W>, G: Gate>(
 
 // The pass of both.
 fn united<W: Wanted + Sync + Send, S: Solve<W>>(
-    job: &Job<W, S>,
+    job: &SliceJob<W, S>,
     first: Pass<W>,
     second: Pass<W>,
 ) -> Pass<W>
@@ -52,7 +52,7 @@ fn united<W: Wanted + Sync + Send, S: Solve<W>>(
 fn run_threads<W: Wanted + Sync + Send, S: Solve<W>, R: Threads + Sync, G: Gate>(
     rt: &R,
     alloc: Global,
-    job: &Job<W, S>,
+    job: &SliceJob<W, S>,
     gate: &G,
     from: u32,
     count: u32,
@@ -83,25 +83,31 @@ fn run_threads<W: Wanted + Sync + Send, S: Solve<W>, R: Threads + Sync, G: Gate>
     Ok(united(job, mine?, theirs?))
 }
 
-/// Runs the workers `from..from + count`, each with a pass of its own, and answers the pass of all once all have ended. Each is on a
-/// thread of its own, and this one waits: where it worked too, a thread that it started could be kept waiting, on the same processor, for as
-/// long as the system lets one run. A single worker starts no thread.
+/// Runs so many workers, numbered from 0, each on a thread of its own and with a pass of its own, and answers the pass of all once all have
+/// ended. This thread waits: where it worked too, a thread that it started could be kept waiting, on the same processor, for as long as the
+/// system lets one run.
 pub(crate) fn run_workers<W: Wanted + Sync + Send, S: Solve<W>, R: Threads + Sync, G: Gate>(
     rt: &R,
     alloc: Global,
-    job: &Job<W, S>,
+    job: &SliceJob<W, S>,
     gate: &G,
-    from: u32,
-    count: u32,
+    workers: u32,
     pass: Pass<W>,
 ) -> Result<Pass<W>, OutOfMemory>
-    requires some { 0 < count }
-    requires few { from + count < 2 ^ 32 }
     requires pass { IsOf job.now pass }
     ensures { IfOk result (IsOf job.now) }
 {
-    if count == 1 {
-        return drain(alloc, job, gate, from, pass);
-    }
-    run_threads(rt, alloc, job, gate, from, count, pass)
+    run_threads(rt, alloc, job, gate, 0, workers, pass)
+}
+
+/// Has the calling thread work until no slice is left, for a caller that may start no thread.
+pub(crate) fn run_here<W: Wanted + Sync + Send, S: Solve<W>>(
+    alloc: Global,
+    job: &SliceJob<W, S>,
+    pass: Pass<W>,
+) -> Result<Pass<W>, OutOfMemory>
+    requires { IsOf job.now pass }
+    ensures { IfOk result (IsOf job.now) }
+{
+    drain(alloc, job, &OpenGate, 0, pass)
 }

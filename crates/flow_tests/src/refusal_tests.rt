@@ -5,7 +5,7 @@
 ghost use Rattle.std.specs.Prelude.{◌≡◌, ◌≤◌, length, IfOk};
 ghost use Rattle.flow_graph.specs.Points.{point_count};
 ghost use Rattle.flow_graph.specs.Universes.{bits as bits_of};
-ghost use Rattle.gk_solve.specs.Solved.{IsSliceOf};
+ghost use Rattle.gk_solve.specs.Solved.{IsSliceOf, direction_of};
 
 use crate::answers::{Question, marks, write_answer, write_edges, write_flags, write_frame};
 use bit_rows::{OutOfMemory, Rows};
@@ -290,7 +290,7 @@ fn routes_again<'g, 'p>(
     problem: &Problem<'g, 'p>,
     refused: &mut bool,
 ) -> Result<Routes<'g, 'p>, OutOfMemory>
-    ensures { IfOk result (λ routes. routes.program ≡ problem.now.program) }
+    ensures { IfOk result (λ routes. routes ≡ direction_of problem.now) }
 {
     match Routes::of(alloc, problem) {
         Ok(routes) => Ok(routes),
@@ -317,69 +317,80 @@ fn paths_again(
     Ok(())
 }
 
-fn flags_again(
+fn flags_again<'g, 'p>(
     text: &mut String,
     alloc: Global,
-    solver: &Solver<'_, '_>,
+    solver: &Solver<'g, 'p>,
+    routes: &Routes<'g, 'p>,
     refused: &mut bool,
-) -> Result<(), OutOfMemory> {
-    let flags = match solver.flags(alloc) {
+) -> Result<(), OutOfMemory>
+    requires { routes.now ≡ direction_of solver.now }
+{
+    let flags = match solver.flags(alloc, routes) {
         Ok(flags) => flags,
         Err(_) => {
             *refused = true;
-            solver.flags(alloc)?
+            solver.flags(alloc, routes)?
         }
     };
     write_flags(text, flags.as_slice())
 }
 
-fn solver_solve_again(
+fn solver_solve_again<'g, 'p>(
     text: &mut String,
     alloc: Global,
-    solver: &Solver<'_, '_>,
+    solver: &Solver<'g, 'p>,
+    routes: &Routes<'g, 'p>,
     refused: &mut bool,
-) -> Result<(), OutOfMemory> {
+) -> Result<(), OutOfMemory>
+    requires { routes.now ≡ direction_of solver.now }
+{
     let bits = solver.problem().bits();
-    let rows = match solver.solve(alloc, 0, bits) {
+    let rows = match solver.solve(alloc, routes, 0, bits) {
         Ok(rows) => rows,
         Err(_) => {
             *refused = true;
-            solver.solve(alloc, 0, bits)?
+            solver.solve(alloc, routes, 0, bits)?
         }
     };
     write_rows(text, &rows)
 }
 
-fn slice_again(
+fn slice_again<'g, 'p>(
     alloc: Global,
-    solver: &Solver<'_, '_>,
+    solver: &Solver<'g, 'p>,
+    routes: &Routes<'g, 'p>,
     bits: u32,
     refused: &mut bool,
 ) -> Result<SliceWords, OutOfMemory>
-    requires { bits ≤ bits_of solver.now.program solver.now.analysis }
+    requires routes { routes.now ≡ direction_of solver.now }
+    requires bits { bits ≤ bits_of solver.now.program solver.now.analysis }
     ensures slice { IfOk result (IsSliceOf solver.now) }
     ensures end { IfOk result (λ slice. slice.hi ≡ bits) }
 {
-    match solver.slice(alloc, 0, bits) {
+    match solver.slice(alloc, routes, 0, bits) {
         Ok(slice) => Ok(slice),
         Err(_) => {
             *refused = true;
-            solver.slice(alloc, 0, bits)
+            solver.slice(alloc, routes, 0, bits)
         }
     }
 }
 
 /// The first word of each point, as it is solved in a slice of all bits.
-fn words_again(
+fn words_again<'a, 'g, 'p>(
     text: &mut String,
     alloc: Global,
-    solver: &Solver<'_, '_>,
+    solver: &'a Solver<'g, 'p>,
+    routes: &'a Routes<'g, 'p>,
     refused: &mut bool,
-) -> Result<(), OutOfMemory> {
+) -> Result<(), OutOfMemory>
+    requires { routes.now ≡ direction_of solver.now }
+{
     let bits = solver.problem().bits();
-    let mut slice = slice_again(alloc, solver, bits, refused)?;
+    let mut slice = slice_again(alloc, solver, routes, bits, refused)?;
     if bits > 0 {
-        let _ = solver.solve_from(&mut slice, 0);
+        let _ = solver.solve_from(routes, &mut slice, 0);
         for point in 0..slice.points() {
             write!(text, " {}", slice.word(point, 0))?;
         }
@@ -416,17 +427,20 @@ fn told_of_problem(
     }
 }
 
-fn told_of_solver(
+fn told_of_solver<'g, 'p>(
     text: &mut String,
     alloc: Global,
-    solver: &Solver<'_, '_>,
+    solver: &Solver<'g, 'p>,
+    routes: &Routes<'g, 'p>,
     call: Call,
     refused: &mut bool,
-) -> Result<(), OutOfMemory> {
+) -> Result<(), OutOfMemory>
+    requires { routes.now ≡ direction_of solver.now }
+{
     match call {
-        Call::SolverFlags => flags_again(text, alloc, solver, refused),
-        Call::SolverSlice => words_again(text, alloc, solver, refused),
-        _ => solver_solve_again(text, alloc, solver, refused),
+        Call::SolverFlags => flags_again(text, alloc, solver, routes, refused),
+        Call::SolverSlice => words_again(text, alloc, solver, routes, refused),
+        _ => solver_solve_again(text, alloc, solver, routes, refused),
     }
 }
 
@@ -437,8 +451,9 @@ fn told_of_new_solver(
     refused: &mut bool,
 ) -> Result<(), OutOfMemory> {
     let solver = solver_again(alloc, graph, refused)?;
+    let routes = Routes::of(alloc, solver.problem())?;
     let bits = solver.problem().bits();
-    write_rows(text, &solver.solve(alloc, 0, bits)?)
+    write_rows(text, &solver.solve(alloc, &routes, 0, bits)?)
 }
 
 fn told_of_its_solver(
@@ -449,7 +464,8 @@ fn told_of_its_solver(
     refused: &mut bool,
 ) -> Result<(), OutOfMemory> {
     let solver = Solver::of(alloc, Problem::of(alloc, graph, Analysis::Reach)?)?;
-    told_of_solver(text, alloc, &solver, call, refused)
+    let routes = Routes::of(alloc, solver.problem())?;
+    told_of_solver(text, alloc, &solver, &routes, call, refused)
 }
 
 fn told_of_graph(

@@ -1,12 +1,13 @@
 // The table of an analysis as text, put together from slices that are solved apart.
 
-ghost use Rattle.std.specs.Prelude.{◌≤◌, ◌<◌};
+ghost use Rattle.std.specs.Prelude.{◌≡◌, ◌≤◌, ◌<◌};
 ghost use Rattle.flow_graph.specs.Points.{point_count};
 ghost use Rattle.flow_graph.specs.Universes.{bits as bits_of};
+ghost use Rattle.gk_solve.specs.Solved.{direction_of};
 
 use bit_rows::{Cut, Rows};
 use flow_graph::{Analysis, Expr, Graph, OutOfMemory, Problem};
-use gk_solve::{Solver, solve};
+use gk_solve::{Routes, Solver, solve};
 use std::alloc::Global;
 use tac_reader::{write_binary_expression, write_unary_expression};
 
@@ -81,17 +82,23 @@ fn bit_names(
 }
 
 /// Whether a slice's words are its rows.
-fn words_agree(alloc: Global, solver: &Solver<'_, '_>, rows: &Rows) -> Result<bool, OutOfMemory>
+fn words_agree<'a, 'g, 'p>(
+    alloc: Global,
+    solver: &'a Solver<'g, 'p>,
+    routes: &'a Routes<'g, 'p>,
+    rows: &Rows,
+) -> Result<bool, OutOfMemory>
+    requires routes { routes.now ≡ direction_of solver.now }
     requires ordered { rows.now.lo ≤ rows.now.hi }
     requires within { rows.now.hi ≤ bits_of solver.now.program solver.now.analysis }
 {
     let (lo, hi) = (rows.lo(), rows.hi());
-    let mut slice = solver.slice(alloc, lo, hi)?;
+    let mut slice = solver.slice(alloc, routes, lo, hi)?;
     let end = hi.div_ceil(64);
     let mut word = lo / 64;
     let mut agree = true;
     'groups: while word < end {
-        let next = solver.solve_from(&mut slice, word);
+        let next = solver.solve_from(routes, &mut slice, word);
         for solved in word..next {
             for point in 0..slice.points().min(rows.points()) {
                 agree &= rows.row(point).word(solved) == slice.word(point, solved);
@@ -103,48 +110,56 @@ fn words_agree(alloc: Global, solver: &Solver<'_, '_>, rows: &Rows) -> Result<bo
 }
 
 /// Puts the solution of the bits from `lo` to `hi` behind the slices; whether its words are its rows.
-fn add_slice(
+fn add_slice<'g, 'p>(
     alloc: Global,
-    solver: &Solver<'_, '_>,
+    solver: &Solver<'g, 'p>,
+    routes: &Routes<'g, 'p>,
     slices: &mut Vec<Rows>,
     lo: u32,
     hi: u32,
 ) -> Result<bool, OutOfMemory>
+    requires routes { routes.now ≡ direction_of solver.now }
     requires ordered { lo ≤ hi }
     requires within { hi ≤ bits_of solver.now.program solver.now.analysis }
 {
-    let rows = solver.solve(alloc, lo, hi)?;
-    let agree = words_agree(alloc, solver, &rows)?;
+    let rows = solver.solve(alloc, routes, lo, hi)?;
+    let agree = words_agree(alloc, solver, routes, &rows)?;
     slices.push(rows)?;
     Ok(agree)
 }
 
 /// Solves the problem in slices of this width, of which the last one may be shorter; whether their words are their rows.
-fn add_slices(
+fn add_slices<'g, 'p>(
     alloc: Global,
-    solver: &Solver<'_, '_>,
+    solver: &Solver<'g, 'p>,
+    routes: &Routes<'g, 'p>,
     slices: &mut Vec<Rows>,
     width: u32,
-) -> Result<bool, OutOfMemory> {
+) -> Result<bool, OutOfMemory>
+    requires { routes.now ≡ direction_of solver.now }
+{
     let mut agree = true;
     if let Ok(cut) = Cut::even(alloc, solver.problem().bits(), width) {
         for slice in 0..cut.slices() {
             let (lo, hi) = cut.range(slice);
-            agree &= add_slice(alloc, solver, slices, lo, hi)?;
+            agree &= add_slice(alloc, solver, routes, slices, lo, hi)?;
         }
     }
     Ok(agree)
 }
 
 /// What is known of a problem, with what its bits are called.
-fn solved_with(
+fn solved_with<'g, 'p>(
     alloc: Global,
     names: Vec<String>,
-    solver: &Solver<'_, '_>,
+    solver: &Solver<'g, 'p>,
+    routes: &Routes<'g, 'p>,
     width: u32,
-) -> Result<Table, OutOfMemory> {
+) -> Result<Table, OutOfMemory>
+    requires { routes.now ≡ direction_of solver.now }
+{
     let mut slices = Vec::new(alloc);
-    let agree = add_slices(alloc, solver, &mut slices, width)?;
+    let agree = add_slices(alloc, solver, routes, &mut slices, width)?;
     let flags = solve(alloc, solver.problem(), 0, 0)?;
     let complements = solver.problem().complements();
     Ok(Table {
@@ -163,7 +178,9 @@ fn solved(
     width: u32,
 ) -> Result<Table, OutOfMemory> {
     let solver = Solver::of(alloc, Problem::of(alloc, graph, analysis)?)?;
-    solved_with(alloc, bit_names(alloc, graph, analysis)?, &solver, width)
+    let routes = Routes::of(alloc, solver.problem())?;
+    let names = bit_names(alloc, graph, analysis)?;
+    solved_with(alloc, names, &solver, &routes, width)
 }
 
 /// Writes what the table has of a slice's bits at a point, behind a comma where something is there.

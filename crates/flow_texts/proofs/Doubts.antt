@@ -3,18 +3,15 @@ use Rattle.std.proofs.Common.{◌≡◌, ◌↔◌, ℕ, ◌<◌, Bool, true, fa
 use Rattle.std.proofs.lemmas.List.FromFn.{get_or-map-range_with_len}
 use Rattle.tac_reader.specs.Programs.{Program}
 use Rattle.tac_reader.specs.Sound.{IsSound}
-use Rattle.bit_rows.specs.RowTable.{flag_at}
-use Rattle.flow_graph.specs.Analyses.{shape_of}
+use Rattle.flow_graph.specs.Analyses.{HasPathAt, shape_of}
 use Rattle.flow_graph.specs.Leading.{LeadsTo, TellLeading}
 use Rattle.flow_graph.specs.Paths.{IsPath, HasBackwardPath, target_of}
 use Rattle.flow_graph.specs.Points.{points, point_count}
 use Rattle.flow_graph.specs.Runs.{IsDoubtful}
-use Rattle.flow_graph.specs.declared.analysis.Analysis.{Analysis}
 use Rattle.flow_graph.specs.declared.analysis.Analysis.TheVariants.{Live}
 use Rattle.flow_graph.specs.declared.edge.Edge.{Edge}
 use Rattle.flow_graph.proofs.graphs.GraphLaws.{edges_join_points}
 use Rattle.flow_texts.specs.code.Findings.{TellDoubtful}
-use Rattle.flow_team.specs.Tables.{AreFacts, IsTableOf, TableRows, facts_of}
 
 -- a path from a point ends at a point
 path_ends : (program : Program) → IsSound program → (path : List Edge) (start finish : ℕ) → start < point_count program → IsPath (shape_of program) start path finish → finish < point_count program
@@ -22,13 +19,10 @@ path_ends program sound [] start finish below same = omega (arith, same)
 path_ends program sound (edge ∷ path) start finish below along =
     path_ends program sound path (target_of edge) finish (edges_join_points program sound edge along.0).target along.2
 
--- the facts of a table, said of its analysis
-pub facts_are : (program : Program) (table : TableRows) (analysis : Analysis) → table.analysis ≡ analysis → IsTableOf program table → AreFacts program analysis (facts_of table)
-facts_are program table analysis same is = subst (λ a. AreFacts program a (facts_of table)) same is.facts
-
-pub tell_doubtful : (program : Program) (live : TableRows) (marked answers : List Bool) → IsSound program → live.analysis ≡ Live → IsTableOf program live
-    → marked ≡ map (λ point. not (flag_at live.rows point)) (points program) → TellLeading program marked answers → TellDoubtful program answers
-tell_doubtful program live marked answers sound same is marks told = record {
+pub tell_doubtful : (program : Program) (flag : ℕ → Bool) (marked answers : List Bool) → IsSound program
+    → ((point : ℕ) → point < point_count program → (flag point ≡ true) ↔ HasPathAt program Live point)
+    → marked ≡ map (λ point. not (flag point)) (points program) → TellLeading program marked answers → TellDoubtful program answers
+tell_doubtful program flag marked answers sound is marks told = record {
   count = told.count;
   each = λ point below. (
     λ answer. doubts point below ((told.each point below).0 answer),
@@ -36,13 +30,13 @@ tell_doubtful program live marked answers sound same is marks told = record {
   );
 }
   where
-    mark : (point : ℕ) → point < point_count program → get_or marked point false ≡ not (flag_at live.rows point)
+    mark : (point : ℕ) → point < point_count program → get_or marked point false ≡ not (flag point)
     mark point below =
         ap (λ ms. get_or ms point false) marks
-        ∙ get_or-map-range_with_len (λ p. not (flag_at live.rows p)) 0 (point_count program) point point false below (omega arith)
+        ∙ get_or-map-range_with_len (λ p. not (flag p)) 0 (point_count program) point point false below (omega arith)
 
-    finishes : (point : ℕ) → point < point_count program → (flag_at live.rows point ≡ true) ↔ HasBackwardPath (shape_of program) point
-    finishes point below = (facts_are program live Live same is).paths point below
+    finishes : (point : ℕ) → point < point_count program → (flag point ≡ true) ↔ HasBackwardPath (shape_of program) point
+    finishes point below = is point below
 
     not_true : (b : Bool) → not b ≡ true → b ≡ true → ⊥
     not_true true off on = absurd (cc off)
@@ -51,13 +45,13 @@ tell_doubtful program live marked answers sound same is marks told = record {
     doubts : (point : ℕ) → point < point_count program → LeadsTo program marked point → IsDoubtful (shape_of program) point
     doubts point below (path, ahead, along, marked_there) =
         let there : ahead < point_count program = path_ends program sound path point ahead below along in
-        (path, ahead, along, λ finish. not_true (flag_at live.rows ahead) (sym (mark ahead there) ∙ marked_there) ((finishes ahead there).1 finish))
+        (path, ahead, along, λ finish. not_true (flag ahead) (sym (mark ahead there) ∙ marked_there) ((finishes ahead there).1 finish))
 
-    unmarked : (ahead : ℕ) → ahead < point_count program → ¬ (HasBackwardPath (shape_of program) ahead) → (b : Bool) → flag_at live.rows ahead ≡ b → not b ≡ true
-    unmarked ahead there endless true flag = absurd (endless ((finishes ahead there).0 flag))
-    unmarked ahead there endless false flag = refl
+    unmarked : (ahead : ℕ) → ahead < point_count program → ¬ (HasBackwardPath (shape_of program) ahead) → (b : Bool) → flag ahead ≡ b → not b ≡ true
+    unmarked ahead there endless true told_true = absurd (endless ((finishes ahead there).0 told_true))
+    unmarked ahead there endless false told_false = refl
 
     leads : (point : ℕ) → point < point_count program → IsDoubtful (shape_of program) point → LeadsTo program marked point
     leads point below (path, ahead, along, endless) =
         let there : ahead < point_count program = path_ends program sound path point ahead below along in
-        (path, ahead, along, mark ahead there ∙ unmarked ahead there endless (flag_at live.rows ahead) refl)
+        (path, ahead, along, mark ahead there ∙ unmarked ahead there endless (flag ahead) refl)

@@ -1,26 +1,32 @@
--- A report asks of reaching definitions for flags and dummies alone, so tables that tell these make the report of all that is known
-use Rattle.std.proofs.Common.{◌≡◌, ◌↔◌, ◌⊎◌, ℕ, zero, suc, ◌+◌, ◌<◌, ◌≤◌, Bool, true, false, ◌&&◌, List, [], ◌∷◌, ◌++◌, length, map, flat_map, cond, Some, None, if◌then◌else◌, inl, inr, refl, sym, ap, subst, ◌∙◌, arith}
-use Rattle.std.specs.List.{filter, range_with_len}
+-- What a report reads of the facts: answers to that make the report of all that is known.
+use Rattle.std.proofs.Common.{◌≡◌, ◌↔◌, ◌⊎◌, ◌∙◌, ℕ, zero, suc, ◌+◌, ◌*◌, ◌/◌, ◌<◌, ◌≤◌, Bool, true, false, not, ◌&&◌, List, [], ◌∷◌, ◌++◌, length, map, flat_map, cond, Option, Some, None, option_and_then, option_map, position, unwrap_or, get_or, slice_get, if◌then◌else◌, inl, inr, refl, sym, ap, ap₂, subst, arith}
+use Rattle.std.specs.List.{filter, list_any, range_with_len}
 use Rattle.std.proofs.lemmas.List.Concat.{flat_map-cons}
-use Rattle.bit_rows.specs.RowSet.{contains}
-use Rattle.bit_rows.specs.RowTable.{flag_at, set_at}
+use Rattle.std.proofs.lemmas.List.Quantifiers.{position-Some}
+use Rattle.std.proofs.lemmas.Option.{slice_get-get_or}
 use Rattle.flow_graph.specs.Points.{kind_at, point_count}
-use Rattle.flow_graph.specs.Transfers.{reads}
+use Rattle.flow_graph.specs.Transfers.{names_variable, operands_of, reads}
+use Rattle.flow_graph.specs.Universes.{bits, evaluated_at, expression_at, expression_of, expressions, same_expression}
 use Rattle.flow_graph.specs.declared.analysis.Analysis.{Analysis}
 use Rattle.flow_graph.specs.declared.analysis.Analysis.TheVariants.{Reach, Live, Avail, Busy}
+use Rattle.flow_graph.specs.declared.expression.Expr.{Expr}
+use Rattle.flow_graph.proofs.places.Standing.{Stands, stands}
 use Rattle.gk_solve.proofs.ProgramTables.{tables_are_decided}
 use Rattle.tac_reader.specs.Programs.{Program}
 use Rattle.tac_reader.specs.Sound.{IsSound}
-use Rattle.flow_team.specs.Beginnings.{IsBeginningOf}
-use Rattle.flow_team.specs.Tables.{AreFacts, Facts, IsTableOf, TableRows, facts_of}
-use Rattle.flow_texts.specs.Reports.{AreTablesOf, IsKnowledge, TellReport, Knowledge, busy_at, computed_at, count_line, dead_at, lines_at, remark_line, remarks_at, report_of, unset_at}
+use Rattle.tac_reader.specs.declared.program.StmtKind.{StmtKind}
+use Rattle.flow_team.specs.Tables.{AreFacts, Facts}
+use Rattle.flow_texts.specs.Reports.{IsKnowledge, Knowledge, assigned, assigned_at, busy_at, computed_at, count_line, dead_at, is_test, lines_at, remark_line, remarks_at, remarks_when_reached, report_of, unset_at}
+use Rattle.flow_texts.specs.Tables.{bits_at}
 use Rattle.flow_texts.specs.code.Findings.{AreFindings, TellDoubtful, knowledge_of}
+use Rattle.flow_texts.specs.code.Reported.{AreAskedAt}
+use Rattle.flow_texts.specs.code.Told.{ask_for, facts_in}
 use Rattle.flow_texts.specs.declared.findings.Findings.{Findings}
 use Rattle.flow_texts.specs.declared.remark.Remark.{Remark}
 use Rattle.flow_texts.specs.declared.remark.Remark.TheVariants.{NeverReached, Unset, Computed, VeryBusy, Dead}
-use Rattle.flow_texts.specs.declared.tables.Tables.{Tables}
-use Rattle.flow_texts.proofs.Doubts.{facts_are}
-use Rattle.flow_texts.proofs.RemarkLines.{high_is, variables_have_dummies}
+use Rattle.flow_texts.specs.declared.report_asks.PointAsks.{PointAsks}
+use Rattle.flow_texts.proofs.RemarkLines.{assigned_there, next_below, read_there, variables_have_dummies}
+use Rattle.flow_texts.proofs.Told.{bit_told, same_truth}
 
 -- which of two it is
 is_left : {A B : Type 0} → A ⊎ B → Bool
@@ -46,12 +52,6 @@ decided_facts_are program sound analysis = record {
   sets = λ point bit below within. told (tables_are_decided program analysis point bit sound).1;
 }
 
--- two that tell the same are the same
-same_truth : {P : Type 0} (a b : Bool) → (a ≡ true) ↔ P → (b ≡ true) ↔ P → a ≡ b
-same_truth true b first second = sym (second.1 (first.0 refl))
-same_truth false true first second = first.1 (second.0 refl)
-same_truth false false first second = refl
-
 same_filter : (p q : ℕ → Bool) (a n : ℕ) → ((k : ℕ) → a ≤ k → k < a + n → p k ≡ q k) → filter p (range_with_len a n) ≡ filter q (range_with_len a n)
 same_filter p q a zero same = refl
 same_filter p q a (suc n) same =
@@ -70,88 +70,189 @@ same_texts f g a (suc n) same =
     ∙ ap (λ t. g a ++ t) rest
     ∙ sym (flat_map-cons g a (range_with_len (a + 1) n))
 
--- other facts of reaching definitions in what is known
-abbrev with_reach : Knowledge → Facts → Knowledge
-with_reach known facts = record known { reach = facts }
+-- two that know the same of what a report reads
+pub record Agree (program : Program) (one other : Knowledge) : Type 0 where
+  pub flags : (point : ℕ) → point < point_count program → one.reach.has_path point ≡ other.reach.has_path point
+  pub unset : (point variable : ℕ) → point < point_count program → reads program point variable ≡ true → one.reach.contains point variable ≡ other.reach.contains point variable
+  pub computed : (point bit : ℕ) → point < point_count program → evaluated_at program point ≡ Some bit → one.avail.contains point bit ≡ other.avail.contains point bit
+  pub busy : (point bit : ℕ) (kind : StmtKind) → point < point_count program → kind_at program point ≡ Some kind → is_test kind ≡ true → bit < bits program Busy
+      → one.busy.contains point bit ≡ other.busy.contains point bit
+  pub live : (point variable : ℕ) (kind : StmtKind) → point < point_count program → kind_at program point ≡ Some kind → assigned kind ≡ Some variable
+      → one.live.contains (suc point) variable ≡ other.live.contains (suc point) variable
+  pub doubtful : (point : ℕ) → point < point_count program → one.doubtful point ≡ other.doubtful point
 
--- the remarks of a point, by whether it is reached and which variables may not be set
-abbrev remarks_by : Program → Knowledge → ℕ → Bool → List ℕ → List Remark
-remarks_by program known point reached unset =
-    elim (kind_at program point) [
-      | Some statement ↦ if reached
-          then map (λ variable. Unset variable) unset
-          ++ map (λ bit. Computed bit) (computed_at program known point)
-          ++ map (λ bit. VeryBusy bit) (busy_at program known point)
-          ++ map (λ variable. Dead variable) (dead_at program known point)
-          else NeverReached ∷ []
-      | None ↦ []
-    ]
+abbrev computed_by : ℕ → Knowledge → Option ℕ → List ℕ
+computed_by point known (Some bit) = if known.avail.contains point bit then bit ∷ [] else []
+computed_by point known None = []
 
-same_remarks : (program : Program) (known : Knowledge) (facts : Facts) (point : ℕ) → known.reach.has_path point ≡ facts.has_path point
-    → unset_at program known point ≡ unset_at program (with_reach known facts) point → remarks_at program known point ≡ remarks_at program (with_reach known facts) point
-same_remarks program known facts point flag unset =
-    ap (λ b. remarks_by program known point b (unset_at program known point)) flag
-    ∙ ap (remarks_by program known point (facts.has_path point)) unset
+abbrev busy_by : Program → ℕ → Knowledge → Bool → List ℕ
+busy_by program point known test = if test && not (known.doubtful point) then bits_at program Busy known.busy point else []
 
--- the facts agree in what a report asks
-record Agree (program : Program) (one other : Facts) : Type 0 where
-  flags : (point : ℕ) → point < point_count program → one.has_path point ≡ other.has_path point
-  dummies : (point variable : ℕ) → point < point_count program → variable < length program.variable_names → one.contains point variable ≡ other.contains point variable
+abbrev dead_by : ℕ → Knowledge → Option ℕ → List ℕ
+dead_by point known (Some v) = if not (known.doubtful (suc point)) && not (known.live.contains (suc point) v) then v ∷ [] else []
+dead_by point known None = []
 
-same_report : (program : Program) (known : Knowledge) (facts : Facts) → Agree program known.reach facts → report_of program known ≡ report_of program (with_reach known facts)
-same_report program known facts agree =
+module _ (program : Program) (sound : IsSound program) (one other : Knowledge) (agree : Agree program one other) (point : ℕ) (below : point < point_count program) where
+  unset_test : (variable : ℕ) (b : Bool) → reads program point variable ≡ b
+      → (reads program point variable && one.reach.contains point variable) ≡ (reads program point variable && other.reach.contains point variable)
+  unset_test variable true is = ap (λ c. reads program point variable && c) (agree.unset point variable below is)
+  unset_test variable false is = ap (λ r. r && one.reach.contains point variable) is ∙ sym (ap (λ r. r && other.reach.contains point variable) is)
+
+  pub same_unset : unset_at program one point ≡ unset_at program other point
+  same_unset = same_filter (λ v. reads program point v && one.reach.contains point v) (λ v. reads program point v && other.reach.contains point v) 0 (length program.variable_names)
+      (λ v low high. unset_test v (reads program point v) refl)
+
+  same_computed_by : (o : Option ℕ) → evaluated_at program point ≡ o → computed_by point one o ≡ computed_by point other o
+  same_computed_by None is = refl
+  same_computed_by (Some bit) is = ap (λ b. if b then bit ∷ [] else []) (agree.computed point bit below is)
+
+  same_computed : computed_at program one point ≡ computed_at program other point
+  same_computed = same_computed_by (evaluated_at program point) refl
+
+  same_busy_test : (kind : StmtKind) → kind_at program point ≡ Some kind → (t : Bool) → is_test kind ≡ t → busy_by program point one t ≡ busy_by program point other t
+  same_busy_test kind at false is = refl
+  same_busy_test kind at true is =
+      ap₂ (λ d xs. if true && not d then xs else []) (agree.doubtful point below)
+      (same_filter (one.busy.contains point) (other.busy.contains point) 0 (bits program Busy) (λ bit low high. agree.busy point bit kind below at is (omega (arith, high))))
+
+  same_busy_by : (o : Option StmtKind) → kind_at program point ≡ o → busy_by program point one (unwrap_or (option_map is_test o) false) ≡ busy_by program point other (unwrap_or (option_map is_test o) false)
+  same_busy_by None at = refl
+  same_busy_by (Some kind) at = same_busy_test kind at (is_test kind) refl
+
+  same_busy : busy_at program one point ≡ busy_at program other point
+  same_busy = same_busy_by (kind_at program point) refl
+
+  same_dead_sets : (kind : StmtKind) → kind_at program point ≡ Some kind → (o : Option ℕ) → assigned kind ≡ o → dead_by point one o ≡ dead_by point other o
+  same_dead_sets kind at None is = refl
+  same_dead_sets kind at (Some v) is =
+      let next : suc point < point_count program = omega (arith, next_below program point kind (stands program sound point kind below at)) in
+      ap₂ (λ d l. if not d && not l then v ∷ [] else []) (agree.doubtful (suc point) next) (agree.live point v kind below at is)
+
+  same_dead_by : (o : Option StmtKind) → kind_at program point ≡ o → dead_by point one (option_and_then assigned o) ≡ dead_by point other (option_and_then assigned o)
+  same_dead_by None at = refl
+  same_dead_by (Some kind) at = same_dead_sets kind at (assigned kind) refl
+
+  pub same_dead : dead_at program one point ≡ dead_at program other point
+  same_dead = same_dead_by (kind_at program point) refl
+
+  same_when_reached : remarks_when_reached program one point ≡ remarks_when_reached program other point
+  same_when_reached = λ i.
+      map (λ variable. Unset variable) (same_unset i) ++ map (λ bit. Computed bit) (same_computed i)
+      ++ map (λ bit. VeryBusy bit) (same_busy i) ++ map (λ variable. Dead variable) (same_dead i)
+
+  -- the remarks of a point are the same
+  pub same_remarks : remarks_at program one point ≡ remarks_at program other point
+  same_remarks = λ i. elim (kind_at program point) [
+    | Some statement ↦ if agree.flags point below i then same_when_reached i else NeverReached ∷ []
+    | None ↦ []
+  ]
+
+-- and so is the report
+pub same_report : (program : Program) (sound : IsSound program) (one other : Knowledge) → Agree program one other → report_of program one ≡ report_of program other
+same_report program sound one other agree =
     ap (λ t. count_line program ++ t)
-    (same_texts (lines_at program known) (lines_at program (with_reach known facts)) 0 (point_count program) (λ point from below.
-    let there : point < point_count program = omega (arith, below) in
-    ap (flat_map (remark_line program point)) (same_remarks program known facts point (agree.flags point there)
-    (same_filter (λ v. reads program point v && known.reach.contains point v) (λ v. reads program point v && facts.contains point v) 0 (length program.variable_names)
-    (λ variable low high. ap (λ b. reads program point variable && b) (agree.dummies point variable there (omega (arith, high))))))))
+    (same_texts (lines_at program one) (lines_at program other) 0 (point_count program)
+    (λ point from below. ap (flat_map (remark_line program point)) (same_remarks program sound one other agree point (omega (arith, below)))))
 
--- what the tables that were found tell, and of reaching definitions all
+-- a truth that is told within bounds
+within : {P : Type 0} (b : Bool) (bit limit : ℕ) → bit < limit → (b ≡ true) ↔ ((bit < limit) × P) → (b ≡ true) ↔ P
+within b bit limit below is = ((λ has. (is.0 has).1), (λ p. is.1 (below, p)))
+
+-- the expression that a statement evaluates is one of all; where no statement stands there is none
+evaluated_among : (program : Program) (bit : ℕ) (o : Option Expr) → option_and_then (λ e. position (same_expression e) (expressions program)) o ≡ Some bit → bit < bits program Avail
+evaluated_among program bit None is = absurd (cc is)
+evaluated_among program bit (Some e) is = (position-Some (same_expression e) (expressions program) bit e is).0
+
+pub evaluated_there : (program : Program) (point bit : ℕ) → evaluated_at program point ≡ Some bit → bit < bits program Avail
+evaluated_there program point bit is = evaluated_among program bit (expression_at program point) is
+
+none_evaluated : (program : Program) (point bit : ℕ) → kind_at program point ≡ None → ¬ (evaluated_at program point ≡ Some bit)
+none_evaluated program point bit at is =
+    cc (sym is ∙ ap (λ o. option_and_then (λ e. position (same_expression e) (expressions program)) (option_and_then expression_of o)) at)
+
+-- where the asks of a statement stand
+asked_at : (found : Findings) → AreFindings found → (point : ℕ) → point < point_count found.graph.now → (kind : StmtKind) → kind_at found.graph.now point ≡ Some kind
+    → (places : PointAsks) × AreAskedAt found.graph.now found.answers.now.replies.asks places point kind
+asked_at found are point below kind at =
+    let first : PointAsks = record { reads = 0; evaluated = 0; assigned = 0; busy = 0 } in
+    let places = get_or found.answers.now.places point first in
+    (places, are.answers.asked point places kind (slice_get-get_or found.answers.now.places point first (omega (arith, below, are.answers.count))) at)
+
+module _ (found : Findings) (are : AreFindings found) (known : Knowledge) (is : IsKnowledge found.graph.now known) where
+  -- a bit that was asked for is known
+  same_bit : (analysis : Analysis) (facts : Facts) → AreFacts found.graph.now analysis facts → (point bit q : ℕ) → point < point_count found.graph.now → bit < bits found.graph.now analysis
+      → slice_get found.answers.now.replies.asks q ≡ Some (ask_for analysis point bit) → (facts_in found.answers.now.replies analysis).contains point bit ≡ facts.contains point bit
+  same_bit analysis facts facts_are point bit q below there asked =
+      same_truth ((facts_in found.answers.now.replies analysis).contains point bit) (facts.contains point bit)
+      (within ((facts_in found.answers.now.replies analysis).contains point bit) bit (bits found.graph.now analysis) there
+      (bit_told found.graph.now found.answers.now.replies are.answers.answers analysis point bit q asked))
+      (facts_are.sets point bit below there)
+
+  same_unset_bit : (point variable : ℕ) → point < point_count found.graph.now → (o : Option StmtKind) → kind_at found.graph.now point ≡ o
+      → list_any (names_variable variable) (unwrap_or (option_map operands_of o) []) ≡ true
+      → (knowledge_of found).reach.contains point variable ≡ known.reach.contains point variable
+  same_unset_bit point variable below None at reading = absurd (cc reading)
+  same_unset_bit point variable below (Some kind) at reading =
+      let here = asked_at found are point below kind at in
+      let asked = here.1.reads.all variable reading in
+      let there = read_there found.graph.now point variable kind (stands found.graph.now are.sound point kind below at) reading in
+      same_bit Reach known.reach is.reach point variable asked.0 below (omega (arith, there, variables_have_dummies found.graph.now)) asked.1
+
+  same_busy_bit : (point bit : ℕ) (kind : StmtKind) → point < point_count found.graph.now → kind_at found.graph.now point ≡ Some kind → is_test kind ≡ true → bit < bits found.graph.now Busy
+      → (knowledge_of found).busy.contains point bit ≡ known.busy.contains point bit
+  same_busy_bit point bit kind below at test there =
+      let here = asked_at found are point below kind at in
+      same_bit Busy known.busy is.busy point bit (here.0.busy + bit / 64) below there (here.1.busy test (bit / 64) (omega (arith, there)))
+
+  same_live_bit : (point variable : ℕ) (kind : StmtKind) → point < point_count found.graph.now → kind_at found.graph.now point ≡ Some kind → assigned kind ≡ Some variable
+      → (knowledge_of found).live.contains (suc point) variable ≡ known.live.contains (suc point) variable
+  same_live_bit point variable kind below at sets =
+      let here = asked_at found are point below kind at in
+      let stand = stands found.graph.now are.sound point kind below at in
+      let next : suc point ≡ point + 1 = omega arith in
+      same_bit Live known.live is.live (suc point) variable here.0.assigned (omega (arith, next_below found.graph.now point kind stand)) (assigned_there found.graph.now point variable kind stand sets)
+      (subst (λ (p : ℕ). slice_get found.answers.now.replies.asks here.0.assigned ≡ Some (ask_for Live p variable)) (sym next) (here.1.assigned variable sets))
+
+  same_computed_bit : (point bit : ℕ) → point < point_count found.graph.now → (o : Option StmtKind) → kind_at found.graph.now point ≡ o → evaluated_at found.graph.now point ≡ Some bit
+      → (knowledge_of found).avail.contains point bit ≡ known.avail.contains point bit
+  same_computed_bit point bit below (Some kind) at evaluated =
+      let here = asked_at found are point below kind at in
+      same_bit Avail known.avail is.avail point bit here.0.evaluated below (evaluated_there found.graph.now point bit evaluated) (here.1.evaluated bit evaluated)
+  same_computed_bit point bit below None at evaluated = absurd (none_evaluated found.graph.now point bit at evaluated)
+
+  -- what was found agrees with what is known
+  pub agrees : TellDoubtful found.graph.now found.doubtful.items → Agree found.graph.now (knowledge_of found) known
+  agrees doubts = record {
+    flags = λ point below. same_truth ((knowledge_of found).reach.has_path point) (known.reach.has_path point) (are.answers.answers.paths Reach point below) (is.reach.paths point below);
+    unset = λ point variable below reading. same_unset_bit point variable below (kind_at found.graph.now point) refl reading;
+    computed = λ point bit below evaluated. same_computed_bit point bit below (kind_at found.graph.now point) refl evaluated;
+    busy = same_busy_bit;
+    live = same_live_bit;
+    doubtful = λ point below. same_truth ((knowledge_of found).doubtful point) (known.doubtful point) (doubts.each point below) (is.doubtful point below);
+  }
+
+-- all that is known
 pub all_known : (found : Findings) → AreFindings found → Knowledge
-all_known found are = with_reach (knowledge_of found) (decided_facts found.graph.now are.sound Reach)
+all_known found are = record {
+  reach = decided_facts found.graph.now are.sound Reach;
+  live = decided_facts found.graph.now are.sound Live;
+  avail = decided_facts found.graph.now are.sound Avail;
+  busy = decided_facts found.graph.now are.sound Busy;
+  doubtful = (knowledge_of found).doubtful;
+}
 
 pub all_is_known : (found : Findings) (are : AreFindings found) → TellDoubtful found.graph.now found.doubtful.items → IsKnowledge found.graph.now (all_known found are)
-unfolding all_known decided_facts
-all_is_known found are told_doubtful = record {
+unfolding all_known
+all_is_known found are doubts = record {
   reach = decided_facts_are found.graph.now are.sound Reach;
-  live = facts_are found.graph.now found.tables.now.live Live are.tables.live.0 are.tables.live.1;
-  avail = facts_are found.graph.now found.tables.now.avail Avail are.tables.avail.0 are.tables.avail.1;
-  busy = facts_are found.graph.now found.tables.now.busy Busy are.tables.busy.0 are.tables.busy.1;
-  doubtful = told_doubtful.each;
+  live = decided_facts_are found.graph.now are.sound Live;
+  avail = decided_facts_are found.graph.now are.sound Avail;
+  busy = decided_facts_are found.graph.now are.sound Busy;
+  doubtful = doubts.each;
 }
-
-beginning_agrees : (program : Program) (sound : IsSound program) (table : TableRows) (analysis : Analysis) → table.analysis ≡ analysis → IsBeginningOf program table
-    → length program.variable_names ≤ table.rows.hi → Agree program (facts_of table) (decided_facts program sound analysis)
-unfolding decided_facts is_left
-beginning_agrees program sound table analysis same is dummies = subst (λ a. Agree program (facts_of table) (decided_facts program sound a)) same (record {
-  flags = λ point there. same_truth (flag_at table.rows point) _ (is.paths point there) (told (tables_are_decided program table.analysis point 0 sound).0);
-  dummies = λ point variable there low.
-      same_truth (contains (set_at table.rows point) variable) _ (is.sets point variable there (omega (arith, low, dummies))) (told (tables_are_decided program table.analysis point variable sound).1);
-})
 
 -- The report of what was found is that of all that is known.
-pub report_of_all : (found : Findings) (are : AreFindings found) → report_of found.graph.now (knowledge_of found) ≡ report_of found.graph.now (all_known found are)
-unfolding all_known decided_facts
-report_of_all found are =
-    same_report found.graph.now (knowledge_of found) (decided_facts found.graph.now are.sound Reach)
-    (beginning_agrees found.graph.now are.sound found.tables.now.reach Reach are.tables.reach.0 are.tables.reach.1 are.tables.dummies)
-
--- whole tables tell a report
-beginning_of : (program : Program) (table : TableRows) → IsTableOf program table → IsBeginningOf program table
-beginning_of program table is = record {
-  from_first = is.from_first;
-  within = omega (arith, is.to_last);
-  count = is.count;
-  paths = is.facts.paths;
-  sets = λ point bit there low. is.facts.sets point bit there (omega (arith, low, is.to_last));
-}
-
-pub whole_tell : (program : Program) (tables : Tables) → AreTablesOf program tables → TellReport program tables
-whole_tell program tables are = record {
-  reach = (are.reach.0, beginning_of program tables.reach are.reach.1);
-  dummies = omega (arith, high_is program tables.reach Reach are.reach.0 are.reach.1, variables_have_dummies program);
-  live = are.live;
-  avail = are.avail;
-  busy = are.busy;
-}
+pub report_of_all : (found : Findings) (are : AreFindings found) → TellDoubtful found.graph.now found.doubtful.items
+    → report_of found.graph.now (knowledge_of found) ≡ report_of found.graph.now (all_known found are)
+report_of_all found are doubts =
+    same_report found.graph.now are.sound (knowledge_of found) (all_known found are) (agrees found are (all_known found are) (all_is_known found are doubts) doubts)

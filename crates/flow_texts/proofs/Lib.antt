@@ -1,3 +1,4 @@
+pub mod Asking
 pub mod BitRuns
 pub mod Doubts
 pub mod KnownReports
@@ -6,3 +7,4 @@ pub mod RangeLines
 pub mod RemarkLines
 pub mod Rising
 pub mod SafeReports
+pub mod Told

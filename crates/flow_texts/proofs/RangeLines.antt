@@ -3,7 +3,6 @@ use Rattle.std.proofs.Common.{◌≡◌, ℕ, zero, suc, ◌+◌, ◌-◌, ◌*�
 use Rattle.std.specs.List.{filter, range_with_len}
 use Rattle.std.proofs.lemmas.Grind.{flat_map-append}
 use Rattle.std.proofs.lemmas.List.Elements.{filter-append}
-use Rattle.bit_rows.specs.RowSet.{RowSet, IsWordOf, contains}
 use Rattle.bit_rows.specs.Words.{has_bit}
 use Rattle.bit_rows.proofs.WordBits.{has_bit-zero}
 use Rattle.flow_texts.specs.code.Findings.{texts_where}
@@ -84,9 +83,9 @@ next_member text_of test a place next width old one two inside further passes no
     ∙ ap (texts_between text_of test a) all)
 
 -- a word that is 0 gives no texts
-pub no_texts : (text_of : ℕ → List ℕ) (row : RowSet) (n w value : ℕ) → IsWordOf row w value → value ≡ 0
-    → texts_between text_of (contains row) (64 * w) (min n (64 * w + 64) - 64 * w) ≡ []
-no_texts text_of row n w value is_word zero_ =
+pub no_texts : (text_of : ℕ → List ℕ) (test : ℕ → Bool) (n w value : ℕ) → ((k : ℕ) → k < 64 → has_bit value k ≡ test (64 * w + k)) → value ≡ 0
+    → texts_between text_of test (64 * w) (min n (64 * w + 64) - 64 * w) ≡ []
+no_texts text_of test n w value is_word zero_ =
     ap (flat_map text_of)
-    (none_pass (contains row) (64 * w) (min n (64 * w + 64) - 64 * w)
+    (none_pass test (64 * w) (min n (64 * w + 64) - 64 * w)
     (λ i below. sym (is_word i (omega (arith, below))) ∙ ap (λ v. has_bit v i) zero_ ∙ has_bit-zero i))

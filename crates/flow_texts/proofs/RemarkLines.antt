@@ -21,12 +21,13 @@ use Rattle.flow_graph.specs.declared.analysis.Analysis.TheVariants.{Busy, Reach}
 use Rattle.flow_graph.proofs.edges.EdgeLemmas.{next_in}
 use Rattle.flow_graph.proofs.bits.SetWords.{nat_eq-same}
 use Rattle.flow_graph.proofs.places.Standing.{Stands, stands}
+use Rattle.flow_texts.specs.code.Operands.{AreRead}
 use Rattle.flow_texts.specs.code.Findings.{remark_name, texts_where, words_before, words_behind}
 use Rattle.text_pieces.specs.code.Lists.{some_stand}
+use Rattle.flow_team.specs.Tables.{Facts}
 use Rattle.flow_texts.specs.Reports.{Knowledge, assigned, busy_at, computed_at, dead_at, is_test, remark_text, remarks_at, remarks_when_reached, unset_at}
 use Rattle.flow_texts.specs.declared.remark.Remark.{Remark}
 use Rattle.flow_texts.specs.declared.remark.Remark.TheVariants.{NeverReached, Unset, Computed, VeryBusy, Dead}
-use Rattle.flow_team.specs.Tables.{TableRows, IsTableOf}
 use Rattle.flow_texts.specs.Tables.{bits_at, variable_text}
 use Rattle.flow_texts.proofs.Rising.{or_true, rises, filter_rising, filter_both}
 
@@ -68,10 +69,6 @@ pub name_is : (program other : Program) (variable : ℕ) (name : List ℕ) → o
 name_is program other variable name same found =
     sym (ap (λ (p : Program). variable_text p variable) (sym same) ∙ ap (λ o. unwrap_or o []) found)
 
--- the bits of a table
-pub high_is : (program : Program) (table : TableRows) (analysis : Analysis) → table.analysis ≡ analysis → IsTableOf program table → table.rows.hi ≡ bits program analysis
-high_is program table analysis same is = is.to_last ∙ ap (bits program) same
-
 -- each variable has a definition, its dummy, of the variable's number
 pub variables_have_dummies : (program : Program) → length program.variable_names ≤ bits program Reach
 variables_have_dummies program =
@@ -100,7 +97,7 @@ two_there variables x y z left right reading = by_test (names_variable x y) refl
     by_test true is any = operand_there variables x y left is
     by_test false is any = one_there variables x z right any
 
-read_there : (program : Program) (point x : ℕ) (k : StmtKind) → Stands program point k → list_any (names_variable x) (operands_of k) ≡ true → x < length program.variable_names
+pub read_there : (program : Program) (point x : ℕ) (k : StmtKind) → Stands program point k → list_any (names_variable x) (operands_of k) ≡ true → x < length program.variable_names
 read_there program point x (kind.Copy t y) stand reading = one_there (length program.variable_names) x y stand.sound.1 reading
 read_there program point x (kind.Unary t o y) stand reading = one_there (length program.variable_names) x y stand.sound.operand reading
 read_there program point x (kind.Binary o t y z) stand reading = two_there (length program.variable_names) x y z stand.sound.left stand.sound.right reading
@@ -113,11 +110,6 @@ read_there program point x kind.Return stand reading = absurd (cc reading)
 read_there program point x (kind.Read t) stand reading = absurd (cc reading)
 read_there program point x (kind.Print y) stand reading = one_there (length program.variable_names) x y stand.sound reading
 read_there program point x kind.Skip stand reading = absurd (cc reading)
-
--- The variables that a statement reads, in order and each once
-pub record AreRead (k : StmtKind) (variables : List ℕ) : Type 0 where
-  pub rising : IsStrictlyIncreasing variables
-  pub read : (variable : ℕ) → list_any (nat_eq variable) variables ≡ list_any (names_variable variable) (operands_of k)
 
 pub variables_are_there : (program : Program) (point : ℕ) (k : StmtKind) (variables : List ℕ) → IsSound program → point < point_count program → kind_at program point ≡ Some k → AreRead k variables
     → (x : ℕ) → list_any (nat_eq x) variables ≡ true → x < length program.variable_names
@@ -140,6 +132,21 @@ unset_are program known point k variables sound below at are =
     (filter_rising (length program.variable_names) 0 variables (reads program point) (rises variables are.rising)
     (λ x any. omega (arith, variables_are_there program point k variables sound below at are x any))
     (λ x above. are.read x ∙ ap (λ o. list_any (names_variable x) (unwrap_or (option_map operands_of o) [])) (sym at)))
+
+filter_all : (xs : List ℕ) → filter (λ _. true) xs ≡ xs
+filter_all [] = refl
+filter_all (x ∷ xs) = ap (λ ys. x ∷ ys) (filter_all xs)
+
+-- there is one such list
+pub same_read : (program : Program) (point : ℕ) (k : StmtKind) (one other : List ℕ) → IsSound program → point < point_count program → kind_at program point ≡ Some k
+    → AreRead k one → AreRead k other → one ≡ other
+same_read program point k one other sound below at are_one are_other =
+    let facts : Facts = record { has_path = λ p. true; contains = λ p v. true } in
+    let every : Knowledge = record { reach = facts; live = facts; avail = facts; busy = facts; doubtful = λ p. true } in
+    sym (filter_all one)
+    ∙ sym (unset_are program every point k one sound below at are_one)
+    ∙ unset_are program every point k other sound below at are_other
+    ∙ filter_all other
 
 -- the expression that the statement evaluates, where it is available
 pub computed_is : (program : Program) (known : Knowledge) (point bit : ℕ) → evaluated_at program point ≡ Some bit → known.avail.contains point bit ≡ true

@@ -6,25 +6,13 @@ use Rattle.tac_reader.specs.declared.program.StmtKind.{StmtKind}
 use Rattle.flow_graph.specs.Analyses.{shape_of, accesses_of}
 use Rattle.flow_graph.specs.Points.{kind_at, point_count}
 use Rattle.flow_graph.specs.Runs.{ReadsBeforeWriting}
-use Rattle.flow_graph.specs.declared.analysis.Analysis.TheVariants.{Reach, Live, Avail, Busy}
 use Rattle.flow_graph.proofs.graphs.GraphLaws.{dead_variables_are_safe}
 use Rattle.flow_graph.proofs.places.Standing.{Stands, stands}
 use Rattle.flow_texts.specs.code.Findings.{AreFindings, TellDoubtful, knowledge_of}
-use Rattle.flow_texts.specs.Reports.{AreTablesOf, IsKnowledge, IsListedDead, IsReport, Knowledge, ListsSafely, assigned, dead_at, report_of}
+use Rattle.flow_texts.specs.Reports.{IsKnowledge, IsListedDead, IsReport, Knowledge, ListsSafely, assigned, dead_at, report_of}
 use Rattle.flow_texts.specs.declared.findings.Findings.{Findings}
-use Rattle.flow_texts.proofs.Doubts.{facts_are}
 use Rattle.flow_texts.proofs.KnownReports.{all_is_known, all_known, report_of_all}
 use Rattle.flow_texts.proofs.RemarkLines.{assigned_there, next_below}
-
-pub is_knowledge : (found : Findings) → AreFindings found → AreTablesOf found.graph.now found.tables.now → TellDoubtful found.graph.now found.doubtful.items
-    → IsKnowledge found.graph.now (knowledge_of found)
-is_knowledge found are whole told = record {
-  reach = facts_are found.graph.now found.tables.now.reach Reach whole.reach.0 whole.reach.1;
-  live = facts_are found.graph.now found.tables.now.live Live whole.live.0 whole.live.1;
-  avail = facts_are found.graph.now found.tables.now.avail Avail whole.avail.0 whole.avail.1;
-  busy = facts_are found.graph.now found.tables.now.busy Busy whole.busy.0 whole.busy.1;
-  doubtful = told.each;
-}
 
 -- what is said of an assignment that is listed as dead
 record IsDead (program : Program) (known : Knowledge) (point variable : ℕ) : Type 0 where
@@ -78,13 +66,13 @@ listed_dead_is_safe program known point variable sound is_known (below, reached,
 
 pub is_report : (found : Findings) (text : List ℕ) → AreFindings found → TellDoubtful found.graph.now found.doubtful.items → text ≡ report_of found.graph.now (knowledge_of found)
     → IsReport found.graph.now text
-is_report found text are told is = record { known = all_known found are; is_known = all_is_known found are told; is_text = is ∙ report_of_all found are }
+is_report found text are told is = record { known = all_known found are; is_known = all_is_known found are told; is_text = is ∙ report_of_all found are told }
 
 pub lists_safely : (found : Findings) (text : List ℕ) → AreFindings found → TellDoubtful found.graph.now found.doubtful.items → text ≡ report_of found.graph.now (knowledge_of found)
     → ListsSafely found.graph.now text
 lists_safely found text are told is = record {
   known = all_known found are;
   is_known = all_is_known found are told;
-  is_text = is ∙ report_of_all found are;
+  is_text = is ∙ report_of_all found are told;
   safe = λ point variable listed. listed_dead_is_safe found.graph.now (all_known found are) point variable are.sound (all_is_known found are told) listed;
 }

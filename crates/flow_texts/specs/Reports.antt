@@ -10,7 +10,6 @@ use Rattle.flow_graph.specs.declared.analysis.Analysis.TheVariants.{Reach, Live,
 use Rattle.tac_reader.specs.Programs.{Program}
 use Rattle.tac_reader.specs.declared.program.StmtKind.{StmtKind}
 use Rattle.tac_reader.specs.declared.program.StmtKind.TheVariants as kind
-use Rattle.flow_team.specs.Beginnings.{IsBeginningOf}
 use Rattle.flow_team.specs.Tables.{Facts, AreFacts, IsTableOf}
 use Rattle.flow_texts.specs.Tables.{bit_text, bits_at, line_at, variable_text}
 use Rattle.flow_texts.specs.declared.remark.Remark.{Remark}
@@ -20,15 +19,6 @@ use Rattle.flow_texts.specs.declared.tables.Tables.{Tables}
 -- each is this program's table of its analysis
 pub record AreTablesOf (program : Program) (tables : Tables) : Type 0 where
   pub reach : (tables.reach.analysis ≡ Reach) × IsTableOf program tables.reach
-  pub live : (tables.live.analysis ≡ Live) × IsTableOf program tables.live
-  pub avail : (tables.avail.analysis ≡ Avail) × IsTableOf program tables.avail
-  pub busy : (tables.busy.analysis ≡ Busy) × IsTableOf program tables.busy
-
--- What a report asks of tables: that they are this program's, of reaching definitions at least the part with the dummies, which have
--- their variables' numbers.
-pub record TellReport (program : Program) (tables : Tables) : Type 0 where
-  pub reach : (tables.reach.analysis ≡ Reach) × IsBeginningOf program tables.reach
-  pub dummies : length program.variable_names ≤ tables.reach.rows.hi
   pub live : (tables.live.analysis ≡ Live) × IsTableOf program tables.live
   pub avail : (tables.avail.analysis ≡ Avail) × IsTableOf program tables.avail
   pub busy : (tables.busy.analysis ≡ Busy) × IsTableOf program tables.busy

@@ -1,4 +1,7 @@
+pub mod Asking
 pub mod Findings
 pub mod Members
 pub mod Operands
+pub mod Reported
 pub mod Runs
+pub mod Told

@@ -5,40 +5,45 @@ ghost use Rattle.flow_graph.specs.Limits.{HasFewPoints};
 ghost use Rattle.flow_graph.specs.Points.{points, point_count};
 ghost use Rattle.flow_graph.specs.declared.analysis.Analysis.TheVariants.{Live};
 ghost use Rattle.tac_reader.specs.Sound.{IsSound};
+ghost use Rattle.flow_team.specs.Asks.{flags_of};
 ghost use Rattle.flow_texts.specs.code.Findings.{TellDoubtful};
-ghost use Rattle.flow_team.specs.Tables.{IsTableOf, facts_of};
+ghost use Rattle.flow_texts.specs.code.Reported.{TellReport};
+ghost use Rattle.flow_texts.specs.code.Told.{facts_in};
 
-use flow_graph::{Graph, OutOfMemory};
-use flow_team::Table;
+use crate::report_answers::ReportAnswers;
+use flow_graph::{Analysis, Graph, OutOfMemory};
 use std::alloc::Global;
 
 /// For each point whether it has no valid path to the end of `main`.
-fn endless_points(alloc: Global, graph: &Graph<'_>, live: &Table) -> Result<Vec<bool>, OutOfMemory>
-    requires { length live.now.rows.flags ≡ point_count graph.now }
-    ensures points { IfOk result (λ endless. endless.items ≡ map (λ point. not ((facts_of live.now).has_path point)) (points graph.now)) }
+fn endless_points(
+    alloc: Global,
+    graph: &Graph<'_>,
+    answers: &ReportAnswers,
+) -> Result<Vec<bool>, OutOfMemory>
+    requires { length (flags_of answers.now.replies Live) ≡ point_count graph.now }
+    ensures points { IfOk result (λ endless. endless.items ≡ map (λ point. not ((facts_in answers.now.replies Live).has_path point)) (points graph.now)) }
     ensures few { HasFewPoints graph.now }
     ensures sound { IsSound graph.now }
 {
     let mut endless = Vec::new(alloc);
     for point in 0..graph.points() {
-        endless.push(!live.has_path(point))?;
+        endless.push(!answers.has_path(Analysis::Live, point))?;
     }
     Ok(endless)
 }
 
 /// For each point whether it is doubtful: whether some path leads from it to a point that has no valid path to the end of
-/// `main`, as where a loop or a recursion may never end. It takes the table of live variables.
+/// `main`, as where a loop or a recursion may never end.
 pub(crate) fn doubtful_points(
     alloc: Global,
     graph: &Graph<'_>,
-    live: &Table,
+    answers: &ReportAnswers,
 ) -> Result<Vec<bool>, OutOfMemory>
-    requires analysis { live.now.analysis ≡ Live }
-    requires table { IsTableOf graph.now live.now }
+    requires { TellReport graph.now answers.now }
     ensures points { IfOk result (λ doubtful. TellDoubtful graph.now doubtful.items) }
     ensures few { HasFewPoints graph.now }
     ensures sound { IsSound graph.now }
 {
-    let endless = endless_points(alloc, graph, live)?;
+    let endless = endless_points(alloc, graph, answers)?;
     graph.leads_to(alloc, &endless)
 }

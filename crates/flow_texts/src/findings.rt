@@ -1,23 +1,26 @@
 // What is found of a program before a text of it is written.
 
-ghost use Rattle.std.specs.Prelude.{◌≡◌, IfOk};
-ghost use Rattle.flow_texts.specs.code.Findings.{AreFindings, TellDoubtful, knowledge_of};
-ghost use Rattle.flow_texts.specs.Reports.{AreTablesOf, IsKnowledge, TellReport};
+ghost use Rattle.std.specs.Prelude.{◌≡◌, ℕ, ◌+◌, ◌*◌, ◌<◌, Some, length, slice_get, IfOk};
+ghost use Rattle.bit_rows.specs.Words.{has_bit};
+ghost use Rattle.flow_texts.specs.code.Findings.{AreFindings, TellDoubtful};
+ghost use Rattle.flow_texts.specs.code.Reported.{TellReport};
+ghost use Rattle.flow_texts.specs.code.Told.{ask_for, facts_in};
 
 use crate::bit_texts::texts_of_bits;
 use crate::doubt::doubtful_points;
-use crate::tables::Tables;
+use crate::report_answers::ReportAnswers;
 use flow_graph::{Analysis, Graph, OutOfMemory};
+use flow_team::Ask;
 use std::alloc::Global;
 use text_pieces::TextBlock;
 
-/// What was found of a program: its tables, for each point whether it is doubtful, and what its expressions are called.
+/// What was found of a program: answers to what a report asks, for each point whether it is doubtful, and what its expressions are called.
 #[derive(Drop)]
 pub struct Findings<'a> {
     /// The program.
     pub graph: &'a Graph<'a>,
-    /// Its tables.
-    pub tables: &'a Tables,
+    /// The answers.
+    pub answers: &'a ReportAnswers,
     /// Whether each point is doubtful.
     pub doubtful: Vec<bool>,
     /// The texts of its expressions.
@@ -25,29 +28,53 @@ pub struct Findings<'a> {
 }
 
 impl<'a> Findings<'a> {
-    /// What these tables tell of their program.
+    /// What these answers tell of their program.
     ///
-    /// The condition: the tables are of this graph, or tell at least what a report asks. Where they are whole, what is found is knowledge
-    /// of the whole program. Fails only where memory runs out.
+    /// The condition: they answer what a report on this graph's program asks. Fails only where memory runs out.
     pub fn of(
         alloc: Global,
         graph: &'a Graph<'a>,
-        tables: &'a Tables,
+        answers: &'a ReportAnswers,
     ) -> Result<Findings<'a>, OutOfMemory>
-        requires { TellReport graph.now tables.now }
+        requires { TellReport graph.now answers.now }
         ensures program { IfOk result (λ found. found.graph.now ≡ graph.now) }
-        ensures tables { IfOk result (λ found. found.tables.now ≡ tables.now) }
         ensures found { IfOk result AreFindings }
         ensures doubtful { IfOk result (λ found. TellDoubtful found.graph.now found.doubtful.items) }
-        ensures known { IfOk result (λ found. AreTablesOf graph.now tables.now → IsKnowledge found.graph.now (knowledge_of found)) }
     {
-        let doubtful = doubtful_points(alloc, graph, &tables.live)?;
+        let doubtful = doubtful_points(alloc, graph, answers)?;
         let expressions = texts_of_bits(alloc, graph, Analysis::Avail)?;
         Ok(Findings {
             graph,
-            tables,
+            answers,
             doubtful,
             expressions,
         })
+    }
+}
+
+impl Findings<'_> {
+    // The answer to the ask of a number.
+    pub(crate) fn answer(&self, number: u32, ask: Ask) -> u64
+        requires found { AreFindings self.now }
+        requires asked { slice_get self.now.answers.now.replies.asks number ≡ Some ask }
+        ensures { (k : ℕ) → k < 64 → has_bit result k ≡ (facts_in self.now.answers.now.replies ask.analysis).contains ask.point (64 * ask.word + k) }
+    {
+        // Only the number tells which answer it is; the ask says what it answers.
+        let _ = ask;
+        self.answers.word(number)
+    }
+
+    // Whether the answer to the ask of a number has the bit that it was asked for.
+    pub(crate) fn has(&self, number: u32, analysis: Analysis, point: u32, bit: u32) -> bool
+        requires found { AreFindings self.now }
+        requires asked { slice_get self.now.answers.now.replies.asks number ≡ Some (ask_for analysis point bit) }
+        ensures { result ≡ (facts_in self.now.answers.now.replies analysis).contains point bit }
+    {
+        let ask = Ask {
+            analysis,
+            point,
+            word: bit / 64,
+        };
+        (self.answer(number, ask) >> (bit % 64)) & 1 == 1
     }
 }

@@ -1,15 +1,16 @@
 // What is said of the statement at a point.
 
-ghost use Rattle.std.specs.Prelude.{◌≡◌, ℕ, ◌+◌, ◌-◌, ◌&&◌, ◌<◌, ◌≤◌, ◌∷◌, [], Some, flat_map, length, not};
+ghost use Rattle.std.specs.Prelude.{◌≡◌, ℕ, ◌+◌, ◌*◌, ◌-◌, ◌&&◌, ◌<◌, ◌≤◌, ◌∷◌, [], Some, flat_map, length, not, slice_get, true};
 ghost use Rattle.std.specs.List.{range_with_len};
 ghost use Rattle.bit_rows.specs.Words.{has_bit};
 ghost use Rattle.flow_graph.specs.Points.{kind_at, point_count};
-ghost use Rattle.flow_graph.specs.Universes.{bits as bits_of};
-ghost use Rattle.flow_graph.specs.declared.analysis.Analysis.TheVariants.{Busy};
+ghost use Rattle.flow_graph.specs.Universes.{bits as bits_of, evaluated_at};
+ghost use Rattle.flow_graph.specs.declared.analysis.Analysis.TheVariants.{Busy, Reach};
 ghost use Rattle.flow_texts.specs.code.Findings.{AreFindings, IsRemarkIn, knowledge_of, remark_name, texts_where, words_before, words_behind};
 ghost use Rattle.text_pieces.specs.code.Lists.{some_stand};
 ghost use Rattle.text_pieces.specs.Pieces.{IsOpen, Takes, outlet};
-ghost use Rattle.flow_texts.specs.Reports.{busy_at, computed_at, dead_at, is_test as is_test_of, remarks_at, remarks_when_reached, unset_at};
+ghost use Rattle.flow_texts.specs.Reports.{assigned as assigned_by, busy_at, computed_at, dead_at, is_test as is_test_of, remarks_at, remarks_when_reached, unset_at};
+ghost use Rattle.flow_texts.specs.code.Told.{ask_for};
 ghost use Rattle.flow_texts.specs.declared.remark.Remark.TheVariants.{Computed, Dead, Unset, VeryBusy};
 
 use crate::findings::Findings;
@@ -18,6 +19,7 @@ use crate::operands::{VariablesRead, assigned, is_test, variables_read};
 use crate::remark::Remark;
 use crate::remark_form::RemarkForm;
 use flow_graph::Analysis;
+use flow_team::Ask;
 use tac_reader::StmtKind;
 use text_pieces::{Pieces, Sink};
 
@@ -65,14 +67,13 @@ impl Findings<'_> {
         }
     }
 
-    // Whether a variable may not be set at a point.
-    fn may_be_unset(&self, point: u32, variable: u32) -> bool
+    // Whether a variable may not be set at a point, by the ask of a number.
+    fn may_be_unset(&self, number: u32, point: u32, variable: u32) -> bool
         requires found { AreFindings self.now }
-        requires point { point < point_count self.now.graph.now }
-        requires variable { variable < length self.now.graph.now.variable_names }
+        requires asked { slice_get self.now.answers.now.replies.asks number ≡ Some (ask_for Reach point variable) }
         ensures { result ≡ (knowledge_of self.now).reach.contains point variable }
     {
-        self.tables.reach.contains(point, variable)
+        self.has(number, Analysis::Reach, point, variable)
     }
 
     /// Whether the statement at a point reads a variable that may not be set there.
@@ -84,31 +85,35 @@ impl Findings<'_> {
         requires kind { kind_at self.now.graph.now point ≡ Some kind.now }
         ensures { result ≡ some_stand (unset_at self.now.graph.now (knowledge_of self.now) point) }
     {
+        let here = self.answers.places(point);
         match variables_read(kind) {
             VariablesRead::None => false,
-            VariablesRead::One(variable) => self.may_be_unset(point, variable),
+            VariablesRead::One(variable) => self.may_be_unset(here.reads, point, variable),
             VariablesRead::Two(first, second) => {
-                self.may_be_unset(point, first) || self.may_be_unset(point, second)
+                self.may_be_unset(here.reads, point, first)
+                    || self.may_be_unset(here.reads + 1, point, second)
             }
         }
     }
 
-    // Writes that a variable that the statement reads may not be set, where that is so.
+    // Writes that a variable that the statement reads may not be set, where that is so, by the ask of a number.
     fn write_unset_variable<F: RemarkForm, K: Sink>(
         &self,
         form: &F,
         out: &mut Pieces<'_, K>,
+        number: u32,
         point: u32,
         variable: u32,
     )
         requires ready { IsOpen (outlet K.contents K.faults out.old) }
         requires found { AreFindings self.now }
+        requires asked { slice_get self.now.answers.now.replies.asks number ≡ Some (ask_for Reach point variable) }
         requires point { point < point_count self.now.graph.now }
         requires variable { variable < length self.now.graph.now.variable_names }
         ensures same_reference { out.new.sink.ghost_name ≡ out.old.sink.ghost_name }
         ensures takes { Takes (outlet K.contents K.faults out.old) (outlet K.contents K.faults out.new) (texts_where (λ v. F.text form.now self.now.graph.now point (Unset v)) ((knowledge_of self.now).reach.contains point) (variable ∷ [])) }
     {
-        if !self.may_be_unset(point, variable) {
+        if !self.may_be_unset(number, point, variable) {
             return;
         }
         form.write_remark(out, self, point, Remark::Unset { variable });
@@ -129,28 +134,51 @@ impl Findings<'_> {
         ensures same_reference { out.new.sink.ghost_name ≡ out.old.sink.ghost_name }
         ensures takes { Takes (outlet K.contents K.faults out.old) (outlet K.contents K.faults out.new) (flat_map (λ v. F.text form.now self.now.graph.now point (Unset v)) (unset_at self.now.graph.now (knowledge_of self.now) point)) }
     {
+        let reads = self.answers.places(point).reads;
         match variables_read(kind) {
             VariablesRead::None => {}
-            VariablesRead::One(variable) => self.write_unset_variable(form, out, point, variable),
+            VariablesRead::One(variable) => {
+                self.write_unset_variable(form, out, reads, point, variable);
+            }
             VariablesRead::Two(first, second) => {
-                self.write_unset_variable(form, out, point, first);
-                self.write_unset_variable(form, out, point, second);
+                self.write_unset_variable(form, out, reads, point, first);
+                self.write_unset_variable(form, out, reads + 1, point, second);
             }
         }
     }
 
+    // Whether the expression that the statement at a point evaluates is available there.
+    fn is_computed(&self, point: u32, kind: &StmtKind, bit: u32) -> bool
+        requires found { AreFindings self.now }
+        requires point { point < point_count self.now.graph.now }
+        requires kind { kind_at self.now.graph.now point ≡ Some kind.now }
+        requires bit { evaluated_at self.now.graph.now point ≡ Some bit }
+        ensures { result ≡ (knowledge_of self.now).avail.contains point bit }
+    {
+        let _ = kind;
+        let number = self.answers.places(point).evaluated;
+        self.has(number, Analysis::Avail, point, bit)
+    }
+
     // Writes that the expression that the statement evaluates is computed already, where that is so.
-    fn write_computed<F: RemarkForm, K: Sink>(&self, form: &F, out: &mut Pieces<'_, K>, point: u32)
+    fn write_computed<F: RemarkForm, K: Sink>(
+        &self,
+        form: &F,
+        out: &mut Pieces<'_, K>,
+        point: u32,
+        kind: &StmtKind,
+    )
         requires ready { IsOpen (outlet K.contents K.faults out.old) }
         requires found { AreFindings self.now }
         requires point { point < point_count self.now.graph.now }
+        requires kind { kind_at self.now.graph.now point ≡ Some kind.now }
         ensures same_reference { out.new.sink.ghost_name ≡ out.old.sink.ghost_name }
         ensures takes { Takes (outlet K.contents K.faults out.old) (outlet K.contents K.faults out.new) (flat_map (λ e. F.text form.now self.now.graph.now point (Computed e)) (computed_at self.now.graph.now (knowledge_of self.now) point)) }
     {
         let Some(bit) = self.graph.evaluated(point) else {
             return;
         };
-        if !self.tables.avail.contains(point, bit) {
+        if !self.is_computed(point, kind, bit) {
             return;
         }
         form.write_remark(out, self, point, Remark::Computed { expression: bit });
@@ -185,22 +213,44 @@ impl Findings<'_> {
         }
     }
 
-    // Writes which expressions are very busy, word by word; most words have none.
+    // The word of a number of the very busy expressions at a test.
+    fn busy_word(&self, point: u32, kind: &StmtKind, word: u32) -> u64
+        requires found { AreFindings self.now }
+        requires point { point < point_count self.now.graph.now }
+        requires kind { kind_at self.now.graph.now point ≡ Some kind.now }
+        requires test { is_test_of kind.now ≡ true }
+        requires word { 64 * word < bits_of self.now.graph.now Busy }
+        ensures { (k : ℕ) → k < 64 → has_bit result k ≡ (knowledge_of self.now).busy.contains point (64 * word + k) }
+    {
+        let _ = kind;
+        let number = self.answers.places(point).busy + word;
+        let ask = Ask {
+            analysis: Analysis::Busy,
+            point,
+            word,
+        };
+        self.answer(number, ask)
+    }
+
+    // Writes which expressions are very busy at a test, word by word; most words have none.
     fn write_busy_words<F: RemarkForm, K: Sink>(
         &self,
         form: &F,
         out: &mut Pieces<'_, K>,
         point: u32,
+        kind: &StmtKind,
     )
         requires ready { IsOpen (outlet K.contents K.faults out.old) }
         requires found { AreFindings self.now }
         requires point { point < point_count self.now.graph.now }
+        requires kind { kind_at self.now.graph.now point ≡ Some kind.now }
+        requires test { is_test_of kind.now ≡ true }
         ensures same_reference { out.new.sink.ghost_name ≡ out.old.sink.ghost_name }
         ensures takes { Takes (outlet K.contents K.faults out.old) (outlet K.contents K.faults out.new) (texts_where (λ e. F.text form.now self.now.graph.now point (VeryBusy e)) ((knowledge_of self.now).busy.contains point) (range_with_len 0 (bits_of self.now.graph.now Busy))) }
     {
         let bits = self.graph.bits(Analysis::Busy);
         for word in 0..(bits + 63) / 64 {
-            let ones = self.tables.busy.word(point, word);
+            let ones = self.busy_word(point, kind, word);
             if ones != 0 {
                 let (first, end) = (64 * word, bits.min(64 * word + 64));
                 self.write_busy_word(form, out, point, ones, first, end);
@@ -235,18 +285,22 @@ impl Findings<'_> {
         if !self.tells_busy(point, kind) {
             return;
         }
-        self.write_busy_words(form, out, point);
+        self.write_busy_words(form, out, point, kind);
     }
 
-    // Whether a variable is dead behind a statement: the point after it is not doubtful, and the variable not live there.
-    fn is_dead_after(&self, point: u32, variable: u32) -> bool
+    // Whether a variable is dead behind the statement that assigns it: the point after it is not doubtful, and the variable not live there.
+    fn is_dead_after(&self, point: u32, kind: &StmtKind, variable: u32) -> bool
         requires found { AreFindings self.now }
+        requires point { point < point_count self.now.graph.now }
         requires next { point + 1 < point_count self.now.graph.now }
-        requires variable { variable < length self.now.graph.now.variable_names }
+        requires kind { kind_at self.now.graph.now point ≡ Some kind.now }
+        requires assigned { assigned_by kind.now ≡ Some variable }
         ensures { result ≡ (not ((knowledge_of self.now).doubtful (point + 1)) && not ((knowledge_of self.now).live.contains (point + 1) variable)) }
     {
+        let _ = kind;
         let next = point + 1;
-        !self.doubtful[next as usize] && !self.tables.live.contains(next, variable)
+        let number = self.answers.places(point).assigned;
+        !self.doubtful[next as usize] && !self.has(number, Analysis::Live, next, variable)
     }
 
     /// Whether the statement at a point assigns a variable that is dead behind it.
@@ -259,7 +313,7 @@ impl Findings<'_> {
         ensures { result ≡ some_stand (dead_at self.now.graph.now (knowledge_of self.now) point) }
     {
         match assigned(kind) {
-            Some(variable) => self.is_dead_after(point, variable),
+            Some(variable) => self.is_dead_after(point, kind, variable),
             None => false,
         }
     }
@@ -282,7 +336,7 @@ impl Findings<'_> {
         let Some(variable) = assigned(kind) else {
             return;
         };
-        if !self.is_dead_after(point, variable) {
+        if !self.is_dead_after(point, kind, variable) {
             return;
         }
         form.write_remark(out, self, point, Remark::Dead { variable });
@@ -304,7 +358,7 @@ impl Findings<'_> {
         ensures takes { Takes (outlet K.contents K.faults out.old) (outlet K.contents K.faults out.new) (flat_map (F.text form.now self.now.graph.now point) (remarks_when_reached self.now.graph.now (knowledge_of self.now) point)) }
     {
         self.write_unset(form, out, point, kind);
-        self.write_computed(form, out, point);
+        self.write_computed(form, out, point, kind);
         self.write_busy(form, out, point, kind);
         self.write_dead(form, out, point, kind);
     }
@@ -331,7 +385,7 @@ impl Findings<'_> {
         let Some(stmt) = self.graph.stmt(point) else {
             return;
         };
-        if self.tables.reach.has_path(point) {
+        if self.answers.has_path(Analysis::Reach, point) {
             self.write_when_reached(form, out, point, &stmt.kind);
             return;
         }

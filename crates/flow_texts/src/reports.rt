@@ -4,7 +4,8 @@ ghost use Rattle.std.specs.Prelude.{◌≡◌, ◌+◌, ◌<◌, ◌≤◌, ◌+
 ghost use Rattle.flow_graph.specs.Points.{point_count};
 ghost use Rattle.flow_texts.specs.code.Findings.{AreFindings, knowledge_of, line_behind, words_before, words_behind};
 ghost use Rattle.text_pieces.specs.Pieces.{IsOpen, Takes, outlet};
-ghost use Rattle.flow_texts.specs.Reports.{IsReport, ListsSafely, TellReport, count_line, lines_at, report_of};
+ghost use Rattle.flow_texts.specs.Reports.{AreTablesOf, IsReport, ListsSafely, count_line, lines_at, report_of};
+ghost use Rattle.flow_texts.specs.code.Reported.{TellReport};
 ghost use Rattle.flow_texts.specs.Tables.{line_at};
 
 use crate::bit_texts::{line, write_number};
@@ -12,6 +13,7 @@ use crate::findings::Findings;
 use crate::remark::Remark;
 use crate::remark_form::RemarkForm;
 use crate::remarks::words_before_name;
+use crate::report_answers::ReportAnswers;
 use crate::tables::Tables;
 use flow_graph::{Analysis, Graph, OutOfMemory};
 use itoa::Buffer;
@@ -178,17 +180,17 @@ impl<'a> Model for ReportText<'a> {
 impl<'a> ReportText<'a> {
     /// The report, ready to be written.
     ///
-    /// The condition: the tables tell what a report on this graph's program asks. Fails only where memory runs out.
+    /// The condition: the answers are to what a report on this graph's program asks. Fails only where memory runs out.
     pub fn of(
         alloc: Global,
         graph: &'a Graph<'a>,
-        tables: &'a Tables,
+        answers: &'a ReportAnswers,
     ) -> Result<ReportText<'a>, OutOfMemory>
-        requires { TellReport graph.now tables.now }
+        requires { TellReport graph.now answers.now }
         ensures report { IfOk result (IsReport graph.now) }
         ensures safe { IfOk result (ListsSafely graph.now) }
     {
-        let found = Findings::of(alloc, graph, tables)?;
+        let found = Findings::of(alloc, graph, answers)?;
         Ok(ReportText { found })
     }
 }
@@ -201,14 +203,37 @@ impl<'a> Text for ReportText<'a> {
     }
 }
 
-/// The report on a program, made whole: that of `ReportText`.
-///
-/// The condition: the tables tell what a report on this graph's program asks. Its room grows by doubling; fails only where memory runs out.
-pub fn report(alloc: Global, graph: &Graph<'_>, tables: &Tables) -> Result<Vec<u8>, OutOfMemory>
-    requires { TellReport graph.now tables.now }
+// The report of these answers, made whole.
+fn whole_report(
+    alloc: Global,
+    graph: &Graph<'_>,
+    answers: &ReportAnswers,
+) -> Result<Vec<u8>, OutOfMemory>
+    requires { TellReport graph.now answers.now }
     ensures report { IfOk result (λ text. IsReport graph.now text.items) }
     ensures safe { IfOk result (λ text. ListsSafely graph.now text.items) }
 {
-    let text = ReportText::of(alloc, graph, tables)?;
+    let text = ReportText::of(alloc, graph, answers)?;
     whole_text(alloc, &text)
+}
+
+/// The report on a program, made whole: that of `ReportText`, of what the tables answer.
+///
+/// The condition: they are tables of this graph. Its room grows by doubling; fails only where memory runs out.
+pub fn report(alloc: Global, graph: &Graph<'_>, tables: &Tables) -> Result<Vec<u8>, OutOfMemory>
+    requires { AreTablesOf graph.now tables.now }
+    ensures report { IfOk result (λ text. IsReport graph.now text.items) }
+    ensures safe { IfOk result (λ text. ListsSafely graph.now text.items) }
+{
+    let answers = ReportAnswers::of_tables(alloc, graph, tables)?;
+    whole_report(alloc, graph, &answers)
+}
+
+/// The report on a program, made whole, of what is found on the calling thread. Its room grows by doubling; fails only where memory runs out.
+pub fn report_here(alloc: Global, graph: &Graph<'_>) -> Result<Vec<u8>, OutOfMemory>
+    ensures report { IfOk result (λ text. IsReport graph.now text.items) }
+    ensures safe { IfOk result (λ text. ListsSafely graph.now text.items) }
+{
+    let answers = ReportAnswers::here(alloc, graph)?;
+    whole_report(alloc, graph, &answers)
 }

@@ -3,3 +3,4 @@ pub mod Rows
 pub mod Walks
 pub mod Statements
 pub mod Tables
+pub mod Known

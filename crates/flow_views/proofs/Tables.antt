@@ -22,7 +22,7 @@ use Rattle.flow_team.specs.Tables.{Facts, TableRows, facts_of}
 use Rattle.flow_graph.proofs.edges.EdgeLemmas.{IsFrom, a_step, a_call, a_return, edges_from_are, in_procedure}
 use Rattle.flow_texts.specs.Reports.{AreTablesOf, Knowledge, assigned, dead_at, unset_at}
 use Rattle.flow_texts.specs.Tables.{bits_at}
-use Rattle.flow_texts.specs.code.Findings.{AreFindings}
+use Rattle.flow_texts.specs.code.Findings.{AreFindings, TellDoubtful}
 use Rattle.text_pieces.specs.code.Lists.{some_stand}
 use Rattle.flow_texts.proofs.ListTexts.{map-members}
 use Rattle.flow_views.specs.Dots.{arrow, calls_at, passed_call, text_if_some}
@@ -115,12 +115,13 @@ pub one_chosen : (f : Analysis → List ℕ) (chosen : Bool) (analysis : Analysi
 one_chosen f chosen analysis is = sym (ap (λ b. flat_map f (analysis_if b analysis)) is ∙ append-nil (f analysis))
 
 -- what is shown, put together
-pub shown_is : (shown : Shown) (program : Program) → shown.found.graph.now ≡ program → AreFindings shown.found → AreTablesOf program shown.found.tables.now → AreNames program shown.names
+pub shown_is : (shown : Shown) (program : Program) → shown.found.graph.now ≡ program → AreFindings shown.found → TellDoubtful shown.found.graph.now shown.found.doubtful.items → AreTablesOf program shown.tables.now → AreNames program shown.names
     → contents shown.successors.items ≡ map (edges_from program) (points program)
     → IfSome shown.view.procedure (λ procedure. procedure < length program.procedure_names) → AreShown shown
-shown_is shown program same found tables names successors procedure = record {
+shown_is shown program same found doubts tables names successors procedure = record {
   found = found;
-  tables = subst (λ (p : Program). AreTablesOf p shown.found.tables.now) (sym same) tables;
+  doubts = doubts;
+  tables = subst (λ (p : Program). AreTablesOf p shown.tables.now) (sym same) tables;
   names = subst (λ (p : Program). AreNames p shown.names) (sym same) names;
   successors = subst (λ (p : Program). contents shown.successors.items ≡ map (edges_from p) (points p)) (sym same) successors;
   procedure = there shown.view.procedure (subst (λ (p : Program). IfSome shown.view.procedure (λ procedure. procedure < length p.procedure_names)) (sym same) procedure);

@@ -3,12 +3,12 @@
 ghost use Rattle.std.specs.Prelude.{◌≡◌, ◌++◌, ◌<◌, ◌≤◌, All, Some, flat_map, length, if◌then◌else◌, IfOk, IfSome, codes, decimal};
 ghost use Rattle.flow_graph.specs.Paths.{target_of};
 ghost use Rattle.flow_graph.specs.Points.{point_count, procedure_at, statement_at};
-ghost use Rattle.flow_texts.specs.code.Findings.{knowledge_of};
 ghost use Rattle.text_pieces.specs.Pieces.{IsOpen, Takes, outlet};
 ghost use Rattle.flow_texts.specs.Reports.{AreTablesOf, dead_at, remark_text, unset_at};
+ghost use Rattle.flow_texts.specs.code.Reported.{TellReport};
 ghost use Rattle.flow_texts.specs.Tables.{line_at};
 ghost use Rattle.tac_reader.specs.Listings.{statement_text};
-ghost use Rattle.flow_views.specs.code.Shown.{AreShown, IsSiteIn, numbers_of};
+ghost use Rattle.flow_views.specs.code.Shown.{AreShown, IsSiteIn, known_of, numbers_of};
 ghost use Rattle.flow_views.specs.declared.names.NameForm.TheVariants.{Escaped};
 ghost use Rattle.flow_views.specs.Dots.{IsDot, arrow, calls_at, cluster, dot_of, edge_line, edge_lines, fact_line, head, is_edge_shown, label_line, label_lines, marks, node, passed_call, path_marks, shown_edge, text_if_some, title};
 ghost use Rattle.flow_views.specs.Strings.{escaped};
@@ -20,11 +20,14 @@ use crate::shown::{Numbers, Shown, name_of};
 use crate::strings::{write_escaped, write_escaped_number, write_quoted};
 use crate::view::View;
 use flow_graph::{Analysis, Edge, Graph, OutOfMemory};
-use flow_texts::{Findings, Remark, RemarkForm, Tables, line, words_before_name, words_behind_name, write_number, write_set};
-use text_pieces::{Pieces, Sink, Text};
+use flow_texts::{
+    Findings, Remark, RemarkForm, ReportAnswers, Tables, line, words_before_name,
+    words_behind_name, write_number, write_set,
+};
 use std::alloc::Global;
 use std::marker::Model;
 use tac_reader::{Stmt, StmtKind};
+use text_pieces::{Pieces, Sink, Text};
 
 // A remark as a line of a label.
 #[derive(Clone, Copy)]
@@ -130,7 +133,7 @@ impl Shown<'_> {
         requires form { self.now.names.form ≡ Escaped }
         requires point { point < point_count self.now.found.graph.now }
         ensures same_reference { out.new.sink.ghost_name ≡ out.old.sink.ghost_name }
-        ensures takes { Takes (outlet K.contents K.faults out.old) (outlet K.contents K.faults out.new) (label_line (fact_line self.now.found.graph.now (knowledge_of self.now.found) point analysis)) }
+        ensures takes { Takes (outlet K.contents K.faults out.old) (outlet K.contents K.faults out.new) (label_line (fact_line self.now.found.graph.now (known_of self.now) point analysis)) }
     {
         write_escaped(out, name_of(analysis));
         out.write(b": ");
@@ -152,7 +155,7 @@ impl Shown<'_> {
         requires form { self.now.names.form ≡ Escaped }
         requires point { point < point_count self.now.found.graph.now }
         ensures same_reference { out.new.sink.ghost_name ≡ out.old.sink.ghost_name }
-        ensures takes { Takes (outlet K.contents K.faults out.old) (outlet K.contents K.faults out.new) (flat_map (λ a. label_line (fact_line self.now.found.graph.now (knowledge_of self.now.found) point a)) (analysis_if chosen analysis)) }
+        ensures takes { Takes (outlet K.contents K.faults out.old) (outlet K.contents K.faults out.new) (flat_map (λ a. label_line (fact_line self.now.found.graph.now (known_of self.now) point a)) (analysis_if chosen analysis)) }
     {
         if !chosen {
             return;
@@ -167,7 +170,7 @@ impl Shown<'_> {
         requires form { self.now.names.form ≡ Escaped }
         requires point { point < point_count self.now.found.graph.now }
         ensures same_reference { out.new.sink.ghost_name ≡ out.old.sink.ghost_name }
-        ensures takes { Takes (outlet K.contents K.faults out.old) (outlet K.contents K.faults out.new) (flat_map (λ a. label_line (fact_line self.now.found.graph.now (knowledge_of self.now.found) point a)) (chosen_analyses self.now.view.facts)) }
+        ensures takes { Takes (outlet K.contents K.faults out.old) (outlet K.contents K.faults out.new) (flat_map (λ a. label_line (fact_line self.now.found.graph.now (known_of self.now) point a)) (chosen_analyses self.now.view.facts)) }
     {
         let chosen = self.view.facts;
         self.write_fact_if(out, chosen.reach, point, Analysis::Reach);
@@ -183,11 +186,11 @@ impl Shown<'_> {
         requires form { self.now.names.form ≡ Escaped }
         requires point { point < point_count self.now.found.graph.now }
         ensures same_reference { out.new.sink.ghost_name ≡ out.old.sink.ghost_name }
-        ensures takes { Takes (outlet K.contents K.faults out.old) (outlet K.contents K.faults out.new) (flat_map label_line (label_lines self.now.found.graph.now (knowledge_of self.now.found) self.now.view.facts point)) }
+        ensures takes { Takes (outlet K.contents K.faults out.old) (outlet K.contents K.faults out.new) (flat_map label_line (label_lines self.now.found.graph.now (known_of self.now) self.now.view.facts point)) }
     {
         self.write_title(out, point);
         out.write(b"\\l");
-        self.found.write_remarks(&DotLine, out, point);
+        self.write_remarks_at(&DotLine, out, point);
         self.write_facts(out, point);
     }
 
@@ -198,11 +201,11 @@ impl Shown<'_> {
         requires point { point < point_count self.now.found.graph.now }
         requires statement { statement_at self.now.found.graph.now point ≡ Some stmt.now }
         ensures same_reference { out.new.sink.ghost_name ≡ out.old.sink.ghost_name }
-        ensures takes { Takes (outlet K.contents K.faults out.old) (outlet K.contents K.faults out.new) (text_if_some (unset_at self.now.found.graph.now (knowledge_of self.now.found) point) (codes ", color=red, fontcolor=red") ++ text_if_some (dead_at self.now.found.graph.now (knowledge_of self.now.found) point) (codes ", style=filled, fillcolor=khaki")) }
+        ensures takes { Takes (outlet K.contents K.faults out.old) (outlet K.contents K.faults out.new) (text_if_some (unset_at self.now.found.graph.now (known_of self.now) point) (codes ", color=red, fontcolor=red") ++ text_if_some (dead_at self.now.found.graph.now (known_of self.now) point) (codes ", style=filled, fillcolor=khaki")) }
     {
-        let unset = self.found.reads_unset(point, &stmt.kind);
+        let unset = self.reads_unset(point, &stmt.kind);
         write_if(out, unset, b", color=red, fontcolor=red");
-        let dead = self.found.sets_dead(point, &stmt.kind);
+        let dead = self.sets_dead(point, &stmt.kind);
         write_if(out, dead, b", style=filled, fillcolor=khaki");
     }
 
@@ -212,9 +215,9 @@ impl Shown<'_> {
         requires shown { AreShown self.now }
         requires point { point < point_count self.now.found.graph.now }
         ensures same_reference { out.new.sink.ghost_name ≡ out.old.sink.ghost_name }
-        ensures takes { Takes (outlet K.contents K.faults out.old) (outlet K.contents K.faults out.new) (path_marks self.now.found.graph.now (knowledge_of self.now.found) point) }
+        ensures takes { Takes (outlet K.contents K.faults out.old) (outlet K.contents K.faults out.new) (path_marks self.now.found.graph.now (known_of self.now) point) }
     {
-        if !self.found.tables.reach.has_path(point) {
+        if !self.tables.reach.has_path(point) {
             out.write(b", style=filled, fillcolor=grey80");
             return;
         }
@@ -228,7 +231,7 @@ impl Shown<'_> {
     fn is_doubtful(&self, point: u32) -> bool
         requires shown { AreShown self.now }
         requires point { point < point_count self.now.found.graph.now }
-        ensures { result ≡ (knowledge_of self.now.found).doubtful point }
+        ensures { result ≡ (known_of self.now).doubtful point }
     {
         self.found.doubtful[point as usize]
     }
@@ -239,7 +242,7 @@ impl Shown<'_> {
         requires shown { AreShown self.now }
         requires point { point < point_count self.now.found.graph.now }
         ensures same_reference { out.new.sink.ghost_name ≡ out.old.sink.ghost_name }
-        ensures takes { Takes (outlet K.contents K.faults out.old) (outlet K.contents K.faults out.new) (marks self.now.found.graph.now (knowledge_of self.now.found) point) }
+        ensures takes { Takes (outlet K.contents K.faults out.old) (outlet K.contents K.faults out.new) (marks self.now.found.graph.now (known_of self.now) point) }
     {
         self.write_path_marks(out, point);
         write_if(out, self.is_doubtful(point), b", peripheries=2");
@@ -252,7 +255,7 @@ impl Shown<'_> {
         requires form { self.now.names.form ≡ Escaped }
         requires point { point < point_count self.now.found.graph.now }
         ensures same_reference { out.new.sink.ghost_name ≡ out.old.sink.ghost_name }
-        ensures takes { Takes (outlet K.contents K.faults out.old) (outlet K.contents K.faults out.new) (node self.now.found.graph.now (knowledge_of self.now.found) self.now.view.facts point) }
+        ensures takes { Takes (outlet K.contents K.faults out.old) (outlet K.contents K.faults out.new) (node self.now.found.graph.now (known_of self.now) self.now.view.facts point) }
     {
         if out.has_failed() {
             return;
@@ -274,7 +277,7 @@ impl Shown<'_> {
         requires ordered { points.first ≤ points.end }
         requires points { points.end ≤ point_count self.now.found.graph.now }
         ensures same_reference { out.new.sink.ghost_name ≡ out.old.sink.ghost_name }
-        ensures takes { Takes (outlet K.contents K.faults out.old) (outlet K.contents K.faults out.new) (flat_map (node self.now.found.graph.now (knowledge_of self.now.found) self.now.view.facts) (numbers_of points)) }
+        ensures takes { Takes (outlet K.contents K.faults out.old) (outlet K.contents K.faults out.new) (flat_map (node self.now.found.graph.now (known_of self.now) self.now.view.facts) (numbers_of points)) }
     {
         for point in points.first..points.end {
             self.write_node(out, point);
@@ -288,7 +291,7 @@ impl Shown<'_> {
         requires form { self.now.names.form ≡ Escaped }
         requires procedure { procedure < length self.now.found.graph.now.procedures }
         ensures same_reference { out.new.sink.ghost_name ≡ out.old.sink.ghost_name }
-        ensures takes { Takes (outlet K.contents K.faults out.old) (outlet K.contents K.faults out.new) (cluster self.now.found.graph.now (knowledge_of self.now.found) self.now.view.facts procedure) }
+        ensures takes { Takes (outlet K.contents K.faults out.old) (outlet K.contents K.faults out.new) (cluster self.now.found.graph.now (known_of self.now) self.now.view.facts procedure) }
     {
         out.write(b"  subgraph \"cluster_");
         write_number(out, procedure);
@@ -308,7 +311,7 @@ impl Shown<'_> {
         requires ordered { procedures.first ≤ procedures.end }
         requires procedures { procedures.end ≤ length self.now.found.graph.now.procedures }
         ensures same_reference { out.new.sink.ghost_name ≡ out.old.sink.ghost_name }
-        ensures takes { Takes (outlet K.contents K.faults out.old) (outlet K.contents K.faults out.new) (flat_map (cluster self.now.found.graph.now (knowledge_of self.now.found) self.now.view.facts) (numbers_of procedures)) }
+        ensures takes { Takes (outlet K.contents K.faults out.old) (outlet K.contents K.faults out.new) (flat_map (cluster self.now.found.graph.now (known_of self.now) self.now.view.facts) (numbers_of procedures)) }
     {
         for procedure in procedures.first..procedures.end {
             self.write_cluster(out, procedure);
@@ -471,7 +474,7 @@ impl Shown<'_> {
         requires shown { AreShown self.now }
         requires form { self.now.names.form ≡ Escaped }
         ensures same_reference { out.new.sink.ghost_name ≡ out.old.sink.ghost_name }
-        ensures takes { Takes (outlet K.contents K.faults out.old) (outlet K.contents K.faults out.new) (dot_of self.now.found.graph.now (knowledge_of self.now.found) self.now.view) }
+        ensures takes { Takes (outlet K.contents K.faults out.old) (outlet K.contents K.faults out.new) (dot_of self.now.found.graph.now (known_of self.now) self.now.view) }
     {
         let procedures = self.procedures();
         write_head(out);
@@ -503,14 +506,13 @@ pub struct DotText<'a> {
 
 impl<'a> Model for DotText<'a> {
     ghost use Rattle.std.specs.Prelude.{◌≡◌, List, ℕ};
-    ghost use Rattle.flow_texts.specs.code.Findings.{knowledge_of};
-    ghost use Rattle.flow_views.specs.code.Shown.{AreShown};
+    ghost use Rattle.flow_views.specs.code.Shown.{AreShown, known_of};
     ghost use Rattle.flow_views.specs.declared.names.NameForm.TheVariants.{Escaped};
     ghost use Rattle.flow_views.specs.Dots.{dot_of};
 
     ghost Value = { List ℕ };
 
-    ghost view = { λ text. dot_of text.shown.found.graph.now (knowledge_of text.shown.found) text.shown.view };
+    ghost view = { λ text. dot_of text.shown.found.graph.now (known_of text.shown) text.shown.view };
 
     ghost invariant = { λ text. AreShown text.shown × (text.shown.names.form ≡ Escaped) };
 }
@@ -518,19 +520,21 @@ impl<'a> Model for DotText<'a> {
 impl<'a> DotText<'a> {
     /// The picture, ready to be written.
     ///
-    /// The conditions: the tables are of this graph, and the procedure that is shown is one of its program. Fails only where
+    /// The conditions: the tables and the answers to what a report asks are of this graph, and the procedure that is shown is one of its program. Fails only where
     /// memory runs out.
     pub fn of(
         alloc: Global,
         graph: &'a Graph<'a>,
         tables: &'a Tables,
+        answers: &'a ReportAnswers,
         view: View,
     ) -> Result<DotText<'a>, OutOfMemory>
         requires tables { AreTablesOf graph.now tables.now }
+        requires answers { TellReport graph.now answers.now }
         requires procedure { IfSome view.procedure (λ procedure. procedure < length graph.now.procedure_names) }
         ensures { IfOk result (IsDot graph.now view) }
     {
-        let shown = Shown::of(alloc, graph, tables, view, NameForm::Escaped)?;
+        let shown = Shown::of(alloc, graph, tables, answers, view, NameForm::Escaped)?;
         Ok(DotText { shown })
     }
 }

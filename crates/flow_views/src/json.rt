@@ -5,12 +5,13 @@ ghost use Rattle.std.specs.List.{range_with_len};
 ghost use Rattle.bit_rows.specs.RowSet.{contains as is_in};
 ghost use Rattle.bit_rows.specs.RowTable.{set_at};
 ghost use Rattle.flow_graph.specs.Points.{place_of, point_count, procedure_at, statement_at};
-ghost use Rattle.flow_texts.specs.code.Findings.{AreFindings, IsRemarkIn, knowledge_of};
+ghost use Rattle.flow_texts.specs.code.Findings.{AreFindings, IsRemarkIn};
 ghost use Rattle.text_pieces.specs.code.Lists.{text_at};
 ghost use Rattle.text_pieces.specs.Pieces.{IsOpen, Takes, outlet};
 ghost use Rattle.flow_texts.specs.Reports.{AreTablesOf};
+ghost use Rattle.flow_texts.specs.code.Reported.{TellReport};
 ghost use Rattle.tac_reader.specs.Listings.{statement_text};
-ghost use Rattle.flow_views.specs.code.Shown.{AreShown, numbers_of};
+ghost use Rattle.flow_views.specs.code.Shown.{AreShown, known_of, numbers_of};
 ghost use Rattle.flow_views.specs.declared.names.NameForm.TheVariants.{Quoted};
 ghost use Rattle.flow_views.specs.Json.{IsJson, array, boolean, edge_object, facts_field, json_of, point_line, program_line, remark_fields, remark_lines, remark_object, span_fields, statement_field};
 ghost use Rattle.flow_views.specs.Strings.{quoted};
@@ -23,12 +24,14 @@ use crate::strings::write_quoted;
 use crate::view::View;
 use flow_graph::{Analysis, Edge, Graph, OutOfMemory};
 use flow_team::Table;
-use flow_texts::{Findings, Remark, RemarkForm, Tables, write_members, write_number};
-use text_pieces::{Pieces, Sink, Text, TextBlock};
+use flow_texts::{
+    Findings, Remark, RemarkForm, ReportAnswers, Tables, write_members, write_number,
+};
 use itoa::Buffer;
 use std::alloc::Global;
 use std::marker::Model;
 use tac_reader::{Span, Stmt};
+use text_pieces::{Pieces, Sink, Text, TextBlock};
 
 // Writes a kind with the field of what is named, and the name.
 fn write_named<K: Sink>(out: &mut Pieces<'_, K>, kind: &[u8], name: &[u8])
@@ -290,7 +293,7 @@ impl Shown<'_> {
         requires form { self.now.names.form ≡ Quoted }
         requires point { point < point_count self.now.found.graph.now }
         ensures same_reference { out.new.sink.ghost_name ≡ out.old.sink.ghost_name }
-        ensures takes { Takes (outlet K.contents K.faults out.old) (outlet K.contents K.faults out.new) (facts_field self.now.found.graph.now (knowledge_of self.now.found) point analysis) }
+        ensures takes { Takes (outlet K.contents K.faults out.old) (outlet K.contents K.faults out.new) (facts_field self.now.found.graph.now (known_of self.now) point analysis) }
     {
         let table = self.table(analysis);
         let bits = self.found.graph.bits(analysis);
@@ -318,7 +321,7 @@ impl Shown<'_> {
         requires form { self.now.names.form ≡ Quoted }
         requires point { point < point_count self.now.found.graph.now }
         ensures same_reference { out.new.sink.ghost_name ≡ out.old.sink.ghost_name }
-        ensures takes { Takes (outlet K.contents K.faults out.old) (outlet K.contents K.faults out.new) (flat_map (facts_field self.now.found.graph.now (knowledge_of self.now.found) point) (analysis_if chosen analysis)) }
+        ensures takes { Takes (outlet K.contents K.faults out.old) (outlet K.contents K.faults out.new) (flat_map (facts_field self.now.found.graph.now (known_of self.now) point) (analysis_if chosen analysis)) }
     {
         if !chosen {
             return;
@@ -333,7 +336,7 @@ impl Shown<'_> {
         requires form { self.now.names.form ≡ Quoted }
         requires point { point < point_count self.now.found.graph.now }
         ensures same_reference { out.new.sink.ghost_name ≡ out.old.sink.ghost_name }
-        ensures takes { Takes (outlet K.contents K.faults out.old) (outlet K.contents K.faults out.new) (flat_map (facts_field self.now.found.graph.now (knowledge_of self.now.found) point) (chosen_analyses self.now.view.facts)) }
+        ensures takes { Takes (outlet K.contents K.faults out.old) (outlet K.contents K.faults out.new) (flat_map (facts_field self.now.found.graph.now (known_of self.now) point) (chosen_analyses self.now.view.facts)) }
     {
         let chosen = self.view.facts;
         self.write_facts_field_if(out, chosen.reach, point, Analysis::Reach);
@@ -366,7 +369,7 @@ impl Shown<'_> {
         requires form { self.now.names.form ≡ Quoted }
         requires point { point < point_count self.now.found.graph.now }
         ensures same_reference { out.new.sink.ghost_name ≡ out.old.sink.ghost_name }
-        ensures takes { Takes (outlet K.contents K.faults out.old) (outlet K.contents K.faults out.new) (point_line self.now.found.graph.now (knowledge_of self.now.found) self.now.view.facts point) }
+        ensures takes { Takes (outlet K.contents K.faults out.old) (outlet K.contents K.faults out.new) (point_line self.now.found.graph.now (known_of self.now) self.now.view.facts point) }
     {
         if out.has_failed() {
             return;
@@ -389,7 +392,7 @@ impl Shown<'_> {
         requires ordered { points.first ≤ points.end }
         requires points { points.end ≤ point_count self.now.found.graph.now }
         ensures same_reference { out.new.sink.ghost_name ≡ out.old.sink.ghost_name }
-        ensures takes { Takes (outlet K.contents K.faults out.old) (outlet K.contents K.faults out.new) (flat_map (point_line self.now.found.graph.now (knowledge_of self.now.found) self.now.view.facts) (numbers_of points)) }
+        ensures takes { Takes (outlet K.contents K.faults out.old) (outlet K.contents K.faults out.new) (flat_map (point_line self.now.found.graph.now (known_of self.now) self.now.view.facts) (numbers_of points)) }
     {
         for point in points.first..points.end {
             self.write_point(out, point);
@@ -404,7 +407,7 @@ impl Shown<'_> {
         requires ordered { procedures.first ≤ procedures.end }
         requires procedures { procedures.end ≤ length self.now.found.graph.now.procedures }
         ensures same_reference { out.new.sink.ghost_name ≡ out.old.sink.ghost_name }
-        ensures takes { Takes (outlet K.contents K.faults out.old) (outlet K.contents K.faults out.new) (flat_map (point_line self.now.found.graph.now (knowledge_of self.now.found) self.now.view.facts) (flat_map (points_in self.now.found.graph.now) (numbers_of procedures))) }
+        ensures takes { Takes (outlet K.contents K.faults out.old) (outlet K.contents K.faults out.new) (flat_map (point_line self.now.found.graph.now (known_of self.now) self.now.view.facts) (flat_map (points_in self.now.found.graph.now) (numbers_of procedures))) }
     {
         for procedure in procedures.first..procedures.end {
             self.write_points(out, self.points_of(procedure));
@@ -418,10 +421,10 @@ impl Shown<'_> {
         requires ordered { points.first ≤ points.end }
         requires points { points.end ≤ point_count self.now.found.graph.now }
         ensures same_reference { out.new.sink.ghost_name ≡ out.old.sink.ghost_name }
-        ensures takes { Takes (outlet K.contents K.faults out.old) (outlet K.contents K.faults out.new) (flat_map (remark_lines self.now.found.graph.now (knowledge_of self.now.found)) (numbers_of points)) }
+        ensures takes { Takes (outlet K.contents K.faults out.old) (outlet K.contents K.faults out.new) (flat_map (remark_lines self.now.found.graph.now (known_of self.now)) (numbers_of points)) }
     {
         for point in points.first..points.end {
-            self.found.write_remarks(&JsonLine, out, point);
+            self.write_remarks_at(&JsonLine, out, point);
         }
     }
 
@@ -432,7 +435,7 @@ impl Shown<'_> {
         requires ordered { procedures.first ≤ procedures.end }
         requires procedures { procedures.end ≤ length self.now.found.graph.now.procedures }
         ensures same_reference { out.new.sink.ghost_name ≡ out.old.sink.ghost_name }
-        ensures takes { Takes (outlet K.contents K.faults out.old) (outlet K.contents K.faults out.new) (flat_map (remark_lines self.now.found.graph.now (knowledge_of self.now.found)) (flat_map (points_in self.now.found.graph.now) (numbers_of procedures))) }
+        ensures takes { Takes (outlet K.contents K.faults out.old) (outlet K.contents K.faults out.new) (flat_map (remark_lines self.now.found.graph.now (known_of self.now)) (flat_map (points_in self.now.found.graph.now) (numbers_of procedures))) }
     {
         for procedure in procedures.first..procedures.end {
             self.write_remarks(out, self.points_of(procedure));
@@ -445,7 +448,7 @@ impl Shown<'_> {
         requires shown { AreShown self.now }
         requires form { self.now.names.form ≡ Quoted }
         ensures same_reference { out.new.sink.ghost_name ≡ out.old.sink.ghost_name }
-        ensures takes { Takes (outlet K.contents K.faults out.old) (outlet K.contents K.faults out.new) (json_of self.now.found.graph.now (knowledge_of self.now.found) self.now.view) }
+        ensures takes { Takes (outlet K.contents K.faults out.old) (outlet K.contents K.faults out.new) (json_of self.now.found.graph.now (known_of self.now) self.now.view) }
     {
         let procedures = self.procedures();
         self.write_program(out);
@@ -480,14 +483,13 @@ pub struct JsonText<'a> {
 
 impl<'a> Model for JsonText<'a> {
     ghost use Rattle.std.specs.Prelude.{◌≡◌, List, ℕ};
-    ghost use Rattle.flow_texts.specs.code.Findings.{knowledge_of};
-    ghost use Rattle.flow_views.specs.code.Shown.{AreShown};
+    ghost use Rattle.flow_views.specs.code.Shown.{AreShown, known_of};
     ghost use Rattle.flow_views.specs.declared.names.NameForm.TheVariants.{Quoted};
     ghost use Rattle.flow_views.specs.Json.{json_of};
 
     ghost Value = { List ℕ };
 
-    ghost view = { λ text. json_of text.shown.found.graph.now (knowledge_of text.shown.found) text.shown.view };
+    ghost view = { λ text. json_of text.shown.found.graph.now (known_of text.shown) text.shown.view };
 
     ghost invariant = { λ text. AreShown text.shown × (text.shown.names.form ≡ Quoted) };
 }
@@ -495,19 +497,21 @@ impl<'a> Model for JsonText<'a> {
 impl<'a> JsonText<'a> {
     /// The lines, ready to be written.
     ///
-    /// The conditions: the tables are of this graph, and the procedure that is shown is one of its program. Fails only where
+    /// The conditions: the tables and the answers to what a report asks are of this graph, and the procedure that is shown is one of its program. Fails only where
     /// memory runs out.
     pub fn of(
         alloc: Global,
         graph: &'a Graph<'a>,
         tables: &'a Tables,
+        answers: &'a ReportAnswers,
         view: View,
     ) -> Result<JsonText<'a>, OutOfMemory>
         requires tables { AreTablesOf graph.now tables.now }
+        requires answers { TellReport graph.now answers.now }
         requires procedure { IfSome view.procedure (λ procedure. procedure < length graph.now.procedure_names) }
         ensures { IfOk result (IsJson graph.now view) }
     {
-        let shown = Shown::of(alloc, graph, tables, view, NameForm::Quoted)?;
+        let shown = Shown::of(alloc, graph, tables, answers, view, NameForm::Quoted)?;
         Ok(JsonText { shown })
     }
 }

@@ -8,9 +8,9 @@ ghost use Rattle.flow_views.specs.declared.names.NameForm.TheVariants.{Quoted};
 use crate::strings::{push_escaped, push_quoted};
 use flow_graph::{Analysis, Graph, OutOfMemory};
 use flow_texts::texts_of_bits;
-use text_pieces::{Separator, TextBlock};
 use itoa::Buffer;
 use std::alloc::Global;
+use text_pieces::{Separator, TextBlock};
 
 /// How the names of bits are written.
 #[derive(Clone, Copy)]

@@ -10,8 +10,8 @@ ghost use Rattle.flow_views.specs.Views.{names_in};
 
 use crate::optional::write_if;
 use crate::strings::{write_escaped, write_escaped_number};
-use text_pieces::{Pieces, Sink};
 use tac_reader::{Op, Operand, Program, StmtKind};
+use text_pieces::{Pieces, Sink};
 
 /// A procedure of a program, whose names the numbers in a statement stand for.
 #[derive(Clone, Copy)]

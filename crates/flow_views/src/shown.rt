@@ -1,15 +1,16 @@
 // What both texts are made of.
 
-ghost use Rattle.std.specs.Prelude.{◌≡◌, ◌+◌, ◌<◌, ◌≤◌, suc, Some, length, map, IfOk, IfSome};
+ghost use Rattle.std.specs.Prelude.{◌≡◌, ◌+◌, ◌<◌, ◌≤◌, suc, Some, flat_map, length, map, IfOk, IfSome};
 ghost use Rattle.flow_graph.specs.Edges.{edges_from};
-ghost use Rattle.flow_graph.specs.Points.{end_place, entry_point, point_count, points, procedure_at, statement_at};
+ghost use Rattle.flow_graph.specs.Points.{end_place, entry_point, kind_at, point_count, points, procedure_at, statement_at};
 ghost use Rattle.flow_team.specs.Tables.{IsTableOf, facts_of};
-ghost use Rattle.flow_texts.specs.code.Findings.{knowledge_of};
 ghost use Rattle.text_pieces.specs.Pieces.{IsOpen, Takes, outlet};
-ghost use Rattle.flow_texts.specs.Reports.{AreTablesOf, IsKnowledge};
+ghost use Rattle.flow_texts.specs.Reports.{AreTablesOf, IsKnowledge, dead_at, remarks_at, unset_at};
+ghost use Rattle.flow_texts.specs.code.Reported.{TellReport};
+ghost use Rattle.text_pieces.specs.code.Lists.{some_stand};
 ghost use Rattle.tac_reader.specs.Listings.{statement_text};
 ghost use Rattle.flow_views.specs.code.Names.{AreNamesOf};
-ghost use Rattle.flow_views.specs.code.Shown.{AreShown, contents, numbers_of};
+ghost use Rattle.flow_views.specs.code.Shown.{AreShown, contents, known_of, numbers_of};
 ghost use Rattle.flow_views.specs.Strings.{escaped};
 ghost use Rattle.flow_views.specs.Views.{analysis_name, names_at, points_in, procedure_name as name_of_procedure, shown_procedures, told_by};
 
@@ -18,11 +19,11 @@ use crate::scope::Scope;
 use crate::view::View;
 use flow_graph::{Analysis, Edge, Graph, OutOfMemory};
 use flow_team::Table;
-use flow_texts::{Findings, Tables};
-use text_pieces::{Pieces, Sink, TextBlock};
+use flow_texts::{Findings, RemarkForm, ReportAnswers, Tables};
 use smallvec::SmallVec;
 use std::alloc::Global;
-use tac_reader::Stmt;
+use tac_reader::{Stmt, StmtKind};
+use text_pieces::{Pieces, Sink, TextBlock};
 
 /// Numbers from the first on and before the end.
 #[derive(Clone, Copy)]
@@ -36,6 +37,8 @@ pub(crate) struct Numbers {
 pub(crate) struct Shown<'a> {
     /// What was found.
     pub(crate) found: Findings<'a>,
+    /// The tables of its analyses.
+    pub(crate) tables: &'a Tables,
     /// What its bits are called.
     pub(crate) names: Names,
     /// The edges out of each point.
@@ -73,27 +76,30 @@ pub(crate) fn name_of(analysis: Analysis) -> &'static [u8]
 impl<'a> Shown<'a> {
     /// What is shown of a graph with its tables, and the names of bits in this form.
     ///
-    /// The conditions: the tables are of this graph, and the procedure is there. Fails only where memory runs out.
+    /// The conditions: the tables and the answers to what a report asks are of this graph, and the procedure is there. Fails only where memory runs out.
     pub(crate) fn of(
         alloc: Global,
         graph: &'a Graph<'a>,
         tables: &'a Tables,
+        answers: &'a ReportAnswers,
         view: View,
         form: NameForm,
     ) -> Result<Shown<'a>, OutOfMemory>
         requires tables { AreTablesOf graph.now tables.now }
+        requires answers { TellReport graph.now answers.now }
         requires procedure { IfSome view.procedure (λ procedure. procedure < length graph.now.procedure_names) }
         ensures program { IfOk result (λ shown. shown.found.graph.now ≡ graph.now) }
         ensures view { IfOk result (λ shown. shown.view ≡ view) }
         ensures form { IfOk result (λ shown. shown.names.form ≡ form) }
         ensures shown { IfOk result AreShown }
-        ensures known { IfOk result (λ shown. IsKnowledge shown.found.graph.now (knowledge_of shown.found)) }
+        ensures known { IfOk result (λ shown. IsKnowledge shown.found.graph.now (known_of shown)) }
     {
-        let found = Findings::of(alloc, graph, tables)?;
+        let found = Findings::of(alloc, graph, answers)?;
         let names = Names::of(alloc, graph, form)?;
         let successors = successors(alloc, graph)?;
         Ok(Shown {
             found,
+            tables,
             names,
             successors,
             view,
@@ -120,14 +126,50 @@ impl Shown<'_> {
         requires { AreShown self.now }
         ensures analysis { result.now.analysis ≡ analysis }
         ensures table { IsTableOf self.now.found.graph.now result.now }
-        ensures facts { facts_of result.now ≡ told_by (knowledge_of self.now.found) analysis }
+        ensures facts { facts_of result.now ≡ told_by (known_of self.now) analysis }
     {
         match analysis {
-            Analysis::Reach => &self.found.tables.reach,
-            Analysis::Live => &self.found.tables.live,
-            Analysis::Avail => &self.found.tables.avail,
-            Analysis::Busy => &self.found.tables.busy,
+            Analysis::Reach => &self.tables.reach,
+            Analysis::Live => &self.tables.live,
+            Analysis::Avail => &self.tables.avail,
+            Analysis::Busy => &self.tables.busy,
         }
+    }
+
+    /// Writes the remarks of a point, each in that form.
+    pub(crate) fn write_remarks_at<F: RemarkForm, K: Sink>(
+        &self,
+        form: &F,
+        out: &mut Pieces<'_, K>,
+        point: u32,
+    )
+        requires ready { IsOpen (outlet K.contents K.faults out.old) }
+        requires shown { AreShown self.now }
+        requires point { point < point_count self.now.found.graph.now }
+        ensures same_reference { out.new.sink.ghost_name ≡ out.old.sink.ghost_name }
+        ensures takes { Takes (outlet K.contents K.faults out.old) (outlet K.contents K.faults out.new) (flat_map (F.text form.now self.now.found.graph.now point) (remarks_at self.now.found.graph.now (known_of self.now) point)) }
+    {
+        self.found.write_remarks(form, out, point);
+    }
+
+    /// Whether the statement at a point reads a variable that may not be set there.
+    pub(crate) fn reads_unset(&self, point: u32, kind: &StmtKind) -> bool
+        requires shown { AreShown self.now }
+        requires point { point < point_count self.now.found.graph.now }
+        requires kind { kind_at self.now.found.graph.now point ≡ Some kind.now }
+        ensures { result ≡ some_stand (unset_at self.now.found.graph.now (known_of self.now) point) }
+    {
+        self.found.reads_unset(point, kind)
+    }
+
+    /// Whether the statement at a point assigns a variable that is dead behind it.
+    pub(crate) fn sets_dead(&self, point: u32, kind: &StmtKind) -> bool
+        requires shown { AreShown self.now }
+        requires point { point < point_count self.now.found.graph.now }
+        requires kind { kind_at self.now.found.graph.now point ≡ Some kind.now }
+        ensures { result ≡ some_stand (dead_at self.now.found.graph.now (known_of self.now) point) }
+    {
+        self.found.sets_dead(point, kind)
     }
 
     /// The edges out of a point.

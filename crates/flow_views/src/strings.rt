@@ -5,8 +5,8 @@ ghost use Rattle.text_pieces.specs.Pieces.{IsOpen, Takes, outlet};
 ghost use Rattle.flow_views.specs.Strings.{escaped, escaped_byte, quoted};
 
 use flow_texts::OutOfMemory;
-use text_pieces::{Pieces, Sink};
 use itoa::Buffer;
+use text_pieces::{Pieces, Sink};
 
 // Whether a byte has a backslash before it.
 fn is_special(byte: u8) -> bool

@@ -21,24 +21,22 @@ use flow_graph::Problem;
 use std::alloc::Global;
 use std::marker::Model;
 
-/// A problem, its edges and paths, and which words each statement does something in: what all slices of its bits share.
+/// A problem, and which words each statement does something in: what all slices of its bits share. Its edges and paths are lent to
+/// each call, since two analyses of one direction have the same.
 pub struct Solver<'g, 'p> {
     problem: Problem<'g, 'p>,
-    routes: Routes<'g, 'p>,
     effects: Vec<u64>,
 }
 
 impl<'g, 'p> Model for Solver<'g, 'p> {
-    ghost use Rattle.std.specs.Prelude.{◌≡◌};
     ghost use Rattle.flow_graph.specs.Problems.{MayForm};
-    ghost use Rattle.gk_solve.specs.Solved.{direction_of};
     ghost use Rattle.gk_solve.specs.Tables.Groups.{AreEffectWords};
 
     ghost Value = { MayForm };
 
     ghost view = { λ solver. solver.problem };
 
-    ghost invariant = { λ solver. (solver.routes ≡ direction_of solver.problem) × AreEffectWords solver.problem solver.effects.items };
+    ghost invariant = { λ solver. AreEffectWords solver.problem solver.effects.items };
 }
 
 impl Drop for Solver<'_, '_> {
@@ -46,7 +44,6 @@ impl Drop for Solver<'_, '_> {
     fn drop(self) {
         let Solver {
             problem: _,
-            routes: _,
             effects: _,
         } = self;
     }
@@ -247,25 +244,8 @@ impl<'g, 'p> Solver<'g, 'p> {
     pub fn of(alloc: Global, problem: Problem<'g, 'p>) -> Result<Self, OutOfMemory>
         ensures { IfOk result (λ solver. solver ≡ problem.entry) }
     {
-        let routes = Routes::of(alloc, &problem)?;
-        Solver::over(alloc, problem, routes)
-    }
-
-    /// The solver of a problem over edges and paths that were found before, of the same program in the same direction.
-    pub fn over(
-        alloc: Global,
-        problem: Problem<'g, 'p>,
-        routes: Routes<'g, 'p>,
-    ) -> Result<Self, OutOfMemory>
-        requires { routes ≡ direction_of problem }
-        ensures { IfOk result (λ solver. solver ≡ problem.entry) }
-    {
         let effects = effect_words(alloc, &problem)?;
-        Ok(Solver {
-            problem,
-            routes,
-            effects,
-        })
+        Ok(Solver { problem, effects })
     }
 
     /// The problem.
@@ -275,29 +255,26 @@ impl<'g, 'p> Solver<'g, 'p> {
         &self.problem
     }
 
-    /// The edges and paths, for another analysis of the same direction.
-    pub fn into_routes(self) -> Routes<'g, 'p>
-        ensures { result ≡ direction_of self.entry }
-    {
-        let Solver {
-            problem: _,
-            routes,
-            effects: _,
-        } = self;
-        routes
-    }
-
     /// The path flag of each point: whether some valid path leads to it.
-    pub fn flags(&self, alloc: Global) -> Result<Vec<bool>, OutOfMemory>
+    pub fn flags(&self, alloc: Global, routes: &Routes<'g, 'p>) -> Result<Vec<bool>, OutOfMemory>
+        requires { routes.now ≡ direction_of self.now }
         ensures { IfOk result (λ flags. HasPathFlags self.now flags.items) }
     {
         // Its contract tells that the problem is well formed.
         let _ = self.problem.edges();
-        copied(alloc, self.routes.paths())
+        let flags = routes.paths();
+        copied(alloc, flags)
     }
 
     /// The solution on the bits `lo..hi`, as [`solve`] has it.
-    pub fn solve(&self, alloc: Global, lo: u32, hi: u32) -> Result<Rows, OutOfMemory>
+    pub fn solve(
+        &self,
+        alloc: Global,
+        routes: &Routes<'g, 'p>,
+        lo: u32,
+        hi: u32,
+    ) -> Result<Rows, OutOfMemory>
+        requires routes { routes.now ≡ direction_of self.now }
         requires ordered { lo ≤ hi }
         requires within { hi ≤ bits_of self.now.program self.now.analysis }
         ensures equations { IfOk result (λ rows. IsLeastSolution self.now lo hi rows) }
@@ -309,7 +286,7 @@ impl<'g, 'p> Solver<'g, 'p> {
         solve_slice(
             alloc,
             &self.problem,
-            &self.routes,
+            routes,
             self.effects.as_slice(),
             lo,
             hi,
@@ -318,18 +295,31 @@ impl<'g, 'p> Solver<'g, 'p> {
     }
 
     /// All working memory of a slice of the problem's bits: no more is taken while its words are solved.
-    pub fn slice(&self, alloc: Global, lo: u32, hi: u32) -> Result<SliceWords, OutOfMemory>
+    pub fn slice(
+        &self,
+        alloc: Global,
+        routes: &Routes<'g, 'p>,
+        lo: u32,
+        hi: u32,
+    ) -> Result<SliceWords, OutOfMemory>
+        requires routes { routes.now ≡ direction_of self.now }
         requires ordered { lo ≤ hi }
         requires within { hi ≤ bits_of self.now.program self.now.analysis }
         ensures slice { IfOk result (λ slice. IsSliceOf self.now slice) }
         ensures range { IfOk result (λ slice. (slice.lo ≡ lo) × (slice.hi ≡ hi)) }
     {
-        slice_words(alloc, &self.routes, lo, hi)
+        slice_words(alloc, routes, lo, hi)
     }
 
     /// Solves the words of a slice from one on, four or to the slice's end. Answers the word after the last one solved. It takes
     /// no memory.
-    pub fn solve_from(&self, slice: &mut SliceWords, word: u32) -> u32
+    pub fn solve_from<'a>(
+        &'a self,
+        routes: &'a Routes<'g, 'p>,
+        slice: &mut SliceWords,
+        word: u32,
+    ) -> u32
+        requires routes { routes.now ≡ direction_of self.now }
         requires slice { IsSliceOf self.now slice.old }
         requires word { 64 * word < slice.old.hi }
         ensures slice { IsSliceOf self.now slice.new }
@@ -348,7 +338,7 @@ impl<'g, 'p> Solver<'g, 'p> {
         let mut followed = 0;
         slice.solve_from(
             &self.problem,
-            &self.routes,
+            routes,
             self.effects.as_slice(),
             word,
             &mut followed,

@@ -6,14 +6,14 @@ ghost use Rattle.bit_rows.specs.Words.{has_bit, word_count};
 ghost use Rattle.flow_graph.specs.Analyses.{is_must};
 ghost use Rattle.flow_graph.specs.Points.{point_count};
 ghost use Rattle.flow_graph.specs.Universes.{bits as bits_of};
-ghost use Rattle.gk_solve.specs.Solved.{AreMeetWords, HasPathFlags, IsSliceOf};
+ghost use Rattle.gk_solve.specs.Solved.{AreMeetWords, HasPathFlags, IsSliceOf, direction_of};
 ghost use Rattle.tacflow_c.specs.Facts.{AreFactsOf, IsFactWord};
 ghost use Rattle.tacflow_c.specs.code.Filled.{AreFilled, IsRowFilled};
 ghost use Rattle.tacflow_c.specs.code.Flags.{AreNumbers};
 
 use bit_rows::Row;
 use flow_graph::{Analysis, Graph, Problem};
-use gk_solve::{SliceWords, Solver};
+use gk_solve::{Routes, SliceWords, Solver};
 use std::alloc::{AllocError, Global};
 
 // What a word of the may form tells: itself, or for a must analysis which bits of the slice are not in it.
@@ -90,14 +90,16 @@ fn put_words(
 }
 
 // Solves a slice's words up to the last one, group by group, and puts them into those of all points.
-fn put_groups(
-    solver: &Solver<'_, '_>,
+fn put_groups<'a, 'g, 'p>(
+    solver: &'a Solver<'g, 'p>,
+    routes: &'a Routes<'g, 'p>,
     slice: &mut SliceWords,
     full: &Row,
     layout: Layout,
     end: u32,
     words: &mut [u64],
 )
+    requires routes { routes.now ≡ direction_of solver.now }
     requires slice { IsSliceOf solver.now slice.old }
     requires full { full.now ≡ full_set slice.old.lo slice.old.hi }
     requires must { layout.must ≡ is_must solver.now.analysis }
@@ -110,7 +112,7 @@ fn put_groups(
 {
     let mut word = layout.first;
     while word < end {
-        let until = solver.solve_from(slice, word);
+        let until = solver.solve_from(routes, slice, word);
         put_words(solver, slice, full, layout, (word, until), words);
         word = until;
     }
@@ -126,14 +128,16 @@ fn put_flags(paths: &[bool], flags: &mut [u8])
     }
 }
 
-// Puts the facts of a solver's problem. The solver is not owned here, so that no way out drops it.
-fn put_solved(
+// Puts the facts of a solver's problem. The solver and its routes are not owned here, so that no way out drops them.
+fn put_solved<'a, 'g, 'p>(
     alloc: Global,
-    solver: &Solver<'_, '_>,
+    solver: &'a Solver<'g, 'p>,
+    routes: &'a Routes<'g, 'p>,
     range: (u32, u32),
     flags: &mut [u8],
     words: &mut [u64],
 ) -> Result<(), AllocError>
+    requires routes { routes.now ≡ direction_of solver.now }
     requires ordered { range.0 ≤ range.1 }
     requires within { range.1 ≤ bits_of solver.now.program solver.now.analysis }
     requires flags { length flags.old ≡ point_count solver.now.program }
@@ -142,9 +146,9 @@ fn put_solved(
     ensures kept { OnErr result ((flags.new ≡ flags.old) × (words.new ≡ words.old)) }
 {
     let (lo, hi) = range;
-    let paths = solver.flags(alloc)?;
+    let paths = solver.flags(alloc, routes)?;
     let full = Row::full(alloc, lo, hi)?;
-    let mut slice = solver.slice(alloc, lo, hi)?;
+    let mut slice = solver.slice(alloc, routes, lo, hi)?;
     put_flags(&paths, flags);
     let first = lo / 64;
     let end = hi.div_ceil(64);
@@ -153,7 +157,7 @@ fn put_solved(
         first,
         must: solver.problem().complements(),
     };
-    put_groups(solver, &mut slice, &full, layout, end, words);
+    put_groups(solver, routes, &mut slice, &full, layout, end, words);
     Ok(())
 }
 
@@ -173,6 +177,8 @@ pub(crate) fn put_facts(
     ensures facts { OnOk result (AreFactsOf graph.now analysis range.0 range.1 flags.new words.new) }
     ensures kept { OnErr result ((flags.new ≡ flags.old) × (words.new ≡ words.old)) }
 {
-    let solver = Solver::of(alloc, Problem::of(alloc, graph, analysis)?)?;
-    put_solved(alloc, &solver, range, flags, words)
+    let problem = Problem::of(alloc, graph, analysis)?;
+    let routes = Routes::of(alloc, &problem)?;
+    let solver = Solver::of(alloc, problem)?;
+    put_solved(alloc, &solver, &routes, range, flags, words)
 }

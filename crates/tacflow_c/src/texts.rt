@@ -1,13 +1,11 @@
 // Listings and reports in room of a caller's.
 
 ghost use Rattle.std.specs.Prelude.{◌≡◌, ◌<◌, ◌≤◌, ◌++◌, drop, length, IfErr, OnOk, OnErr, MatchBool, IfOk};
-ghost use Rattle.flow_texts.specs.Reports.{ListsSafely};
 ghost use Rattle.tacflow_c.specs.Texts.{HoldsText, IsListingFault, IsListingOf, IsReportFault, IsReportOf};
 
 use crate::fault::Fault;
 use crate::text::{graph_of, program_of};
-use flow_graph::{Graph, OutOfMemory};
-use flow_texts::{Tables, report};
+use flow_texts::report_here;
 use std::alloc::Global;
 use tac_reader::listing;
 
@@ -47,14 +45,6 @@ pub(crate) fn listing_of_text(
     }
 }
 
-// The report on a graph's program, made whole. Its tables end here, so that no way out of a caller drops them.
-fn report_of_graph(alloc: Global, graph: &Graph<'_>) -> Result<Vec<u8>, OutOfMemory>
-    ensures { IfOk result (λ text. ListsSafely graph.now text.items) }
-{
-    let tables = Tables::alone_for_report(alloc, graph)?;
-    report(alloc, graph, &tables)
-}
-
 /// The report on a text's program.
 pub(crate) fn report_of_text(
     alloc: Global,
@@ -68,7 +58,7 @@ pub(crate) fn report_of_text(
 {
     let program = program_of(alloc, text)?;
     let graph = graph_of(alloc, &program)?;
-    let Ok(out) = report_of_graph(alloc, &graph) else {
+    let Ok(out) = report_here(alloc, &graph) else {
         return Err(Fault::OutOfMemory);
     };
     if put_text(&out, bytes, size) {

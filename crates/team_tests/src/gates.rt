@@ -1,7 +1,8 @@
 // Gates that note what is called.
 
-use flow_team::Gate;
+use flow_team::{Gate, OutOfMemory};
 use slice_board::{Pass, Wanted};
+use std::alloc::Global;
 use std::sync::atomic::{AtomicBool, AtomicU32, AtomicU64, Ordering};
 
 /// Notes of the slices below 64 which were claimed and finished, how often each was called, and by which workers.
@@ -116,5 +117,109 @@ impl Gate for Meeting {
     fn finished<W: Wanted>(&self, worker: u32, slice: u32, _pass: &Pass<W>) {
         self.finished_by[usize::from(slice != 0)].store(worker, Ordering::SeqCst);
         self.finishes.fetch_add(1, Ordering::SeqCst);
+    }
+}
+
+/// Notes of so many slices: a claim counts 1 and the worker's number in the upper half, a finish counts 65,536 and takes the worker's
+/// number away.
+#[derive(Drop)]
+pub struct Ledger {
+    notes: Vec<AtomicU64>,
+    strays: AtomicU32,
+}
+
+// What is noted of a slice that was claimed once and finished once, by the same worker.
+const ONCE_BY_ONE: u64 = 65_537;
+
+impl Ledger {
+    /// A gate that noted nothing yet.
+    pub fn new(alloc: Global, slices: u32) -> Result<Ledger, OutOfMemory> {
+        let mut notes = Vec::new(alloc);
+        for _ in 0..slices {
+            notes.push(AtomicU64::new(0))?;
+        }
+        Ok(Ledger {
+            notes,
+            strays: AtomicU32::new(0),
+        })
+    }
+
+    /// How many slices were not claimed once and finished once by the same worker, and how often one was told that is none.
+    pub fn faults(&self) -> u32 {
+        let mut faults = self.strays.load(Ordering::SeqCst);
+        for note in self.notes.iter() {
+            if note.load(Ordering::SeqCst) != ONCE_BY_ONE {
+                faults = faults.saturating_add(1);
+            }
+        }
+        faults
+    }
+
+    fn note(&self, slice: u32, change: u64) {
+        match self.notes.get(slice as usize) {
+            Some(note) => {
+                note.fetch_add(change, Ordering::SeqCst);
+            }
+            None => {
+                self.strays.fetch_add(1, Ordering::SeqCst);
+            }
+        }
+    }
+}
+
+impl Gate for Ledger {
+    fn claimed(&self, worker: u32, slice: u32) {
+        self.note(slice, u64::from(worker) << 32 | 1);
+    }
+
+    fn finished<W: Wanted>(&self, worker: u32, slice: u32, _pass: &Pass<W>) {
+        self.note(slice, 65_536u64.wrapping_sub(u64::from(worker) << 32));
+    }
+}
+
+/// Holds each of 64 workers at its first slice until all have claimed one.
+#[derive(Drop)]
+pub struct Crowd {
+    ledger: Ledger,
+    here: AtomicU64,
+    missed: AtomicBool,
+}
+
+impl Crowd {
+    /// A gate that no worker came to yet.
+    pub fn new(alloc: Global, slices: u32) -> Result<Crowd, OutOfMemory> {
+        let ledger = Ledger::new(alloc, slices)?;
+        Ok(Crowd {
+            ledger,
+            here: AtomicU64::new(0),
+            missed: AtomicBool::new(false),
+        })
+    }
+
+    /// Whether all 64 workers claimed a slice, and none gave up waiting for the others.
+    pub fn all_came(&self) -> bool {
+        self.here.load(Ordering::SeqCst) == u64::MAX && !self.missed.load(Ordering::SeqCst)
+    }
+
+    /// How many slices were not claimed once and finished once by the same worker.
+    pub fn faults(&self) -> u32 {
+        self.ledger.faults()
+    }
+}
+
+impl Gate for Crowd {
+    fn claimed(&self, worker: u32, slice: u32) {
+        self.ledger.claimed(worker, slice);
+        self.here.fetch_or(1 << (worker % 64), Ordering::SeqCst);
+        for _ in 0..TURNS {
+            if self.here.load(Ordering::SeqCst) == u64::MAX {
+                return;
+            }
+        }
+        self.missed.store(true, Ordering::SeqCst);
+    }
+
+    fn finished<W: Wanted>(&self, worker: u32, slice: u32, pass: &Pass<W>) {
+        self.ledger.finished(worker, slice, pass);
     }
 }

@@ -7,22 +7,22 @@ ghost use Rattle.flow_team.specs.Tables.{IsTableOf};
 ghost use Rattle.slice_board.specs.Boards.{IsOf, point_count};
 
 use crate::gates::Recorder;
-use crate::texts::{Ask, RECURSIVE, RECURSIVE_REACH, check, lines, printed, prints, slices};
+use crate::texts::{Question, RECURSIVE, RECURSIVE_REACH, check, lines, printed, prints, slices};
 use flow_graph::{Analysis, Graph};
-use flow_team::{Gate, GraphSets, Job, OpenGate, OutOfMemory, Solve, Table};
-use slice_board::{Pass, Wanted};
+use flow_team::{GraphSets, Job, OpenGate, OutOfMemory, Table};
+use slice_board::Pass;
 use std::alloc::Global;
 use std::process::Abort;
 use std::test::Fail;
-use std::thread::{Threads, join};
+use std::thread::Threads;
 
-// A job of the recursive program's reaching definitions, a slice for each, on which two slices are worked, with what was seen
-// on the way: the definitions at the beginning and at line 2, which are in the first two slices.
-fn check_two_slices<W: Wanted + Sync + Send, S: Solve<W>, R: Abort>(
+// Two slices of the recursive program's reaching definitions are worked, a slice for each, with what is seen on the way: the definitions
+// at the beginning and at line 2, which are in the first two slices.
+fn check_two_slices<'g, 'p, R: Abort>(
     rt: &R,
     alloc: Global,
-    job: &Job<W, S>,
-    pass: &mut Pass<W>,
+    job: &Job<'g, 'p>,
+    pass: &mut Pass<GraphSets<'g, 'p>>,
     gate: &Recorder,
 ) -> Result<(), Fail>
     requires of { IsOf job.now pass.old }
@@ -38,36 +38,30 @@ fn check_two_slices<W: Wanted + Sync + Send, S: Solve<W>, R: Abort>(
     Ok(())
 }
 
-// The job, on which two slices are worked.
-fn with_two_slices<W: Wanted + Sync + Send, S: Solve<W>, R: Abort>(
+// The third slice is worked, and there is no fourth.
+fn check_last_slice<'g, 'p, R: Abort>(
     rt: &R,
     alloc: Global,
-    job: Job<W, S>,
-    mut pass: Pass<W>,
+    job: &Job<'g, 'p>,
+    pass: &mut Pass<GraphSets<'g, 'p>>,
     gate: &Recorder,
-) -> Result<(Job<W, S>, Pass<W>), Fail>
-    requires of { IsOf job pass }
-    requires points { point_count job ≡ 8 }
-    requires bits { job.cut.bits ≡ 3 }
-    ensures { IfOk result (λ again. (again.0 ≡ job) × IsOf again.0 again.1) }
+) -> Result<(), Fail>
+    requires { IsOf job.now pass.old }
+    ensures { IfOk result (λ _. IsOf job.now pass.new) }
 {
-    check_two_slices(rt, alloc, &job, &mut pass, gate)?;
-    Ok((job, pass))
+    assert_eq!(rt; job.work(alloc, pass, 0, gate)?, Some(2));
+    assert_eq!(rt; job.work(alloc, pass, 0, gate)?, None);
+    assert_eq!(rt; gate.told(), (7, 7, 3, 3));
+    Ok(())
 }
 
 // The job does not close yet: so many of its slices are finished.
 fn still_open<'g, 'p, R: Abort>(
     rt: &R,
-    job: Job<GraphSets<'g, 'p>, GraphSets<'g, 'p>>,
+    job: Job<'g, 'p>,
     pass: Pass<GraphSets<'g, 'p>>,
     finished: (u32, u32),
-) -> Result<
-    (
-        Job<GraphSets<'g, 'p>, GraphSets<'g, 'p>>,
-        Pass<GraphSets<'g, 'p>>,
-    ),
-    Fail,
->
+) -> Result<(Job<'g, 'p>, Pass<GraphSets<'g, 'p>>), Fail>
     requires { IsOf job pass }
     ensures { IfOk result (λ again. (again.0 ≡ job.entry) × IsOf again.0 again.1) }
 {
@@ -80,28 +74,8 @@ fn still_open<'g, 'p, R: Abort>(
     }
 }
 
-// The third slice is worked, and there is no fourth.
-fn check_last_slice<W: Wanted + Sync + Send, S: Solve<W>, R: Abort>(
-    rt: &R,
-    alloc: Global,
-    job: &Job<W, S>,
-    pass: &mut Pass<W>,
-    gate: &Recorder,
-) -> Result<(), Fail>
-    requires { IsOf job.now pass.old }
-    ensures { IfOk result (λ _. IsOf job.now pass.new) }
-{
-    assert_eq!(rt; job.work(alloc, pass, 0, gate)?, Some(2));
-    assert_eq!(rt; job.work(alloc, pass, 0, gate)?, None);
-    assert_eq!(rt; gate.told(), (7, 7, 3, 3));
-    Ok(())
-}
-
 /// The table of a job whose slices are all finished.
-pub fn closed<'g, 'p>(
-    job: Job<GraphSets<'g, 'p>, GraphSets<'g, 'p>>,
-    pass: Pass<GraphSets<'g, 'p>>,
-) -> Result<Table, Fail>
+pub fn closed<'g, 'p>(job: Job<'g, 'p>, pass: Pass<GraphSets<'g, 'p>>) -> Result<Table, Fail>
     requires { IsOf job pass }
     ensures { IfOk result (IsTableOf job.entry.wanted.program) }
 {
@@ -111,34 +85,19 @@ pub fn closed<'g, 'p>(
     }
 }
 
-// The job, on which the third slice is worked.
-fn with_last_slice<W: Wanted + Sync + Send, S: Solve<W>, R: Abort>(
-    rt: &R,
-    alloc: Global,
-    job: Job<W, S>,
-    mut pass: Pass<W>,
-    gate: &Recorder,
-) -> Result<(Job<W, S>, Pass<W>), Fail>
-    requires { IsOf job pass }
-    ensures { IfOk result (λ again. (again.0 ≡ job) × IsOf again.0 again.1) }
-{
-    check_last_slice(rt, alloc, &job, &mut pass, gate)?;
-    Ok((job, pass))
-}
-
 // The job closes only once the third slice is finished.
 fn closed_in_the_end<'g, 'p, R: Abort>(
     rt: &R,
     alloc: Global,
-    job: Job<GraphSets<'g, 'p>, GraphSets<'g, 'p>>,
+    job: Job<'g, 'p>,
     pass: Pass<GraphSets<'g, 'p>>,
     gate: &Recorder,
 ) -> Result<Table, Fail>
     requires { IsOf job pass }
     ensures { IfOk result (IsTableOf job.entry.wanted.program) }
 {
-    let (job, pass) = still_open(rt, job, pass, (2, 3))?;
-    let (job, pass) = with_last_slice(rt, alloc, job, pass, gate)?;
+    let (job, mut pass) = still_open(rt, job, pass, (2, 3))?;
+    check_last_slice(rt, alloc, &job, &mut pass, gate)?;
     closed(job, pass)
 }
 
@@ -156,13 +115,7 @@ pub fn opened<'g, 'p>(
     alloc: Global,
     graph: &'g Graph<'p>,
     analysis: Analysis,
-) -> Result<
-    (
-        Job<GraphSets<'g, 'p>, GraphSets<'g, 'p>>,
-        Pass<GraphSets<'g, 'p>>,
-    ),
-    Fail,
->
+) -> Result<(Job<'g, 'p>, Pass<GraphSets<'g, 'p>>), Fail>
     ensures wanted { IfOk result (λ r. r.0.wanted ≡ record { program = graph.now; analysis = analysis }) }
     ensures bits { IfOk result (λ r. r.0.cut.bits ≡ bits_of graph.now analysis) }
     ensures pass { IfOk result (λ r. IsOf r.0 r.1) }
@@ -181,15 +134,15 @@ fn table_by_slices<R: Abort>(
     ensures { IfOk result (IsTableOf graph.now) }
 {
     check_sizes(rt, graph);
-    let (job, pass) = opened(alloc, graph, Analysis::Reach)?;
-    let (job, pass) = with_two_slices(rt, alloc, job, pass, gate)?;
+    let (job, mut pass) = opened(alloc, graph, Analysis::Reach)?;
+    check_two_slices(rt, alloc, &job, &mut pass, gate)?;
     closed_in_the_end(rt, alloc, job, pass, gate)
 }
 
 // Slice by slice.
 struct BySlices;
 
-impl Ask for BySlices {
+impl Question for BySlices {
     fn answer<R: Threads + Sync + Abort>(
         &self,
         rt: &R,
@@ -197,7 +150,7 @@ impl Ask for BySlices {
         graph: &Graph<'_>,
     ) -> Result<String, Fail> {
         let table = table_by_slices(rt, alloc, graph, &Recorder::new())?;
-        lines(alloc, graph, &table)
+        Ok(lines(alloc, graph, &table)?)
     }
 }
 
@@ -206,95 +159,75 @@ fn slices_one_after_the_other(rt: HostRuntime) -> Result<(), Fail> {
     check(&rt, RECURSIVE, &BySlices, RECURSIVE_REACH, (0, 0))
 }
 
-// Works until no slice is left.
-fn drain<W: Wanted + Sync + Send, S: Solve<W>, G: Gate>(
-    alloc: Global,
-    job: &Job<W, S>,
-    gate: &G,
-    worker: u32,
-    mut pass: Pass<W>,
-) -> Result<Pass<W>, OutOfMemory>
-    requires { IsOf job.now pass }
-    ensures { IfOk result (IsOf job.now) }
-{
-    for _ in 0..=job.slices() {
-        if job.work(alloc, &mut pass, worker, gate)?.is_none() {
-            return Ok(pass);
-        }
-    }
-    Ok(pass)
-}
-
-// Two activities, each with a pass of its own, and their passes as one.
-fn drained_by_two<W: Wanted + Sync + Send, S: Solve<W>, R: Threads>(
+// Works 70 slices by two passes in turn.
+fn work_in_turns<'g, 'p, R: Abort>(
     rt: &R,
     alloc: Global,
-    job: &Job<W, S>,
-    mut pass: Pass<W>,
-) -> Result<Pass<W>, Fail>
+    job: &Job<'g, 'p>,
+    first: &mut Pass<GraphSets<'g, 'p>>,
+    second: &mut Pass<GraphSets<'g, 'p>>,
+) -> Result<(), OutOfMemory>
+    requires first { IsOf job.now first.old }
+    requires second { IsOf job.now second.old }
+    ensures first { IfOk result (λ _. IsOf job.now first.new) }
+    ensures second { IfOk result (λ _. IsOf job.now second.new) }
+{
+    for turn in 0..35 {
+        assert_eq!(rt; job.work(alloc, first, 0, &OpenGate)?, Some(2 * turn));
+        assert_eq!(rt; job.work(alloc, second, 1, &OpenGate)?, Some(2 * turn + 1));
+    }
+    assert_eq!(rt; job.work(alloc, first, 0, &OpenGate)?, None);
+    assert_eq!(rt; job.work(alloc, second, 1, &OpenGate)?, None);
+    Ok(())
+}
+
+// Both passes as one.
+fn worked_in_turns<'g, 'p, R: Abort>(
+    rt: &R,
+    alloc: Global,
+    job: &Job<'g, 'p>,
+    pass: Pass<GraphSets<'g, 'p>>,
+) -> Result<Pass<GraphSets<'g, 'p>>, Fail>
     requires { IsOf job.now pass }
     ensures { IfOk result (IsOf job.now) }
 {
-    let other = job.split(&mut pass);
-    let (first, second) = join(
-        rt,
-        move || -> Result<Pass<W>, OutOfMemory>
-            requires { IsOf job.now pass }
-            ensures { IfOk result (IsOf job.entry.now) }
-        { drain(alloc, job, &OpenGate, 0, pass) },
-        move || -> Result<Pass<W>, OutOfMemory>
-            requires { IsOf job.now other }
-            ensures { IfOk result (IsOf job.entry.now) }
-        { drain(alloc, job, &OpenGate, 1, other) },
-    );
-    match job.join(first?, second?) {
+    let mut first = pass;
+    let mut second = job.split(&mut first);
+    work_in_turns(rt, alloc, job, &mut first, &mut second)?;
+    match job.join(first, second) {
         Ok(pass) => Ok(pass),
         Err(_) => Err(Fail::new("both hold a slice")),
     }
 }
 
-// The job, drained by two activities.
-fn with_two_activities<W: Wanted + Sync + Send, S: Solve<W>, R: Threads>(
-    rt: &R,
-    alloc: Global,
-    job: Job<W, S>,
-    pass: Pass<W>,
-) -> Result<(Job<W, S>, Pass<W>), Fail>
-    requires { IsOf job pass }
-    ensures { IfOk result (λ again. (again.0 ≡ job) × IsOf again.0 again.1) }
-{
-    let pass = drained_by_two(rt, alloc, &job, pass)?;
-    Ok((job, pass))
-}
-
-// The table of the variables that are live, by two activities.
-fn table_by_two<R: Threads>(rt: &R, alloc: Global, graph: &Graph<'_>) -> Result<Table, Fail>
+// The table of the variables that are live, by two passes.
+fn table_in_turns<R: Abort>(rt: &R, alloc: Global, graph: &Graph<'_>) -> Result<Table, Fail>
     ensures { IfOk result (IsTableOf graph.now) }
 {
     let (job, pass) = opened(alloc, graph, Analysis::Live)?;
-    let (job, pass) = with_two_activities(rt, alloc, job, pass)?;
+    let pass = worked_in_turns(rt, alloc, &job, pass)?;
     closed(job, pass)
 }
 
-// By two activities.
-struct ByTwo;
+// In turns.
+struct InTurns;
 
-impl Ask for ByTwo {
+impl Question for InTurns {
     fn answer<R: Threads + Sync + Abort>(
         &self,
         rt: &R,
         alloc: Global,
         graph: &Graph<'_>,
     ) -> Result<String, Fail> {
-        let table = table_by_two(rt, alloc, graph)?;
-        lines(alloc, graph, &table)
+        let table = table_in_turns(rt, alloc, graph)?;
+        Ok(lines(alloc, graph, &table)?)
     }
 }
 
 #[test]
-fn two_activities_over_one_job(rt: HostRuntime) -> Result<(), Fail> {
+fn two_passes_over_one_job(rt: HostRuntime) -> Result<(), Fail> {
     let alloc = rt.alloc();
     let text = prints(alloc, 70)?;
     let want = printed(alloc, 70)?;
-    check(&rt, text.as_str(), &ByTwo, want.as_str(), (0, 2))
+    check(&rt, text.as_str(), &InTurns, want.as_str(), (0, 2))
 }

@@ -3,6 +3,8 @@
 #![tactic(auto)]
 
 #[cfg(test)]
+mod ask_tests;
+#[cfg(test)]
 mod gates;
 #[cfg(test)]
 mod job_tests;
@@ -12,6 +14,8 @@ mod overlap_tests;
 mod probe_tests;
 #[cfg(test)]
 mod refusal_tests;
+#[cfg(test)]
+mod table_tests;
 #[cfg(test)]
 mod team_tests;
 #[cfg(test)]

@@ -1,7 +1,7 @@
 // That workers run at the same time, and that the standard helpers which may start them do.
 
 use crate::gates::Meeting;
-use crate::texts::{Ask, RECURSIVE, RECURSIVE_REACH, check, lines, slices_at};
+use crate::texts::{Question, RECURSIVE, RECURSIVE_REACH, check, lines, slices_at};
 use flow_graph::{Analysis, Graph};
 use flow_team::analyse;
 use std::alloc::Global;
@@ -16,7 +16,7 @@ struct Overlapping<'a> {
     gate: &'a Meeting,
 }
 
-impl<'a> Ask for Overlapping<'a> {
+impl<'a> Question for Overlapping<'a> {
     fn answer<R: Threads + Sync + Abort>(
         &self,
         rt: &R,
@@ -25,7 +25,7 @@ impl<'a> Ask for Overlapping<'a> {
     ) -> Result<String, Fail> {
         let cut = slices_at(alloc, graph, Analysis::Reach, &[1])?;
         match analyse(rt, alloc, graph, Analysis::Reach, cut, 2, self.gate) {
-            Ok(table) => lines(alloc, graph, &table),
+            Ok(table) => Ok(lines(alloc, graph, &table)?),
             Err(_) => Err(Fail::new("refused")),
         }
     }

@@ -1,15 +1,19 @@
 // What is left where memory is refused on the way. With ample memory the tests end as all others; to refuse the Nth request is the
 // caller's part (`rt try --test --fail-alloc N`).
 
-ghost use Rattle.std.specs.Prelude.{◌≡◌, IfOk, IfSome};
+ghost use Rattle.std.specs.Prelude.{IfOk};
 ghost use Rattle.flow_team.specs.Tables.{IsTableOf};
 ghost use Rattle.slice_board.specs.Boards.{IsOf};
 
+use crate::ask_tests::{
+    Asked, CALLEE_LOOPS_ASKING, CALLEE_LOOPS_ASKS, Order, lines_here, lines_of_tables,
+    lines_of_team, wanted_lines,
+};
 use crate::gates::Recorder;
 use crate::job_tests::{closed, opened};
-use crate::texts::{Ask, RECURSIVE, RECURSIVE_REACH, check, lines, slices};
+use crate::texts::{CALLEE_LOOPS, Question, RECURSIVE, RECURSIVE_REACH, check, lines, slices};
 use flow_graph::{Analysis, Graph};
-use flow_team::{GraphSets, Job, OpenGate, Solve, Table, analyse, analyse_alone, analyse_pairs};
+use flow_team::{GraphSets, Job, OpenGate, OutOfMemory, Table, analyse};
 use slice_board::{Pass, Wanted};
 use std::alloc::Global;
 use std::process::Abort;
@@ -35,7 +39,7 @@ struct ByWorkers<'a> {
     gate: &'a Recorder,
 }
 
-impl<'a> Ask for ByWorkers<'a> {
+impl<'a> Question for ByWorkers<'a> {
     fn answer<R: Threads + Sync + Abort>(
         &self,
         rt: &R,
@@ -52,7 +56,7 @@ impl<'a> Ask for ByWorkers<'a> {
             self.workers,
             self.gate,
         ) {
-            Ok(table) => lines(alloc, graph, &table),
+            Ok(table) => Ok(lines(alloc, graph, &table)?),
             Err(_) => Err(Fail::new(lost_slice(self.gate))),
         }
     }
@@ -81,66 +85,119 @@ fn two_workers_are_refused(rt: HostRuntime) -> Result<(), Fail> {
     check_by_workers(&rt, 2)
 }
 
-// Works until no slice is left, and goes on where a call is refused: the slice is then held.
-fn work_on<W: Wanted + Sync + Send, S: Solve<W>, R: Abort>(
+// How often slices were told: those that were claimed and finished as bits, and how often each.
+type Told = (u64, u64, u32, u32);
+
+// The slices of the recursive program's job, with what is told while one is held and once it is finished.
+const SLICES: &[(u32, Told, Told)] = &[
+    (0, (1, 0, 1, 0), (1, 1, 1, 1)),
+    (1, (3, 1, 2, 1), (3, 3, 2, 2)),
+    (2, (7, 3, 3, 2), (7, 7, 3, 3)),
+];
+
+// The pass holds the slice that was refused: it is claimed, and not finished.
+fn check_held<W: Wanted, R: Abort>(
+    rt: &R,
+    pass: &Pass<W>,
+    gate: &Recorder,
+    slice: u32,
+    told: Told,
+) {
+    assert_eq!(rt; pass.held(), Some(slice));
+    assert_eq!(rt; gate.told(), told, "slice {slice} is held");
+}
+
+// The call worked this slice, and the pass holds none.
+fn check_worked<W: Wanted, R: Abort>(
+    rt: &R,
+    worked: Option<u32>,
+    pass: &Pass<W>,
+    gate: &Recorder,
+    slice: u32,
+    told: Told,
+) {
+    assert_eq!(rt; worked, Some(slice));
+    assert_eq!(rt; pass.held(), None);
+    assert_eq!(rt; gate.told(), told, "slice {slice} is finished");
+}
+
+// Works a slice. Where the call is refused, the pass holds the slice, and the next call works it.
+fn work_slice<'g, 'p, R: Abort>(
     rt: &R,
     alloc: Global,
-    job: &Job<W, S>,
-    pass: &mut Pass<W>,
+    job: &Job<'g, 'p>,
+    pass: &mut Pass<GraphSets<'g, 'p>>,
     gate: &Recorder,
-) -> Result<(), Fail>
+    slice: (u32, Told, Told),
+) -> Result<(), OutOfMemory>
     requires { IsOf job.now pass.old }
     ensures { IfOk result (λ _. IsOf job.now pass.new) }
 {
-    for _ in 0..6 {
-        let refused = job.work(alloc, pass, 0, gate).is_err();
-        assert_eq!(rt; pass.held().is_some(), refused);
-    }
-    assert_eq!(rt; gate.told(), (7, 7, 3, 3), "each slice is told once");
+    let (number, held, finished) = slice;
+    let worked = match job.work(alloc, pass, 0, gate) {
+        Ok(worked) => worked,
+        Err(_) => {
+            check_held(rt, &*pass, gate, number, held);
+            job.work(alloc, pass, 0, gate)?
+        }
+    };
+    check_worked(rt, worked, &*pass, gate, number, finished);
     Ok(())
 }
 
-// The job, on which that was tried.
-fn with_refusals<W: Wanted + Sync + Send, S: Solve<W>, R: Abort>(
+// Works all slices in order; there is no other.
+fn work_all<'g, 'p, R: Abort>(
     rt: &R,
     alloc: Global,
-    job: Job<W, S>,
-    mut pass: Pass<W>,
+    job: &Job<'g, 'p>,
+    pass: &mut Pass<GraphSets<'g, 'p>>,
     gate: &Recorder,
-) -> Result<(Job<W, S>, Pass<W>), Fail>
-    requires { IsOf job pass }
-    ensures { IfOk result (λ again. (again.0 ≡ job) × IsOf again.0 again.1) }
+) -> Result<(), OutOfMemory>
+    requires { IsOf job.now pass.old }
+    ensures { IfOk result (λ _. IsOf job.now pass.new) }
 {
-    work_on(rt, alloc, &job, &mut pass, gate)?;
-    Ok((job, pass))
+    for slice in SLICES {
+        work_slice(rt, alloc, job, pass, gate, *slice)?;
+    }
+    assert_eq!(rt; job.work(alloc, pass, 0, gate)?, None);
+    Ok(())
 }
 
-// The table of three slices, with calls that are refused or not.
-fn table_after_refusals<R: Abort>(
+// The table of a job, with calls that are refused or not.
+fn table_of_job<'g, 'p, R: Abort>(
     rt: &R,
     alloc: Global,
-    graph: &Graph<'_>,
-    gate: &Recorder,
+    job: Job<'g, 'p>,
+    pass: Pass<GraphSets<'g, 'p>>,
 ) -> Result<Table, Fail>
+    requires { IsOf job pass }
+    ensures { IfOk result (IsTableOf job.entry.wanted.program) }
+{
+    let mut pass = pass;
+    work_all(rt, alloc, &job, &mut pass, &Recorder::new())?;
+    closed(job, pass)
+}
+
+// The table of three slices.
+fn table_after_refusals<R: Abort>(rt: &R, alloc: Global, graph: &Graph<'_>) -> Result<Table, Fail>
     ensures { IfOk result (IsTableOf graph.now) }
 {
     let (job, pass) = opened(alloc, graph, Analysis::Reach)?;
-    let (job, pass) = with_refusals(rt, alloc, job, pass, gate)?;
-    closed(job, pass)
+    table_of_job(rt, alloc, job, pass)
 }
 
 // With refused calls.
 struct WithRefusals;
 
-impl Ask for WithRefusals {
+impl Question for WithRefusals {
     fn answer<R: Threads + Sync + Abort>(
         &self,
         rt: &R,
         alloc: Global,
         graph: &Graph<'_>,
     ) -> Result<String, Fail> {
-        let table = table_after_refusals(rt, alloc, graph, &Recorder::new())?;
-        lines(alloc, graph, &table)
+        let table = table_after_refusals(rt, alloc, graph)?;
+        Ok(lines(alloc, graph, &table)?)
     }
 }
 
@@ -149,124 +206,16 @@ fn a_refused_call_goes_on(rt: HostRuntime) -> Result<(), Fail> {
     check_told(&rt, &WithRefusals)
 }
 
-// A call that gives a table.
+// What is asked of the program whose callee loops.
+const ASKED: (&[Asked], Order) = (CALLEE_LOOPS_ASKS, Order::AsWritten);
+
+// A call that takes memory, made once more where it is refused.
 #[derive(Clone, Copy)]
-enum Whole {
-    Alone,
-    Team(u32),
-    Pairs(u32),
-}
-
-// By so many workers; none where the call was refused.
-fn table_of_team<R: Threads + Sync>(
-    rt: &R,
-    alloc: Global,
-    graph: &Graph<'_>,
-    workers: u32,
-) -> Result<Option<Table>, Fail>
-    ensures { IfOk result (λ table. IfSome table (IsTableOf graph.now)) }
-{
-    let cut = slices(alloc, graph, Analysis::Reach, 1)?;
-    match analyse(rt, alloc, graph, Analysis::Reach, cut, workers, &OpenGate) {
-        Ok(table) => Ok(Some(table)),
-        Err(_) => Ok(None),
-    }
-}
-
-// The first of the tables that several workers share, beside a pair that one finds alone.
-fn first_of_pairs<R: Threads + Sync>(
-    rt: &R,
-    alloc: Global,
-    graph: &Graph<'_>,
-    workers: u32,
-) -> Result<Option<Table>, Fail>
-    ensures { IfOk result (λ table. IfSome table (IsTableOf graph.now)) }
-{
-    let live = (Analysis::Live, graph.bits(Analysis::Live));
-    let busy = (Analysis::Busy, graph.bits(Analysis::Busy));
-    let reach = slices(alloc, graph, Analysis::Reach, 1)?;
-    let avail = slices(alloc, graph, Analysis::Avail, 1)?;
-    let shared = ((Analysis::Reach, reach), (Analysis::Avail, avail));
-    match analyse_pairs(rt, alloc, graph, (live, busy), shared, workers) {
-        Ok((_, forward)) => {
-            let (table, _) = forward;
-            Ok(Some(table))
-        }
-        Err(_) => Ok(None),
-    }
-}
-
-// The table of an open job, where refused calls of `work` go on.
-fn table_of_job<'g, 'p, R: Abort>(
-    rt: &R,
-    alloc: Global,
-    job: Job<GraphSets<'g, 'p>, GraphSets<'g, 'p>>,
-    pass: Pass<GraphSets<'g, 'p>>,
-) -> Result<Table, Fail>
-    requires { IsOf job pass }
-    ensures { IfOk result (IsTableOf job.entry.wanted.program) }
-{
-    let (job, pass) = with_refusals(rt, alloc, job, pass, &Recorder::new())?;
-    closed(job, pass)
-}
-
-fn table_of_opened<R: Abort>(
-    rt: &R,
-    alloc: Global,
-    graph: &Graph<'_>,
-) -> Result<Option<Table>, Fail>
-    ensures { IfOk result (λ table. IfSome table (IsTableOf graph.now)) }
-{
-    let cut = slices(alloc, graph, Analysis::Reach, 1)?;
-    match Job::open(alloc, graph, Analysis::Reach, cut) {
-        Ok((job, pass)) => Ok(Some(table_of_job(rt, alloc, job, pass)?)),
-        Err(_) => Ok(None),
-    }
-}
-
-fn table_alone(alloc: Global, graph: &Graph<'_>) -> Option<Table>
-    ensures { IfSome result (IsTableOf graph.now) }
-{
-    match analyse_alone(alloc, graph, Analysis::Reach) {
-        Ok(table) => Some(table),
-        Err(_) => None,
-    }
-}
-
-// What a call gives, once the slices are cut that it takes; none where it was refused.
-fn table_of_call<R: Threads + Sync>(
-    rt: &R,
-    alloc: Global,
-    graph: &Graph<'_>,
-    call: Whole,
-) -> Result<Option<Table>, Fail>
-    ensures { IfOk result (λ table. IfSome table (IsTableOf graph.now)) }
-{
-    match call {
-        Whole::Alone => Ok(table_alone(alloc, graph)),
-        Whole::Team(workers) => table_of_team(rt, alloc, graph, workers),
-        Whole::Pairs(workers) => first_of_pairs(rt, alloc, graph, workers),
-    }
-}
-
-// The lines of a table, if there is one.
-fn lines_of(alloc: Global, graph: &Graph<'_>, table: Option<Table>) -> Result<Option<String>, Fail>
-    requires { IfSome table (IsTableOf graph.now) }
-{
-    match table {
-        Some(table) => Ok(Some(lines(alloc, graph, &table)?)),
-        None => Ok(None),
-    }
-}
-
-fn lines_of_call<R: Threads + Sync>(
-    rt: &R,
-    alloc: Global,
-    graph: &Graph<'_>,
-    call: Whole,
-) -> Result<Option<String>, Fail> {
-    let table = table_of_call(rt, alloc, graph, call)?;
-    lines_of(alloc, graph, table)
+enum Call {
+    Analyse(u32),
+    Answer(u32),
+    AnswerHere,
+    AnswersOfTables,
 }
 
 fn lines_of_opened<R: Abort>(
@@ -274,14 +223,67 @@ fn lines_of_opened<R: Abort>(
     alloc: Global,
     graph: &Graph<'_>,
 ) -> Result<Option<String>, Fail> {
-    let table = table_of_opened(rt, alloc, graph)?;
-    lines_of(alloc, graph, table)
+    let cut = slices(alloc, graph, Analysis::Reach, 1)?;
+    match Job::open(alloc, graph, Analysis::Reach, cut) {
+        Ok((job, pass)) => {
+            let table = table_of_job(rt, alloc, job, pass)?;
+            Ok(Some(lines(alloc, graph, &table)?))
+        }
+        Err(_) => Ok(None),
+    }
+}
+
+fn lines_of_table<R: Threads + Sync>(
+    rt: &R,
+    alloc: Global,
+    graph: &Graph<'_>,
+    workers: u32,
+) -> Result<Option<String>, Fail> {
+    let cut = slices(alloc, graph, Analysis::Reach, 1)?;
+    match analyse(rt, alloc, graph, Analysis::Reach, cut, workers, &OpenGate) {
+        Ok(table) => Ok(Some(lines(alloc, graph, &table)?)),
+        Err(_) => Ok(None),
+    }
+}
+
+// What the asks of the program whose callee loops are answered by so many workers.
+fn lines_of_answer<R: Threads + Sync>(
+    rt: &R,
+    alloc: Global,
+    graph: &Graph<'_>,
+    workers: u32,
+) -> Result<Option<String>, Fail> {
+    lines_of_team(rt, alloc, graph, ASKED, (64, workers), &OpenGate)
+}
+
+// What a call gives, once what it takes is there; none where it was refused.
+fn lines_of_call<R: Threads + Sync>(
+    rt: &R,
+    alloc: Global,
+    graph: &Graph<'_>,
+    call: Call,
+) -> Result<Option<String>, Fail> {
+    match call {
+        Call::Analyse(workers) => lines_of_table(rt, alloc, graph, workers),
+        Call::Answer(workers) => lines_of_answer(rt, alloc, graph, workers),
+        Call::AnswerHere => lines_here(alloc, graph, ASKED),
+        Call::AnswersOfTables => lines_of_tables(rt, alloc, graph, ASKED),
+    }
+}
+
+fn name_of(call: Call) -> &'static str {
+    match call {
+        Call::Analyse(_) => "analyse",
+        Call::Answer(_) => "answer",
+        Call::AnswerHere => "answer_here",
+        Call::AnswersOfTables => "Answers::of_tables",
+    }
 }
 
 // What a call that was refused tells the second time: the test then fails by the call's name.
-fn told_again(lines: Option<String>, call: &'static str) -> Result<String, Fail> {
+fn told_again(lines: Option<String>, want: &str, call: &'static str) -> Result<String, Fail> {
     let same = match lines {
-        Some(lines) => lines.as_str() == RECURSIVE_REACH,
+        Some(lines) => lines.as_str() == want,
         None => false,
     };
     if same {
@@ -291,22 +293,26 @@ fn told_again(lines: Option<String>, call: &'static str) -> Result<String, Fail>
     }
 }
 
-impl Ask for Whole {
+// A call, and what it gives.
+#[derive(Clone, Copy)]
+struct Twice<'a> {
+    call: Call,
+    want: &'a str,
+}
+
+impl<'a> Question for Twice<'a> {
     fn answer<R: Threads + Sync + Abort>(
         &self,
         rt: &R,
         alloc: Global,
         graph: &Graph<'_>,
     ) -> Result<String, Fail> {
-        match lines_of_call(rt, alloc, graph, *self)? {
+        match lines_of_call(rt, alloc, graph, self.call)? {
             Some(lines) => Ok(lines),
             None => told_again(
-                lines_of_call(rt, alloc, graph, *self)?,
-                match self {
-                    Whole::Alone => "analyse_alone",
-                    Whole::Team(_) => "analyse",
-                    Whole::Pairs(_) => "analyse_pairs",
-                },
+                lines_of_call(rt, alloc, graph, self.call)?,
+                self.want,
+                name_of(self.call),
             ),
         }
     }
@@ -315,7 +321,7 @@ impl Ask for Whole {
 // A job that is opened and worked.
 struct OpenedJob;
 
-impl Ask for OpenedJob {
+impl Question for OpenedJob {
     fn answer<R: Threads + Sync + Abort>(
         &self,
         rt: &R,
@@ -324,50 +330,67 @@ impl Ask for OpenedJob {
     ) -> Result<String, Fail> {
         match lines_of_opened(rt, alloc, graph)? {
             Some(lines) => Ok(lines),
-            None => told_again(lines_of_opened(rt, alloc, graph)?, "Job::open"),
+            None => told_again(
+                lines_of_opened(rt, alloc, graph)?,
+                RECURSIVE_REACH,
+                "Job::open",
+            ),
         }
     }
 }
 
 // What is told of the recursive program.
-fn check_told<R: Threads + Sync + Abort + AllocGlobal, A: Ask>(
+fn check_told<R: Threads + Sync + Abort + AllocGlobal, Q: Question>(
     rt: &R,
-    ask: &A,
+    question: &Q,
 ) -> Result<(), Fail> {
-    check(rt, RECURSIVE, ask, RECURSIVE_REACH, (0, 0))
+    check(rt, RECURSIVE, question, RECURSIVE_REACH, (0, 0))
 }
 
-#[test]
-fn a_table_alone_is_refused(rt: HostRuntime) -> Result<(), Fail> {
-    check_told(&rt, &Whole::Alone)
+// The same of a call.
+fn check_call<R: Threads + Sync + Abort + AllocGlobal>(rt: &R, call: Call) -> Result<(), Fail> {
+    let want = RECURSIVE_REACH;
+    check_told(rt, &Twice { call, want })
 }
 
-#[test]
-fn a_team_of_one_is_refused(rt: HostRuntime) -> Result<(), Fail> {
-    check_told(&rt, &Whole::Team(1))
-}
-
-#[test]
-fn a_team_of_two_is_refused(rt: HostRuntime) -> Result<(), Fail> {
-    check_told(&rt, &Whole::Team(2))
-}
-
-#[test]
-fn pairs_by_one_are_refused(rt: HostRuntime) -> Result<(), Fail> {
-    check_told(&rt, &Whole::Pairs(1))
-}
-
-#[test]
-fn pairs_by_four_are_refused(rt: HostRuntime) -> Result<(), Fail> {
-    check_told(&rt, &Whole::Pairs(4))
-}
-
-#[test]
-fn pairs_by_five_are_refused(rt: HostRuntime) -> Result<(), Fail> {
-    check_told(&rt, &Whole::Pairs(5))
+// The answers that a call gives.
+fn check_answers<R: Threads + Sync + Abort + AllocGlobal>(rt: &R, call: Call) -> Result<(), Fail> {
+    let text = wanted_lines(rt.alloc(), CALLEE_LOOPS_ASKING, Order::AsWritten)?;
+    let want = text.as_str();
+    check(rt, CALLEE_LOOPS, &Twice { call, want }, want, (0, 0))
 }
 
 #[test]
 fn an_opened_job_is_refused(rt: HostRuntime) -> Result<(), Fail> {
     check_told(&rt, &OpenedJob)
+}
+
+#[test]
+fn a_team_of_one_is_refused(rt: HostRuntime) -> Result<(), Fail> {
+    check_call(&rt, Call::Analyse(1))
+}
+
+#[test]
+fn a_team_of_two_is_refused(rt: HostRuntime) -> Result<(), Fail> {
+    check_call(&rt, Call::Analyse(2))
+}
+
+#[test]
+fn answers_by_one_are_refused(rt: HostRuntime) -> Result<(), Fail> {
+    check_answers(&rt, Call::Answer(1))
+}
+
+#[test]
+fn answers_by_two_are_refused(rt: HostRuntime) -> Result<(), Fail> {
+    check_answers(&rt, Call::Answer(2))
+}
+
+#[test]
+fn answers_here_are_refused(rt: HostRuntime) -> Result<(), Fail> {
+    check_answers(&rt, Call::AnswerHere)
+}
+
+#[test]
+fn answers_of_tables_are_refused(rt: HostRuntime) -> Result<(), Fail> {
+    check_answers(&rt, Call::AnswersOfTables)
 }

@@ -1,10 +1,8 @@
 // Programs, and tables as text: a line for each point with the numbers of its bits.
 
-ghost use Rattle.std.specs.Prelude.{◌≡◌, ◌≤◌, IfOk, length};
+ghost use Rattle.std.specs.Prelude.{◌≡◌, IfOk};
 ghost use Rattle.std.specs.Thread.{IsSync};
-ghost use Rattle.flow_graph.specs.Points.{point_count};
 ghost use Rattle.flow_graph.specs.Universes.{bits as bits_of};
-ghost use Rattle.flow_team.specs.Beginnings.{IsBeginningOf};
 ghost use Rattle.flow_team.specs.Tables.{IsTableOf};
 
 use bit_rows::Cut;
@@ -23,6 +21,9 @@ pub const RECURSIVE: &str =
 
 /// The definitions that reach each point of it.
 pub const RECURSIVE_REACH: &str = "0: 0\n1: 1\n2: 1 2\n3: 1 2\n4: 1\n5: 1\n6: 1 2\n7: 1 2\n";
+
+/// No path leads behind the call.
+pub const CALLEE_LOOPS: &str = "proc main\ncall f\na = b + c\nend\nproc f\nL: goto L\nend\n";
 
 /// `main` that prints so many variables, one after the other.
 pub fn prints(alloc: Global, count: u32) -> Result<String, OutOfMemory> {
@@ -59,28 +60,7 @@ pub fn sums(alloc: Global, count: u32) -> Result<String, OutOfMemory> {
     Ok(text)
 }
 
-/// `main` that evaluates so many sums of one variable, one after the other.
-pub fn steps(alloc: Global, count: u32) -> Result<String, OutOfMemory> {
-    let mut text = String::new(alloc);
-    text.push_str("proc main\n")?;
-    for number in 0..count {
-        write!(text, "x = v + {number}\n")?;
-    }
-    text.push_str("end\n")?;
-    Ok(text)
-}
-
-/// What is live there: before the last sum `v`, the second variable.
-pub fn stepped(alloc: Global, count: u32) -> Result<String, OutOfMemory> {
-    let mut text = String::new(alloc);
-    for point in 0..count {
-        write!(text, "{point}: 1\n")?;
-    }
-    write!(text, "{count}:\n")?;
-    Ok(text)
-}
-
-/// What is available in texts of sums: at each point those that are evaluated before it.
+/// What is available there: at each point the sums that are evaluated before it. Very busy are those from there on, as [`printed`] has it.
 pub fn summed(alloc: Global, count: u32) -> Result<String, OutOfMemory> {
     let mut text = String::new(alloc);
     for point in 0..=count {
@@ -111,8 +91,8 @@ fn graph(alloc: Global, program: &Program) -> Result<Graph<'_>, Fail>
     }
 }
 
-/// What is made of a graph.
-pub trait Ask {
+/// What is asked of a graph.
+pub trait Question {
     fn answer<R: Threads + Sync + Abort>(
         &self,
         rt: &R,
@@ -122,26 +102,26 @@ pub trait Ask {
         requires { IsSync R.row };
 }
 
-// What is made of a program's graph.
-fn asked_of_program<R: Threads + Sync + Abort, A: Ask>(
+// The answer of a program's graph.
+fn answered_of_program<R: Threads + Sync + Abort, Q: Question>(
     rt: &R,
     alloc: Global,
     program: &Program,
-    ask: &A,
+    question: &Q,
 ) -> Result<String, Fail> {
     let graph = graph(alloc, program)?;
-    ask.answer(rt, alloc, &graph)
+    question.answer(rt, alloc, &graph)
 }
 
-/// What is made of the graph of a text's program.
-pub fn asked<R: Threads + Sync + Abort, A: Ask>(
+/// The answer of the graph of a text's program.
+pub fn answered<R: Threads + Sync + Abort, Q: Question>(
     rt: &R,
     alloc: Global,
     text: &str,
-    ask: &A,
+    question: &Q,
 ) -> Result<String, Fail> {
     let program = program(alloc, text)?;
-    asked_of_program(rt, alloc, &program, ask)
+    answered_of_program(rt, alloc, &program, question)
 }
 
 /// The text is what is wanted. A failure names the case and the number of workers.
@@ -150,29 +130,22 @@ pub fn check_text<R: Abort>(rt: &R, told: &str, want: &str, case: (u32, u32)) {
     assert_eq!(rt; told, want, "case {case}, {workers} workers");
 }
 
-/// What is made of the graph of a text's program is what is wanted. Of the case and the number of workers a failure tells.
-pub fn check<R: Threads + Sync + Abort + AllocGlobal, A: Ask>(
+/// The answer of the graph of a text's program is what is wanted. Of the case and the number of workers a failure tells.
+pub fn check<R: Threads + Sync + Abort + AllocGlobal, Q: Question>(
     rt: &R,
     text: &str,
-    ask: &A,
+    question: &Q,
     want: &str,
     case: (u32, u32),
 ) -> Result<(), Fail> {
-    let told = asked(rt, rt.alloc(), text, ask)?;
+    let told = answered(rt, rt.alloc(), text, question)?;
     check_text(rt, told.as_str(), want, case);
     Ok(())
 }
 
-// The lines of all points with so many of the first bits, `(no path)` behind the number of one without a path.
-fn lines_below(
-    alloc: Global,
-    graph: &Graph<'_>,
-    table: &Table,
-    bits: u32,
-) -> Result<String, OutOfMemory>
-    requires first { table.now.rows.lo ≡ 0 }
-    requires bits { bits ≤ table.now.rows.hi }
-    requires points { length table.now.rows.flags ≡ point_count graph.now }
+/// The lines of all points, `(no path)` behind the number of one without a path.
+pub fn lines(alloc: Global, graph: &Graph<'_>, table: &Table) -> Result<String, OutOfMemory>
+    requires { IsTableOf graph.now table.now }
 {
     let mut text = String::new(alloc);
     for point in 0..graph.points() {
@@ -181,7 +154,7 @@ fn lines_below(
             text.push_str(" (no path)")?;
         }
         text.push(':')?;
-        for bit in 0..bits {
+        for bit in 0..graph.bits(table.analysis()) {
             if table.contains(point, bit) {
                 write!(text, " {bit}")?;
             }
@@ -189,26 +162,6 @@ fn lines_below(
         text.push('\n')?;
     }
     Ok(text)
-}
-
-/// The lines of all points, `(no path)` behind the number of one without a path.
-pub fn lines(alloc: Global, graph: &Graph<'_>, table: &Table) -> Result<String, Fail>
-    requires { IsTableOf graph.now table.now }
-{
-    Ok(lines_below(alloc, graph, table, graph.bits(table.analysis()))?)
-}
-
-/// The lines of all points with the first bits, of which the table has so many.
-pub fn beginning(
-    alloc: Global,
-    graph: &Graph<'_>,
-    table: &Table,
-    bits: u32,
-) -> Result<String, OutOfMemory>
-    requires table { IsBeginningOf graph.now table.now }
-    requires bits { table.now.rows.hi ≡ bits }
-{
-    lines_below(alloc, graph, table, bits)
 }
 
 /// So many words of the set of a point.
@@ -234,14 +187,7 @@ pub fn words(
 pub fn slices(alloc: Global, graph: &Graph<'_>, analysis: Analysis, width: u32) -> Result<Cut, Fail>
     ensures { IfOk result (λ cut. cut.bits ≡ bits_of graph.now analysis) }
 {
-    slices_of(alloc, graph.bits(analysis), width)
-}
-
-/// So many bits in slices of this width.
-pub fn slices_of(alloc: Global, bits: u32, width: u32) -> Result<Cut, Fail>
-    ensures { IfOk result (λ cut. cut.bits ≡ bits) }
-{
-    match Cut::even(alloc, bits, width) {
+    match Cut::even(alloc, graph.bits(analysis), width) {
         Ok(cut) => Ok(cut),
         Err(_) => Err(Fail::new("no cut")),
     }

@@ -4,11 +4,14 @@
 
 ghost use Rattle.std.specs.Prelude.{◌≡◌, IfOk};
 ghost use Rattle.flow_team.specs.Tables.{IsTableOf};
-ghost use Rattle.flow_texts.specs.Reports.{TellReport};
+ghost use Rattle.flow_texts.specs.Reports.{AreTablesOf};
+ghost use Rattle.flow_texts.specs.code.Reported.{TellReport};
 
 use flow_graph::{Analysis, Graph, OutOfMemory};
 use flow_team::Table;
-use flow_texts::{ReportText, TableText, Tables, report, table_of, table_text};
+use flow_texts::{
+    ReportAnswers, ReportText, TableText, Tables, report, report_here, table_of, table_text,
+};
 use std::alloc::Global;
 use std::process::Abort;
 use std::test::Fail;
@@ -23,10 +26,12 @@ enum Call {
     TableText,
     WholeTable,
     TablesOf,
-    TablesAlone,
-    TablesForReport,
+    AnswersOf,
+    AnswersHere,
+    AnswersOfTables,
     ReportText,
     WholeReport,
+    ReportHere,
 }
 
 // Fails by the name of a call that was refused.
@@ -119,36 +124,72 @@ fn told_of_its_table<R: Threads + Sync>(
     told_of_table(alloc, graph, &table, call, refused)
 }
 
-// The four tables, as a call asks for them.
-fn tables_of<R: Threads + Sync>(
+// The four tables; the call that was refused is made once more.
+fn tables_again<R: Threads + Sync>(
+    rt: &R,
+    alloc: Global,
+    graph: &Graph<'_>,
+    refused: &mut bool,
+) -> Result<Tables, Fail>
+    ensures { IfOk result (AreTablesOf graph.now) }
+{
+    match Tables::of(rt, alloc, graph, 1, 1) {
+        Ok(tables) => Ok(tables),
+        Err(_) => {
+            *refused = true;
+            Ok(Tables::of(rt, alloc, graph, 1, 1)?)
+        }
+    }
+}
+
+// The answers to what a report asks, as a call finds them.
+fn answers_of<R: Threads + Sync>(
     rt: &R,
     alloc: Global,
     graph: &Graph<'_>,
     call: Call,
-) -> Result<Tables, OutOfMemory>
+) -> Result<ReportAnswers, OutOfMemory>
     ensures { IfOk result (TellReport graph.now) }
 {
     match call {
-        Call::TablesOf => Tables::of(rt, alloc, graph, 1, 1),
-        Call::TablesAlone => Tables::alone(alloc, graph),
-        _ => Tables::for_report(rt, alloc, graph, 1, 1),
+        Call::AnswersHere => ReportAnswers::here(alloc, graph),
+        _ => ReportAnswers::of(rt, alloc, graph, 1, 1),
     }
 }
 
-fn tables_again<R: Threads + Sync>(
+fn answers_again<R: Threads + Sync>(
     rt: &R,
     alloc: Global,
     graph: &Graph<'_>,
     call: Call,
     refused: &mut bool,
-) -> Result<Tables, Fail>
+) -> Result<ReportAnswers, Fail>
     ensures { IfOk result (TellReport graph.now) }
 {
-    match tables_of(rt, alloc, graph, call) {
-        Ok(tables) => Ok(tables),
+    match answers_of(rt, alloc, graph, call) {
+        Ok(answers) => Ok(answers),
         Err(_) => {
             *refused = true;
-            Ok(tables_of(rt, alloc, graph, call)?)
+            Ok(answers_of(rt, alloc, graph, call)?)
+        }
+    }
+}
+
+// The answers that stand in tables.
+fn answers_of_tables_again(
+    alloc: Global,
+    graph: &Graph<'_>,
+    tables: &Tables,
+    refused: &mut bool,
+) -> Result<ReportAnswers, Fail>
+    requires { AreTablesOf graph.now tables.now }
+    ensures { IfOk result (TellReport graph.now) }
+{
+    match ReportAnswers::of_tables(alloc, graph, tables) {
+        Ok(answers) => Ok(answers),
+        Err(_) => {
+            *refused = true;
+            Ok(ReportAnswers::of_tables(alloc, graph, tables)?)
         }
     }
 }
@@ -156,16 +197,16 @@ fn tables_again<R: Threads + Sync>(
 fn report_text_again(
     alloc: Global,
     graph: &Graph<'_>,
-    tables: &Tables,
+    answers: &ReportAnswers,
     refused: &mut bool,
 ) -> Result<Vec<u8>, Fail>
-    requires { TellReport graph.now tables.now }
+    requires { TellReport graph.now answers.now }
 {
-    let text = match ReportText::of(alloc, graph, tables) {
+    let text = match ReportText::of(alloc, graph, answers) {
         Ok(text) => text,
         Err(_) => {
             *refused = true;
-            ReportText::of(alloc, graph, tables)?
+            ReportText::of(alloc, graph, answers)?
         }
     };
     Ok(whole_text(alloc, &text)?)
@@ -177,13 +218,27 @@ fn whole_report_again(
     tables: &Tables,
     refused: &mut bool,
 ) -> Result<Vec<u8>, Fail>
-    requires { TellReport graph.now tables.now }
+    requires { AreTablesOf graph.now tables.now }
 {
     match report(alloc, graph, tables) {
         Ok(text) => Ok(text),
         Err(_) => {
             *refused = true;
             Ok(report(alloc, graph, tables)?)
+        }
+    }
+}
+
+fn report_here_again(
+    alloc: Global,
+    graph: &Graph<'_>,
+    refused: &mut bool,
+) -> Result<Vec<u8>, Fail> {
+    match report_here(alloc, graph) {
+        Ok(text) => Ok(text),
+        Err(_) => {
+            *refused = true;
+            Ok(report_here(alloc, graph)?)
         }
     }
 }
@@ -195,11 +250,15 @@ fn told_of_tables(
     call: Call,
     refused: &mut bool,
 ) -> Result<Vec<u8>, Fail>
-    requires { TellReport graph.now tables.now }
+    requires { AreTablesOf graph.now tables.now }
 {
     match call {
-        Call::ReportText => report_text_again(alloc, graph, tables, refused),
         Call::WholeReport => whole_report_again(alloc, graph, tables, refused),
+        Call::AnswersOfTables => {
+            let answers = answers_of_tables_again(alloc, graph, tables, refused)?;
+            let mut again = false;
+            report_text_again(alloc, graph, &answers, &mut again)
+        }
         _ => Ok(report(alloc, graph, tables)?),
     }
 }
@@ -212,13 +271,27 @@ fn told_of_its_tables<R: Threads + Sync>(
     refused: &mut bool,
 ) -> Result<Vec<u8>, Fail> {
     let mut again = false;
-    let tables = tables_again(rt, alloc, graph, call, &mut again)?;
-    *refused = again
-        && matches!(
-            call,
-            Call::TablesOf | Call::TablesAlone | Call::TablesForReport
-        );
+    let tables = tables_again(rt, alloc, graph, &mut again)?;
+    *refused = again && matches!(call, Call::TablesOf);
     told_of_tables(alloc, graph, &tables, call, refused)
+}
+
+fn told_of_its_answers<R: Threads + Sync>(
+    rt: &R,
+    alloc: Global,
+    graph: &Graph<'_>,
+    call: Call,
+    refused: &mut bool,
+) -> Result<Vec<u8>, Fail> {
+    let mut again = false;
+    let answers = answers_again(rt, alloc, graph, call, &mut again)?;
+    let mut text_again = false;
+    let text = report_text_again(alloc, graph, &answers, &mut text_again)?;
+    *refused = match call {
+        Call::ReportText => text_again,
+        _ => again,
+    };
+    Ok(text)
 }
 
 fn told_of_graph<R: Threads + Sync>(
@@ -232,7 +305,13 @@ fn told_of_graph<R: Threads + Sync>(
         Call::TableOf => told_of_its_table(rt, alloc, graph, call, refused),
         Call::TableText => told_of_its_table(rt, alloc, graph, call, refused),
         Call::WholeTable => told_of_its_table(rt, alloc, graph, call, refused),
-        _ => told_of_its_tables(rt, alloc, graph, call, refused),
+        Call::TablesOf => told_of_its_tables(rt, alloc, graph, call, refused),
+        Call::AnswersOfTables => told_of_its_tables(rt, alloc, graph, call, refused),
+        Call::WholeReport => told_of_its_tables(rt, alloc, graph, call, refused),
+        Call::AnswersOf => told_of_its_answers(rt, alloc, graph, call, refused),
+        Call::AnswersHere => told_of_its_answers(rt, alloc, graph, call, refused),
+        Call::ReportText => told_of_its_answers(rt, alloc, graph, call, refused),
+        Call::ReportHere => report_here_again(alloc, graph, refused),
     }
 }
 
@@ -291,13 +370,23 @@ fn tables_are_refused(rt: HostRuntime) -> Result<(), Fail> {
 }
 
 #[test]
-fn tables_alone_are_refused(rt: HostRuntime) -> Result<(), Fail> {
-    check(&rt, Call::TablesAlone, "Tables::alone", REPORT)
+fn answers_are_refused(rt: HostRuntime) -> Result<(), Fail> {
+    check(&rt, Call::AnswersOf, "ReportAnswers::of", REPORT)
 }
 
 #[test]
-fn tables_for_a_report_are_refused(rt: HostRuntime) -> Result<(), Fail> {
-    check(&rt, Call::TablesForReport, "Tables::for_report", REPORT)
+fn answers_here_are_refused(rt: HostRuntime) -> Result<(), Fail> {
+    check(&rt, Call::AnswersHere, "ReportAnswers::here", REPORT)
+}
+
+#[test]
+fn answers_of_tables_are_refused(rt: HostRuntime) -> Result<(), Fail> {
+    check(
+        &rt,
+        Call::AnswersOfTables,
+        "ReportAnswers::of_tables",
+        REPORT,
+    )
 }
 
 #[test]
@@ -308,6 +397,11 @@ fn text_of_a_report_is_refused(rt: HostRuntime) -> Result<(), Fail> {
 #[test]
 fn whole_report_is_refused(rt: HostRuntime) -> Result<(), Fail> {
     check(&rt, Call::WholeReport, "report", REPORT)
+}
+
+#[test]
+fn report_here_is_refused(rt: HostRuntime) -> Result<(), Fail> {
+    check(&rt, Call::ReportHere, "report_here", REPORT)
 }
 
 // All bytes of a source, the second time where the block was refused: nothing was pulled before.

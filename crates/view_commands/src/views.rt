@@ -6,6 +6,7 @@ ghost use Rattle.flow_graph.specs.Limits.{HasFewBits, HasFewPoints};
 ghost use Rattle.flow_runs.specs.Faults.{Delivers, OfProgram, write_faults_in};
 ghost use Rattle.flow_runs.specs.Runs.{IsOverLimit};
 ghost use Rattle.flow_texts.specs.Reports.{AreTablesOf};
+ghost use Rattle.flow_texts.specs.code.Reported.{TellReport};
 ghost use Rattle.flow_views.specs.Dots.{IsDot};
 ghost use Rattle.flow_views.specs.Json.{IsJson};
 ghost use Rattle.view_commands.specs.Commands.{name_asked};
@@ -14,7 +15,7 @@ ghost use Rattle.view_commands.specs.Views.{HasProcedure, IsShown, IsText, Lacks
 use crate::options::{Format, Options};
 use flow_graph::Graph;
 use flow_runs::{Fault, Shown, graph_of, push_text};
-use flow_texts::Tables;
+use flow_texts::{ReportAnswers, Tables};
 use flow_views::{DotText, JsonText, View};
 use std::alloc::Global;
 use std::thread::Threads;
@@ -61,10 +62,12 @@ fn push_dot<K: Sink>(
     alloc: Global,
     graph: &Graph<'_>,
     tables: &Tables,
+    answers: &ReportAnswers,
     view: View,
     sink: &mut K,
 ) -> Result<(), Fault>
     requires tables { AreTablesOf graph.now tables.now }
+    requires answers { TellReport graph.now answers.now }
     requires below { K.faults sink.old < 2 ^ 32 - 1 }
     requires there { IfSome view.procedure (λ number. number < length graph.now.procedure_names) }
     ensures delivers { Delivers (λ out. IsDot graph.now view out) (K.contents sink.old) (K.contents sink.new) result }
@@ -72,7 +75,7 @@ fn push_dot<K: Sink>(
     ensures fault { IfErr result (OfProgram (λ _. ⊥) ⊥) }
     ensures faults { K.faults sink.new ≡ K.faults sink.old + write_faults_in result }
 {
-    let text = DotText::of(alloc, graph, tables, view)?;
+    let text = DotText::of(alloc, graph, tables, answers, view)?;
     push_text(alloc, &text, sink)
 }
 
@@ -81,10 +84,12 @@ fn push_json<K: Sink>(
     alloc: Global,
     graph: &Graph<'_>,
     tables: &Tables,
+    answers: &ReportAnswers,
     view: View,
     sink: &mut K,
 ) -> Result<(), Fault>
     requires tables { AreTablesOf graph.now tables.now }
+    requires answers { TellReport graph.now answers.now }
     requires below { K.faults sink.old < 2 ^ 32 - 1 }
     requires there { IfSome view.procedure (λ number. number < length graph.now.procedure_names) }
     ensures delivers { Delivers (λ out. IsJson graph.now view out) (K.contents sink.old) (K.contents sink.new) result }
@@ -92,20 +97,22 @@ fn push_json<K: Sink>(
     ensures fault { IfErr result (OfProgram (λ _. ⊥) ⊥) }
     ensures faults { K.faults sink.new ≡ K.faults sink.old + write_faults_in result }
 {
-    let text = JsonText::of(alloc, graph, tables, view)?;
+    let text = JsonText::of(alloc, graph, tables, answers, view)?;
     push_text(alloc, &text, sink)
 }
 
-// Writes the text of a format, with tables that are not owned here, so that no way out drops them.
+// Writes the text of a format, with tables and answers that are not owned here, so that no way out drops them.
 fn push_view<K: Sink>(
     alloc: Global,
     graph: &Graph<'_>,
     tables: &Tables,
+    answers: &ReportAnswers,
     format: Format,
     view: View,
     sink: &mut K,
 ) -> Result<(), Fault>
     requires tables { AreTablesOf graph.now tables.now }
+    requires answers { TellReport graph.now answers.now }
     requires below { K.faults sink.old < 2 ^ 32 - 1 }
     requires there { IfSome view.procedure (λ number. number < length graph.now.procedure_names) }
     ensures delivers { Delivers (IsText format graph.now view) (K.contents sink.old) (K.contents sink.new) result }
@@ -114,8 +121,8 @@ fn push_view<K: Sink>(
     ensures faults { K.faults sink.new ≡ K.faults sink.old + write_faults_in result }
 {
     match format {
-        Format::Dot => push_dot(alloc, graph, tables, view, sink),
-        Format::Json => push_json(alloc, graph, tables, view, sink),
+        Format::Dot => push_dot(alloc, graph, tables, answers, view, sink),
+        Format::Json => push_json(alloc, graph, tables, answers, view, sink),
     }
 }
 
@@ -137,7 +144,8 @@ fn view_of_graph<R: Threads + Sync, K: Sink>(
     ensures faults { K.faults sink.new ≡ K.faults sink.old + write_faults_in result }
 {
     let tables = Tables::of(rt, alloc, graph, options.workers, options.cut)?;
-    push_view(alloc, graph, &tables, options.format, view, sink)
+    let answers = ReportAnswers::of_tables(alloc, graph, &tables)?;
+    push_view(alloc, graph, &tables, &answers, options.format, view, sink)
 }
 
 // Writes what the options ask for of this program, but for the procedure, which is found.

@@ -5,13 +5,14 @@ use Rattle.flow_graph.specs.Limits.{HasFewPoints}
 use Rattle.flow_graph.specs.Points.{point_count}
 use Rattle.flow_graph.specs.Runs.{IsDoubtful}
 use Rattle.flow_graph.specs.Universes.{bits}
-use Rattle.flow_graph.specs.declared.analysis.Analysis.TheVariants.{Avail, Busy}
+use Rattle.flow_graph.specs.declared.analysis.Analysis.TheVariants.{Reach, Live, Avail, Busy}
 use Rattle.tac_reader.specs.Programs.{Program}
 use Rattle.tac_reader.specs.Sound.{IsSound}
 use Rattle.text_pieces.specs.code.Lists.{AreTexts}
-use Rattle.flow_texts.specs.Reports.{Knowledge, TellReport, remark_text}
-use Rattle.flow_team.specs.Tables.{facts_of}
+use Rattle.flow_texts.specs.Reports.{Knowledge, remark_text}
 use Rattle.flow_texts.specs.Tables.{bit_text, variable_text}
+use Rattle.flow_texts.specs.code.Reported.{TellReport}
+use Rattle.flow_texts.specs.code.Told.{facts_in}
 use Rattle.flow_texts.specs.declared.findings.Findings.{Findings}
 use Rattle.flow_texts.specs.declared.remark.Remark.{Remark}
 use Rattle.flow_texts.specs.declared.remark.Remark.TheVariants.{NeverReached, Unset, Computed, VeryBusy, Dead}
@@ -21,22 +22,22 @@ pub record TellDoubtful (program : Program) (doubtful : List Bool) : Type 0 wher
   pub count : length doubtful ≡ point_count program
   pub each : (point : ℕ) → point < point_count program → (get_or doubtful point false ≡ true) ↔ IsDoubtful (shape_of program) point
 
--- The tables tell a report on the program, which is sound and has few points, there is one truth value for each point, and the texts are
+-- The answers tell a report on the program, which is sound and has few points, there is one truth value for each point, and the texts are
 -- those of the program's expressions.
 pub record AreFindings (found : Findings) : Type 0 where
   pub sound : IsSound found.graph.now
   pub few : HasFewPoints found.graph.now
-  pub tables : TellReport found.graph.now found.tables.now
+  pub answers : TellReport found.graph.now found.answers.now
   pub doubts : length found.doubtful.items ≡ point_count found.graph.now
   pub expressions : AreTexts (bit_text found.graph.now Avail) (bits found.graph.now Avail) found.expressions.texts
 
--- what they tell
+-- what they tell, as far as they were asked
 abbrev pub knowledge_of : Findings → Knowledge
 knowledge_of found = record {
-  reach = facts_of found.tables.now.reach;
-  live = facts_of found.tables.now.live;
-  avail = facts_of found.tables.now.avail;
-  busy = facts_of found.tables.now.busy;
+  reach = facts_in found.answers.now.replies Reach;
+  live = facts_in found.answers.now.replies Live;
+  avail = facts_in found.answers.now.replies Avail;
+  busy = facts_in found.answers.now.replies Busy;
   doubtful = λ point. get_or found.doubtful.items point false;
 }
 

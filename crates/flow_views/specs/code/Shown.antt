@@ -1,13 +1,14 @@
 -- How the code's tables stand for what is shown.
-use Rattle.std.specs.Prelude.{◌≡◌, ℕ, ◌-◌, ◌<◌, List, map, length, IfSome}
+use Rattle.std.specs.Prelude.{◌≡◌, ℕ, ◌-◌, ◌<◌, false, List, get_or, map, length, IfSome}
 use Rattle.std.specs.List.{range_with_len}
 use Rattle.smallvec.specs.SmallVec.{SmallVec}
 use Rattle.flow_graph.specs.Edges.{edges_from}
 use Rattle.flow_graph.specs.Points.{point_count, points}
 use Rattle.flow_graph.specs.declared.edge.Edge.{Edge}
 use Rattle.flow_graph.specs.declared.edge.Edge.TheVariants.{Step, Call, Ret}
-use Rattle.flow_texts.specs.Reports.{AreTablesOf}
-use Rattle.flow_texts.specs.code.Findings.{AreFindings}
+use Rattle.flow_team.specs.Tables.{facts_of}
+use Rattle.flow_texts.specs.Reports.{AreTablesOf, Knowledge}
+use Rattle.flow_texts.specs.code.Findings.{AreFindings, TellDoubtful}
 use Rattle.tac_reader.specs.Programs.{Program}
 use Rattle.flow_views.specs.code.Names.{AreNames}
 use Rattle.flow_views.specs.declared.shown.Numbers.{Numbers}
@@ -21,11 +22,22 @@ contents lists = map (λ list. list.items) lists
 abbrev pub numbers_of : Numbers → List ℕ
 numbers_of numbers = range_with_len numbers.first (numbers.end - numbers.first)
 
--- What was found is of one program, whose tables are whole, the names are those of its bits, the edges are those out of each point,
+-- what is known of a program by its tables and its doubtful points
+abbrev pub known_of : Shown → Knowledge
+known_of shown = record {
+  reach = facts_of shown.tables.now.reach;
+  live = facts_of shown.tables.now.live;
+  avail = facts_of shown.tables.now.avail;
+  busy = facts_of shown.tables.now.busy;
+  doubtful = λ point. get_or shown.found.doubtful.items point false;
+}
+
+-- What was found is of one program, whose doubtful points and tables are told, the names are those of its bits, the edges are those out of each point,
 -- and the procedure that is shown is there.
 pub record AreShown (shown : Shown) : Type 0 where
   pub found : AreFindings shown.found
-  pub tables : AreTablesOf shown.found.graph.now shown.found.tables.now
+  pub doubts : TellDoubtful shown.found.graph.now shown.found.doubtful.items
+  pub tables : AreTablesOf shown.found.graph.now shown.tables.now
   pub names : AreNames shown.found.graph.now shown.names
   pub successors : contents shown.successors.items ≡ map (edges_from shown.found.graph.now) (points shown.found.graph.now)
   pub procedure : IfSome shown.view.procedure (λ procedure. procedure < length shown.found.graph.now.procedures)

@@ -54,14 +54,4 @@ impl<T: Wanted> WordBoard<T> {
         };
         Ok((board, pass))
     }
-
-    /// The same board with these flags, which `close` hands out: one may be laid before they are known.
-    pub fn with_flags(self, flags: Vec<bool>) -> WordBoard<T>
-        requires { length flags.items ≡ point_count self }
-        ensures { result ≡ record self { blank = blank_table flags.items 0 self.cut.bits } }
-    {
-        let mut board = self;
-        board.flags = flags;
-        board
-    }
 }

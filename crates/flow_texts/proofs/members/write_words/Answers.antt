@@ -17,7 +17,7 @@ write_word-run-requires g c κs within =
       (
         stays_open _ _ _ c.requires.1.0 c.loop-at.invariant.wrote.written,
         (
-          (λ k inside. c.word.ensures k (omega (arith, inside, c.min.ensures)) ∙ c.requires.1.1.1.1 (first + k)),
+          (λ k inside. c.word.ensures.set k (omega (arith, inside, c.min.ensures)) ∙ c.requires.1.1.1.1 (first + k)),
           (omega arith, (omega (arith, c.min.ensures), (omega (arith, c.min.ensures, below, c.requires.1.1.1.0), subst (λ p. IsRunBefore g.member p c.loop-at.run.first c.loop-at.run.end) here c.loop-at.invariant.after))),
         ),
       ),

@@ -14,7 +14,7 @@ returns-then-put_text-clause-held c =
     c.in_ok-graph.ensures.few_points c.in_ok-graph.ensures.few_bits in
     record {
       text = out;
-      is_text = (graph, subst (λ (p : Program). ListsSafely p out) is c.in-Ok.ensures);
+      is_text = (graph, subst (λ (p : Program). ListsSafely p out) is c.in-Ok.ensures.safe);
       size_is = put.size ∙ ap length c.deref.ensures.value;
       bytes = put.bytes ∙ ap (λ l. l ++ drop (length l) c.args.bytes.now) c.deref.ensures.value;
     }
@@ -28,7 +28,7 @@ returns-clause-fault c =
     c.in_ok-graph.ensures.few_points c.in_ok-graph.ensures.few_bits in
     record {
       text = out;
-      is_text = (graph, subst (λ (p : Program). ListsSafely p out) is c.in-Ok.ensures);
+      is_text = (graph, subst (λ (p : Program). ListsSafely p out) is c.in-Ok.ensures.safe);
       size_is = put.size ∙ ap length c.deref.ensures.value;
       too_small = omega (arith, put.room, ap length c.deref.ensures.value);
     }

@@ -10,5 +10,5 @@ unfolding has_bit
 returns c =
     let back : 64 * (c.args.bit / 64) + c.args.bit % 64 ≡ c.args.bit = omega arith in
     ap (λ x. eqb x 1) (shr_and_one c.word.result (c.args.bit % 64))
-    ∙ c.word.ensures (c.args.bit % 64) (omega arith)
+    ∙ c.word.ensures.set (c.args.bit % 64) (omega arith)
     ∙ ap (contains (set_at c.args.self.now.rows c.args.point)) back

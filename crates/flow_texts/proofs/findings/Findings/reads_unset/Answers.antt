@@ -1,30 +1,49 @@
-use Rattle.std.proofs.Common.{ℕ, [], ◌∷◌, ◌||◌, ap, ◌∙◌, sym}
+use Rattle.std.proofs.Common.{ℕ, [], ◌∷◌, ◌+◌, ◌<◌, ◌||◌, length, ap, ◌∙◌, sym, arith}
+use Rattle.std.proofs.lemmas.Option.{slice_get_within}
+use Rattle.flow_graph.specs.declared.analysis.Analysis.TheVariants.{Reach}
+use Rattle.flow_texts.specs.code.Told.{ask_for}
+use Rattle.flow_texts.proofs.Asking.{first_read, second_read}
 use Rattle.tac_reader.specs.Programs.{Program}
 use Rattle.flow_texts.specs.code.Findings.{knowledge_of}
+use Rattle.flow_texts.specs.code.Operands.{AreRead}
 use Rattle.text_pieces.specs.code.Lists.{some_stand}
 use Rattle.flow_texts.specs.Reports.{Knowledge}
-use Rattle.flow_texts.proofs.RemarkLines.{AreRead, variables_are_there, unset_are, first_of, second_of, one_passes, two_pass}
+use Rattle.flow_texts.proofs.RemarkLines.{unset_are, one_passes, two_pass}
 use Rattle.flow_texts.proofs.findings.Findings.reads_unset.Goals as goal
 
-pub may_be_unset-requires-clause-variable : goal.may_be_unset-requires-clause-variable
-may_be_unset-requires-clause-variable c =
+pub may_be_unset-requires-clause-asked : goal.may_be_unset-requires-clause-asked
+may_be_unset-requires-clause-asked c =
+    let here = c.requires.found.answers.asked c.args.point c.places-here.result c.args.kind.now c.places-here.ensures c.requires.kind in
     let x : ℕ = c.in-One.variable in
     let are : AreRead c.args.kind.now (x ∷ []) = record { rising = c.in-One.ensures.rising; read = c.in-One.ensures.read } in
-    variables_are_there c.args.self.now.graph.now c.args.point c.args.kind.now (x ∷ []) c.requires.found.sound c.requires.point c.requires.kind are x (first_of x [])
+    first_read c.args.self.now.answers.now.replies.asks c.places-here.result.reads c.args.point x c.args.kind.now [] here.reads are
 
-pub may_be_unset-requires-in-Two-clause-variable : goal.may_be_unset-requires-in-Two-clause-variable
-may_be_unset-requires-in-Two-clause-variable c =
+pub may_be_unset-requires-in-Two-clause-asked : goal.may_be_unset-requires-in-Two-clause-asked
+may_be_unset-requires-in-Two-clause-asked c =
+    let here = c.requires.found.answers.asked c.args.point c.places-here.result c.args.kind.now c.places-here.ensures c.requires.kind in
     let x : ℕ = c.in-Two.first in
     let y : ℕ = c.in-Two.second in
     let are : AreRead c.args.kind.now (x ∷ y ∷ []) = record { rising = c.in-Two.ensures.rising; read = c.in-Two.ensures.read } in
-    variables_are_there c.args.self.now.graph.now c.args.point c.args.kind.now (x ∷ y ∷ []) c.requires.found.sound c.requires.point c.requires.kind are x (first_of x (y ∷ []))
+    first_read c.args.self.now.answers.now.replies.asks c.places-here.result.reads c.args.point x c.args.kind.now (y ∷ []) here.reads are
 
-pub may_be_unset-requires-else-may_be_unset-clause-variable : goal.may_be_unset-requires-else-may_be_unset-clause-variable
-may_be_unset-requires-else-may_be_unset-clause-variable c =
+pub overflow_add-here : goal.overflow_add-here
+overflow_add-here c =
+    let here = c.requires.found.answers.asked c.args.point c.places-here.result c.args.kind.now c.places-here.ensures c.requires.kind in
     let x : ℕ = c.in-Two.first in
     let y : ℕ = c.in-Two.second in
     let are : AreRead c.args.kind.now (x ∷ y ∷ []) = record { rising = c.in-Two.ensures.rising; read = c.in-Two.ensures.read } in
-    variables_are_there c.args.self.now.graph.now c.args.point c.args.kind.now (x ∷ y ∷ []) c.requires.found.sound c.requires.point c.requires.kind are y (second_of x y)
+    let asks = c.args.self.now.answers.now.replies.asks in
+    let second = second_read asks c.places-here.result.reads c.args.point x y c.args.kind.now here.reads are in
+    let inside : c.places-here.result.reads + 1 < length asks = slice_get_within asks (c.places-here.result.reads + 1) (ask_for Reach c.args.point y) second in
+    omega (arith, inside, c.requires.found.answers.few)
+
+pub may_be_unset-requires-else-may_be_unset-clause-asked : goal.may_be_unset-requires-else-may_be_unset-clause-asked
+may_be_unset-requires-else-may_be_unset-clause-asked c =
+    let here = c.requires.found.answers.asked c.args.point c.places-here.result c.args.kind.now c.places-here.ensures c.requires.kind in
+    let x : ℕ = c.in-Two.first in
+    let y : ℕ = c.in-Two.second in
+    let are : AreRead c.args.kind.now (x ∷ y ∷ []) = record { rising = c.in-Two.ensures.rising; read = c.in-Two.ensures.read } in
+    second_read c.args.self.now.answers.now.replies.asks c.places-here.result.reads c.args.point x y c.args.kind.now here.reads are
 
 pub returns-in-None : goal.returns-in-None
 returns-in-None c =

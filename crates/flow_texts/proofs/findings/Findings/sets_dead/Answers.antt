@@ -11,11 +11,6 @@ is_dead_after-requires-clause-next c =
     let program : Program = c.args.self.now.graph.now in
     next_below program c.args.point c.args.kind.now (stands program c.requires.found.sound c.args.point c.args.kind.now c.requires.point c.requires.kind)
 
-pub is_dead_after-requires-clause-variable : goal.is_dead_after-requires-clause-variable
-is_dead_after-requires-clause-variable c =
-    let program : Program = c.args.self.now.graph.now in
-    assigned_there program c.args.point c.in-Some.variable c.args.kind.now (stands program c.requires.found.sound c.args.point c.args.kind.now c.requires.point c.requires.kind) (sym c.in-Some.ensures)
-
 pub returns-in-Some : goal.returns-in-Some
 returns-in-Some c =
     let program : Program = c.args.self.now.graph.now in

@@ -1,8 +1,6 @@
 -- A word more, be it passed over or written.
 use Rattle.std.proofs.Common.{◌≡◌, ◌+◌, ◌-◌, ◌*◌, ◌<◌, ℕ, List, Bool, min, length, ap, ◌∙◌, sym, subst, arith}
 use Rattle.tac_reader.specs.Programs.{Program}
-use Rattle.bit_rows.specs.RowSet.{RowSet}
-use Rattle.bit_rows.specs.RowTable.{set_at}
 use Rattle.flow_graph.specs.Universes.{expressions}
 use Rattle.flow_texts.specs.code.Findings.{knowledge_of}
 use Rattle.text_pieces.specs.Pieces.{Outlet, Takes, outlet}
@@ -20,7 +18,6 @@ loop-word-preserved g c =
     let text : ℕ → List ℕ = λ e. g.F.RemarkForm.text c.args.form.now program point (VeryBusy e) in
     let bits : ℕ = length (expressions program) in
     let word : ℕ = c.loop-word.word in
-    let row : RowSet = set_at c.args.self.now.tables.now.busy.rows point in
     let test : ℕ → Bool = (knowledge_of c.args.self.now).busy.contains point in
     let at : Pieces _ → Outlet = outlet g.K.Sink.contents g.K.Sink.faults in
     let more : List ℕ = texts_between text test (64 * word) (min bits (64 * word + 64) - 64 * word) in
@@ -37,7 +34,7 @@ loop-word-preserved g c =
       | else-ones-ne0 w ↦ record {
         reference = ap (λ p. p.sink.ghost_name) w.out-is ∙ c.loop-word.invariant.reference;
         takes = step (subst (λ p. Takes (at c.loop-word.out) (at p) more) (sym w.out-is)
-            (takes_as _ _ _ _ (takes_nothing (at c.loop-word.out)) (sym (no_texts text row bits word c.word-ones.result c.word-ones.ensures w.if-ones-ne0.false))));
+            (takes_as _ _ _ _ (takes_nothing (at c.loop-word.out)) (sym (no_texts text test bits word c.busy_word-ones.result c.busy_word-ones.ensures w.if-ones-ne0.false))));
       }
     ]
 

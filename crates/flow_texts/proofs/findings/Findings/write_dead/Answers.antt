@@ -13,11 +13,6 @@ is_dead_after-requires-clause-next g c =
     let program : Program = c.args.self.now.graph.now in
     next_below program c.args.point c.args.kind.now (stands program c.requires.found.sound c.args.point c.args.kind.now c.requires.point c.requires.kind)
 
-pub is_dead_after-requires-clause-variable : goal.is_dead_after-requires-clause-variable
-is_dead_after-requires-clause-variable g c =
-    let program : Program = c.args.self.now.graph.now in
-    assigned_there program c.args.point c.in-Some.variable c.args.kind.now (stands program c.requires.found.sound c.args.point c.args.kind.now c.requires.point c.requires.kind) (sym c.in-Some.ensures)
-
 pub write_remark-requires-clause-remark : goal.write_remark-requires-clause-remark
 write_remark-requires-clause-remark g c =
     let program : Program = c.args.self.now.graph.now in

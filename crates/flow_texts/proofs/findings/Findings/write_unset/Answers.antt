@@ -1,11 +1,50 @@
-use Rattle.std.proofs.Common.{ℕ, List, [], ◌∷◌, flat_map, ap, ◌∙◌, sym}
+use Rattle.std.proofs.Common.{ℕ, List, [], ◌∷◌, ◌+◌, ◌<◌, flat_map, length, ap, ◌∙◌, sym, arith}
+use Rattle.std.proofs.lemmas.Option.{slice_get_within}
+use Rattle.flow_graph.specs.declared.analysis.Analysis.TheVariants.{Reach}
+use Rattle.flow_texts.specs.code.Told.{ask_for}
+use Rattle.flow_texts.proofs.Asking.{first_read, second_read}
 use Rattle.tac_reader.specs.Programs.{Program}
 use Rattle.flow_texts.specs.code.Findings.{knowledge_of}
+use Rattle.flow_texts.specs.code.Operands.{AreRead}
 use Rattle.flow_texts.specs.Reports.{Knowledge}
 use Rattle.flow_texts.specs.declared.remark.Remark.TheVariants.{Unset}
 use Rattle.text_pieces.proofs.Taking.{takes_as, takes_nothing, takes_then}
-use Rattle.flow_texts.proofs.RemarkLines.{AreRead, variables_are_there, unset_are, first_of, second_of, two_texts}
+use Rattle.flow_texts.proofs.RemarkLines.{variables_are_there, unset_are, first_of, second_of, two_texts}
 use Rattle.flow_texts.proofs.findings.Findings.write_unset.Goals as goal
+
+pub write_unset_variable-requires-clause-asked : goal.write_unset_variable-requires-clause-asked
+write_unset_variable-requires-clause-asked g c =
+    let here = c.requires.found.answers.asked c.args.point c.places-reads.result c.args.kind.now c.places-reads.ensures c.requires.kind in
+    let x : ℕ = c.in-One.variable in
+    let are : AreRead c.args.kind.now (x ∷ []) = record { rising = c.in-One.ensures.rising; read = c.in-One.ensures.read } in
+    first_read c.args.self.now.answers.now.replies.asks c.places-reads.result.reads c.args.point x c.args.kind.now [] here.reads are
+
+pub write_unset_variable-requires-in-Two-clause-asked : goal.write_unset_variable-requires-in-Two-clause-asked
+write_unset_variable-requires-in-Two-clause-asked g c =
+    let here = c.requires.found.answers.asked c.args.point c.places-reads.result c.args.kind.now c.places-reads.ensures c.requires.kind in
+    let x : ℕ = c.in-Two.first in
+    let y : ℕ = c.in-Two.second in
+    let are : AreRead c.args.kind.now (x ∷ y ∷ []) = record { rising = c.in-Two.ensures.rising; read = c.in-Two.ensures.read } in
+    first_read c.args.self.now.answers.now.replies.asks c.places-reads.result.reads c.args.point x c.args.kind.now (y ∷ []) here.reads are
+
+pub overflow_add-reads : goal.overflow_add-reads
+overflow_add-reads g c =
+    let here = c.requires.found.answers.asked c.args.point c.places-reads.result c.args.kind.now c.places-reads.ensures c.requires.kind in
+    let x : ℕ = c.in-Two.first in
+    let y : ℕ = c.in-Two.second in
+    let are : AreRead c.args.kind.now (x ∷ y ∷ []) = record { rising = c.in-Two.ensures.rising; read = c.in-Two.ensures.read } in
+    let asks = c.args.self.now.answers.now.replies.asks in
+    let second = second_read asks c.places-reads.result.reads c.args.point x y c.args.kind.now here.reads are in
+    let inside : c.places-reads.result.reads + 1 < length asks = slice_get_within asks (c.places-reads.result.reads + 1) (ask_for Reach c.args.point y) second in
+    omega (arith, inside, c.requires.found.answers.few)
+
+pub write_unset_variable-requires-in-Two-2-clause-asked : goal.write_unset_variable-requires-in-Two-2-clause-asked
+write_unset_variable-requires-in-Two-2-clause-asked g c =
+    let here = c.requires.found.answers.asked c.args.point c.places-reads.result c.args.kind.now c.places-reads.ensures c.requires.kind in
+    let x : ℕ = c.in-Two.first in
+    let y : ℕ = c.in-Two.second in
+    let are : AreRead c.args.kind.now (x ∷ y ∷ []) = record { rising = c.in-Two.ensures.rising; read = c.in-Two.ensures.read } in
+    second_read c.args.self.now.answers.now.replies.asks c.places-reads.result.reads c.args.point x y c.args.kind.now here.reads are
 
 pub write_unset_variable-requires-clause-variable : goal.write_unset_variable-requires-clause-variable
 write_unset_variable-requires-clause-variable g c =

@@ -2,7 +2,7 @@ use Rattle.std.proofs.Common.{◌≡◌, ◌-◌, flat_map, ap, ◌∙◌, arith
 use Rattle.std.specs.List.{range_with_len}
 use Rattle.text_pieces.proofs.Taking.{takes_as, takes_then}
 use Rattle.flow_views.specs.Views.{points_in}
-use Rattle.flow_texts.specs.code.Findings.{knowledge_of}
+use Rattle.flow_views.specs.code.Shown.{known_of}
 use Rattle.flow_views.specs.Json.{point_line}
 use Rattle.flow_views.proofs.Walks.{walk_list_more}
 use Rattle.flow_views.proofs.shown.Shown.write_all_points.Goals as goal
@@ -13,12 +13,12 @@ loop-procedure-preserved g c = record {
   takes =
       takes_as _ _ _ _
       (takes_then _ _ _ _ _ c.loop-procedure.invariant.takes (takes_as _ _ _ _
-      c.write_points.ensures.takes (ap (flat_map (point_line c.args.self.now.found.graph.now (knowledge_of c.args.self.now.found) c.args.self.now.view.facts))
+      c.write_points.ensures.takes (ap (flat_map (point_line c.args.self.now.found.graph.now (known_of c.args.self.now) c.args.self.now.view.facts))
       c.points_of.ensures.numbers)))
-      (walk_list_more (point_line c.args.self.now.found.graph.now (knowledge_of c.args.self.now.found) c.args.self.now.view.facts) (points_in c.args.self.now.found.graph.now) c.args.procedures.first c.loop-procedure.procedure c.loop-procedure.auto.procedure);
+      (walk_list_more (point_line c.args.self.now.found.graph.now (known_of c.args.self.now) c.args.self.now.view.facts) (points_in c.args.self.now.found.graph.now) c.args.procedures.first c.loop-procedure.procedure c.loop-procedure.auto.procedure);
 }
 
 pub returns-clause-takes : goal.returns-clause-takes
 returns-clause-takes g c =
     let all : c.loop-procedure.procedure ≡ c.args.procedures.end = omega (arith, c.requires.ordered) in
-    takes_as _ _ _ _ c.loop-procedure.invariant.takes (ap (λ n. flat_map (point_line c.args.self.now.found.graph.now (knowledge_of c.args.self.now.found) c.args.self.now.view.facts) (flat_map (points_in c.args.self.now.found.graph.now) (range_with_len c.args.procedures.first (n - c.args.procedures.first)))) all)
+    takes_as _ _ _ _ c.loop-procedure.invariant.takes (ap (λ n. flat_map (point_line c.args.self.now.found.graph.now (known_of c.args.self.now) c.args.self.now.view.facts) (flat_map (points_in c.args.self.now.found.graph.now) (range_with_len c.args.procedures.first (n - c.args.procedures.first)))) all)

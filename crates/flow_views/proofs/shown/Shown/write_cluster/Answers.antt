@@ -1,7 +1,7 @@
 use Rattle.std.proofs.Common.{List, ℕ, ◌++◌, codes, decimal, flat_map, ap, ◌∙◌}
 use Rattle.text_pieces.proofs.Taking.{takes_as, takes_then}
 use Rattle.tac_reader.specs.Programs.{Program}
-use Rattle.flow_texts.specs.code.Findings.{knowledge_of}
+use Rattle.flow_views.specs.code.Shown.{known_of}
 use Rattle.flow_texts.specs.Reports.{Knowledge}
 use Rattle.flow_views.specs.Dots.{node}
 use Rattle.flow_views.specs.Strings.{quoted}
@@ -12,7 +12,7 @@ use Rattle.flow_views.proofs.shown.Shown.write_cluster.Goals as goal
 pub returns-clause-takes : goal.returns-clause-takes
 returns-clause-takes g c =
     let program : Program = c.args.self.now.found.graph.now in
-    let known : Knowledge = knowledge_of c.args.self.now.found in
+    let known : Knowledge = known_of c.args.self.now in
     let first : List ℕ = codes "  subgraph \"cluster_" ++ decimal c.args.procedure ++ codes "\" {\n" ++ codes "    label=" in
     let nodes : List ℕ → List ℕ = flat_map (node program known c.args.self.now.view.facts) in
     takes_as _ _ _ _

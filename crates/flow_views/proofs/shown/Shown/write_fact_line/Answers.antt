@@ -2,7 +2,7 @@ use Rattle.std.proofs.Common.{List, ℕ, ◌++◌, codes, map, ap, subst, ◌∙
 use Rattle.flow_graph.specs.declared.analysis.Analysis.{Analysis}
 use Rattle.flow_texts.specs.Tables.{bit_text, bits_at, listed}
 use Rattle.text_pieces.specs.code.Blocks.{SeparatedTexts}
-use Rattle.flow_texts.specs.code.Findings.{knowledge_of}
+use Rattle.flow_views.specs.code.Shown.{known_of}
 use Rattle.text_pieces.specs.code.Lists.{text_at}
 use Rattle.flow_texts.specs.Reports.{Knowledge}
 use Rattle.text_pieces.proofs.Taking.{takes_as, takes_then}
@@ -28,7 +28,7 @@ write_set-requires-clause-bits g c = omega (arith, c.bits-bits.ensures.count, c.
 pub returns-clause-takes : goal.returns-clause-takes
 returns-clause-takes g c =
     let program : Program = c.args.self.now.found.graph.now in
-    let known : Knowledge = knowledge_of c.args.self.now.found in
+    let known : Knowledge = known_of c.args.self.now in
     let analysis : Analysis = c.args.analysis in
     let names : SeparatedTexts = c.names.result.now in
     let numbers : List ℕ = bits_at program analysis (told_by known analysis) c.args.point in

@@ -3,7 +3,7 @@ use Rattle.flow_graph.specs.declared.analysis.Analysis.{Analysis}
 use Rattle.flow_team.specs.Tables.{Facts}
 use Rattle.flow_texts.specs.Tables.{bit_text}
 use Rattle.text_pieces.specs.code.Blocks.{HoldsTexts, SeparatedTexts}
-use Rattle.flow_texts.specs.code.Findings.{knowledge_of}
+use Rattle.flow_views.specs.code.Shown.{known_of}
 use Rattle.text_pieces.specs.code.Lists.{text_at}
 use Rattle.flow_texts.specs.Reports.{Knowledge}
 use Rattle.text_pieces.proofs.Taking.{takes_as, takes_then}
@@ -34,7 +34,7 @@ write_array-requires-2-clause-bits g c = omega (arith, c.bits-bits.ensures.count
 pub returns-clause-takes : goal.returns-clause-takes
 returns-clause-takes g c =
     let program : Program = c.args.self.now.found.graph.now in
-    let known : Knowledge = knowledge_of c.args.self.now.found in
+    let known : Knowledge = known_of c.args.self.now in
     let analysis : Analysis = c.args.analysis in
     let facts : Facts = told_by known analysis in
     let names : SeparatedTexts = c.names.result.now in

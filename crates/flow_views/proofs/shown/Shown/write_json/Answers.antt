@@ -1,7 +1,7 @@
 use Rattle.std.proofs.Common.{◌++◌, flat_map, ap}
 use Rattle.text_pieces.proofs.Taking.{takes_as, takes_then}
 use Rattle.tac_reader.specs.Programs.{Program}
-use Rattle.flow_texts.specs.code.Findings.{knowledge_of}
+use Rattle.flow_views.specs.code.Shown.{known_of}
 use Rattle.flow_texts.specs.Reports.{Knowledge}
 use Rattle.flow_views.specs.Json.{point_line, program_line, remark_lines}
 use Rattle.flow_views.specs.Views.{points_in}
@@ -11,7 +11,7 @@ use Rattle.flow_views.proofs.shown.Shown.write_json.Goals as goal
 pub returns-clause-takes : goal.returns-clause-takes
 returns-clause-takes g c =
     let program : Program = c.args.self.now.found.graph.now in
-    let known : Knowledge = knowledge_of c.args.self.now.found in
+    let known : Knowledge = known_of c.args.self.now in
     let view : View = c.args.self.now.view in
     takes_as _ _ _ _ (takes_then _ _ _ _ _ (takes_then _ _ _ _ _ c.write_program.ensures.takes c.write_all_points.ensures.takes) c.write_all_remarks.ensures.takes)
     (ap (λ ps. program_line program ++ flat_map (point_line program known view.facts) (flat_map (points_in program) ps) ++ flat_map (remark_lines program known) (flat_map (points_in program) ps)) c.procedures-procedures.ensures.numbers)

@@ -4,7 +4,7 @@ use Rattle.std.proofs.lemmas.List.Folds.{flat_map-map}
 use Rattle.flow_texts.specs.Reports.{remark_text, remarks_at}
 use Rattle.text_pieces.proofs.Taking.{takes_as, takes_then}
 use Rattle.tac_reader.specs.Programs.{Program}
-use Rattle.flow_texts.specs.code.Findings.{knowledge_of}
+use Rattle.flow_views.specs.code.Shown.{known_of}
 use Rattle.flow_texts.specs.Reports.{Knowledge}
 use Rattle.flow_views.specs.Dots.{fact_line, label_line, title}
 use Rattle.flow_views.specs.Strings.{escaped}
@@ -23,8 +23,8 @@ lines first f g xs ys =
 pub returns-clause-takes : goal.returns-clause-takes
 returns-clause-takes g c =
     let program : Program = c.args.self.now.found.graph.now in
-    let known : Knowledge = knowledge_of c.args.self.now.found in
+    let known : Knowledge = known_of c.args.self.now in
     takes_as _ _ _ _
     (takes_then _ _ _ _ _ (takes_then _ _ _ _ _ (takes_then _ _ _ _ _ c.write_title.ensures.takes c.write.ensures.takes)
-    c.write_remarks.ensures.takes) c.write_facts.ensures.takes)
+    c.write_remarks_at.ensures.takes) c.write_facts.ensures.takes)
     (lines (title program c.args.point) (remark_text program) (fact_line program known c.args.point) (remarks_at program known c.args.point) (chosen_analyses c.args.self.now.view.facts))

@@ -1,7 +1,7 @@
 use Rattle.std.proofs.Common.{[], ◌++◌, codes, if◌then◌else◌, ap}
 use Rattle.text_pieces.proofs.Taking.{takes_as, takes_then}
 use Rattle.tac_reader.specs.Programs.{Program}
-use Rattle.flow_texts.specs.code.Findings.{knowledge_of}
+use Rattle.flow_views.specs.code.Shown.{known_of}
 use Rattle.flow_texts.specs.Reports.{Knowledge}
 use Rattle.flow_views.specs.Dots.{path_marks}
 use Rattle.flow_views.proofs.shown.Shown.write_marks.Goals as goal
@@ -9,6 +9,6 @@ use Rattle.flow_views.proofs.shown.Shown.write_marks.Goals as goal
 pub returns-clause-takes : goal.returns-clause-takes
 returns-clause-takes g c =
     let program : Program = c.args.self.now.found.graph.now in
-    let known : Knowledge = knowledge_of c.args.self.now.found in
+    let known : Knowledge = known_of c.args.self.now in
     takes_as _ _ _ _ (takes_then _ _ _ _ _ c.write_path_marks.ensures.takes c.write_if.ensures.takes)
     (ap (λ b. path_marks program known c.args.point ++ (if b then codes ", peripheries=2" else [])) c.is_doubtful.ensures)

@@ -2,7 +2,7 @@ use Rattle.std.proofs.Common.{List, ℕ, ◌++◌, codes, if◌then◌else◌, a
 use Rattle.flow_texts.specs.Reports.{dead_at, unset_at}
 use Rattle.text_pieces.proofs.Taking.{takes_as, takes_nothing}
 use Rattle.tac_reader.specs.Programs.{Program}
-use Rattle.flow_texts.specs.code.Findings.{knowledge_of}
+use Rattle.flow_views.specs.code.Shown.{known_of}
 use Rattle.flow_texts.specs.Reports.{Knowledge}
 use Rattle.flow_views.specs.Dots.{text_if_some}
 use Rattle.flow_views.proofs.Tables.{none_dead, none_unset}
@@ -11,14 +11,14 @@ use Rattle.flow_views.proofs.shown.Shown.write_path_marks.Goals as goal
 pub returns-then-not-has_path-clause-takes : goal.returns-then-not-has_path-clause-takes
 returns-then-not-has_path-clause-takes g c =
     let program : Program = c.args.self.now.found.graph.now in
-    let known : Knowledge = knowledge_of c.args.self.now.found in
+    let known : Knowledge = known_of c.args.self.now in
     let reached : List ℕ = text_if_some (unset_at program known c.args.point) (codes ", color=red, fontcolor=red") ++ text_if_some (dead_at program known c.args.point) (codes ", style=filled, fillcolor=khaki") in
     takes_as _ _ _ _ c.write.ensures.takes (sym (ap (λ b. if b then reached else codes ", style=filled, fillcolor=grey80") (sym c.has_path.ensures ∙ c.if-not-has_path.true)))
 
 pub returns-in-None-clause-takes : goal.returns-in-None-clause-takes
 returns-in-None-clause-takes g c =
     let program : Program = c.args.self.now.found.graph.now in
-    let known : Knowledge = knowledge_of c.args.self.now.found in
+    let known : Knowledge = known_of c.args.self.now in
     let red : List ℕ = codes ", color=red, fontcolor=red" in
     let yellow : List ℕ = codes ", style=filled, fillcolor=khaki" in
     let reached : List ℕ = text_if_some (unset_at program known c.args.point) red ++ text_if_some (dead_at program known c.args.point) yellow in
@@ -29,6 +29,6 @@ returns-in-None-clause-takes g c =
 pub returns-in-Some-clause-takes : goal.returns-in-Some-clause-takes
 returns-in-Some-clause-takes g c =
     let program : Program = c.args.self.now.found.graph.now in
-    let known : Knowledge = knowledge_of c.args.self.now.found in
+    let known : Knowledge = known_of c.args.self.now in
     let reached : List ℕ = text_if_some (unset_at program known c.args.point) (codes ", color=red, fontcolor=red") ++ text_if_some (dead_at program known c.args.point) (codes ", style=filled, fillcolor=khaki") in
     takes_as _ _ _ _ c.write_statement_marks.ensures.takes (sym (ap (λ b. if b then reached else codes ", style=filled, fillcolor=grey80") (sym c.has_path.ensures ∙ c.if-not-has_path.false)))

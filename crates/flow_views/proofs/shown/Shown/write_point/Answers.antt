@@ -2,7 +2,7 @@ use Rattle.std.proofs.Common.{List, ℕ, ◌++◌, codes, decimal, map, flat_map
 use Rattle.flow_graph.specs.Points.{place_of, procedure_at}
 use Rattle.text_pieces.proofs.Taking.{takes_as, takes_then}
 use Rattle.tac_reader.specs.Programs.{Program}
-use Rattle.flow_texts.specs.code.Findings.{knowledge_of}
+use Rattle.flow_views.specs.code.Shown.{known_of}
 use Rattle.flow_texts.specs.Reports.{Knowledge}
 use Rattle.flow_views.specs.Json.{array, edge_object, facts_field, span_fields, statement_field}
 use Rattle.flow_views.specs.Strings.{quoted}
@@ -12,7 +12,7 @@ use Rattle.flow_views.proofs.shown.Shown.write_point.Goals as goal
 pub returns-clause-takes : goal.returns-clause-takes
 returns-clause-takes g c =
     let program : Program = c.args.self.now.found.graph.now in
-    let known : Knowledge = knowledge_of c.args.self.now.found in
+    let known : Knowledge = known_of c.args.self.now in
     let point : ℕ = c.args.point in
     let first : List ℕ = codes "{\"type\":\"point\",\"point\":" ++ decimal point ++ codes ",\"procedure\":" ++ quoted (procedure_name program (procedure_at program point))
     ++ codes ",\"place\":" ++ decimal (place_of program point).place ++ span_fields program point ++ codes ",\"statement\":" ++ statement_field program point ++ codes ",\"edges\":" in

@@ -2,7 +2,7 @@ use Rattle.std.proofs.Common.{List, ℕ, [], ◌++◌, codes, if◌then◌else�
 use Rattle.flow_texts.specs.Reports.{dead_at, unset_at}
 use Rattle.text_pieces.proofs.Taking.{takes_as, takes_then}
 use Rattle.tac_reader.specs.Programs.{Program}
-use Rattle.flow_texts.specs.code.Findings.{knowledge_of}
+use Rattle.flow_views.specs.code.Shown.{known_of}
 use Rattle.flow_texts.specs.Reports.{Knowledge}
 use Rattle.flow_views.proofs.Tables.{mark_is}
 use Rattle.flow_views.proofs.shown.Shown.write_statement_marks.Goals as goal
@@ -10,7 +10,7 @@ use Rattle.flow_views.proofs.shown.Shown.write_statement_marks.Goals as goal
 pub returns-clause-takes : goal.returns-clause-takes
 returns-clause-takes g c =
     let program : Program = c.args.self.now.found.graph.now in
-    let known : Knowledge = knowledge_of c.args.self.now.found in
+    let known : Knowledge = known_of c.args.self.now in
     let red : List ℕ = codes ", color=red, fontcolor=red" in
     let yellow : List ℕ = codes ", style=filled, fillcolor=khaki" in
     takes_as _ _ _ _ (takes_then _ _ _ _ _ c.write_if.ensures.takes c.write_if-2.ensures.takes)

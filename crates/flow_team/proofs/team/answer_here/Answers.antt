@@ -1,0 +1,21 @@
+use Rattle.std.proofs.Common.{sym, ap, subst}
+use Rattle.flow_team.specs.Asks.{AreAsksOf}
+use Rattle.flow_team.specs.code.Directions.{Pair}
+use Rattle.tac_reader.specs.Programs.{Program}
+use Rattle.flow_team.proofs.Sent.{asked_cross}
+use Rattle.flow_team.proofs.team.answer_here.Goals as goal
+
+pub asked_job-requires-clause-asks : goal.asked_job-requires-clause-asks
+asked_job-requires-clause-asks c = subst (λ (p : Program). AreAsksOf p c.args.asks.items) (sym (ap (λ (d : Pair). d.program) c.in_ok-directions.ensures.forward)) c.requires.asks
+
+pub run_here-requires-send-W : goal.run_here-requires-send-W
+run_here-requires-send-W c = λ κs lives. search asked_cross depth 60
+
+pub run_here-requires-send-S : goal.run_here-requires-send-S
+run_here-requires-send-S c = λ κs lives. search asked_cross depth 60
+
+pub run_here-requires-sync-W : goal.run_here-requires-sync-W
+run_here-requires-sync-W c = λ κs lives. search asked_cross depth 60
+
+pub run_here-requires-sync-S : goal.run_here-requires-sync-S
+run_here-requires-sync-S c = λ κs lives. search asked_cross depth 60

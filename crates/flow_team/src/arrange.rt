@@ -1,0 +1,97 @@
+// Asks put in an order in which those that are solved together stand side by side.
+ghost use Rattle.std.specs.Prelude.{◌≡◌, ℕ, ◌+◌, ◌*◌, ◌^◌, ◌<◌, ◌≤◌, length, slice_get, slice_index, IfOk};
+ghost use Rattle.flow_team.specs.code.Boards.{Arranges};
+
+use crate::OutOfMemory;
+use crate::ask::Ask;
+use flow_graph::Analysis;
+use std::alloc::Global;
+use work_list::group;
+
+// At most so many groups of words are told apart in each analysis, so that a group's number fits into 16 bits.
+const MOST_GROUPS: u32 = 1 << 14;
+
+/// The same asks group by group, the number of each, and where each group begins.
+#[derive(Drop)]
+pub(crate) struct AskOrder {
+    /// The asks in that order.
+    pub(crate) order: Vec<Ask>,
+    /// The number that each of them has among those that were given.
+    pub(crate) places: Vec<u32>,
+    /// Where each group begins in that order, and at the end how many asks there are.
+    pub(crate) starts: Vec<u32>,
+}
+
+// Asks of one analysis in so many words are solved together.
+fn key_of(ask: Ask, width: u32, groups: u32) -> u16
+    requires width { 0 < width }
+    requires some { 0 < groups }
+    requires most { groups ≤ 2 ^ 14 }
+    ensures { result < 4 * groups }
+{
+    let first = match ask.analysis {
+        Analysis::Reach => 0,
+        Analysis::Live => groups,
+        Analysis::Avail => 2 * groups,
+        Analysis::Busy => 3 * groups,
+    };
+    (first + (ask.word / width).min(groups - 1)) as u16
+}
+
+// How many groups of so many words each analysis has.
+fn group_count(asks: &[Ask], width: u32) -> u32
+    requires { 0 < width }
+    ensures some { 0 < result }
+    ensures most { result ≤ 2 ^ 14 }
+{
+    let mut last = 0;
+    for ask in asks {
+        last = last.max(ask.word / width);
+    }
+    last.min(MOST_GROUPS - 1) + 1
+}
+
+// The group of each ask.
+fn keys(alloc: Global, asks: &[Ask], width: u32, groups: u32) -> Result<Vec<u16>, OutOfMemory>
+    requires width { 0 < width }
+    requires some { 0 < groups }
+    requires most { groups ≤ 2 ^ 14 }
+    ensures count { IfOk result (λ keys. length keys.items ≡ length asks.now) }
+    ensures low { IfOk result (λ keys. (i : ℕ) → i < length keys.items → slice_index keys.items i < 4 * groups) }
+{
+    let mut keys = Vec::with_capacity(alloc, asks.len())?;
+    for ask in asks {
+        keys.push(key_of(*ask, width, groups))?;
+    }
+    Ok(keys)
+}
+
+// The asks at these places, one after the other.
+fn picked(alloc: Global, asks: &[Ask], places: &[u32]) -> Result<Vec<Ask>, OutOfMemory>
+    requires { (j : ℕ) → j < length places.now → slice_index places.now j < length asks.now }
+    ensures count { IfOk result (λ order. length order.items ≡ length places.now) }
+    ensures each { IfOk result (λ order. (j : ℕ) → j < length places.now → slice_get order.items j ≡ slice_get asks.now (slice_index places.now j)) }
+{
+    let mut order = Vec::with_capacity(alloc, places.len())?;
+    for j in 0..places.len() {
+        order.push(asks[places[j] as usize])?;
+    }
+    Ok(order)
+}
+
+/// The asks in an order in which those of one analysis and of so many words, which are solved together, stand side by side.
+pub(crate) fn arranged(alloc: Global, asks: &[Ask], width: u32) -> Result<AskOrder, OutOfMemory>
+    requires width { 0 < width }
+    requires few { length asks.now < 2 ^ 32 }
+    ensures { IfOk result (λ r. Arranges asks.now r.order.items r.places.items) }
+{
+    let groups = group_count(asks, width);
+    let keys = keys(alloc, asks, width, groups)?;
+    let grouped = group(alloc, keys.as_slice(), 4 * groups)?;
+    let order = picked(alloc, asks, grouped.places.as_slice())?;
+    Ok(AskOrder {
+        order,
+        places: grouped.places,
+        starts: grouped.starts,
+    })
+}

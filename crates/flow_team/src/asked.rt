@@ -1,0 +1,388 @@
+// What is asked of a graph, and what solves it.
+ghost use Rattle.std.specs.Prelude.{◌≡◌, ℕ, ◌+◌, ◌*◌, ◌/◌, ◌^◌, ◌<◌, ◌≤◌, ◌↔◌, true, false, Some, length, slice_get, slice_index, IfOk, IfErr, IfSome, IfNone};
+ghost use Rattle.bit_rows.specs.RowSet.{contains};
+ghost use Rattle.bit_rows.specs.RowTable.{set_at};
+ghost use Rattle.flow_graph.specs.Analyses.{is_must};
+ghost use Rattle.flow_graph.specs.Universes.{bits as bits_of};
+ghost use Rattle.flow_graph.specs.declared.analysis.Analysis.TheVariants.{Reach, Live, Avail, Busy};
+ghost use Rattle.gk_solve.specs.Solved.{HasPathFlags, TellWords, direction_of};
+ghost use Rattle.slice_board.specs.Boards.{IsOf};
+ghost use Rattle.flow_team.specs.Asks.{AreAsksOf, IsAnswerTo};
+ghost use Rattle.flow_team.specs.Sets.{IsInMaySet};
+ghost use Rattle.flow_team.specs.Teams.{PostsMore};
+ghost use Rattle.flow_team.specs.code.Boards.{AreAnswered, AreDone, AreTold, Arranges, IsAmong, IsArranged, IsAskBoard, IsWanted, NoneOf};
+ghost use Rattle.flow_team.specs.code.Directions.{form_of};
+
+use crate::OutOfMemory;
+use crate::ask::Ask;
+use crate::direction::Direction;
+use crate::solve::Solve;
+use crate::turned_words::turned_word;
+use flow_graph::Analysis;
+use gk_solve::{Routes, SliceWords, Solver};
+use slice_board::{Pass, PostedWords, Wanted, WordBoard};
+use std::alloc::Global;
+use std::marker::Model;
+
+/// What is asked of a graph, and solvers of both directions.
+pub(crate) struct AskedWords<'g, 'p> {
+    forward: Direction<'g, 'p>,
+    backward: Direction<'g, 'p>,
+    asks: Vec<Ask>,
+    order: Vec<Ask>,
+    places: Vec<u32>,
+}
+
+impl<'g, 'p> Model for AskedWords<'g, 'p> {
+    ghost use Rattle.flow_team.specs.code.Boards.{AreDirections, Asked, IsArranged};
+
+    ghost Value = { Asked };
+
+    ghost view = { λ s. record { program = s.forward.program; asks = s.asks.items; order = s.order.items; places = s.places.items } };
+
+    ghost invariant = { λ s. AreDirections s.forward.program s.forward s.backward
+        × IsArranged (record { program = s.forward.program; asks = s.asks.items; order = s.order.items; places = s.places.items }) };
+}
+
+impl Drop for AskedWords<'_, '_> {
+    // By hand: who gives it up then makes one call.
+    fn drop(self) {
+        let AskedWords {
+            forward: _,
+            backward: _,
+            asks: _,
+            order: _,
+            places: _,
+        } = self;
+    }
+}
+
+impl<'g, 'p> Wanted for AskedWords<'g, 'p> {
+    ghost wants = { IsWanted };
+}
+
+// Whether an analysis is over every path.
+fn is_over_every_path(analysis: Analysis) -> bool
+    ensures { result ≡ is_must analysis }
+{
+    match analysis {
+        Analysis::Avail | Analysis::Busy => true,
+        Analysis::Reach | Analysis::Live => false,
+    }
+}
+
+// Whether one of the asks from one up to another is of an analysis.
+fn asks_some(asks: &[Ask], analysis: Analysis, from: u32, until: u32) -> bool
+    requires { until ≤ length asks.now }
+    ensures { result ≡ false → NoneOf asks.now from until analysis }
+{
+    for q in from..until {
+        if asks[q as usize].analysis == analysis {
+            return true;
+        }
+    }
+    false
+}
+
+// Sees to it that a word is among those that were solved last: of the words from one up to another this is known.
+fn solve_to<'a, 'g, 'p>(
+    solver: &'a Solver<'g, 'p>,
+    routes: &'a Routes<'g, 'p>,
+    words: &mut SliceWords,
+    solved: (u32, u32),
+    word: u32,
+) -> (u32, u32)
+    requires routes { routes.now ≡ direction_of solver.now }
+    requires told { AreTold solver.now solved.0 solved.1 words.old }
+    requires word { 64 * word < bits_of solver.now.program solver.now.analysis }
+    ensures told { AreTold solver.now result.0 result.1 words.new }
+    ensures here { (result.0 ≤ word) × (word < result.1) }
+{
+    if solved.0 <= word && word < solved.1 {
+        return solved;
+    }
+    let from = word / 4 * 4;
+    let until = solver.solve_from(routes, words, from);
+    (from, until)
+}
+
+// All memory in which an analysis is solved, where one of the asks from one up to another is of it.
+fn memory<'g, 'p>(
+    alloc: Global,
+    solver: &Solver<'g, 'p>,
+    routes: &Routes<'g, 'p>,
+    asks: &[Ask],
+    from: u32,
+    until: u32,
+) -> Result<Option<SliceWords>, OutOfMemory>
+    requires routes { routes.now ≡ direction_of solver.now }
+    requires until { until ≤ length asks.now }
+    ensures some { IfOk result (λ r. IfSome r (AreTold solver.now 0 0)) }
+    ensures none { IfOk result (λ r. IfNone r (NoneOf asks.now from until solver.now.analysis)) }
+{
+    let problem = solver.problem();
+    if !asks_some(asks, problem.analysis(), from, until) {
+        return Ok(None);
+    }
+    let words = solver.slice(alloc, routes, 0, problem.bits())?;
+    Ok(Some(words))
+}
+
+impl<'g, 'p> AskedWords<'g, 'p> {
+    /// What is asked of a graph, with the same asks in the order in which they are solved and the number of each of these.
+    pub(crate) fn of(
+        forward: Direction<'g, 'p>,
+        backward: Direction<'g, 'p>,
+        asks: Vec<Ask>,
+        order: Vec<Ask>,
+        places: Vec<u32>,
+    ) -> Self
+        requires forward { forward ≡ record { program = forward.program; some = Reach; every = Avail } }
+        requires backward { backward ≡ record { program = forward.program; some = Live; every = Busy } }
+        requires asks { AreAsksOf forward.program asks.items }
+        requires few { 64 * length asks.items < 2 ^ 32 }
+        requires arranged { Arranges asks.items order.items places.items }
+        ensures program { result.program ≡ forward.entry.program }
+        ensures asks { result.asks ≡ asks.items }
+        ensures order { result.order ≡ order.items }
+    {
+        AskedWords {
+            forward,
+            backward,
+            asks,
+            order,
+            places,
+        }
+    }
+
+    // How many bits an analysis has.
+    fn bits(&self, analysis: Analysis) -> u32
+        ensures { result ≡ bits_of self.now.program analysis }
+    {
+        let solver = match analysis {
+            Analysis::Reach => self.forward.some(),
+            Analysis::Live => self.backward.some(),
+            Analysis::Avail => self.forward.every(),
+            Analysis::Busy => self.backward.every(),
+        };
+        solver.problem().bits()
+    }
+
+    // The ask of a number in the order in which they are solved.
+    fn ask(&self, j: u32) -> Ask
+        requires { j < length self.now.order }
+        ensures ask { slice_get self.now.order j ≡ Some result }
+        ensures asks { AreAsksOf self.now.program self.now.order }
+    {
+        self.order[j as usize]
+    }
+
+    // The answer to the ask of a number in that order, of what was posted of it: complemented where the analysis is over every path.
+    fn answer(&self, posted: &PostedWords, j: u32) -> u64
+        requires there { j < length self.now.order }
+        requires one { length posted.now.flags ≡ 1 }
+        requires rows { (point bit : ℕ) → (contains (set_at posted.now point) bit ≡ true) ↔ IsWanted self.now point bit }
+        ensures { (ask : Ask) → slice_get self.now.order j ≡ Some ask → IsAnswerTo self.now.program ask result }
+    {
+        let ask = self.ask(j);
+        let bits = self.bits(ask.analysis);
+        posted.word(0, j) ^ turned_word(bits, is_over_every_path(ask.analysis), ask.word)
+    }
+
+    /// Puts the answers to their asks' numbers, of what was posted.
+    pub(crate) fn put_answers(&self, posted: &PostedWords, words: &mut [u64])
+        requires one { length posted.now.flags ≡ 1 }
+        requires rows { (point bit : ℕ) → (contains (set_at posted.now point) bit ≡ true) ↔ IsWanted self.now point bit }
+        requires count { length words.old ≡ length self.now.asks }
+        ensures count { length words.new ≡ length self.now.asks }
+        ensures answered { (q : ℕ) (ask : Ask) → slice_get self.now.asks q ≡ Some ask → IsAnswerTo self.now.program ask (slice_index words.new q) }
+    {
+        for j in 0..self.places.len() {
+            let word = self.answer(posted, j as u32);
+            words[self.places[j] as usize] = word;
+        }
+    }
+
+    /// The asks as they were given.
+    pub(crate) fn asks(&self) -> &[Ask]
+        ensures { result.now ≡ self.now.asks }
+    {
+        self.asks.as_slice()
+    }
+
+    /// The asks, and the path flags of both directions.
+    pub(crate) fn into_parts(self) -> (Vec<Ask>, Vec<bool>, Vec<bool>)
+        ensures asks { result.0.items ≡ self.entry.asks }
+        ensures forward { HasPathFlags (form_of self.entry.program Reach) result.1.items }
+        ensures backward { HasPathFlags (form_of self.entry.program Live) result.2.items }
+    {
+        let AskedWords {
+            forward,
+            backward,
+            asks,
+            order: _,
+            places: _,
+        } = self;
+        (asks, forward.into_flags(), backward.into_flags())
+    }
+
+    // Posts the word of an ask, which is among those that were solved last, unless it has no bit.
+    fn post_word(
+        &self,
+        board: &WordBoard<AskedWords<'g, 'p>>,
+        pass: &mut Pass<AskedWords<'g, 'p>>,
+        words: &SliceWords,
+        j: u32,
+        ask: Ask,
+    )
+        requires on { IsAskBoard self.now board.now }
+        requires of { IsOf board.now pass.old }
+        requires there { slice_get self.now.order j ≡ Some ask }
+        requires point { ask.point < words.now.points }
+        requires from { words.now.from ≤ ask.word }
+        requires until { ask.word < words.now.until }
+        requires range { (words.now.lo ≡ 0) × (words.now.hi ≡ bits_of self.now.program ask.analysis) }
+        requires tells { TellWords (IsInMaySet (form_of self.now.program ask.analysis)) words.now }
+        ensures more { PostsMore pass.old pass.new }
+        ensures done { AreDone self.now (λ w. w ≡ j) pass.new.posted }
+    {
+        let mask = words.word(ask.point, ask.word);
+        if mask == 0 {
+            return;
+        }
+        board.post(pass, 0, j, mask);
+    }
+
+    // Posts the word of an ask, which is solved first where it was not solved last.
+    fn post_ask(
+        &self,
+        board: &WordBoard<AskedWords<'g, 'p>>,
+        pass: &mut Pass<AskedWords<'g, 'p>>,
+        solver: &Solver<'g, 'p>,
+        routes: &Routes<'g, 'p>,
+        words: &mut SliceWords,
+        solved: (u32, u32),
+        j: u32,
+    ) -> (u32, u32)
+        requires on { IsAskBoard self.now board.now }
+        requires of { IsOf board.now pass.old }
+        requires program { solver.now.program ≡ self.now.program }
+        requires routes { routes.now ≡ direction_of solver.now }
+        requires there { j < length self.now.order }
+        requires told { AreTold solver.now solved.0 solved.1 words.old }
+        ensures more { PostsMore pass.old pass.new }
+        ensures told { AreTold solver.now result.0 result.1 words.new }
+        ensures done { AreDone self.now (IsAmong self.now.order j (j + 1) solver.now.analysis) pass.new.posted }
+    {
+        let ask = self.ask(j);
+        if ask.analysis != solver.problem().analysis() {
+            return solved;
+        }
+        let solved = solve_to(solver, routes, words, solved, ask.word);
+        self.post_word(board, pass, &*words, j, ask);
+        solved
+    }
+
+    // Posts the words of the asks of an analysis from one ask up to another.
+    fn post_asks(
+        &self,
+        board: &WordBoard<AskedWords<'g, 'p>>,
+        pass: &mut Pass<AskedWords<'g, 'p>>,
+        solver: &Solver<'g, 'p>,
+        routes: &Routes<'g, 'p>,
+        words: SliceWords,
+        from: u32,
+        until: u32,
+    )
+        requires on { IsAskBoard self.now board.now }
+        requires of { IsOf board.now pass.old }
+        requires program { solver.now.program ≡ self.now.program }
+        requires routes { routes.now ≡ direction_of solver.now }
+        requires until { until ≤ length self.now.order }
+        requires told { AreTold solver.now 0 0 words }
+        ensures more { PostsMore pass.old pass.new }
+        ensures done { AreDone self.now (IsAmong self.now.order from until solver.now.analysis) pass.new.posted }
+    {
+        let mut words = words;
+        let mut solved = (0, 0);
+        'asks: for j in from..until {
+            solved = self.post_ask(board, pass, solver, routes, &mut words, solved, j);
+        }
+    }
+
+    // The same where there may be none.
+    fn post_part(
+        &self,
+        board: &WordBoard<AskedWords<'g, 'p>>,
+        pass: &mut Pass<AskedWords<'g, 'p>>,
+        solver: &Solver<'g, 'p>,
+        routes: &Routes<'g, 'p>,
+        words: Option<SliceWords>,
+        from: u32,
+        until: u32,
+    )
+        requires on { IsAskBoard self.now board.now }
+        requires of { IsOf board.now pass.old }
+        requires program { solver.now.program ≡ self.now.program }
+        requires routes { routes.now ≡ direction_of solver.now }
+        requires until { until ≤ length self.now.order }
+        requires some { IfSome words (AreTold solver.now 0 0) }
+        requires none { IfNone words (NoneOf self.now.order from until solver.now.analysis) }
+        ensures more { PostsMore pass.old pass.new }
+        ensures done { AreDone self.now (IsAmong self.now.order from until solver.now.analysis) pass.new.posted }
+    {
+        let Some(words) = words else {
+            return;
+        };
+        self.post_asks(board, pass, solver, routes, words, from, until);
+    }
+
+    // Solves what is asked from one ask up to another, and posts it. All memory is taken first.
+    fn post_range(
+        &self,
+        alloc: Global,
+        board: &WordBoard<AskedWords<'g, 'p>>,
+        pass: &mut Pass<AskedWords<'g, 'p>>,
+        from: u32,
+        until: u32,
+    ) -> Result<(), OutOfMemory>
+        requires on { IsAskBoard self.now board.now }
+        requires of { IsOf board.now pass.old }
+        requires until { until ≤ length self.now.order }
+        ensures more { PostsMore pass.old pass.new }
+        ensures done { IfOk result (λ _. AreDone self.now (λ j. (from ≤ j) × (j < until)) pass.new.posted) }
+        ensures refused { IfErr result (λ _. pass.new ≡ pass.old) }
+    {
+        let asks = self.order.as_slice();
+        let (forward, backward) = (self.forward.routes(), self.backward.routes());
+        let (reach, avail) = (self.forward.some(), self.forward.every());
+        let (live, busy) = (self.backward.some(), self.backward.every());
+        let reached = memory(alloc, reach, forward, asks, from, until)?;
+        let lived = memory(alloc, live, backward, asks, from, until)?;
+        let had = memory(alloc, avail, forward, asks, from, until)?;
+        let ahead = memory(alloc, busy, backward, asks, from, until)?;
+        self.post_part(board, pass, reach, forward, reached, from, until);
+        self.post_part(board, pass, live, backward, lived, from, until);
+        self.post_part(board, pass, avail, forward, had, from, until);
+        self.post_part(board, pass, busy, backward, ahead, from, until);
+        Ok(())
+    }
+}
+
+impl<'g, 'p> Solve<AskedWords<'g, 'p>> for AskedWords<'g, 'p> {
+    ghost is_on = { IsAskBoard };
+
+    fn post_slice(
+        &self,
+        alloc: Global,
+        board: &WordBoard<AskedWords<'g, 'p>>,
+        pass: &mut Pass<AskedWords<'g, 'p>>,
+        slice: u32,
+    ) -> Result<(), OutOfMemory> {
+        let cut = board.cut();
+        // Its contract tells that the slices lie within the bits.
+        let _ = cut.slices();
+        let (lo, hi) = cut.range(slice);
+        self.post_range(alloc, board, pass, lo / 64, hi.div_ceil(64))
+    }
+}

@@ -1,0 +1,9 @@
+use Rattle.std.proofs.Common.{flat_map, ap}
+use Rattle.text_pieces.proofs.Taking.{takes_as}
+use Rattle.flow_views.proofs.Known.{remarks_known}
+use Rattle.flow_views.proofs.shown.Shown.write_remarks_at.Goals as goal
+
+pub returns-clause-takes : goal.returns-clause-takes
+returns-clause-takes g c =
+    takes_as _ _ _ _ c.write_remarks.ensures.takes
+    (ap (flat_map (g.F.RemarkForm.text c.args.form.now c.args.self.now.found.graph.now c.args.point)) (remarks_known c.args.self.now c.requires.shown c.args.point c.requires.point))
