@@ -10,7 +10,7 @@ import subprocess
 import sys
 import tempfile
 
-WIDTH = 150
+WIDTH = 140
 # How long a document may be; all others below docs/ may have OTHER_SIZE lines.
 SIZES = {"docs/ARCHITECTURE.md": 200, "docs/TRUST.md": 200, "docs/PROVING.md": 350, "docs/GLOSSARY.md": 80, "README.md": 180}
 OTHER_SIZE = 300
