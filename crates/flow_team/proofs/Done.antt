@@ -1,8 +1,7 @@
 -- What is posted of asks.
-use Rattle.std.proofs.Common.{◌≡◌, ◌∙◌, ℕ, ◌+◌, ◌*◌, ◌/◌, ◌%◌, ◌<◌, ◌≤◌, true, List, Some, length, slice_get, refl, sym, ap, subst, arith}
+use Rattle.std.proofs.Common.{◌≡◌, ◌∙◌, ℕ, ◌+◌, ◌*◌, ◌/◌, ◌%◌, ◌<◌, ◌≤◌, true, List, Some, slice_get, refl, sym, ap, subst, arith}
 use mathlib.Core.Logic.{dite}
 use native.Mathlib.Decide.{ℕ_discrete}
-use Rattle.std.proofs.lemmas.Option.{slice_get_within}
 use Rattle.bit_rows.specs.Words.{has_bit}
 use Rattle.flow_team.specs.code.Directions.{form_of}
 use Rattle.flow_team.specs.code.Boards.{AreDone, Asked, IsAmong, IsWanted, NoneOf}

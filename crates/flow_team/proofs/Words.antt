@@ -1,5 +1,5 @@
 -- What solved words and rows say of the sets that are wanted.
-use Rattle.std.proofs.Common.{◌≡◌, ◌↔◌, ◌<◌, ◌≤◌, ℕ, true, arith}
+use Rattle.std.proofs.Common.{◌≡◌, ◌↔◌, ℕ, true, arith}
 use Rattle.bit_rows.specs.RowSet.{contains}
 use Rattle.bit_rows.specs.RowTable.{RowTable, set_at}
 use Rattle.flow_graph.specs.Problems.{MayForm}

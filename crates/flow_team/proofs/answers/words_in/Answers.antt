@@ -1,4 +1,4 @@
-use Rattle.std.proofs.Common.{◌≡◌, ◌∙◌, ℕ, List, Some, length, rules, slice_get, slice_index, sym, subst, arith}
+use Rattle.std.proofs.Common.{◌≡◌, ◌∙◌, ℕ, List, Some, length, rules, slice_index, sym, subst, arith}
 use Rattle.std.proofs.lemmas.Option.{slice_get_within}
 use Rattle.flow_team.specs.Asks.{IsAnswerTo}
 use Rattle.flow_team.specs.declared.ask.Ask.{Ask}

@@ -1,4 +1,4 @@
-use Rattle.std.proofs.Common.{◌≡◌, ◌∙◌, ℕ, length, sym, ap, subst}
+use Rattle.std.proofs.Common.{◌≡◌, ◌∙◌, length, sym, ap, subst}
 use Rattle.std.specs.Vec.{with_items}
 use Rattle.gk_solve.proofs.Slices.{written_over}
 use Rattle.flow_team.specs.Asks.{AreAnswers, Replies}

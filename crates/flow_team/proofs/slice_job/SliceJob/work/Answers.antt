@@ -1,4 +1,4 @@
-use Rattle.std.proofs.Common.{◌<◌, ap, arith}
+use Rattle.std.proofs.Common.{ap, arith}
 use Rattle.slice_board.specs.Passes.{PassState, times}
 use Rattle.slice_board.proofs.Sums.{times-same}
 use Rattle.flow_team.proofs.slice_job.SliceJob.work.Goals as goal

@@ -1,8 +1,7 @@
-use Rattle.std.proofs.Common.{◌≡◌, ◌<◌, ◌+◌, ◌*◌, ◌&&◌, ℕ, false, nat_lt, length, sym, subst, ap, ◌∙◌, arith}
+use Rattle.std.proofs.Common.{◌<◌, ◌+◌, ◌*◌, ◌&&◌, nat_lt, length, sym, subst, ap, ◌∙◌, arith}
 use Rattle.std.specs.Prelude.{bit_xor}
 use Rattle.bit_rows.specs.RowSet.{IsWordOf}
 use Rattle.bit_rows.specs.RowTable.{RowTable, set_at}
-use Rattle.bit_rows.specs.Words.{has_bit}
 use Rattle.flow_team.proofs.TurnedTables.{none_past, word_turned}
 use Rattle.flow_team.proofs.turned_words.TurnedWords.word.Goals as goal
 

@@ -1,5 +1,5 @@
 use Rattle.std.proofs.lemmas.Result.{IfOk-weaker}
-use Rattle.std.proofs.Common.{Bool, IfOk, List, subst, sym, ◌≡◌}
+use Rattle.std.proofs.Common.{Bool, List, subst, sym, ◌≡◌}
 use Rattle.flow_graph.specs.Analyses.{may_shape}
 use Rattle.flow_graph.specs.Paths.{IsWellFormed}
 use Rattle.flow_graph.specs.Points.{point_count}
