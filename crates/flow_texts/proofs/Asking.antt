@@ -1,21 +1,20 @@
 -- Asks that are put behind others.
-use Rattle.std.proofs.Common.{◌≡◌, ◌⊎◌, ◌∙◌, ℕ, zero, suc, ◌+◌, ◌*◌, ◌/◌, ◌^◌, ◌<◌, ◌≤◌, Bool, true, false, ◌||◌, List, [], ◌∷◌, ◌++◌, map, Some, length, nat_eq, slice_get, inl, inr, refl, sym, ap, subst, arith, length-append, append-nil}
+use Rattle.std.proofs.Common.{◌≡◌, ◌⊎◌, ◌∙◌, ℕ, zero, suc, ◌+◌, ◌*◌, ◌^◌, ◌<◌, ◌≤◌, Bool, true, false, ◌||◌, List, [], ◌∷◌, ◌++◌, map, Some, length, nat_eq, slice_get, inl, inr, refl, sym, ap, subst, arith, length-append}
 use Rattle.std.specs.List.{list_any}
 use Rattle.std.proofs.lemmas.Bool.{cases_lt}
 use Rattle.flow_graph.specs.Points.{kind_at, point_count}
-use Rattle.flow_graph.specs.Universes.{bits}
 use Rattle.flow_graph.specs.declared.analysis.Analysis.TheVariants.{Busy, Reach}
 use Rattle.tac_reader.specs.Programs.{Program}
 use Rattle.tac_reader.specs.Sound.{IsSound}
 use Rattle.tac_reader.specs.declared.program.StmtKind.{StmtKind}
-use Rattle.flow_team.specs.Asks.{AreAnswers, AreAsksOf, IsAskOf, Replies}
+use Rattle.flow_team.specs.Asks.{AreAnswers, IsAskOf, Replies}
 use Rattle.flow_team.specs.declared.ask.Ask.{Ask}
-use Rattle.flow_texts.specs.code.Asking.{Asks, AsksAssigned, AsksBusy, AsksEvaluated, AsksReads}
+use Rattle.flow_texts.specs.code.Asking.{Asks, AsksReads}
 use Rattle.flow_texts.specs.code.Operands.{AreRead}
 use Rattle.flow_texts.specs.code.Reported.{AreAsked, AreAskedAt, Reported, TellReport}
 use Rattle.flow_texts.specs.code.Told.{ask_for}
 use Rattle.flow_texts.specs.declared.report_asks.PointAsks.{PointAsks}
-use Rattle.flow_texts.proofs.RemarkLines.{first_of, same_read, second_of, variables_are_there, variables_have_dummies}
+use Rattle.flow_texts.proofs.RemarkLines.{same_read, variables_are_there, variables_have_dummies}
 
 get_before : (old more : List Ask) (q : ℕ) (ask : Ask) → slice_get old q ≡ Some ask → slice_get (old ++ more) q ≡ Some ask
 get_before [] more q ask is = absurd (cc is)

@@ -1,5 +1,5 @@
 -- What a report reads of the facts: answers to that make the report of all that is known.
-use Rattle.std.proofs.Common.{◌≡◌, ◌↔◌, ◌⊎◌, ◌∙◌, ℕ, zero, suc, ◌+◌, ◌*◌, ◌/◌, ◌<◌, ◌≤◌, Bool, true, false, not, ◌&&◌, List, [], ◌∷◌, ◌++◌, length, map, flat_map, cond, Option, Some, None, option_and_then, option_map, position, unwrap_or, get_or, slice_get, if◌then◌else◌, inl, inr, refl, sym, ap, ap₂, subst, arith}
+use Rattle.std.proofs.Common.{◌≡◌, ◌↔◌, ◌⊎◌, ◌∙◌, ℕ, zero, suc, ◌+◌, ◌/◌, ◌<◌, ◌≤◌, Bool, true, false, not, ◌&&◌, List, [], ◌∷◌, ◌++◌, length, map, flat_map, cond, Option, Some, None, option_and_then, option_map, position, unwrap_or, get_or, slice_get, if◌then◌else◌, inl, inr, refl, sym, ap, ap₂, subst, arith}
 use Rattle.std.specs.List.{filter, list_any, range_with_len}
 use Rattle.std.proofs.lemmas.List.Concat.{flat_map-cons}
 use Rattle.std.proofs.lemmas.List.Quantifiers.{position-Some}
@@ -10,19 +10,18 @@ use Rattle.flow_graph.specs.Universes.{bits, evaluated_at, expression_at, expres
 use Rattle.flow_graph.specs.declared.analysis.Analysis.{Analysis}
 use Rattle.flow_graph.specs.declared.analysis.Analysis.TheVariants.{Reach, Live, Avail, Busy}
 use Rattle.flow_graph.specs.declared.expression.Expr.{Expr}
-use Rattle.flow_graph.proofs.places.Standing.{Stands, stands}
+use Rattle.flow_graph.proofs.places.Standing.{stands}
 use Rattle.gk_solve.proofs.ProgramTables.{tables_are_decided}
 use Rattle.tac_reader.specs.Programs.{Program}
 use Rattle.tac_reader.specs.Sound.{IsSound}
 use Rattle.tac_reader.specs.declared.program.StmtKind.{StmtKind}
 use Rattle.flow_team.specs.Tables.{AreFacts, Facts}
-use Rattle.flow_texts.specs.Reports.{IsKnowledge, Knowledge, assigned, assigned_at, busy_at, computed_at, count_line, dead_at, is_test, lines_at, remark_line, remarks_at, remarks_when_reached, report_of, unset_at}
+use Rattle.flow_texts.specs.Reports.{IsKnowledge, Knowledge, assigned, busy_at, computed_at, count_line, dead_at, is_test, lines_at, remark_line, remarks_at, remarks_when_reached, report_of, unset_at}
 use Rattle.flow_texts.specs.Tables.{bits_at}
 use Rattle.flow_texts.specs.code.Findings.{AreFindings, TellDoubtful, knowledge_of}
 use Rattle.flow_texts.specs.code.Reported.{AreAskedAt}
 use Rattle.flow_texts.specs.code.Told.{ask_for, facts_in}
 use Rattle.flow_texts.specs.declared.findings.Findings.{Findings}
-use Rattle.flow_texts.specs.declared.remark.Remark.{Remark}
 use Rattle.flow_texts.specs.declared.remark.Remark.TheVariants.{NeverReached, Unset, Computed, VeryBusy, Dead}
 use Rattle.flow_texts.specs.declared.report_asks.PointAsks.{PointAsks}
 use Rattle.flow_texts.proofs.RemarkLines.{assigned_there, next_below, read_there, variables_have_dummies}

@@ -1,7 +1,6 @@
 -- Which remarks there are, and of which bits and variables they are
 use Rattle.std.proofs.Common.{◌≡◌, ℕ, suc, ◌+◌, ◌<◌, ◌≤◌, Bool, true, false, not, ◌&&◌, ◌||◌, List, [], ◌∷◌, ◌++◌, length, map, flat_map, cond, Option, Some, None, option_and_then, option_map, unwrap_or, slice_get, nat_eq, if◌then◌else◌, refl, sym, ap, ◌∙◌, arith, append-nil, length-append}
 use Rattle.std.specs.List.{filter, list_any, range_with_len}
-use Rattle.std.specs.List.Sorted.{IsStrictlyIncreasing}
 use Rattle.std.proofs.lemmas.Grind.{flat_map-append}
 use Rattle.std.proofs.lemmas.List.Elements.{filter-append}
 use Rattle.std.proofs.lemmas.List.Folds.{flat_map-map}
@@ -16,7 +15,6 @@ use Rattle.tac_reader.specs.declared.program.StmtKind.TheVariants as kind
 use Rattle.flow_graph.specs.Points.{kind_at, point_count, points, statement_at}
 use Rattle.flow_graph.specs.Transfers.{names_variable, operands_of, reads}
 use Rattle.flow_graph.specs.Universes.{bits, evaluated_at, definition_at, dummies, Definition}
-use Rattle.flow_graph.specs.declared.analysis.Analysis.{Analysis}
 use Rattle.flow_graph.specs.declared.analysis.Analysis.TheVariants.{Busy, Reach}
 use Rattle.flow_graph.proofs.edges.EdgeLemmas.{next_in}
 use Rattle.flow_graph.proofs.bits.SetWords.{nat_eq-same}

@@ -1,4 +1,4 @@
-use Rattle.std.proofs.Common.{rules, ◌≡◌, ◌+◌, ◌<◌, ◌^◌, ℕ, List, length, subst, sym, arith}
+use Rattle.std.proofs.Common.{rules, ◌≡◌, ◌+◌, ℕ, List, length, subst, sym, arith}
 use Rattle.flow_graph.specs.declared.analysis.Analysis.TheVariants.{Avail, Live}
 use Rattle.flow_team.specs.declared.ask.Ask.{Ask}
 use Rattle.flow_texts.specs.code.Told.{ask_for}

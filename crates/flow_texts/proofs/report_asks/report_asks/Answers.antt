@@ -1,6 +1,5 @@
-use Rattle.std.proofs.Common.{◌≡◌, ◌+◌, ◌*◌, ◌≤◌, ◌<◌, ℕ, List, [], ◌∷◌, length, ap, ◌∙◌, length-append, arith}
+use Rattle.std.proofs.Common.{◌≡◌, ◌+◌, List, [], ◌∷◌, length, ap, ◌∙◌, length-append, arith}
 use Rattle.flow_team.specs.declared.ask.Ask.{Ask}
-use Rattle.flow_texts.specs.code.Reported.{AreAsked}
 use Rattle.flow_texts.specs.declared.report_asks.PointAsks.{PointAsks}
 use Rattle.tac_reader.specs.Programs.{Program}
 use Rattle.flow_texts.proofs.Asking.{asked_more}

@@ -1,4 +1,4 @@
-use Rattle.std.proofs.Common.{◌+◌, ◌<◌, ℕ, Some, length, slice_get, arith}
+use Rattle.std.proofs.Common.{◌+◌, ◌<◌, length, arith}
 use Rattle.std.proofs.lemmas.Option.{slice_get_within}
 use Rattle.flow_team.specs.declared.ask.Ask.{Ask}
 use Rattle.flow_graph.specs.declared.analysis.Analysis.TheVariants.{Busy}
