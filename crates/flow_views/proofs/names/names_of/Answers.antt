@@ -1,4 +1,4 @@
-use Rattle.std.proofs.Common.{ℕ, List, ◌+◌, ◌<◌, ◌++◌, ap, ◌∙◌, arith}
+use Rattle.std.proofs.Common.{ℕ, List, ◌<◌, ◌++◌, ap, ◌∙◌, arith}
 use Rattle.flow_texts.specs.Tables.{bit_text}
 use Rattle.text_pieces.proofs.Blocks.{more_texts_held}
 use Rattle.flow_graph.specs.Universes.{bits}
