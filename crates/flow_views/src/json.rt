@@ -497,8 +497,8 @@ impl<'a> Model for JsonText<'a> {
 impl<'a> JsonText<'a> {
     /// The lines, ready to be written.
     ///
-    /// The conditions: the tables and the answers to what a report asks are of this graph, and the procedure that is shown is one of its program. Fails only where
-    /// memory runs out.
+    /// The conditions: the tables and the answers to what a report asks are of this graph, and the procedure that is shown is one of its
+    /// program. Fails only where memory runs out.
     pub fn of(
         alloc: Global,
         graph: &'a Graph<'a>,

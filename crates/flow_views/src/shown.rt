@@ -76,7 +76,8 @@ pub(crate) fn name_of(analysis: Analysis) -> &'static [u8]
 impl<'a> Shown<'a> {
     /// What is shown of a graph with its tables, and the names of bits in this form.
     ///
-    /// The conditions: the tables and the answers to what a report asks are of this graph, and the procedure is there. Fails only where memory runs out.
+    /// The conditions: the tables and the answers to what a report asks are of this graph, and the procedure is there. Fails only where
+    /// memory runs out.
     pub(crate) fn of(
         alloc: Global,
         graph: &'a Graph<'a>,
