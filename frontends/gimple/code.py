@@ -7,14 +7,23 @@ from dataclasses import dataclass, field
 class Variable:
     """A variable of the program, which stands for one of the C program or for a value that gcc made.
 
-    source: its name in C, or empty. owner: the procedure whose local it is, or None. is_addressed: a pointer may lead to it.
+    source: its name in C, or empty. owner: the procedure whose local it is, or None. home: of a static, the file's name or the
+    procedure in which it stands. is_addressed: a pointer may lead to it.
     """
     wish: str
     source: str = ""
     owner: object = None
+    home: object = None
+    is_array: bool = False
     is_addressed: bool = False
     is_parameter: bool = False
     name: str = ""
+
+    def is_in_scope(self, procedure):
+        """Whether a procedure can name it."""
+        if self.owner is not None:
+            return self.owner is procedure
+        return self.home is None or self.home is procedure or bool(procedure.function) and self.home == procedure.function.file
 
 
 @dataclass(frozen=True)
@@ -43,7 +52,7 @@ class Step:
     variable: Variable = None
     operator: str = ""
     operands: tuple = ()
-    label: Label = None
+    label: object = None
     callees: list = field(default_factory=list)
     weak: bool = False
     touched: tuple = ()
@@ -52,8 +61,10 @@ class Step:
     slot: int = 0
     role: str = "made"
     unset: tuple = ()
+    surely_unset: tuple = ()
     result_of_call: bool = False
     is_element: bool = False
+    expression: str = ""
 
     def reads(self):
         """The variables that it reads."""
@@ -62,7 +73,10 @@ class Step:
 
 @dataclass(eq=False)
 class Procedure:
-    """A procedure of the program. `function` is the C function's dump, or None where the front end made it."""
+    """A procedure of the program.
+
+    function: the C function's dump, or None where the front end made it. refusal: why it stands for unknown code, or None.
+    """
     wish: str
     source: str = ""
     function: object = None
@@ -70,6 +84,7 @@ class Procedure:
     parameters: list = field(default_factory=list)
     result: Variable = None
     stop: Label = None
+    refusal: object = None
     name: str = ""
 
     def locals(self):

@@ -2,6 +2,7 @@
 
 import re
 from dataclasses import dataclass, field
+from typing import NamedTuple
 
 from . import operands
 from .faults import Refusal
@@ -9,11 +10,14 @@ from .faults import Refusal
 HEADER = re.compile(r";; Function (?P<name>\S+) \((?P<linkage>[^,]*), .*decl_uid=(?P<uid>\d+)")
 STATEMENT = re.compile(r"gimple_(?P<kind>\w+) <(?P<words>.*)>(?P<rest>[^>]*)$")
 CASE = re.compile(r"(?:default|case [^:]*): <([^>]*)>")
+OPERAND_NAME = re.compile(r'(?:"\w+" )?"(?P<constraint>[^"]*)" (?P<operand>.*)$')
+VALUES = {"assign": slice(1, None), "call": slice(1, None), "cond": slice(1, 3), "switch": slice(0, 1), "return": slice(0, 1),
+          "goto": slice(0, 1)}
+PASSED_OVER = ("//", "#", "gimple_nop", "GIMPLE_NOP", "gimple_debug")
 
 
-@dataclass(frozen=True)
-class Place:
-    """A place in a C source."""
+class Place(NamedTuple):
+    """A place in a C source. The column counts bytes, from 1."""
     file: str
     line: int
     column: int
@@ -34,6 +38,18 @@ class Statement:
 
 
 @dataclass(eq=False)
+class Assembler(Statement):
+    """A statement of assembler: its operands with their constraints, and where it may jump to.
+
+    outputs, inputs: pairs of a constraint and an operand. touches_memory: it may do more than its operands say.
+    """
+    outputs: list = field(default_factory=list)
+    inputs: list = field(default_factory=list)
+    labels: list = field(default_factory=list)
+    touches_memory: bool = False
+
+
+@dataclass(eq=False)
 class Try:
     """Statements, and others that run whenever the first ones are left."""
     body: list
@@ -42,16 +58,46 @@ class Try:
 
 @dataclass(eq=False)
 class Function:
-    """A function's dump: what it declares, by names as `xD.12`, and its statements."""
+    """A function's dump: what it declares, by names as `xD.12`, and its statements.
+
+    attributes: what stands before its heading. arrays: the locals that are arrays. fault: why its body can't be read, or None.
+    """
     name: str
     linkage: str
     uid: int
     file: str
-    is_noreturn: bool = False
+    attributes: str = ""
     parameters: list = field(default_factory=list)
-    locals: list = field(default_factory=list)
+    locals: set = field(default_factory=set)
+    arrays: set = field(default_factory=set)
     statics: list = field(default_factory=list)
     body: list = field(default_factory=list)
+    fault: Refusal = None
+    named: tuple = None
+
+    def names(self):
+        """The declared names in its statements, callees too."""
+        if self.named is None:
+            words = [word for statement in statements_in(self.body)
+                     for word in [*words_of(statement), *(statement.words[:1] if statement.kind == "call" else ())]]
+            text = " ".join(operands.STRING.sub("", operands.without_places(word)) for word in words)
+            self.named = tuple(dict.fromkeys(re.findall(operands.DECLARED, text)))
+        return self.named
+
+    @property
+    def is_nested(self):
+        """Whether it stands in another function."""
+        return "." in self.linkage
+
+    @property
+    def is_noreturn(self):
+        """Whether it never comes back."""
+        return "noreturn" in self.attributes
+
+    @property
+    def is_kept(self):
+        """Whether something that gcc doesn't see may call it."""
+        return bool(re.search(r"\b(?:__)?used\b", self.attributes))
 
 
 class Reader:
@@ -93,11 +139,20 @@ class Reader:
         heading = " ".join(before)
         if f"{name}D.{function.uid}" not in heading:
             raise Refusal("no raw dump with numbers; run gcc with -fdump-tree-lower-raw-lineno-uid", self.file)
-        function.is_noreturn = "noreturn" in heading.split(f"{name}D.{function.uid}")[0]
+        function.attributes = heading.split(f"{name}D.{function.uid}")[0]
         function.parameters = parameters_in(heading, f"{name}D.{function.uid}")
-        self.declarations(function)
-        function.body = self.block("}")
+        try:
+            self.declarations(function)
+            function.body = self.block("}")
+        except Refusal as refusal:
+            function.fault = refusal
+            self.pass_function()
         return function
+
+    def pass_function(self):
+        """Passes the rest of a function that can't be read."""
+        while self.at < len(self.lines) and not self.lines[self.at].startswith(";; Function "):
+            self.at += 1
 
     def declarations(self, function):
         """The declarations, up to the first statement."""
@@ -131,7 +186,9 @@ class Reader:
             self.last_place = place or self.last_place
             if line.startswith("gimple_try <"):
                 found.append(self.try_block(line))
-            elif line and not line.startswith(("//", "#")):
+            elif line.startswith("gimple_asm"):
+                found.append(self.assembler(place))
+            elif line and not line.startswith(PASSED_OVER):
                 found.append(self.statement(line, place))
 
     def try_block(self, line):
@@ -156,15 +213,47 @@ class Reader:
         self.count += 1
         if line.startswith("gimple_switch") and place is None:
             place = first_place(line)
-        if line.startswith("gimple_asm"):
-            raise Refusal("assembler can't be turned", place or self.last_place)
         found = STATEMENT.match(line)
         if not found:
-            if line.startswith("gimple_nop"):
-                return Statement("nop", [], place, self.count, self.file)
             raise Refusal(f"a statement that is not known: {line[:60]}", place or self.last_place)
         return Statement(found["kind"], operands.split_words(found["words"]), place, self.count, self.file,
                          found["rest"])
+
+
+    def assembler(self, place):
+        """A statement of assembler, its first line passed."""
+        self.count += 1
+        found = Assembler("asm", [], place, self.count, self.file)
+        opening = self.next_line()
+        if opening.strip() != "STRING <":
+            raise Refusal("assembler that is not written as expected", place or self.last_place)
+        closing = opening.replace("STRING <", ">")
+        while self.next_line() != closing:
+            pass
+        line = self.next_line().strip()
+        is_bare = line == ">"
+        while line != ">":
+            self.take_operands(found, line)
+            line = self.next_line().strip()
+        found.touches_memory = found.touches_memory or is_bare
+        return found
+
+    @staticmethod
+    def take_operands(statement, line):
+        """Takes in a line of operands of a statement of assembler."""
+        kind, rest = line.split(": ", 1)
+        if kind == "CLOBBER":
+            statement.touches_memory = '"memory"' in rest
+            return
+        for word in operands.split_words(rest):
+            named = OPERAND_NAME.match(word)
+            if kind == "LABEL":
+                statement.labels.append(word.split()[-1])
+            elif kind in ("INPUT", "OUTPUT") and named:
+                target = statement.inputs if kind == "INPUT" else statement.outputs
+                target.append((named["constraint"], named["operand"]))
+            else:
+                raise Refusal("assembler that is not written as expected", statement.place)
 
 
 def place_of(line):
@@ -209,6 +298,7 @@ def declare(function, text):
     """Takes in one declaration."""
     plain = text.rstrip(";")
     plain = re.split(r" = | \[value-expr:", plain)[0]
+    is_array = plain.endswith("]")
     plain = re.sub(r"\[[^\[\]]*\]", "", re.sub(r"(\[[^\[\]]*\])+$", "", plain))
     declared = re.findall(operands.DECLARED, plain)
     if not declared:
@@ -216,7 +306,9 @@ def declare(function, text):
     if plain.startswith("static "):
         function.statics.append(declared[-1])
     elif not plain.startswith("extern ") and "[value-expr:" not in text:
-        function.locals.append(declared[-1])
+        function.locals.add(declared[-1])
+        if is_array:
+            function.arrays.add(declared[-1])
 
 
 def cases_of(statement):
@@ -227,3 +319,23 @@ def cases_of(statement):
 def read(text, file):
     """The functions of a dump."""
     return Reader(text, file).functions()
+
+
+def words_of(statement):
+    """The operands of a statement, without the function that it calls."""
+    if isinstance(statement, Assembler):
+        return [word for _, word in [*statement.outputs, *statement.inputs]]
+    words = statement.words[VALUES.get(statement.kind, slice(0, 0))]
+    if "[static-chain:" in statement.rest:
+        words.append(statement.rest.split("[static-chain:")[1].rstrip("] "))
+    return [word for word in words if word != "NULL"]
+
+
+def statements_in(body):
+    """All statements of a body, those of cleanups too."""
+    for item in body:
+        if isinstance(item, Try):
+            yield from statements_in(item.body)
+            yield from statements_in(item.cleanup)
+        else:
+            yield item

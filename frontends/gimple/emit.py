@@ -30,11 +30,27 @@ class Names:
         return name
 
 
+class TooLarge(Refusal):
+    """A program beyond a limit of the language. weights: how much of it each procedure takes. total, limit: how much there is and may be."""
+
+    def __init__(self, message, weights, total, limit):
+        super().__init__(message)
+        self.weights = weights
+        self.total = total
+        self.limit = limit
+
+
 @dataclass
 class Written:
-    """A program's text, and its map."""
+    """A program's text, and what each line of it stands for: its number, the step, the procedure."""
     text: str
-    map_text: str
+    notes: list
+    expressions: dict
+    procedures: list
+
+    def map_text(self):
+        """The map: names, expressions, then what each line stands for."""
+        return "\n".join(map_lines(self)) + "\n"
 
 
 class Writer:
@@ -56,7 +72,7 @@ class Writer:
             self.write_procedure(procedure)
         text = "\n".join(self.lines) + "\n"
         self.check(procedures, text)
-        return Written(text, "\n".join(self.map_lines(procedures)) + "\n")
+        return Written(text, self.notes, self.expressions, procedures)
 
     def name(self, variable):
         """A variable's name."""
@@ -117,6 +133,7 @@ class Writer:
         shown = [part.source if isinstance(part, Variable) else part.text for part in step.operands]
         text = f"{step.operator}{operands[0]}" if len(operands) == 1 else f"{operands[0]} {step.operator} {operands[1]}"
         self.expressions[text] = source_expression(step, shown) if all(shown) else ""
+        step.expression = text
         return text
 
     def check(self, procedures, text):
@@ -127,8 +144,9 @@ class Writer:
             count["variables and definitions"] for count in self.counts.values())
         for what, limit in LIMITS.items():
             if totals[what] > limit:
-                raise Refusal(f"the program has {totals[what]} {what}, {totals[what] - limit} more than the {limit} that tacflow takes; "
-                              + self.advice(what))
+                weights = {procedure: count.get(what, 1) for procedure, count in self.counts.items()}
+                raise TooLarge(f"the program has {totals[what]} {what}, {totals[what] - limit} more than the {limit} that tacflow takes; "
+                               + self.advice(what), weights, totals[what], limit)
 
     def advice(self, what):
         """Where such a program is split best."""
@@ -142,23 +160,24 @@ class Writer:
         return (f"'{largest.source}' takes the most, {max(weights)}; split the sources before or behind "
                 f"'{functions[half].source}' ({functions[half].function.file}), where one half ends")
 
-    def map_lines(self, procedures):
-        """The map: names, expressions, then what each line stands for."""
-        seen = set()
-        for procedure in procedures:
-            yield "\t".join(["procedure", procedure.name, procedure.source])
-            for step in procedure.steps:
-                for variable in [step.variable, *step.operands]:
-                    if isinstance(variable, Variable) and variable not in seen:
-                        seen.add(variable)
-                        yield "\t".join(["variable", variable.name, variable.source, kind_of(variable)])
-        for text, in_source in self.expressions.items():
-            yield "\t".join(["expression", text, in_source])
-        for line, step, procedure in self.notes:
-            place = step.origin.place if step.origin else None
-            yield "\t".join(["line", str(line), place.file if place else "", str(place.line if place else 0),
-                             str(place.column if place else 0), str(id_of(step)), str(step.slot), step.role,
-                             procedure.name, " ".join(variable.name for variable in step.unset)])
+
+def map_lines(written):
+    """The lines of a map."""
+    seen = set()
+    for procedure in written.procedures:
+        yield "\t".join(["procedure", procedure.name, procedure.source])
+        for step in procedure.steps:
+            for variable in [step.variable, *step.operands]:
+                if isinstance(variable, Variable) and variable not in seen:
+                    seen.add(variable)
+                    yield "\t".join(["variable", variable.name, variable.source, kind_of(variable)])
+    for text, in_source in written.expressions.items():
+        yield "\t".join(["expression", text, in_source])
+    for line, step, procedure in written.notes:
+        place = step.origin.place if step.origin else None
+        yield "\t".join(["line", str(line), place.file if place else "", str(place.line if place else 0),
+                         str(place.column if place else 0), id_of(step), str(step.slot), step.role,
+                         procedure.name, " ".join(variable.name for variable in step.unset)])
 
 
 def kind_of(variable):

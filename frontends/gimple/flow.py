@@ -17,6 +17,21 @@ def successors(steps):
     return found
 
 
+def blocks_of(steps):
+    """The stretches of steps that run one after the other, as pairs of first place and the place behind, and where each leads."""
+    follow = successors(steps)
+    firsts = {0}
+    for at, places in enumerate(follow):
+        if places != (at + 1,):
+            firsts.add(at + 1)
+            firsts.update(places)
+    firsts = sorted(first for first in firsts if first < len(steps))
+    numbers = {first: number for number, first in enumerate(firsts)}
+    ends = [*firsts[1:], len(steps)]
+    leads = [[numbers[place] for place in follow[end - 1] if place in numbers] for end in ends]
+    return list(zip(firsts, ends)), leads
+
+
 def bits_of(variables, numbers):
     """A set of variables as the bits of a number."""
     bits = 0
@@ -36,51 +51,70 @@ def live_before(steps, variables):
     What a step reads of the result of a call is left out: that value was made by the callee.
     """
     numbers = {variable: 1 << number for number, variable in enumerate(variables)}
-    follow = successors(steps)
     reads = [0 if step.result_of_call else bits_of(step.reads(), numbers) for step in steps]
     kills = [0 if step.weak else bits_of(written(step), numbers) for step in steps]
     live = [0] * (len(steps) + 1)
-    changed = True
-    while changed:
-        changed = False
-        for at in range(len(steps) - 1, -1, -1):
-            behind = 0
-            for place in follow[at]:
-                behind |= live[place]
-            value = reads[at] | (behind & ~kills[at])
-            if value != live[at]:
-                live[at] = value
-                changed = True
+    blocks, leads = blocks_of(steps)
+    before = [[] for _ in blocks]
+    for block, places in enumerate(leads):
+        for place in places:
+            before[place].append(block)
+    waiting = list(range(len(blocks)))
+    while waiting:
+        block = waiting.pop()
+        first, end = blocks[block]
+        value = 0
+        for place in leads[block]:
+            value |= live[blocks[place][0]]
+        known = live[first]
+        for at in range(end - 1, first - 1, -1):
+            value = live[at] = reads[at] | (value & ~kills[at])
+        if value != known:
+            waiting += before[block]
     return live, numbers
 
 
 def mark_unset(steps, variables):
-    """Notes at each step the variables that it reads and that nothing on some way from the entry has touched."""
+    """Notes at each step the variables that it reads and that nothing on some way from the entry has touched, and those that
+    nothing has touched on any way."""
     numbers = {variable: 1 << number for number, variable in enumerate(variables)}
-    follow = successors(steps)
-    unset = [None] * (len(steps) + 1)
-    unset[0] = (1 << len(variables)) - 1
-    waiting = [0]
+    every = (1 << len(variables)) - 1
+    touches = [bits_of([*written(step), *step.touched], numbers) for step in steps]
+    ends = [numbers.get(step.variable, 0) if step.ends_life else 0 for step in steps]
+    blocks, leads = blocks_of(steps)
+    unset = [None] * len(blocks)
+    touched = [0] * len(blocks)
+    if blocks:
+        unset[0] = every
+    waiting = [0] if blocks else []
     while waiting:
-        at = waiting.pop()
-        if at == len(steps):
-            continue
-        value = unset[at] & ~bits_of([*written(steps[at]), *steps[at].touched], numbers)
-        if steps[at].ends_life:
-            value |= numbers.get(steps[at].variable, 0)
-        for place in follow[at]:
-            known = unset[place]
-            joined = value if known is None else known | value
-            if joined != known:
-                unset[place] = joined
+        block = waiting.pop()
+        value, seen = unset[block], touched[block]
+        for at in range(*blocks[block]):
+            value = value & ~touches[at] | ends[at]
+            seen = (seen | touches[at]) & ~ends[at]
+        for place in leads[block]:
+            joined = value | (unset[place] or 0), seen | touched[place]
+            if joined != (unset[place], touched[place]):
+                unset[place], touched[place] = joined
                 waiting.append(place)
-    for step, value in zip(steps, unset):
-        step.unset = tuple(variable for variable in step.reads() if value and numbers.get(variable, 0) & value)
+    for (first, end), value, seen in zip(blocks, unset, touched):
+        for at in range(first, end) if value is not None else ():
+            note_unset(steps[at], numbers, value, seen)
+            value = value & ~touches[at] | ends[at]
+            seen = (seen | touches[at]) & ~ends[at]
+
+
+def note_unset(step, numbers, unset, touched):
+    """Notes at a step which of the variables that it reads are unset before it."""
+    step.unset = tuple(variable for variable in step.reads() if numbers.get(variable, 0) & unset)
+    step.surely_unset = tuple(variable for variable in step.unset if not numbers[variable] & touched)
 
 
 def components(procedures, callees):
     """The number of the strongly connected component of each procedure, by Tarjan's way without recursion."""
     order, low, number, stack = {}, {}, {}, []
+    closed = 0
     for start in procedures:
         if start in order:
             continue
@@ -95,7 +129,8 @@ def components(procedures, callees):
                 if work:
                     low[work[-1][0]] = min(low[work[-1][0]], low[node])
                 if low[node] == order[node]:
-                    close_component(node, stack, number)
+                    close_component(node, stack, number, closed)
+                    closed += 1
             elif following not in order:
                 order[following] = low[following] = len(order)
                 stack.append(following)
@@ -105,9 +140,8 @@ def components(procedures, callees):
     return number
 
 
-def close_component(node, stack, number):
+def close_component(node, stack, number, component):
     """Takes the component of this node from the stack."""
-    component = len(set(number.values())) if number else 0
     while True:
         member = stack.pop()
         number[member] = component

@@ -28,7 +28,7 @@ def beside(path, stem, ending, option):
 
 
 def read_file(path, name=None):
-    """A C file by the dump of this path and the two that stand beside it; `name` is what messages call it."""
+    """A C file by the dump of this path and those that stand beside it; `name` is what messages call it."""
     match = LOWER.match(path)
     if not match:
         raise Refusal(f"{path}: a dump's name ends with .lower, as in a.c.010t.lower")
@@ -37,6 +37,9 @@ def read_file(path, name=None):
     known = symbols.Symbols()
     symbols.read_table(read_text(beside(path, stem, ".cgraph", "-fdump-ipa-cgraph")), known)
     symbols.read_blocks(read_text(beside(path, stem, ".ssa", "-fdump-tree-ssa-lineno-uid-blocks")), known)
+    for ending, read in ((".aux", symbols.read_definitions), (".original", symbols.read_casts)):
+        for other in glob.glob(glob.escape(stem) + "*" + ending):
+            read(read_text(other), known)
     name = name or stem
     try:
         return File(name, dump.read(text, name), known)

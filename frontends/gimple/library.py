@@ -29,11 +29,14 @@ scanf fscanf fgets fread time gettimeofday clock_gettime localtime gmtime mktime
 frexp modf read write open close lseek stat fstat lstat creat isatty
 """.split())
 
-ENDING = frozenset("exit _exit _Exit quick_exit abort __assert_fail __builtin_unreachable __builtin_trap __builtin_abort".split())
+ENDING = frozenset("""
+exit _exit _Exit quick_exit abort __assert_fail __builtin_unreachable __builtin_trap __builtin_abort
+longjmp _longjmp siglongjmp __longjmp_chk __builtin_longjmp __builtin_nonlocal_goto setcontext
+""".split())
 
 JUMPING = frozenset("""
-setjmp _setjmp __sigsetjmp sigsetjmp longjmp _longjmp siglongjmp __builtin_setjmp __builtin_longjmp __builtin_nonlocal_goto
-getcontext setcontext swapcontext makecontext vfork __builtin_setjmp_setup __builtin_setjmp_receiver __longjmp_chk
+setjmp _setjmp __sigsetjmp sigsetjmp __builtin_setjmp __builtin_setjmp_setup __builtin_setjmp_receiver
+getcontext swapcontext makecontext vfork
 """.split())
 
 QUIET_BUILTINS = re.compile(r"""__builtin_(?:expect|constant_p|object_size|clz|ctz|ffs|popcount|parity|bswap\d+|alloca\w*|stack_\w+
@@ -44,7 +47,11 @@ INTERNAL = re.compile(r"\.(?:ADD|SUB|MUL)_OVERFLOW$|\.FALLTHROUGH$|\.(?:UBSAN|BU
 
 
 def behaviour(name):
-    """How a function that has no body here acts: 'untouched', 'reading', 'writing', 'ending', 'jumping' or 'unknown'."""
+    """How a function that has no body here acts: 'untouched', 'reading', 'writing', 'ending', 'jumping' or 'unknown'.
+
+    An ending one does not come back to its caller: a jump out of it ends all calls up to a function that some jump leads to, of
+    which nothing is known. A jumping one may come back more than once.
+    """
     plain = name.removeprefix("__builtin_").removesuffix("_unlocked")
     if name in JUMPING:
         return "jumping"

@@ -1,19 +1,25 @@
 """The operands of gcc's raw dumps: splitting a statement's words, and what an operand reads, writes or points to."""
 
+import functools
 import re
 from dataclasses import dataclass, field
 
 PLACE = re.compile(r"\[([^\[\]\"]*):(\d+):(\d+)(?: discrim \d+)?\] ?")
 STRING = re.compile(r'[uUL8]{0,2}"(?:\\.|[^"\\])*"')
-DECLARED = r"(?:[\w$]+?(?:\.[\w$]+?)*?)??D\.\d+"
+DECLARED = r"(?:(?:\*\.)?[\w$]+?(?:\.[\w$]+?)*?)??D\.\d+(?!\w)"
 TEMPORARY = r"(?:[A-Za-z_$][\w$]*(?:\.\d+)?)?_\d+(?:\(D\))?(?![\w.$])"
 PIECE = re.compile(rf"(?P<name>{DECLARED}|{TEMPORARY}|<retval>)|(?P<word>[A-Za-z_$][\w$.]*)|(?P<arrow>->)"
                    r"|(?P<number>[-+]?\d+(?:\.\d+)?(?:[eE][-+]\d+)?\w*)|(?P<sign>\S)")
+MARK = re.compile(rf"{STRING.pattern}|->|[<>()\[\]{{}},]")
 OPENING = {"<": ">", "(": ")", "[": "]", "{": "}"}
 
 
 def without_places(text):
     """The text with gcc's [file:line:column] marks taken out, strings left alone."""
+    if "[" not in text:
+        return text
+    if '"' not in text:
+        return PLACE.sub("", text)
     parts = []
     at = 0
     for string in STRING.finditer(text):
@@ -27,25 +33,16 @@ def without_places(text):
 def split_words(text):
     """The words between the commas of the outermost level."""
     words = []
-    depth = 0
-    start = at = 0
-    while at < len(text):
-        string = STRING.match(text, at)
-        if string:
-            at = string.end()
-            continue
-        if text.startswith("->", at):
-            at += 2
-            continue
-        sign = text[at]
-        if sign in "<([{":
+    depth = start = 0
+    for found in MARK.finditer(text):
+        mark = found.group()
+        if mark in "<([{":
             depth += 1
-        elif sign in ">)]}":
+        elif mark in ">)]}":
             depth -= 1
-        elif sign == "," and depth == 0:
-            words.append(text[start:at].strip())
-            start = at + 1
-        at += 1
+        elif mark == "," and depth == 0:
+            words.append(text[start:found.start()].strip())
+            start = found.end()
     words.append(text[start:].strip())
     return words
 
@@ -185,6 +182,9 @@ class Parser:
             return self.part_up_to(">")
         if text == "{":
             return self.elements()
+        if text == "<":
+            self.skip_to(">")
+            return Reference(constant="label")
         return self.number(kind, text)
 
     def number(self, kind, text):
@@ -257,9 +257,13 @@ def names_read(reference):
 
 
 def parse(text):
-    """The Reference of an operand's text, or None where its form is not known."""
-    plain = without_places(text)
+    """The Reference of an operand's text, or None where its form is not known. It is shared: nobody changes it."""
+    return parse_plain(without_places(text))
+
+
+@functools.lru_cache(maxsize=1 << 16)
+def parse_plain(plain):
+    """The same of a text without places."""
     if plain.startswith("{CLOBBER"):
         return Reference(constant="clobber")
-    plain = STRING.sub(" string_ ", plain)
-    return Parser(plain).parse()
+    return Parser(STRING.sub(" string_ ", plain)).parse()

@@ -1,66 +1,94 @@
-"""The whole program: the functions of all files, what stands for memory and for other code, and where it begins."""
+"""The whole program: the functions of all files, and where it begins."""
 
-from dataclasses import dataclass, field
+from dataclasses import dataclass
 
 from . import flow
-from .code import Builder, Label, Procedure, Step, Variable
-from .translate import Constants, Translator
-from .world import statements_in
+from .activations import callees_of, keep_activations_apart
+from .code import Builder, Label, Procedure, Variable
+from .dump import statements_in
+from .faults import Refusal
+from .services import call_from_outside, called_back, fill_memory, fill_unknown, make_services, read_parameters
+from .translate import Translator
+from .values import Constants
 
 
 @dataclass(eq=False)
-class Services:
-    """The procedures for memory, for unknown code and for calls through pointers, and a variable that nobody reads.
+class Program:
+    """A program before it is written.
 
-    keeps_temporaries: whether gcc's temporaries are variables of the program.
+    procedures: all that its beginning leads to, `main` first. never_called: the functions to which it does not lead, which are
+    left out. refused: those that stand for unknown code.
     """
-    reading: Procedure
-    writing: Procedure
-    unknown: Procedure
-    scratch: Variable
-    keeps_temporaries: bool
-    pointed: dict = field(default_factory=dict)
-
-    def all(self):
-        """All these procedures."""
-        return [helper for helper in (self.reading, self.writing, self.unknown, *self.pointed.values()) if helper]
-
-    def through_pointer(self, world, count):
-        """A call through a pointer with so many arguments: of what has its address taken and no more parameters, or unknown."""
-        if count not in self.pointed:
-            self.pointed[count] = procedure = Procedure(f"pointed_{count}")
-            candidates = [found for found in world.addressed_procedures if len(found.function.parameters) <= count]
-            build = Builder(procedure)
-            for candidate in candidates:
-                read_parameters(build, candidate)
-            build.call([self.unknown, *candidates])
-            build.use(candidate.result for candidate in candidates if candidate.result)
-        return self.pointed[count]
+    procedures: list
+    never_called: list
+    refused: list
 
 
 def build(world, keeps_temporaries=False):
-    """All procedures of the program, `main` first; with variables for gcc's temporaries where they are kept."""
+    """The program of all files; with variables for gcc's temporaries where they are kept."""
     world.take_addresses()
     prepare_functions(world)
-    services = make_services(world.reached_by_pointers(), keeps_temporaries)
-    constants = Constants()
-    for file in world.files:
-        for function in file.functions:
-            Translator(world, file, file.by_uid[function.uid], services, constants).translate()
+    reached = world.reached_by_pointers()
+    services = make_services(bool(reached), keeps_temporaries)
     functions = list(world.procedures.values())
+    refused = translate_all(world, services)
+    services.fill_any(world, named_in(functions))
     fill_unknown(services, world)
     helpers = services.all()
-    close_stops(functions, [services.unknown, *services.pointed.values()])
-    for procedure in functions:
+    close_stops(functions, [services.unknown, *services.pointed.values(), *services.any_of.values()])
+    called = reached_from(first_calls(services, world))
+    kept = [procedure for procedure in functions if procedure in called]
+    for procedure in kept:
         own = [variable for variable in procedure.locals() if not variable.is_parameter and variable is not procedure.result]
         flow.mark_unset(procedure.steps, own)
+    named = named_in(kept)
+    fill_memory(services, [variable for variable in reached if variable in named])
+    kept += [helper for helper in helpers if helper in called]
     root = Procedure("main")
-    fill_root(root, services, world, functions)
-    changes = keep_activations_apart(functions, [root, *helpers, *functions])
-    everything = [root, *functions, *changes, *helpers]
+    fill_root(root, services, world, kept)
+    changes = keep_activations_apart([procedure for procedure in kept if procedure.function], [root, *kept])
+    everything = [root, *kept, *changes]
     for procedure in everything:
         tidy(procedure)
-    return everything
+    return Program(everything, [procedure for procedure in functions if procedure not in called], refused)
+
+
+def named_in(procedures):
+    """The variables that these procedures name."""
+    return {variable for procedure in procedures for step in procedure.steps for variable in (step.variable, *step.operands)
+            if isinstance(variable, Variable)}
+
+
+def translate_all(world, services):
+    """Turns each function; answers those that can't be turned, which stand for unknown code."""
+    constants = Constants()
+    refused = []
+    for (file, _), procedure in world.procedures.items():
+        try:
+            Translator(world, file, procedure, services, constants).translate()
+        except Refusal as refusal:
+            procedure.refusal = refusal
+            services.make_unknown(file, procedure)
+            refused.append(procedure)
+    return refused
+
+
+def reached_from(first):
+    """All procedures that calls from these lead to."""
+    found = dict.fromkeys(first)
+    waiting = list(found)
+    while waiting:
+        for callee in callees_of(waiting.pop()):
+            if callee not in found:
+                found[callee] = None
+                waiting.append(callee)
+    return found
+
+
+def first_calls(services, world):
+    """What the program's beginning calls."""
+    main = world.public.get("main")
+    return [*([main] if main else called_back(world)), *world.own_starts, services.unknown]
 
 
 def prepare_functions(world):
@@ -70,7 +98,7 @@ def prepare_functions(world):
         procedure.wish = "main_c" if function.name == "main" else function.name
         procedure.parameters = [world.variable(file, procedure, name) for name in function.parameters]
         returned = returned_words(function.body)
-        if not returned:
+        if not returned and not function.fault and not procedure.refusal:
             continue
         only = returned[0] if len(set(returned)) == 1 else ""
         variable = world.locals.get((procedure, only))
@@ -85,69 +113,17 @@ def returned_words(body):
             if statement.kind == "return" and statement.words[0] != "NULL"]
 
 
-def make_services(reached, keeps_temporaries):
-    """The procedures for memory, where there is any, and an empty one for unknown code."""
-    reading = writing = None
-    if reached:
-        reading, writing = Procedure("memory_read"), Procedure("memory_written")
-        Builder(reading).use(reached)
-        build_writing = Builder(writing)
-        for variable in reached:
-            build_writing.set(variable, weak=True)
-    return Services(reading, writing, Procedure("unknown"), Variable("t"), keeps_temporaries)
-
-
-def called_back(world):
-    """The functions that code outside may call."""
-    main = world.public.get("main")
-    found = dict.fromkeys([*world.addressed_procedures, *world.visible, *world.own_starts])
-    return [procedure for procedure in found if procedure is not main or procedure in world.addressed_procedures]
-
-
-def fill_unknown(services, world):
-    """Code outside: any number of times, in any order, all that it can do."""
-    build = Builder(services.unknown)
-    again, done = Label(), Label()
-    build.label(again)
-    build.add("fork", label=done)
-    for helper in (services.reading, services.writing):
-        if helper:
-            build.call([helper])
-    call_from_outside(build, called_back(world), None)
-    build.add("goto", label=again)
-    build.label(done)
-
-
-def call_from_outside(build, procedures, target):
-    """Calls of these procedures with any arguments, eight at a time, each on an outcome of a test, which then leads to `target`."""
-    for at in range(0, len(procedures), 8):
-        some = procedures[at:at + 8]
-        other = Label()
-        build.add("fork", label=other)
-        for procedure in some:
-            read_parameters(build, procedure)
-        build.call(some)
-        if target:
-            build.add("goto", label=target)
-        build.label(other)
-
-
-def read_parameters(build, procedure):
-    """Parameters that come from outside."""
-    for parameter in procedure.parameters:
-        if parameter is not None:
-            build.add("read", variable=parameter)
-
-
-def fill_root(root, services, world, functions):
+def fill_root(root, services, world, procedures):
     """Where the program begins: its variables have values, some code runs by itself, then `main` or code outside."""
     build = Builder(root)
+    named = named_in(procedures)
     for variable in world.globals.values():
-        build.add("read", variable=variable)
+        if variable in named:
+            build.add("read", variable=variable)
     end = Label()
     main = world.public.get("main")
     first = [main] if main else called_back(world)
-    unset = [procedure for procedure in functions if procedure not in first and any(step.unset for step in procedure.steps)]
+    unset = [procedure for procedure in procedures if procedure not in first and any(step.unset for step in procedure.steps)]
     call_from_outside(build, unset, end)
     run_alone(build, world.own_starts)
     if main:
@@ -196,71 +172,6 @@ def may_stop(procedure, step, stopping):
     if step.label is not procedure.stop:
         return False
     return step.role != "stop" or any(callee in stopping for callee in step.callees)
-
-
-def callees_of(procedure):
-    """The procedures that a procedure calls."""
-    return [callee for step in procedure.steps if step.kind == "call" for callee in step.callees]
-
-
-def keep_activations_apart(functions, everything):
-    """Writes the locals of procedures that may recur as docs/ENCODINGS.md says. Answers the procedures that were made for it."""
-    callees = {procedure: callees_of(procedure) for procedure in everything}
-    number = flow.components(everything, callees)
-    made = []
-    shared = {}
-    for procedure in functions:
-        again = {id(step) for step in procedure.steps if step.kind == "call"
-                 and any(number[callee] == number[procedure] for callee in step.callees)}
-        if again:
-            shared[procedure] = variables_in_use(procedure, again)
-    weak = {variable for variables in shared.values() for variable in variables}
-    for procedure in everything:
-        for step in procedure.steps:
-            if step.variable in weak:
-                step.weak = True
-    for procedure, variables in shared.items():
-        again = [step for step in procedure.steps if step.kind == "call"
-                 and any(number[callee] == number[procedure] for callee in step.callees)]
-        made += change_locals(procedure, variables, again)
-    return made
-
-
-def variables_in_use(procedure, again):
-    """The locals that are in use across one of these calls, or at the entry, or that pointers may lead to."""
-    own = list(dict.fromkeys([*procedure.locals(), *[parameter for parameter in procedure.parameters if parameter]]))
-    live, numbers = flow.live_before(procedure.steps, own)
-    used = 0
-    for at, step in enumerate(procedure.steps):
-        if id(step) in again:
-            used |= live[at + 1]
-    found = []
-    for variable in own:
-        at_entry = live[0] & numbers[variable] and not variable.is_parameter
-        if variable.is_addressed or used & numbers[variable] or at_entry:
-            found.append(variable)
-    return found
-
-
-def change_locals(procedure, variables, calls):
-    """Has the locals change at the entry and behind these calls; by a procedure of its own where there are several."""
-    variables = [variable for variable in variables if variable is not procedure.result]
-    if not variables:
-        return []
-    change = Procedure(f"{procedure.wish}__changed")
-    build = Builder(change)
-    for variable in variables:
-        build.set(variable, weak=True)
-    is_long = len(variables) > 1
-    wanted = {id(step) for step in calls}
-    steps = []
-    for step in [None, *procedure.steps]:
-        if step is not None:
-            steps.append(step)
-        if step is None or id(step) in wanted:
-            steps += [Step("call", callees=[change])] if is_long else [Step("set", variable=variables[0], weak=True)]
-    procedure.steps = steps
-    return [change] if is_long else []
 
 
 def tidy(procedure):

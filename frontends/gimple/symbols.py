@@ -7,11 +7,15 @@ from . import operands
 
 SYMBOL = re.compile(r"(?P<linkage>\S+)/(?P<order>\d+) \((?P<name>[^)]*)\) @")
 LOCAL_STATIC = re.compile(r"\.\d+$")
+DEFINITION = re.compile(r"/\* (?P<file>.*):(?P<line>\d+):[NO]F \*/ (?P<rest>.*)$")
+DEFINED_NAME = re.compile(r"([A-Za-z_$][\w$]*) \(")
+ORIGINAL = re.compile(r";; Function (\S+) \(|[ (]\(void\) ([A-Za-z_$][\w$]*)[;,)]")
+TABLES = (".init_array", ".preinit_array", ".fini_array", ".ctors", ".dtors")
 
 
 @dataclass
 class Symbol:
-    """A line of the symbol table that others can see, or whose address is taken."""
+    """A symbol of the table. is_kept: it stays though nothing names it. runs_alone: a constructor or destructor."""
     name: str
     linkage: str
     is_function: bool = False
@@ -19,6 +23,8 @@ class Symbol:
     is_defined: bool = False
     is_weak: bool = False
     is_addressed: bool = False
+    is_kept: bool = False
+    section: str = ""
     runs_alone: bool = False
     alias_of: str = None
 
@@ -27,13 +33,22 @@ class Symbol:
 class Symbols:
     """What is known of a file beside its statements.
 
-    by_name: the symbols of the file's own level. addressed: the names of which some initialiser takes the address.
-    endless: the functions whose calls never return. volatile: the declared names that are accessed as volatile.
+    by_name: the symbols of the file's own level. addressed: the names of variables of which some initialiser takes the address, or
+    to which something leads that gcc doesn't see.
+    endless: the declared names of functions whose calls never return. volatile: the declared names that are accessed as volatile.
+    definitions: by name, file and line where a function is defined. cast_away: pairs of a function's name and that of a
+    variable which it casts to void.
     """
     by_name: dict = field(default_factory=dict)
     addressed: set = field(default_factory=set)
     endless: set = field(default_factory=set)
     volatile: set = field(default_factory=set)
+    definitions: dict = field(default_factory=dict)
+    cast_away: set = field(default_factory=set)
+
+    def starts_by_table(self):
+        """Whether some variable stands in a table of functions that the system calls by itself."""
+        return any(symbol.section.startswith(TABLES) for symbol in self.by_name.values())
 
 
 def read_table(text, symbols):
@@ -51,6 +66,8 @@ def read_table(text, symbols):
             alias = re.search(r"/(\d+) \(alias\)", line)
             if line.startswith("  References:") and alias:
                 aliases.append((symbol, alias[1]))
+        if not symbol.is_function and (symbol.is_kept or symbol.section):
+            symbols.addressed.add(symbol.name)
         if not LOCAL_STATIC.search(symbol.linkage):
             symbols.by_name[symbol.name] = symbol
     for symbol, order in aliases:
@@ -83,6 +100,8 @@ def symbol_in(head, lines):
         elif line.startswith("  Visibility:"):
             symbol.is_public = "public" in words or "external" in words
             symbol.is_weak = "weak" in words
+            symbol.is_kept = "force_output" in words and not symbol.is_public
+            symbol.section = next((word.removeprefix("section:") for word in words if word.startswith("section:")), "")
             symbol.runs_alone = "constructor" in words or "destructor" in words
         elif line.startswith("  Address is taken."):
             symbol.is_addressed = True
@@ -97,7 +116,7 @@ def read_blocks(text, symbols):
         if plain.startswith(";;    succ:"):
             callee = re.match(rf"(?:\S+ = )?({operands.DECLARED}) \(", operands.without_places(last))
             if plain == ";;    succ:" and callee:
-                symbols.endless.add(operands.split_declared(callee[1])[0])
+                symbols.endless.add(callee[1])
         elif plain and not plain.startswith(";;"):
             last = plain
             if "={v}" in plain and "{CLOBBER" not in plain:
@@ -109,3 +128,22 @@ def take_volatile(line, symbols):
     for found in re.finditer(operands.DECLARED, operands.STRING.sub("", line)):
         if not line[:found.start()].endswith((".", "->")):
             symbols.volatile.add(found.group())
+
+
+def read_definitions(text, symbols):
+    """Reads `-aux-info`: where functions are defined."""
+    for line in text.split("\n"):
+        found = DEFINITION.match(line)
+        name = DEFINED_NAME.search(found["rest"]) if found else None
+        if name:
+            symbols.definitions[name[1]] = (found["file"], int(found["line"]))
+
+
+def read_casts(text, symbols):
+    """Reads `-fdump-tree-original`: which variables are cast to void, as those are that need not be read."""
+    function = ""
+    for found in ORIGINAL.finditer(text):
+        if found[1]:
+            function = found[1]
+        else:
+            symbols.cast_away.add((function, found[2]))

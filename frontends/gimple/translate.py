@@ -1,13 +1,15 @@
 """The statements of a C function as steps of a procedure."""
 
 import re
-from dataclasses import dataclass
 
-from . import library, operands
-from .code import Builder, Label, Number, Variable
-from .dump import Try, cases_of
+from . import operands
+from .calls import Calls
+from .code import Builder, Label, Variable
+from .dump import Try, cases_of, statements_in
 from .faults import Refusal
-from .world import function_place, statements_in
+from .labels import Copies, Exits, Labels, label_name, labels_in, named_labels
+from .values import Pending, Value
+from .world import function_place
 
 BINARY = {
     "plus_expr": "+", "minus_expr": "-", "pointer_diff_expr": "-", "mult_expr": "*", "trunc_div_expr": "/", "exact_div_expr": "/",
@@ -20,69 +22,10 @@ COPIES = {"var_decl", "parm_decl", "result_decl", "ssa_name", "integer_cst", "re
           "component_ref", "array_ref", "bit_field_ref", "realpart_expr", "imagpart_expr", "view_convert_expr", "constructor",
           "complex_cst", "vector_cst"}
 SIMPLE = {"predict", "nop", "debug"}
-STRANGE_NUMBERS = 1 << 62
 DAMAGE = (ValueError, IndexError, AttributeError, TypeError)
 
 
-@dataclass(frozen=True)
-class Value:
-    """What an operand gives: the variables that it reads, and the variable or number that it is exactly, if it is one."""
-    reads: tuple = ()
-    exact: object = None
-
-
-class Constants:
-    """Numbers for the constants of C: small ones as they are, others by numbers of their own."""
-
-    def __init__(self):
-        self.numbers = {}
-
-    def number(self, text, file):
-        """The number of a constant's text in a file; an address is told apart from one of another file."""
-        if re.fullmatch(r"\d{1,18}", text):
-            return Number(int(text), text)
-        key = (file, text) if "D." in text else text
-        if key not in self.numbers:
-            self.numbers[key] = STRANGE_NUMBERS + len(self.numbers)
-        return Number(self.numbers[key], text)
-
-
-class Pending:
-    """Values of gcc's temporaries whose reads were not yet written down.
-
-    A temporary is no variable of the program: what it reads is read where its value is used, or before something that may
-    change it, whichever comes first.
-    """
-
-    def __init__(self):
-        self.values = {}
-        self.origins = {}
-        self.unread = set()
-
-    def put(self, name, value, origin=None):
-        """Holds a temporary's value; where it reads something, that is still to be read."""
-        self.values[name] = value
-        self.origins[name] = origin
-        if value.reads:
-            self.unread.add(name)
-
-    def take(self, name):
-        """A temporary's value, which is used now."""
-        self.unread.discard(name)
-        return self.values.get(name, Value())
-
-    def flush(self, touches):
-        """Ends the values that `touches` says something of; answers what is to be read before that, with its statement."""
-        wanted = []
-        for name in [name for name, value in self.values.items() if value.reads and touches(value)]:
-            if name in self.unread:
-                wanted.append((self.origins[name], self.values[name].reads))
-                self.unread.discard(name)
-            self.values[name] = Value()
-        return wanted
-
-
-class Translator:
+class Translator(Calls):
     """Turns one function. `services` has the procedures that stand for memory and for unknown code.
 
     Where the services keep temporaries, each of gcc's is a variable of its own, and address arithmetic an expression.
@@ -97,17 +40,34 @@ class Translator:
         self.build = Builder(procedure)
         self.pending = Pending()
         self.kept = {}
-        self.labels = Labels()
+        self.evaluations = {}
+        self.labels = self.own_labels = Labels()
+        self.anywhere = None
         self.statement = None
+        self.last_place = None
 
     def translate(self):
         """Writes the procedure's steps."""
+        function = self.procedure.function
         self.procedure.stop = Label()
-        self.block(self.procedure.function.body)
+        if function.fault or self.procedure.refusal:
+            raise function.fault or self.procedure.refusal
+        self.block(function.body)
         self.flush_all()
-        missing = set(self.labels.made) - labels_in(self.procedure.function.body)
+        if self.anywhere:
+            self.lead_anywhere(named_labels(function.body))
+        missing = set(self.labels.made) - labels_in(function.body)
         if missing:
             raise Refusal(f"a jump to {missing.pop()}, which is not there", function_place(self.file, self.procedure))
+
+    def lead_anywhere(self, names):
+        """What each computed jump leads to: all labels with a name."""
+        if self.procedure.steps[-1].kind not in ("goto", "return"):
+            self.build.add("return", role="made")
+        self.build.label(self.anywhere)
+        for name in names[1:]:
+            self.build.add("fork", label=self.labels.get(name), role="made")
+        self.build.add("goto", label=self.labels.get(names[0]), role="made")
 
     def block(self, body):
         """Statements one after the other."""
@@ -156,6 +116,7 @@ class Translator:
     def turn(self, statement):
         """One statement."""
         self.statement = statement
+        self.last_place = statement.place or self.last_place
         self.build.origin = statement
         self.build.slot = 0
         self.build.role = "plain"
@@ -171,7 +132,7 @@ class Translator:
 
     def refuse(self, message):
         """Refuses the statement at hand."""
-        raise Refusal(message, self.statement.place or function_place(self.file, self.procedure))
+        raise Refusal(message, self.last_place or function_place(self.file, self.procedure))
 
     # Values
 
@@ -222,25 +183,25 @@ class Translator:
         if self.services.reading:
             self.build.call([self.services.reading])
 
-    def flush(self, touches):
-        """Reads what these temporaries at hand still have to read, as their own statements do."""
+    def read_now(self, wanted):
+        """Reads what temporaries still had to read, as their own statements do."""
         at_hand = self.build.origin
-        for origin, reads in self.pending.flush(touches):
+        for origin, reads in wanted:
             self.build.origin = origin
             self.build.use(reads, "made")
         self.build.origin = at_hand
 
     def flush_all(self):
         """Reads what the temporaries still have to read."""
-        self.flush(lambda value: True)
+        self.read_now(self.pending.flush_all())
 
     def flush_reached(self):
         """The same of those whose variables may be written by other code."""
-        self.flush(lambda value: any(variable.owner is None or variable.is_addressed for variable in value.reads))
+        self.read_now(self.pending.flush_reached())
 
     def flush_variable(self, variable):
         """The same of those that read this variable."""
-        self.flush(lambda value: variable in value.reads)
+        self.read_now(self.pending.flush_variable(variable))
 
     # Statements
 
@@ -252,6 +213,10 @@ class Translator:
             self.end_life(target)
             return
         self.note_addresses(words)
+        if operation == "pointer_plus_expr":
+            self.pass_over_scaling(words)
+        elif operation == "negate_expr" and words[0] in self.evaluations:
+            self.evaluations[target] = self.evaluations[words[0]]
         element = self.element(words[0]) if operation == "array_ref" else None
         values = [] if element else [self.value(word) for word in words]
         if element:
@@ -262,6 +227,12 @@ class Translator:
         self.store(target, operator, parts, reads)
         for step in self.procedure.steps[start:]:
             step.is_element = bool(element)
+
+    def pass_over_scaling(self, words):
+        """What gcc multiplied or negated to add it to a pointer was not evaluated by the source."""
+        for word in words:
+            if word in self.evaluations:
+                self.evaluations[word].role = "made"
 
     def expression(self, operation, values):
         """An operation's operator, '' for none, its operands, and what else it reads."""
@@ -307,7 +278,7 @@ class Translator:
         if self.services.keeps_temporaries:
             self.keep(temporary, operator, parts, reads)
         elif operator:
-            self.build.set(self.services.scratch, parts, operator)
+            self.evaluations[temporary] = self.build.set(self.services.scratch, parts, operator)
             self.pending.put(temporary, Value())
         elif parts:
             exact = parts[0]
@@ -347,6 +318,23 @@ class Translator:
         if touched:
             self.build.add("note", touched=touched)
 
+    def turn_asm(self, statement):
+        """Assembler: reads and writes of its operands; what touches memory may do anything."""
+        words = [word for _, word in [*statement.inputs, *statement.outputs]]
+        self.note_addresses(words)
+        self.build.use(variable for _, word in statement.inputs for variable in self.value(word).reads)
+        self.flush_all()
+        if statement.touches_memory:
+            self.call_unknown()
+        for constraint, word in statement.outputs:
+            start = len(self.procedure.steps)
+            self.store(word, "", (), ())
+            for step in self.procedure.steps[start:]:
+                step.role = "made"
+                step.weak = step.weak or step.kind == "set" and set(constraint) <= set("=+&mo ,")
+        for name in statement.labels:
+            self.build.add("fork", label=self.labels.get(label_name(name)), role="made")
+
     def turn_cond(self, statement):
         """A test."""
         _, left, right, if_true, if_false = statement.words
@@ -375,11 +363,21 @@ class Translator:
         self.jump(names[0], "made")
 
     def turn_goto(self, statement):
-        """A jump."""
+        """A jump, to a label or to a place that is computed."""
         name = label_name(statement.words[0])
-        if not operands.is_declared(name):
-            self.refuse("a computed jump can't be turned")
-        self.jump(name, "jump")
+        if statement.words[0].startswith("<") or operands.is_declared(name) and not self.is_variable(name):
+            self.jump(name, "jump")
+            return
+        if isinstance(self.labels, Copies) or not named_labels(self.procedure.function.body):
+            self.refuse("a computed jump in a cleanup can't be turned")
+        self.anywhere = self.anywhere or Label()
+        self.build.use(self.value(statement.words[0]).reads)
+        self.flush_all()
+        self.build.add("goto", label=self.anywhere, role="jump")
+
+    def is_variable(self, name):
+        """Whether a declared name is a variable and no label."""
+        return self.world.is_local(self.procedure, name) or operands.split_declared(name)[1] in self.file.statics
 
     def jump(self, name, role):
         """A jump to a label of the dump."""
@@ -388,6 +386,8 @@ class Translator:
 
     def turn_label(self, statement):
         """A label."""
+        if "non-local" in statement.rest:
+            self.refuse("a label to which a nested function jumps can't be turned")
         self.flush_all()
         self.build.label(self.labels.get(label_name(statement.words[0])))
 
@@ -402,162 +402,3 @@ class Translator:
                 self.build.set(self.procedure.result, value.reads[:1])
         self.flush_all()
         self.build.add("return", role="jump")
-
-    # Calls
-
-    def turn_call(self, statement):
-        """A call."""
-        callee, target, *words = statement.words
-        self.note_addresses(words)
-        values = [self.value(word) for word in words]
-        found = self.target_of(callee)
-        if isinstance(found, Value):
-            self.call_any(found, values, target)
-        elif found.procedure:
-            others = [self.services.unknown] if found.is_replaceable else []
-            self.call_procedures([found.procedure], others, values, target, found.is_endless)
-        else:
-            self.call_library(found, values, target)
-
-    def target_of(self, word):
-        """The callee that is named, or the value of a pointer."""
-        name = operands.without_places(word)
-        if name.startswith("."):
-            return NamedOnly(name)
-        is_declared = operands.is_declared(name)
-        if is_declared and not self.world.is_local(self.procedure, name) and self.world.is_function(self.file, name):
-            return self.world.callee(self.file, name)
-        if is_declared and not self.world.is_local(self.procedure, name):
-            if operands.split_declared(name)[0].startswith("__builtin_"):
-                return NamedOnly(operands.split_declared(name)[0])
-            return self.world.callee(self.file, name)
-        return self.value(word)
-
-    def call_library(self, callee, values, target):
-        """A call of a function that has no body here."""
-        behaviour = library.behaviour(callee.name)
-        if behaviour == "jumping":
-            self.refuse(f"a jump out of a procedure, by {callee.name}, can't be turned")
-        self.build.use(variable for value in values for variable in value.reads)
-        if behaviour in ("reading", "writing"):
-            self.read_memory()
-        if behaviour == "writing":
-            self.write_memory()
-        if behaviour == "unknown":
-            self.flush_reached()
-            self.build.call([self.services.unknown])
-            if not callee.is_endless:
-                self.build.add("fork", label=self.procedure.stop, role="made")
-        if behaviour == "ending" or callee.is_endless:
-            self.flush_all()
-            self.build.add("goto", label=self.procedure.stop, role="made")
-        elif target != "NULL":
-            self.store(target, "", (), ())
-
-    def call_any(self, pointer, values, target):
-        """A call through a pointer."""
-        self.build.use(variable for value in [pointer, *values] for variable in value.reads)
-        self.flush_reached()
-        self.build.call([self.services.through_pointer(self.world, len(values))])
-        self.build.add("fork", label=self.procedure.stop, role="made")
-        if target != "NULL":
-            self.store(target, "", (), ())
-
-    def call_procedures(self, procedures, others, values, target, is_endless):
-        """A call of one of these procedures, by way of their parameters and results."""
-        self.pass_arguments(procedures, values)
-        self.flush_reached()
-        call = [*others, *procedures]
-        self.build.call(call)
-        if is_endless:
-            self.flush_all()
-            self.build.add("goto", label=self.procedure.stop, role="made")
-            return
-        self.build.add("fork", label=self.procedure.stop, role="stop", callees=call)
-        if target == "NULL":
-            return
-        results = [procedure.result for procedure in procedures if procedure.result]
-        is_one = len(call) == 1 and results
-        start = len(self.procedure.steps)
-        self.store(target, "", tuple(results) if is_one else (), () if is_one else tuple(results))
-        if re.fullmatch(operands.TEMPORARY, target):
-            self.flush_all_of(target)
-        for step in self.procedure.steps[start:]:
-            step.result_of_call = True
-
-    def flush_all_of(self, temporary):
-        """Reads at once what a temporary would read later."""
-        self.build.use(self.pending.take(temporary).reads, "made")
-        self.pending.put(temporary, Value())
-
-    def pass_arguments(self, procedures, values):
-        """Sets the parameters of the procedures; all arguments are read before the first one is set where that matters."""
-        parameters = {parameter for procedure in procedures for parameter in procedure.parameters if parameter}
-        reads = [variable for value in values for variable in value.reads]
-        is_mixed = any(variable in parameters for variable in reads)
-        count = min([len(procedure.parameters) for procedure in procedures], default=0)
-        extra = reads if is_mixed else [variable for value in values[count:] for variable in value.reads]
-        self.build.use(extra)
-        for procedure in procedures:
-            for number, parameter in enumerate(procedure.parameters):
-                if parameter is None:
-                    continue
-                self.flush_variable(parameter)
-                value = values[number] if number < len(values) and not is_mixed else Value()
-                self.build.use(value.reads[1:])
-                self.build.set(parameter, value.reads[:1], role="argument")
-
-
-@dataclass(frozen=True)
-class NamedOnly:
-    """A function that gcc provides."""
-    name: str
-    procedure: object = None
-    is_endless: bool = False
-    is_replaceable: bool = False
-
-
-class Labels:
-    """The labels of a function, by their names in the dump."""
-
-    def __init__(self):
-        self.made = {}
-
-    def get(self, name):
-        """The label of this name."""
-        return self.made.setdefault(name, Label())
-
-
-class Exits:
-    """Labels within a guarded body: a jump to one outside leads to the cleanup that is made for it."""
-
-    def __init__(self, outer, inner):
-        self.outer = outer
-        self.inner = inner
-        self.made = {}
-
-    def get(self, name):
-        """The label to which a jump to this name leads."""
-        return self.outer.get(name) if name in self.inner else self.made.setdefault(name, Label())
-
-
-class Copies:
-    """Labels within one copy of a cleanup: its own are new, all others are those outside."""
-
-    def __init__(self, outer, inner):
-        self.outer = outer
-        self.made = {name: Label() for name in inner}
-
-    def get(self, name):
-        """The label of this name in this copy."""
-        return self.made.get(name) or self.outer.get(name)
-
-
-def label_name(word):
-    """A label's name without its brackets."""
-    return operands.without_places(word).strip("<>")
-
-
-def labels_in(body):
-    """The names of all labels that a body sets."""
-    return {label_name(statement.words[0]) for statement in statements_in(body) if statement.kind == "label"}

@@ -5,21 +5,20 @@ from dataclasses import dataclass, field
 
 from . import operands
 from .code import Procedure, Variable
-from .dump import Try
+from .dump import statements_in, words_of
 from .faults import Refusal
 
 ARTIFICIAL = re.compile(r"^$|\.|^<|^__(?:PRETTY_)?(?:func|FUNCTION)__$")
 
-VALUES = {"assign": slice(1, None), "call": slice(1, None), "cond": slice(1, 3), "switch": slice(0, 1), "return": slice(0, 1)}
-
 
 @dataclass(eq=False)
 class Callee:
-    """A function that is named: its procedure where it has a body here."""
+    """A function that is named: its procedure where it has a body here. is_foreign: its body is known, but left to other programs."""
     name: str
     procedure: Procedure = None
     is_replaceable: bool = False
     is_endless: bool = False
+    is_foreign: bool = False
 
 
 @dataclass(eq=False)
@@ -30,46 +29,60 @@ class File:
     symbols: object
     statics: dict = field(default_factory=dict)
     by_uid: dict = field(default_factory=dict)
+    by_name: dict = field(default_factory=dict)
+    outside: set = field(default_factory=set)
 
 
 class World:
-    """The variables and functions of all files. `is_whole`: no other file names them but the C library's."""
+    """The variables and functions of all files.
 
-    def __init__(self, files, is_whole):
+    is_whole: no other file names them but the C library's. outside: functions of these files that are taken as other code.
+    """
+
+    def __init__(self, files, is_whole, outside=frozenset()):
         self.files = files
         self.is_whole = is_whole
+        self.outside = outside
         self.globals = {}
         self.locals = {}
         self.procedures = {}
         self.public = {}
         self.addressed_procedures = {}
         self.visible = {}
-        self.own_starts = []
+        self.own_starts = {}
         self.defined_here = {symbol.linkage for file in files for symbol in file.symbols.by_name.values()
                              if symbol.is_public and symbol.is_defined}
         for file in files:
-            self.take_functions(file)
+            file.statics, file.by_uid, file.by_name, file.outside = {}, {}, {}, set()
+            for function in file.functions:
+                self.take_function(file, function)
         for file in files:
             self.take_symbols(file)
 
-    def take_functions(self, file):
-        """Takes in a file's functions and the statics in them."""
-        for function in file.functions:
-            procedure = Procedure(function.name, function.name, function)
-            self.procedures[file, function.uid] = procedure
-            file.by_uid[function.uid] = procedure
-            symbol = file.symbols.by_name.get(function.name)
-            if symbol and symbol.is_public and "." not in function.linkage:
-                if symbol.linkage in self.public:
-                    raise Refusal(f"{function.name} has a body here, and in {self.public[symbol.linkage].function.file} too", file.name)
-                self.public[symbol.linkage] = procedure
-            for name in function.statics:
-                source, uid = operands.split_declared(name)
-                file.statics[uid] = self.new_static(file, function, name, source)
+    def take_function(self, file, function):
+        """Takes in a function and the statics in it."""
+        procedure = Procedure(function.name, function.name, function)
+        for name in function.statics:
+            source, uid = operands.split_declared(name)
+            file.statics[uid] = self.new_static(file, procedure, name, source)
+        if function in self.outside:
+            file.outside.add(function.uid)
+            return
+        self.procedures[file, function.uid] = procedure
+        file.by_uid[function.uid] = procedure
+        if function.is_nested:
+            return
+        file.by_name[function.name] = procedure
+        symbol = file.symbols.by_name.get(function.name)
+        if symbol and symbol.is_public:
+            if symbol.linkage in self.public:
+                raise Refusal(f"{function.name} has a body here, and in {self.public[symbol.linkage].function.file} too", file.name)
+            self.public[symbol.linkage] = procedure
 
-    def new_static(self, file, function, name, source):
+    def new_static(self, file, procedure, name, source):
         """The variable of a static in a function."""
-        variable = Variable(f"{function.name}__{source or 'static'}", "" if ARTIFICIAL.search(source) else source)
+        variable = Variable(f"{procedure.source}__{source or 'static'}", "" if ARTIFICIAL.search(source) else source)
+        variable.home = procedure
         variable.is_addressed = source in file.symbols.addressed
         self.globals[file, name] = variable
         return variable
@@ -77,17 +90,15 @@ class World:
     def take_symbols(self, file):
         """Marks what the symbol table knows: who is called from outside, who runs by itself, whose address is taken."""
         for symbol in file.symbols.by_name.values():
-            if not symbol.is_function:
-                continue
-            procedure = self.defined(file, symbol.name)
+            procedure = self.defined(file, symbol.name) if symbol.is_function else None
             if procedure is None:
                 continue
-            if symbol.is_addressed:
+            if symbol.is_addressed or procedure.function.is_kept:
                 self.addressed_procedures[procedure] = None
             if symbol.is_public and not self.is_whole:
                 self.visible[procedure] = None
             if symbol.runs_alone:
-                self.own_starts.append(procedure)
+                self.own_starts[procedure] = None
 
     def defined(self, file, name):
         """The procedure of a function of a file's own level, or None."""
@@ -96,27 +107,25 @@ class World:
             return self.defined(file, symbol.alias_of)
         if symbol and symbol.is_public and symbol.linkage in self.public:
             return self.public[symbol.linkage]
-        for function in file.functions:
-            if function.name == name and "." not in function.linkage:
-                return file.by_uid[function.uid]
-        return self.public.get(name) if symbol is None else None
+        return file.by_name.get(name) or (self.public.get(name) if symbol is None else None)
 
     def callee(self, file, declared):
         """The function that a declared name stands for."""
         source, uid = operands.split_declared(declared)
-        if uid in file.by_uid:
-            procedure = file.by_uid[uid]
-        else:
+        procedure = file.by_uid.get(uid)
+        is_nested = bool(procedure and procedure.function.is_nested)
+        symbol = None if is_nested else file.symbols.by_name.get(source)
+        if procedure is None and uid not in file.outside:
             procedure = self.defined(file, source)
-        symbol = file.symbols.by_name.get(source)
-        endless = source in file.symbols.endless or bool(procedure and procedure.function.is_noreturn)
+        endless = declared in file.symbols.endless or bool(procedure and procedure.function.is_noreturn)
         name = symbol.linkage if symbol and not source.startswith("__builtin_") else source
-        return Callee(name, procedure, bool(symbol and symbol.is_weak and not self.is_whole), endless)
+        is_foreign = procedure is None and (uid in file.outside or bool(symbol and symbol.linkage in self.defined_here))
+        return Callee(name, procedure, bool(symbol and symbol.is_weak and not self.is_whole), endless, is_foreign)
 
     def is_function(self, file, declared):
         """Whether a declared name that is no variable of the function at hand is a function."""
         source, uid = operands.split_declared(declared)
-        if uid in file.by_uid:
+        if uid in file.by_uid or uid in file.outside:
             return True
         symbol = file.symbols.by_name.get(source)
         return bool(symbol and symbol.is_function and uid not in file.statics)
@@ -132,7 +141,7 @@ class World:
             return file.statics[uid]
         if ARTIFICIAL.search(source):
             key = (file, declared)
-            return self.globals.setdefault(key, Variable("made"))
+            return self.globals.setdefault(key, Variable("made", home=file.name))
         return self.file_variable(file, source)
 
     @staticmethod
@@ -149,6 +158,7 @@ class World:
             wish = f"{procedure.wish}__{re.sub(r'[^A-Za-z0-9_]', '_', source) or 'value'}"
             variable = Variable(wish, "" if ARTIFICIAL.search(source) else source, procedure)
             variable.is_parameter = declared in procedure.function.parameters
+            variable.is_array = declared in procedure.function.arrays
             self.locals[key] = variable
         return self.locals[key]
 
@@ -161,13 +171,24 @@ class World:
         key = symbol.linkage if symbol else source
         key = key if is_public else (file, source)
         if key not in self.globals:
-            self.globals[key] = Variable(source, source)
+            self.globals[key] = Variable(source, source, home=None if is_public else file.name)
         variable = self.globals[key]
         if source in file.symbols.addressed:
             variable.is_addressed = True
         if is_public and not (self.is_whole and key in self.defined_here):
             variable.is_addressed = True
         return variable
+
+    def variables_of(self, file):
+        """All variables that a file's own level or its functions keep between calls."""
+        named = [self.file_variable(file, symbol.name) for symbol in file.symbols.by_name.values() if not symbol.is_function]
+        made = [variable for key, variable in self.globals.items() if isinstance(key, tuple) and key[0] is file]
+        return list(dict.fromkeys([*named, *file.statics.values(), *made]))
+
+    def procedures_of(self, file):
+        """All functions with a body here that a file's code may call."""
+        named = [self.defined(file, symbol.name) for symbol in file.symbols.by_name.values() if symbol.is_function]
+        return list(dict.fromkeys([procedure for procedure in [*named, *file.by_uid.values()] if procedure]))
 
     def reached_by_pointers(self):
         """The variables that a pointer may lead to, or that other files may name."""
@@ -178,20 +199,24 @@ class World:
         """Marks each variable and function whose address the statements take."""
         for file in self.files:
             for function in file.functions:
-                procedure = file.by_uid[function.uid]
-                for statement in statements_in(function.body):
-                    self.take_addresses_in(file, procedure, statement)
+                procedure = file.by_uid.get(function.uid)
+                if procedure is None or function.fault:
+                    self.take_all(file, procedure or Procedure(function.name, function=function))
+                else:
+                    for statement in statements_in(function.body):
+                        self.take_addresses_in(file, procedure, statement)
+        if any(file.symbols.starts_by_table() for file in self.files):
+            self.own_starts.update(self.addressed_procedures)
 
     def take_addresses_in(self, file, procedure, statement):
         """Marks what one statement takes the address of."""
-        words = statement.words[VALUES.get(statement.kind, slice(0, 0))]
-        if "[static-chain:" in statement.rest:
-            words.append(statement.rest.split("[static-chain:")[1].rstrip("] "))
-        for word in words:
+        for word in words_of(statement):
             reference = operands.parse(word)
             if reference is None or (reference.base is None and reference.constant is None and not reference.is_memory):
-                raise Refusal(f"an operand that is not known: {operands.without_places(word)}",
-                              statement.place or function_place(file, procedure))
+                procedure.refusal = Refusal(f"an operand that is not known: {operands.without_places(word)}",
+                                            statement.place or function_place(file, procedure))
+                self.take_all(file, procedure)
+                return
             for name in [*reference.addressed, *operands.names_read(reference)]:
                 self.take_name(file, procedure, name, name in reference.addressed)
 
@@ -209,17 +234,31 @@ class World:
         if is_address and variable:
             variable.is_addressed = True
 
+    def take_all(self, file, procedure):
+        """Marks all that a function names which is taken as unknown code; of one that can't be read all that its file has."""
+        function = procedure.function
+        if function.fault or procedure.refusal:
+            for variable in self.variables_of(file):
+                variable.is_addressed = True
+            self.addressed_procedures.update(dict.fromkeys(self.procedures_of(file)))
+            return
+        for name in function.names():
+            self.take_outside_name(file, procedure, name)
+
+    def take_outside_name(self, file, procedure, name):
+        """Marks a name that a function of other code has."""
+        if self.is_local(procedure, name):
+            return
+        if self.is_function(file, name):
+            found = self.callee(file, name).procedure
+            if found:
+                self.visible[found] = None
+        elif operands.split_declared(name)[0] in file.symbols.by_name or operands.split_declared(name)[1] in file.statics:
+            variable = self.variable(file, procedure, name)
+            if variable:
+                variable.is_addressed = True
+
 
 def function_place(file, procedure):
     """What a message names where a statement has no place."""
     return f"{file.name}: in {procedure.source}"
-
-
-def statements_in(body):
-    """All statements of a body, those of cleanups too."""
-    for item in body:
-        if isinstance(item, Try):
-            yield from statements_in(item.body)
-            yield from statements_in(item.cleanup)
-        else:
-            yield item

@@ -23,8 +23,8 @@ int main(int argc, char **argv)
     table[0] = x;           /* may be the same element: table[i] is no longer known */
     y = y + table[i];
     e.number = y;
-    local[1] = q.first;     /* expect: assignment to 'local' is dead */
+    local[1] = q.first;     /* expect: assignment to 'local[1]' is dead */
     q = p;                  /* expect: assignment to 'q' is dead */
     printf("%d %d %f", x, y, e.real);
-    return empty.second;    /* expect: 'empty' may be used before it is set */
+    return empty.second;    /* expect: 'empty.second' is used before it is set */
 }

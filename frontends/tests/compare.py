@@ -1,21 +1,21 @@
-"""Runs the tests of the C front end: `run` calls this. Not verified.
+"""Runs the tests of the C front end on C files: `run` calls this. Not verified.
 
     /* expect: assignment to 'x' is dead */      the remark, without its column, of the line that the comment stands on
-    /* options: --whole */                       options of check-c; `files: a.c b.c` further files of the same program
-    /* refused: computed jump */                 check-c must refuse the file on this line, with these words
+    /* note: overwritten here */                 a note on this line, of some remark
+    /* options: --whole */                       options of check-c; without --kinds all kinds are told
+    /* files: other_a.c */                       further files
+    /* noted: unknown code */                    check-c must say this on standard error of a function on this line
 """
 
+import json
 import os
 import re
-import shutil
 import subprocess
 import sys
 
 HERE = os.path.dirname(os.path.realpath(__file__))
 CHECK = os.path.join(HERE, "..", "check-c")
-COMMENT = re.compile(r"/\* (expect|refused|options|files): (.*?) \*/")
-REMARK = re.compile(r"(.*):(\d+):\d+: warning: (.*) \[tacflow\]$")
-REFUSED = re.compile(r"check-c: (.*?):(\d+):\d+: (.*)$")
+COMMENT = re.compile(r"/\* (expect|note|noted|options|files): (.*?) \*/")
 
 
 class Wanted:
@@ -24,12 +24,14 @@ class Wanted:
     def __init__(self, name):
         self.files = [name]
         self.options = []
-        self.remarks = []
-        self.refusal = None
+        self.told = {"expect": [], "note": [], "noted": []}
         self.read(name)
         for other in self.files[1:]:
             self.read(other)
-        self.remarks.sort()
+        for header in sorted(header for header in os.listdir(HERE) if header.endswith(".h") and header[:-2] in name):
+            self.read(header)
+        if "--kinds" not in self.options:
+            self.options += ["--kinds", "all"]
 
     def read(self, name):
         """Reads a file's comments."""
@@ -40,52 +42,45 @@ class Wanted:
 
     def take(self, kind, text, name, number):
         """Takes in one comment."""
-        if kind == "expect":
-            self.remarks.append((name, number, text))
-        elif kind == "refused":
-            self.refusal = (name, number, text)
-        elif kind == "options":
+        if kind == "options":
             self.options += text.split()
-        else:
+        elif kind == "files":
             self.files += text.split()
+        else:
+            self.told[kind].append((name, number, text))
 
 
 def difference(name):
     """What is wrong with a test, as lines."""
     wanted = Wanted(name)
-    done = subprocess.run([sys.executable, CHECK, *wanted.options, *wanted.files], cwd=HERE, capture_output=True, text=True)
-    if wanted.refusal:
-        return refusal_difference(wanted.refusal, done)
+    command = [sys.executable, CHECK, "--format", "json", *wanted.options, *wanted.files]
+    done = subprocess.run(command, cwd=HERE, capture_output=True, text=True, check=False)
     if done.returncode:
         return [f"status {done.returncode}: {done.stderr.strip()}"]
-    found = []
-    for line in done.stdout.splitlines():
-        remark = REMARK.match(line)
-        if not remark:
-            return [f"no remark: {line}"]
-        found.append((remark[1], int(remark[2]), remark[3]))
-    found = sorted(dict.fromkeys(found))
-    return ([f"missing: {place}" for place in wanted.remarks if place not in found]
-            + [f"not expected: {place}" for place in found if place not in wanted.remarks])
+    remarks = [json.loads(line) for line in done.stdout.splitlines()]
+    found = sorted({place_of(remark) for remark in remarks})
+    notes = {place_of(note) for remark in remarks for note in remark["notes"]}
+    expected = wanted.told["expect"]
+    return ([f"missing: {place}" for place in expected if place not in found]
+            + [f"not expected: {place}" for place in found if place not in expected]
+            + [f"no note: {place}" for place in wanted.told["note"] if place not in notes]
+            + [f"not noted: {place}" for place in wanted.told["noted"] if not is_noted(place, done.stderr)])
 
 
-def refusal_difference(wanted, done):
-    """What is wrong with a refusal."""
-    refused = REFUSED.match(done.stderr.strip().splitlines()[-1] if done.stderr.strip() else "")
-    if done.returncode != 3 or not refused:
-        return [f"not refused: status {done.returncode}: {done.stderr.strip()}"]
-    name, number, text = wanted
-    if (refused[1], int(refused[2])) != (name, number) or text not in refused[3]:
-        return [f"refused otherwise: {done.stderr.strip()}"]
-    return []
+def place_of(told):
+    """The file, line and text of a remark or a note."""
+    return told["file"], told["line"], told["message"]
+
+
+def is_noted(place, stderr):
+    """Whether something is said of a place on standard error."""
+    name, number, text = place
+    return any(f"{name}:{number}:" in line and text in line for line in stderr.splitlines())
 
 
 def main():
     """Runs all tests; answers the status."""
-    if not shutil.which(os.environ.get("GCC", "gcc")):
-        print("skipped: no gcc")
-        return 0
-    names = sorted(name for name in os.listdir(HERE) if name.endswith(".c") and not name.startswith("other_"))
+    names = sys.argv[1:] or sorted(name for name in os.listdir(HERE) if name.endswith(".c") and not name.startswith("other_"))
     passed = failed = 0
     for name in names:
         wrong = difference(name)
@@ -97,4 +92,5 @@ def main():
     return 1 if failed else 0
 
 
-sys.exit(main())
+if __name__ == "__main__":
+    sys.exit(main())

@@ -15,7 +15,7 @@ static int helper(int proc)     /* a word of tacflow's language as a name */
     }
     {
         int x;
-        x = x + 1;          /* expect: 'x' may be used before it is set */
+        x = x + 1;          /* expect: 'x' is used before it is set */
         cell = x;           /* expect: assignment to 'cell' is dead */
     }
     return x;

@@ -42,7 +42,7 @@ static int even(int n)
     if (n == 0)
         return 1;
     if (n == 7)
-        return unset;       /* expect: 'unset' may be used before it is set */
+        return unset;       /* expect: 'unset' is used before it is set */
     return odd(n - 1);
 }
 

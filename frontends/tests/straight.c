@@ -10,7 +10,7 @@ int main(void)
     int y = a + b;          /* expect: 'a + b' is already computed */
     int late;
     int unused = a * 3;     /* expect: assignment to 'unused' is dead */
-    y = y + late;           /* expect: 'late' may be used before it is set */
+    y = y + late;           /* expect: 'late' is used before it is set */
     x = x - 1;
     a = 2;
     late = a + b;           /* a was written since line 10: nothing is told of a + b here */

@@ -18,9 +18,9 @@ static int skip(int n)
 
 static int (*const actions[])(int) = { add, skip };
 
-static int never_called(int n)
+static int never_called(int n)   /* expect: 'never_called' is never called */
 {
-    return n + 1;           /* expect: never reached */
+    return n + 1;
 }
 
 int main(int argc, char **argv)

@@ -15,7 +15,7 @@ static double mixed(int i, double d, float f)
     r = r + i * d;
     r = r + d * f;
     r = r + d * 2.5;
-    r = r + d * 2.5;        /* expect: 'd * 2.5e+0' is already computed */
+    r = r + d * 2.5;        /* expect: 'd * 2.5' is already computed */
     return r + c + wide;
 }
 

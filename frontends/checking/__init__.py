@@ -1,0 +1,1 @@
+"""Remarks on C programs: what check-c does around the translation. Not verified."""

@@ -1,0 +1,244 @@
+"""One program from its C files to its remarks: gcc, the translation, tacview, and parts where it is beyond tacview's limits."""
+
+import json
+import os
+import signal
+import subprocess
+import tempfile
+from dataclasses import dataclass, field, replace
+from multiprocessing import get_context
+from multiprocessing.pool import ThreadPool
+
+from gimple import emit, inputs, program
+from gimple.faults import Refusal
+from gimple.world import World
+
+from .compiling import BadWords, run_gcc
+from .findings import Findings
+from .sources import Sources
+
+HERE = os.path.dirname(os.path.realpath(__file__))
+
+
+@dataclass(frozen=True)
+class Input:
+    """A C file: its name, the options that gcc takes for it, and the folder that names begin at."""
+    file: str
+    options: tuple
+    directory: str = "."
+
+    def shown(self, name):
+        """What a file of gcc's is called in messages."""
+        if self.directory in (".", os.getcwd()) or os.path.isabs(name):
+            return name
+        return os.path.relpath(os.path.join(self.directory, name))
+
+
+@dataclass(frozen=True)
+class Task:
+    """A program to be analysed.
+
+    is_alone: there are no other programs, so that nothing of it has copies there. repeated: those of its own files that are
+    compiled for another program too.
+    """
+    inputs: tuple
+    is_whole: bool = False
+    shows_all: bool = False
+    keep: str = None
+    is_alone: bool = True
+    repeated: frozenset = frozenset()
+    processes: int = 1
+
+
+@dataclass
+class Outcome:
+    """What came of a task: remarks by key, what could have one in files that others share, notes, and what was refused."""
+    remarks: dict = field(default_factory=dict)
+    seen: set = field(default_factory=set)
+    notes: list = field(default_factory=list)
+    faults: list = field(default_factory=list)
+
+    def join(self, other):
+        """Takes in what came of another part."""
+        for key, remark in other.remarks.items():
+            self.remarks.setdefault(key, remark)
+        self.seen |= other.seen
+        self.notes += other.notes
+        self.faults += other.faults
+
+
+# What the processes of one analysis share: the analysis, its parts, their weights.
+shared = []
+
+
+def take_up(*parts):
+    """Begins a process that does parts of an analysis; an interrupt is the first process's matter."""
+    signal.signal(signal.SIGINT, signal.SIG_IGN)
+    shared[:] = parts
+
+
+def do_part(number):
+    """Does a part in a process of its own."""
+    analysis, parts, weights = shared
+    analysis.outcome = Outcome()
+    try:
+        analysis.try_part(parts[number], weights)
+    except Refusal as refusal:
+        analysis.outcome.faults.append(str(refusal))
+    return analysis.outcome
+
+
+def analyse(task):
+    """Does a task. What fails of it is told in the outcome."""
+    outcome = Outcome()
+    try:
+        files = compile_all(task, outcome)
+        if files:
+            Analysis(task, files, outcome).run()
+    except Refusal as refusal:
+        outcome.faults.append(str(refusal))
+    except OSError as fault:
+        outcome.faults.append(f"{fault.filename or task.inputs[0].file}: {fault.strerror}")
+    except RecursionError:
+        outcome.faults.append(f"{task.inputs[0].file}: an operand that is nested too deeply")
+    return outcome
+
+
+def compile_all(task, outcome):
+    """The files of a task; those that gcc refuses are left out."""
+    files = []
+    with tempfile.TemporaryDirectory() as folder, ThreadPool(task.processes) as threads:
+        started = [threads.apply_async(run_gcc, (given.file, given.options, given.directory, os.path.join(folder, str(number))))
+                   for number, given in enumerate(task.inputs)]
+        for given, run in zip(task.inputs, started):
+            try:
+                dump = run.get()
+                files += [inputs.read_file(dump, given.file)] if dump else []
+            except Refusal as refusal:
+                outcome.faults.append(str(refusal))
+    return files
+
+
+class Analysis:
+    """The analysis of one program."""
+
+    def __init__(self, task, files, outcome):
+        self.task = task
+        self.files = files
+        self.outcome = outcome
+        self.is_whole = task.is_whole and not outcome.faults
+        if task.is_whole and outcome.faults:
+            outcome.notes.append("files are missing, so the rest is not taken as the whole program")
+        self.sources = Sources(task.inputs[0].directory)
+
+    def run(self):
+        """Analyses the program, in parts where it is too large."""
+        try:
+            self.analyse_part(frozenset())
+        except emit.TooLarge as fault:
+            self.analyse_in_parts(fault)
+
+    def analyse_in_parts(self, fault):
+        """Analyses functions by functions, the others taken as code that is not known."""
+        weights = {procedure.function: weight for procedure, weight in fault.weights.items() if procedure.function}
+        parts = cut(self.functions(), weights, -(-fault.total * 3 // (fault.limit * 2)))
+        if self.task.is_whole:
+            self.outcome.notes.append(f"{fault}; analysed in parts, between which less is known")
+        if self.task.processes == 1:
+            for part in parts:
+                self.try_part(part, weights)
+            return
+        # a process takes what the others need not have from this one's memory
+        with get_context("fork").Pool(self.task.processes, take_up, (self, parts, weights)) as pool:
+            for outcome in pool.imap(do_part, range(len(parts)), chunksize=1):
+                self.outcome.join(outcome)
+
+    def functions(self):
+        """All functions of all files."""
+        return [function for file in self.files for function in file.functions]
+
+    def try_part(self, part, weights):
+        """Analyses some functions, or half of them and then the others where they are too many."""
+        try:
+            self.analyse_part(frozenset(self.functions()) - frozenset(part))
+        except emit.TooLarge as fault:
+            if len(part) == 1:
+                self.outcome.notes.append(f"{part[0].file}: '{part[0].name}' is left out: {fault}")
+                return
+            for half in cut(part, weights, 2):
+                self.try_part(half, weights)
+
+    def analyse_part(self, outside):
+        """Analyses all functions but those outside."""
+        world = World(self.files, self.is_whole, outside)
+        if self.is_whole and not outside and "main" not in world.public:
+            raise BadWords("--whole needs the file that has main")
+        built = program.build(world, self.task.shows_all)
+        written = emit.Writer().write(built.procedures)
+        told = run_tacview(written.text)
+        if self.task.keep:
+            keep(self.task.keep, written, told)
+        found = Findings(built, written, read_facts(told), self.sources, self.files, self.task.shows_all)
+        self.take(found)
+        self.outcome.notes += [f"{procedure.refusal}; '{procedure.source}' is taken as unknown code" for procedure in built.refused]
+
+    def take(self, found):
+        """Takes in what was found, under the names that are shown."""
+        shown = self.task.inputs[0].shown
+        own = {given.file for given in self.task.inputs} - self.task.repeated
+        for key, remark in found.remarks.items():
+            notes = tuple(replace(note, file=shown(note.file)) for note in remark.notes)
+            self.outcome.remarks.setdefault(plain_key(key, shown), replace(remark, file=shown(remark.file), notes=notes))
+        if not self.task.is_alone:
+            others = {place.file for place in found.places() if place.file not in own}
+            self.outcome.seen |= {plain_key(key, shown) for key in found.seen_in(others)}
+
+
+def plain_key(key, shown):
+    """A key as plain values, with the file's name as it is shown."""
+    (file, line, column), kind, name = key
+    return (shown(file), line, column, kind, name)
+
+
+def cut(functions, weights, count):
+    """Functions in so many stretches of about the same weight."""
+    total = sum(weights.get(function, 1) for function in functions)
+    parts, at = [[]], 0
+    for function in functions:
+        if at * count >= total * len(parts) and parts[-1]:
+            parts.append([])
+        parts[-1].append(function)
+        at += weights.get(function, 1)
+    return parts
+
+
+def run_tacview(text):
+    """What tacview tells of a program, as lines of JSON."""
+    tacview = os.environ.get("TACVIEW", os.path.join(HERE, "..", "..", "tacview"))
+    try:
+        done = subprocess.run([tacview, "--format", "json", "--facts", "none", "--cut", "512"], input=text.encode("ascii"),
+                              capture_output=True, check=False)
+    except OSError as fault:
+        raise Refusal(f"{tacview}: {fault.strerror}") from None
+    if done.returncode:
+        told = done.stderr.decode("utf-8", "replace").strip().splitlines()
+        raise Refusal(f"tacview failed with the status {done.returncode}" + (f": {told[-1]}" if told else ""))
+    return done.stdout.decode("ascii")
+
+
+def read_facts(told):
+    """The remarks in tacview's answer, by the line of the program: pairs of a kind and a name or expression."""
+    facts = {}
+    for line in told.splitlines():
+        if line.startswith('{"type":"remark"'):
+            row = json.loads(line)
+            facts.setdefault(row["line"], []).append((row["kind"], row.get("variable") or row.get("expression") or ""))
+    return facts
+
+
+def keep(folder, written, told):
+    """Leaves what was made in a folder."""
+    os.makedirs(folder, exist_ok=True)
+    for name, text in (("tac", written.text), ("map", written.map_text()), ("report", told)):
+        with open(os.path.join(folder, "program." + name), "w", encoding="utf-8", errors="surrogateescape") as file:
+            file.write(text)

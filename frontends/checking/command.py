@@ -1,0 +1,149 @@
+"""The command check-c, from its words to its status."""
+
+import multiprocessing
+import os
+import signal
+import subprocess
+import sys
+from collections import Counter
+
+from . import baseline, formats
+from .analysis import HERE, Input, Task, analyse
+from .compiling import BadWords
+from .database import inputs_of
+from .remark import in_source_order
+from .sources import Sources
+from .words import Words, help_text
+
+ROOT = os.path.join(HERE, "..", "..")
+
+
+def say(text):
+    """Tells something on standard error."""
+    print(f"check-c: {text}", file=sys.stderr)
+
+
+def version():
+    """The version of tacflow."""
+    with open(os.path.join(ROOT, "bindings", "rust", "Cargo.toml"), encoding="utf-8") as file:
+        return next(line.split('"')[1] for line in file if line.startswith("version ="))
+
+
+def tasks_of(words):
+    """The programs that are to be analysed."""
+    given = inputs_of(words.values["-p"], words.files) if words.values["-p"] else [Input(file, ()) for file in words.files]
+    given = [Input(one.file, one.options + tuple(words.options), one.directory) for one in given]
+    is_whole, shows_all, folder = words.flags["--whole"], words.flags["--all"], words.values["--keep"]
+    if not given:
+        raise BadWords("the compilation database has no C file")
+    if is_whole or words.flags["--together"]:
+        return [Task(tuple(given), is_whole, shows_all, folder, processes=words.processes)]
+    counts = Counter(one.file for one in given)
+    repeated = frozenset(file for file, count in counts.items() if count > 1)
+    return [Task((one,), False, shows_all, folder, len(given) == 1, repeated, words.processes if len(given) == 1 else 1) for one in given]
+
+
+def prepare_tacview():
+    """Has the launcher build its program where that is still to be done, which it tells on standard error."""
+    if "TACVIEW" in os.environ:
+        return
+    out = os.path.join(ROOT, "crates", "tacview", "out")
+    if not any(os.path.exists(os.path.join(out, path)) for path in ("tacview", "unproved/tacview")):
+        subprocess.run([os.path.join(ROOT, "tacview"), "--help"], stdout=subprocess.DEVNULL, check=False)
+
+
+def outcomes_of(tasks, processes):
+    """What came of all tasks."""
+    if processes == 1 or len(tasks) == 1:
+        return [analyse(task) for task in tasks]
+    with multiprocessing.get_context("fork").Pool(min(processes, len(tasks)), leave_interrupts) as pool:
+        return pool.map(analyse, tasks, chunksize=1)
+
+
+def leave_interrupts():
+    """An interrupt is the first process's matter."""
+    signal.signal(signal.SIGINT, signal.SIG_IGN)
+
+
+def joined(outcomes):
+    """The remarks of all programs: each place is told of once, and only what holds in all copies of it."""
+    remarks = {}
+    for outcome in outcomes:
+        for key, remark in outcome.remarks.items():
+            remarks.setdefault(key, remark)
+    return [remark for key, remark in remarks.items() if all(agrees(outcome, key) for outcome in outcomes)]
+
+
+def agrees(outcome, key):
+    """Whether a program has what a key says, or no copy of its place. That something may be unset is true where one copy has it."""
+    file, line, column, kind, name = key
+    claim = (file, line, column, kind, "" if kind == "busy" else name)
+    return kind == "unset" or claim not in outcome.seen or key in outcome.remarks
+
+
+def write(words, remarks):
+    """Writes the remarks to standard output."""
+    sources = Sources()
+    sys.stdout.reconfigure(encoding="utf-8", errors="surrogateescape")
+    if words.values["--format"] == "json":
+        lines = formats.json_lines(remarks)
+    elif words.values["--format"] == "sarif":
+        lines = formats.sarif_lines(remarks, sources, version())
+    else:
+        lines = formats.TextForm(sources, formats.has_colours(sys.stdout)).lines(remarks)
+    for line in lines:
+        print(line)
+    sys.stdout.flush()
+
+
+def tell_end(outcomes, remarks, count):
+    """Tells what was not analysed, and how many remarks there are."""
+    for text in dict.fromkeys(note for outcome in outcomes for note in outcome.notes):
+        say(f"note: {text}")
+    for text in dict.fromkeys(fault for outcome in outcomes for fault in outcome.faults):
+        say(text)
+    kinds = Counter(remark.kind for remark in remarks)
+    parts = ", ".join(f"{kinds[kind]} {kind}" for kind in sorted(kinds))
+    say(f"{len(remarks)} remark{'' if len(remarks) == 1 else 's'} on {count} file{'' if count == 1 else 's'}" + (f": {parts}" if parts else ""))
+
+
+def check(words):
+    """Does what the words ask for; answers the status."""
+    tasks = tasks_of(words)
+    prepare_tacview()
+    outcomes = outcomes_of(tasks, words.processes)
+    files = [given.shown(given.file) for task in tasks for given in task.inputs]
+    remarks = in_source_order([remark for remark in joined(outcomes) if remark.kind in words.kinds], files)
+    if words.values["--baseline"] is not None:
+        remarks = baseline.without_known(words.values["--baseline"], remarks)
+    if words.values["--write-baseline"] is not None:
+        baseline.write(words.values["--write-baseline"], remarks)
+    write(words, remarks)
+    tell_end(outcomes, remarks, len(files))
+    if any(outcome.faults for outcome in outcomes):
+        return 3
+    return 1 if remarks and words.flags["--error"] else 0
+
+
+def main(words):
+    """Runs the command; answers its status."""
+    try:
+        if {"--help", "-h"} & set(words):
+            sys.stdout.write(help_text())
+            sys.stdout.flush()
+            return 0
+        if words == ["--version"]:
+            print(f"check-c of tacflow {version()}, not verified", flush=True)
+            return 0
+        return check(Words(words))
+    except BadWords as fault:
+        say(f"{fault}; see check-c --help")
+        return 2
+    except OSError as fault:
+        say(f"{fault.filename or 'standard output'}: {fault.strerror}")
+        # what is still to be written can't be: nothing more is said of it
+        os.dup2(os.open(os.devnull, os.O_WRONLY), 1)
+        return 3
+    except KeyboardInterrupt:
+        say("interrupted")
+        return 130

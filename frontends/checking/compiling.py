@@ -1,0 +1,71 @@
+"""Running gcc for its dumps: which words go to it, and what it is asked for."""
+
+import os
+import re
+import subprocess
+
+from gimple.faults import Refusal
+
+ASKED = ["-O0", "-g0", "-ftoplevel-reorder", "-fdump-tree-lower-raw-lineno-uid", "-fdump-tree-ssa-lineno-uid-blocks", "-fdump-ipa-cgraph",
+         "-fdump-tree-original"]
+# Options with a word behind them: those that go to gcc, and those that are left out, since what gcc writes is not wanted.
+WITH_WORD = frozenset("""-I -D -U -include -isystem -iquote -idirafter -imacros -isysroot -iprefix -iwithprefix -iwithprefixbefore
+-imultilib -std -Xpreprocessor -Xassembler -A --param -B -L -l -T -u -z -e -Xlinker -arch -specs --sysroot -framework""".split())
+LEFT_OUT_WITH_WORD = frozenset("-o -MF -MT -MQ -aux-info -dumpbase -dumpdir -dumpbase-ext -wrapper".split())
+LEFT_OUT = re.compile(r"""-(?:c|S|pipe|pg|p|s|v|g.*|O.*|o.+|MD|MMD|MP|MG|MF.+|MT.+|MQ.+|save-temps.*|-coverage|coverage|ftest-coverage
+|fprofile.*|fsanitize.*|flto.*|fopenmp.*|fopenacc.*|finstrument-functions.*|fdump-.*|fstack-protector.*|ftime-report|Q|\#\#\#)$""",
+                      re.VERBOSE)
+OTHER_WORK = frozenset(["-E", "-M", "-MM", "-fsyntax-only", "-###", "--help", "--version"])
+DOUBLE = re.compile(r"--(?:sysroot|param|std|coverage|include|define-macro)(?:=|$)")
+PASSED_OVER = re.compile(r".*\.(?:o|a|so(?:\.\d+)*|lo|s|S|ld|map)$")
+
+
+class BadWords(Exception):
+    """Words that the command doesn't take."""
+
+
+def take_option(word, rest, options):
+    """Takes in a word of gcc's, and the one behind it where that belongs to it; answers whether it is one."""
+    if word in OTHER_WORK:
+        raise BadWords(f"{word} has gcc write no code, so there is nothing to tell")
+    if word == "-x" or word.startswith("-x") and len(word) > 2:
+        language = following(word, rest) if word == "-x" else word[2:]
+        if language not in ("c", "none"):
+            raise BadWords(f"-x {language}: only C is taken")
+    elif word in LEFT_OUT_WITH_WORD:
+        following(word, rest)
+    elif word in WITH_WORD:
+        options += [word, following(word, rest)]
+    elif LEFT_OUT.match(word):
+        pass
+    elif word.startswith("-") and (not word.startswith("--") or DOUBLE.match(word)):
+        options.append(word)
+    else:
+        return False
+    return True
+
+
+def following(word, rest):
+    """The word behind an option."""
+    found = next(rest, None)
+    if found is None:
+        raise BadWords(f"{word} takes a word behind it")
+    return found
+
+
+def run_gcc(file, options, directory, folder):
+    """Has gcc dump a file's code into a new folder; answers the path of the dump, or None where there is no function."""
+    gcc = os.environ.get("GCC", "gcc")
+    os.mkdir(folder)
+    command = [gcc, "-S", "-o", os.path.join(folder, "out.s"), "-w", *options, *ASKED, "-aux-info", os.path.join(folder, "c.aux"),
+               "-dumpdir", folder + "/", "-dumpbase", "c", file]
+    try:
+        done = subprocess.run(command, cwd=directory, capture_output=True, text=True, errors="surrogateescape", check=False)
+    except OSError as fault:
+        raise Refusal(f"{fault.filename or gcc}: {fault.strerror}") from None
+    if done.returncode:
+        told = done.stderr.strip().splitlines()
+        first = next((line for line in told if "error" in line), told[0] if told else f"status {done.returncode}")
+        raise Refusal(f"gcc failed: {first}", file)
+    dumps = [name for name in os.listdir(folder) if name.endswith(".lower")]
+    return os.path.join(folder, dumps[0]) if dumps else None

@@ -1,0 +1,59 @@
+"""Compilation databases: compile_commands.json as CMake, Meson, bear and others write it."""
+
+import json
+import os
+import shlex
+
+from .analysis import Input
+from .compiling import PASSED_OVER, BadWords, take_option
+
+
+def inputs_of(path, wanted):
+    """The C files of a database with their options; those that are wanted where some are."""
+    if os.path.isdir(path):
+        path = os.path.join(path, "compile_commands.json")
+    try:
+        with open(path, encoding="utf-8", errors="surrogateescape") as file:
+            entries = json.load(file)
+        found = [given for given in map(input_of, entries) if given]
+    except OSError as fault:
+        raise BadWords(f"{path}: {fault.strerror}") from None
+    except (ValueError, KeyError, TypeError, AttributeError):
+        raise BadWords(f"{path} is no compilation database") from None
+    found = list(dict.fromkeys(found))
+    if not wanted:
+        return found
+    names = {os.path.realpath(name): name for name in wanted}
+    chosen = [given for given in found if real(given) in names]
+    missing = set(names) - {real(given) for given in chosen}
+    if missing:
+        raise BadWords(f"{names[min(missing)]} is not in {path}")
+    return chosen
+
+
+def real(given):
+    """Where a file is."""
+    return os.path.realpath(os.path.join(given.directory, given.file))
+
+
+def input_of(entry):
+    """The C file of an entry, or None where it is of another language."""
+    words = entry["arguments"] if "arguments" in entry else shlex.split(entry["command"])
+    file, directory = entry["file"], os.path.realpath(entry["directory"])
+    if not file.endswith(".c"):
+        return None
+    here = os.path.realpath(".")
+    whole = os.path.join(directory, file)
+    options, rest = [], iter(words[1:])
+    for word in rest:
+        if os.path.join(directory, word) != whole and not PASSED_OVER.match(word) and word != "--":
+            take_entry_word(word, rest, options)
+    if directory == here:
+        return Input(os.path.relpath(whole) if whole.startswith(here + os.sep) else file, tuple(options))
+    return Input(file, tuple(options), directory)
+
+
+def take_entry_word(word, rest, options):
+    """Takes in a word of an entry; what stands before the compiler's own words, as `ccache gcc`, is passed over."""
+    if word.startswith("-") and not take_option(word, rest, options):
+        raise BadWords(f"a compilation database with {word}")

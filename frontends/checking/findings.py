@@ -1,0 +1,275 @@
+"""From facts of a program to remarks on the C sources that it was made of."""
+
+from gimple import flow
+from gimple.code import Variable
+
+from .remark import Note, Remark
+from .sources import canonical
+from .traces import Traces
+from .written import part_named
+
+SHOWN_ROLES = ("plain", "test", "result")
+PLAIN_VALUES = frozenset(["0", "0B", "0.0", "{}", '""', "0.0e+0", "0x0"])
+
+
+class Findings:
+    """The remarks on one program.
+
+    remarks: by keys, which are the same for all copies of a place in all programs. seen: for places in files that other programs
+    share, what could have a remark there, whether it has one or not.
+    """
+
+    def __init__(self, program, written, facts, sources, files, shows_all):
+        self.program = program
+        self.facts = facts
+        self.sources = sources
+        self.files = {file.name: file for file in files}
+        self.shows_all = shows_all
+        self.lines = [(number, step, procedure) for number, step, procedure in written.notes if step.origin and step.origin.place]
+        self.never = {number for number, told in facts.items() if ("never_reached", "") in told}
+        self.traces = Traces()
+        self.remarks = {}
+        self.by_claim = {}
+        for line in self.lines:
+            for claim in self.claims(line):
+                self.by_claim.setdefault(claim, []).append(line)
+        self.spans = self.find_spans()
+        self.take_all()
+
+    # What can be told at a place
+
+    def claims(self, line):
+        """What could be told of a line, by keys that all copies of its place share."""
+        _, step, _ = line
+        place = step.origin.place
+        if step.role in SHOWN_ROLES or self.shows_all:
+            if step.kind == "set" and self.name(step.variable):
+                yield place, "dead", self.name(step.variable)
+            if step.expression and self.plain_expression(step):
+                yield place, "computed", self.plain_expression(step)
+        if step.role == "test":
+            yield place, "busy", ""
+        yield place, "never", ""
+
+    def name(self, variable):
+        """What a variable is called, '' where it has no name in the source."""
+        return variable.source or (variable.name if self.shows_all else "")
+
+    def plain_expression(self, step):
+        """A step's expression by the source's names, '' where some operand has none."""
+        parts = [self.name(part) if isinstance(part, Variable) else part.text for part in step.operands]
+        return canonical(step.operator, [(part, True) for part in parts], step.is_element) if all(parts) else ""
+
+    def holds(self, claim, told):
+        """Whether each copy that is reached has what is told, and at least one is."""
+        lines = [line for line in self.by_claim[claim] if line[0] not in self.never]
+        return bool(lines) and all(told(line) for line in lines)
+
+    def has_fact(self, line, kind, name):
+        """Whether tacflow tells this of a line."""
+        return (kind, name) in self.facts.get(line[0], ())
+
+    # Kinds
+
+    def take_all(self):
+        """Makes all remarks."""
+        for line in self.lines:
+            told = self.facts.get(line[0], ())
+            for kind, name in told:
+                if kind == "dead":
+                    self.take_dead(line)
+                elif kind == "computed":
+                    self.take_computed(line, name)
+                elif kind == "busy" and line[1].role == "test":
+                    self.take_busy(line, name)
+        self.take_unset()
+        self.take_never_reached()
+        self.take_never_called()
+
+    def put(self, key, remark):
+        """Keeps a remark unless a comment silences it."""
+        if not self.sources.get(remark.file).is_silenced(remark.kind, remark.line):
+            self.remarks.setdefault(key, remark)
+
+    def take_dead(self, line):
+        """An assignment whose value nobody reads."""
+        _, step, procedure = line
+        name = self.name(step.variable)
+        claim = (step.origin.place, "dead", name)
+        if claim not in self.by_claim or claim in self.remarks or line not in self.by_claim[claim]:
+            return
+        if not self.holds(claim, lambda copy: self.has_fact(copy, "dead", copy[1].variable.name)):
+            return
+        if self.is_meant(procedure, step.variable):
+            return
+        kind = "dead-initial" if self.is_plain_initial(step) else "dead"
+        shown = part_named(step) or name
+        text = f"initial value of '{shown}' is dead" if kind == "dead-initial" else f"assignment to '{shown}' is dead"
+        notes = () if step.variable.owner is not procedure else tuple(
+            Note(place.file, place.line, place.column, "overwritten here") for place in self.traces.overwritten(procedure, step))
+        self.put(claim, self.remark(line, kind, text, notes))
+
+    def is_meant(self, procedure, variable):
+        """Whether the source says that a variable need not be read."""
+        function = procedure.function
+        if function is None or variable.owner is not procedure:
+            return False
+        file = self.files[function.file]
+        if (function.name, variable.source) in file.symbols.cast_away:
+            return True
+        name, first, last = self.spans.get(procedure, (function.file, 0, 0))
+        return self.sources.get(name).is_marked_unused(variable.source, first, last)
+
+    def is_plain_initial(self, step):
+        """Whether an assignment is a declaration's `= 0` or the like."""
+        statement = step.origin
+        if statement.kind != "assign" or statement.words[2] not in PLAIN_VALUES:
+            return False
+        place = statement.place
+        behind = self.sources.get(place.file).behind(place.line, place.column)
+        return behind.startswith(step.variable.source)
+
+    def take_computed(self, line, name):
+        """An expression that is evaluated once more."""
+        _, step, procedure = line
+        claim = (step.origin.place, "computed", self.plain_expression(step))
+        if step.expression != name or claim in self.remarks or line not in self.by_claim.get(claim, ()):
+            return
+        if not self.holds(claim, lambda copy: self.has_fact(copy, "computed", copy[1].expression)):
+            return
+        shown = self.expression_shown(step)
+        if shown:
+            notes = tuple(Note(place.file, place.line, place.column, "evaluated here")
+                          for place in self.traces.evaluated(procedure, step))
+            self.put(claim, self.remark(line, "computed", f"'{shown}' is already computed", notes))
+
+    def expression_shown(self, step):
+        """An expression as its source has it, '' where it stands there in no form."""
+        if self.shows_all:
+            return self.plain_expression(step)
+        operands = [(part.source, True) if isinstance(part, Variable) else (part.text, False) for part in step.operands]
+        place = step.origin.place
+        return self.sources.get(place.file).expression_at(place.line, place.column, step.operator, operands, step.is_element)
+
+    def take_busy(self, line, name):
+        """An expression that each way from a test evaluates."""
+        _, step, procedure = line
+        found = self.evaluation_in(procedure, name)
+        if found is None:
+            return
+        claim = (step.origin.place, "busy", "")
+        key = (step.origin.place, "busy", self.plain_expression(found))
+        if key in self.remarks or not self.holds(claim, lambda copy: self.is_busy_copy(copy, key[2])):
+            return
+        places = self.traces.evaluated_next(procedure, step, name)
+        notes = tuple(Note(place.file, place.line, place.column, "evaluated here") for place in places)
+        self.put(key, self.remark(line, "busy", f"'{self.expression_shown(found)}' is very busy", notes))
+
+    def is_busy_copy(self, line, expression):
+        """Whether a copy of a test has an expression, by the source's names, as very busy."""
+        for kind, name in self.facts.get(line[0], ()):
+            if kind == "busy":
+                found = self.evaluation_in(line[2], name)
+                if found is not None and self.plain_expression(found) == expression:
+                    return True
+        return False
+
+    def evaluation_in(self, procedure, name):
+        """A step of a procedure that evaluates an expression of its own scope which stands in the source, or None."""
+        for step in self.traces.evaluations(procedure).get(name, ()):
+            if step.role not in SHOWN_ROLES and not self.shows_all or not step.origin or not step.origin.place:
+                continue
+            if self.plain_expression(step) and all(part.is_in_scope(procedure) for part in step.reads()) and self.expression_shown(step):
+                return step
+        return None
+
+    def take_unset(self):
+        """Uses of locals that are not set: the first use of each, with the others as notes."""
+        uses = {}
+        for line in self.lines:
+            for kind, name in self.facts.get(line[0], ()):
+                variable = next((found for found in line[1].unset if found.name == name), None) if kind == "unset" else None
+                if variable is None or variable.owner is None or variable.is_parameter or not self.name(variable):
+                    continue
+                is_sure = variable in line[1].surely_unset
+                if is_sure or not variable.is_array:
+                    uses.setdefault(variable, {}).setdefault(line[1].origin.place, []).append((line, is_sure))
+        for variable, places in uses.items():
+            self.take_uses(variable, places)
+
+    def take_uses(self, variable, places):
+        """The uses of one variable, by place."""
+        sure = {place for place, told in places.items() if all(is_sure for _, is_sure in told)}
+        first = min(sure or places, key=lambda place: (place.file, place.line, place.column))
+        line = places[first][0][0]
+        kind = "unset" if first in sure else "maybe-unset"
+        shown = self.sources.get(first.file).use_at(first.line, self.name(variable))
+        text = f"'{shown}' is used before it is set" if kind == "unset" else f"'{shown}' may be used before it is set"
+        others = sorted(((place.file, place.line, place.column) for place in places if place.line != first.line))
+        notes = tuple(Note(*place, "used here too") for place in others[:4])
+        self.put((first, "unset", self.name(variable)), self.remark(line, kind, text, notes))
+
+    def take_never_reached(self):
+        """The first statement of each stretch that is never reached."""
+        reached = {line[1].origin for line in self.lines if line[0] not in self.never}
+        reached_places = {origin.place for origin in reached}
+        last = None
+        for line in self.lines:
+            _, step, procedure = line
+            if step.origin in reached:
+                last = None
+            elif last is not procedure and (step.role in SHOWN_ROLES or self.shows_all) and step.origin.place not in reached_places:
+                last = procedure
+                self.put((step.origin.place, "never", ""), self.remark(line, "never", "never reached"))
+
+    def take_never_called(self):
+        """Functions to which no way leads."""
+        called = {self.definition_of(procedure) for procedure in self.program.procedures if procedure.function}
+        for procedure in self.program.never_called:
+            place = self.definition_of(procedure)
+            if place and place not in called and not procedure.function.is_nested and "unused" not in procedure.function.attributes:
+                remark = Remark(*place, "never", f"'{procedure.source}' is never called", procedure.source)
+                self.put(((*place[:2], 0), "never", procedure.source), remark)
+
+    # Places
+
+    def definition_of(self, procedure):
+        """Where a function's name stands in its definition: file, line and column; None where that is not known."""
+        function = procedure.function
+        found = self.files[function.file].symbols.definitions.get(function.name)
+        if found is None:
+            return None
+        column = self.sources.get(found[0]).line(found[1]).find(function.name) + 1
+        return (*found, max(column, 1))
+
+    def find_spans(self):
+        """For each procedure the file and the lines that it spans, by its definition and its statements."""
+        spans = {}
+        for _, step, procedure in self.lines:
+            place = step.origin.place
+            start = self.definition_of(procedure) if procedure.function else None
+            file = start[0] if start else place.file
+            if place.file == file:
+                _, first, last = spans.get(procedure, (file, start[1] if start else place.line, place.line))
+                spans[procedure] = (file, min(first, place.line), max(last, place.line))
+        return spans
+
+    @staticmethod
+    def remark(line, kind, text, notes=()):
+        """A remark at a line's place."""
+        place = line[1].origin.place
+        return Remark(place.file, place.line, place.column, kind, text, line[2].source, notes)
+
+    def places(self):
+        """All places of statements."""
+        return {line[1].origin.place for line in self.lines}
+
+    def seen_in(self, shared):
+        """The keys of all that could be told at places in files that other programs share."""
+        found = {claim for claim in self.by_claim if claim[0].file in shared
+                 and any(line[0] not in self.never for line in self.by_claim[claim])}
+        for procedure in self.program.procedures:
+            place = self.definition_of(procedure) if procedure.function else None
+            if place and place[0] in shared:
+                found.add(((*place[:2], 0), "never", procedure.source))
+        return found

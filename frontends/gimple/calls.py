@@ -1,0 +1,127 @@
+"""Calls as steps of a procedure: of functions with a body, of the C library's, of what a pointer leads to."""
+
+import re
+from dataclasses import dataclass
+
+from . import library, operands
+from .values import Value
+
+
+@dataclass(frozen=True)
+class NamedOnly:
+    """A function that gcc provides."""
+    name: str
+    procedure: object = None
+    is_endless: bool = False
+    is_replaceable: bool = False
+    is_foreign: bool = False
+
+
+class Calls:
+    """What a translator does with calls."""
+
+    def turn_call(self, statement):
+        """A call."""
+        callee, target, *words = statement.words
+        self.note_addresses(words)
+        values = [self.value(word) for word in words]
+        found = self.target_of(callee)
+        if isinstance(found, Value):
+            self.call_any(found, values, target)
+        elif found.procedure:
+            others = [self.services.unknown] if found.is_replaceable else []
+            self.call_procedures([found.procedure], others, values, target, found.is_endless)
+        else:
+            self.call_library(found, values, target)
+
+    def target_of(self, word):
+        """The callee that is named, or the value of a pointer."""
+        name = operands.without_places(word)
+        if name.startswith("."):
+            return NamedOnly(name)
+        is_declared = operands.is_declared(name)
+        if is_declared and not self.world.is_local(self.procedure, name) and self.world.is_function(self.file, name):
+            return self.world.callee(self.file, name)
+        if is_declared and not self.world.is_local(self.procedure, name):
+            if operands.split_declared(name)[0].startswith("__builtin_"):
+                return NamedOnly(operands.split_declared(name)[0])
+            return self.world.callee(self.file, name)
+        return self.value(word)
+
+    def call_library(self, callee, values, target):
+        """A call of a function that has no body here."""
+        behaviour = "unknown" if callee.is_foreign else library.behaviour(callee.name)
+        if behaviour == "jumping":
+            self.refuse(f"{callee.name}, which may come back more than once, can't be turned")
+        self.build.use(variable for value in values for variable in value.reads)
+        if behaviour in ("reading", "writing"):
+            self.read_memory()
+        if behaviour == "writing":
+            self.write_memory()
+        if behaviour == "unknown":
+            self.call_unknown(callee.is_endless)
+        if behaviour == "ending" or callee.is_endless:
+            self.flush_all()
+            self.build.add("goto", label=self.procedure.stop, role="made")
+        elif target != "NULL":
+            self.store(target, "", (), ())
+
+    def call_unknown(self, is_endless=False):
+        """A call of code of which nothing is known, which may end the program."""
+        self.flush_reached()
+        self.build.call([self.services.unknown])
+        if not is_endless:
+            self.build.add("fork", label=self.procedure.stop, role="made")
+
+    def call_any(self, pointer, values, target):
+        """A call through a pointer."""
+        self.build.use(variable for value in [pointer, *values] for variable in value.reads)
+        self.flush_reached()
+        self.build.call([self.services.through_pointer(self.world, len(values))])
+        self.build.add("fork", label=self.procedure.stop, role="made")
+        if target != "NULL":
+            self.store(target, "", (), ())
+
+    def call_procedures(self, procedures, others, values, target, is_endless):
+        """A call of one of these procedures, by way of their parameters and results."""
+        self.pass_arguments(procedures, values)
+        self.flush_reached()
+        call = [*others, *procedures]
+        self.build.call(call)
+        if is_endless:
+            self.flush_all()
+            self.build.add("goto", label=self.procedure.stop, role="made")
+            return
+        self.build.add("fork", label=self.procedure.stop, role="stop", callees=call)
+        if target == "NULL":
+            return
+        results = [procedure.result for procedure in procedures if procedure.result]
+        is_one = len(call) == 1 and results
+        start = len(self.procedure.steps)
+        self.store(target, "", tuple(results) if is_one else (), () if is_one else tuple(results))
+        if re.fullmatch(operands.TEMPORARY, target):
+            self.flush_all_of(target)
+        for step in self.procedure.steps[start:]:
+            step.result_of_call = True
+
+    def flush_all_of(self, temporary):
+        """Reads at once what a temporary would read later."""
+        self.build.use(self.pending.take(temporary).reads, "made")
+        self.pending.put(temporary, Value())
+
+    def pass_arguments(self, procedures, values):
+        """Sets the parameters of the procedures; all arguments are read before the first one is set where that matters."""
+        parameters = {parameter for procedure in procedures for parameter in procedure.parameters if parameter}
+        reads = [variable for value in values for variable in value.reads]
+        is_mixed = any(variable in parameters for variable in reads)
+        count = min([len(procedure.parameters) for procedure in procedures], default=0)
+        extra = reads if is_mixed else [variable for value in values[count:] for variable in value.reads]
+        self.build.use(extra)
+        for procedure in procedures:
+            for number, parameter in enumerate(procedure.parameters):
+                if parameter is None:
+                    continue
+                self.flush_variable(parameter)
+                value = values[number] if number < len(values) and not is_mixed else Value()
+                self.build.use(value.reads[1:])
+                self.build.set(parameter, value.reads[:1], role="argument")

@@ -1,0 +1,101 @@
+"""What operands give while a function is turned: values, numbers for constants, and temporaries that are still to be read."""
+
+import re
+from dataclasses import dataclass
+
+from .code import Number
+
+STRANGE_NUMBERS = 1 << 62
+
+
+@dataclass(frozen=True)
+class Value:
+    """What an operand gives.
+
+    reads: the variables that it reads. exact: the variable or number that it is exactly, if it is one. is_scaled: whether it is
+    a multiple or a negative, as gcc makes of an index.
+    """
+    reads: tuple = ()
+    exact: object = None
+    is_scaled: bool = False
+
+
+class Constants:
+    """Numbers for the constants of C: small ones as they are, others by numbers of their own."""
+
+    def __init__(self):
+        self.numbers = {}
+
+    def number(self, text, file):
+        """The number of a constant's text in a file; an address is told apart from one of another file."""
+        if re.fullmatch(r"\d{1,18}", text):
+            return Number(int(text), text)
+        key = (file, text) if "D." in text else text
+        if key not in self.numbers:
+            self.numbers[key] = STRANGE_NUMBERS + len(self.numbers)
+        return Number(self.numbers[key], text)
+
+
+class Pending:
+    """Values of gcc's temporaries whose reads were not yet written down.
+
+    A temporary is no variable of the program: what it reads is read where its value is used, or before something that may
+    change it, whichever comes first.
+    """
+
+    def __init__(self):
+        self.values = {}
+        self.origins = {}
+        self.unread = set()
+        self.reading = {}
+        self.holding = set()
+        self.reached = set()
+
+    def put(self, name, value, origin=None):
+        """Holds a temporary's value; where it reads something, that is still to be read."""
+        self.forget(name)
+        self.values[name] = value
+        self.origins[name] = origin
+        if value.reads:
+            self.unread.add(name)
+            self.holding.add(name)
+        for variable in value.reads:
+            self.reading.setdefault(variable, set()).add(name)
+            if variable.owner is None or variable.is_addressed:
+                self.reached.add(name)
+
+    def forget(self, name):
+        """Takes a temporary's value out."""
+        for variable in self.values.pop(name, Value()).reads:
+            self.reading[variable].discard(name)
+        for names in (self.unread, self.holding, self.reached):
+            names.discard(name)
+
+    def take(self, name):
+        """A temporary's value, which is used now."""
+        self.unread.discard(name)
+        return self.values.get(name, Value())
+
+    def flush(self, names):
+        """Ends the values of these temporaries; answers what is to be read before that, with its statement."""
+        wanted = [(self.origins[name], self.values[name].reads) for name in sorted(names, key=self.order) if name in self.unread]
+        for name in names:
+            self.forget(name)
+        return wanted
+
+    def order(self, name):
+        """Temporaries in the order in which their values were put."""
+        origin = self.origins[name]
+        return (origin.number if origin else 0, name)
+
+    def flush_all(self):
+        """Ends all values."""
+        return self.flush(list(self.holding))
+
+    def flush_reached(self):
+        """Ends the values that read what other code may write."""
+        return self.flush(list(self.reached))
+
+    def flush_variable(self, variable):
+        """Ends the values that read this variable."""
+        return self.flush(list(self.reading.get(variable, ())))

@@ -1,0 +1,243 @@
+"""Random C programs that end, do nothing undefined and print what they compute. Not verified."""
+
+import random
+
+HEAD = """int printf(const char *, ...);
+void exit(int);
+struct pair { unsigned first, second; unsigned cells[4]; };
+union either { unsigned number; unsigned char bytes[4]; };
+static unsigned g0 = 1, g1 = 2, g2 = 3, g3, g4;
+unsigned public0 = 5;
+static unsigned table[8];
+static struct pair box;
+static union either mixed;
+static unsigned *aim = &g4;
+static int fuel = FUEL;
+"""
+STOP = """static void stop(unsigned n) __attribute__((noreturn));
+static void stop(unsigned n)
+{
+    printf("stopped %u %u %u\\n", n, g0, box.first);
+    exit(3);
+}
+static void leave(unsigned *n)
+{
+    g3 = g3 + *n;
+}
+"""
+GLOBALS = ["g0", "g1", "g2", "g3", "g4", "public0"]
+OPERATORS = ["+", "-", "*", "&", "|", "^"]
+COMPARISONS = ["<", ">", "<=", ">=", "==", "!="]
+
+
+class Program:
+    """A program of so many functions, made of a seed: the same seed gives the same program."""
+
+    def __init__(self, seed):
+        self.random = random.Random(seed)
+        self.count = self.random.randint(2, 5)
+        self.addressed = self.random.sample(range(self.count), k=min(2, self.count))
+        self.functions = [Function(self, number) for number in range(self.count)]
+
+    def text(self):
+        """The program's text."""
+        head = HEAD.replace("FUEL", str(self.random.randint(20, 120)))
+        prototypes = "".join(f"static unsigned f{number}(unsigned p0, unsigned p1);\n" for number in range(self.count))
+        calls = ", ".join(f"f{number}" for number in self.addressed)
+        tables = f"static unsigned (*const actions[])(unsigned, unsigned) = {{ {calls} }};\n"
+        bodies = "\n".join(function.text() for function in self.functions)
+        return f"{head}{prototypes}{tables}/* functions */\n{STOP}\n{bodies}\n{self.main_text()}"
+
+    def main_text(self):
+        """The function main, which looks at some of the globals in the end."""
+        shown = self.random.sample(GLOBALS, k=3)
+        calls = "".join(f"    sum = sum * 3 + f{self.random.randrange(self.count)}({self.random.randint(0, 9)}, (unsigned)argc);\n"
+                        for _ in range(self.random.randint(1, 4)))
+        shows = "".join(f"    printf(\"{name} %u\\n\", {name});\n" for name in shown)
+        return (f"int main(int argc, char **argv)\n{{\n    unsigned sum = 0;\n{calls}{shows}"
+                f"    printf(\"%u %u\\n\", sum, table[sum & 7]);\n    return 0;\n}}\n")
+
+
+class Function:
+    """A function while it is made: its variables, and expressions that it evaluates again and again."""
+
+    def __init__(self, program, number):
+        self.program = program
+        self.random = program.random
+        self.name = f"f{number}"
+        self.locals = [f"v{count}" for count in range(self.random.randint(2, 5))]
+        self.names = [*self.locals, "p0", "p1", *GLOBALS]
+        self.usual = [f"{self.random.choice(self.names)} {self.random.choice(OPERATORS)} {self.random.choice(self.names)}"
+                      for _ in range(3)]
+        self.labels = 0
+        self.counters = 0
+        self.lines = []
+
+    def text(self):
+        """The function's text."""
+        self.put("if (fuel-- <= 0)", 1)
+        self.put(f"return {self.simple()};", 2)
+        self.block(1, self.random.randint(4, 9), 0)
+        self.put(f"return {self.expression()};", 1)
+        names = "".join(f"    unsigned {name} = {self.first_value()};\n" for name in self.locals)
+        counters = "".join(f"    int k{number};\n" for number in range(self.counters))
+        guarded = "    unsigned kept __attribute__((cleanup(leave))) = p0;\n" if self.random.random() < 0.25 else ""
+        return (f"static unsigned {self.name}(unsigned p0, unsigned p1)\n{{\n{names}{counters}    unsigned local[4] = {{ 1, 2, p0, 4 }};\n"
+                f"    struct pair duo = {{ p1, 2, {{ 1 }} }};\n    unsigned *where = {self.target()};\n{guarded}"
+                + "\n".join(self.lines) + "\n}\n")
+
+    def put(self, line, depth):
+        """Adds a line."""
+        self.lines.append("    " * depth + line)
+
+    def first_value(self):
+        """What a local begins with."""
+        return self.random.choice(["0", "p0", "p1", "p0 + p1", str(self.random.randint(1, 99)), "g0"])
+
+    def target(self):
+        """What a pointer may point to."""
+        return "&" + self.random.choice([*self.locals, "g3", "g4", "table[3]", "local[1]", "duo.second", "box.first"])
+
+    def simple(self):
+        """A variable or a number."""
+        return self.random.choice([*self.names, str(self.random.randint(0, 50))])
+
+    def operand(self):
+        """Something with a value."""
+        kind = self.random.random()
+        if kind < 0.6:
+            return self.simple()
+        index = self.random.choice(self.names)
+        return self.random.choice([f"table[{index} & 7]", f"local[{index} & 3]", "duo.first", "duo.second", "box.second", "duo.cells[1]",
+                                   "*where", "*aim", "mixed.number", "mixed.bytes[2]", "(unsigned)fuel"])
+
+    def expression(self, depth=0):
+        """An expression."""
+        kind = self.random.random()
+        if kind < 0.4:
+            return self.random.choice(self.usual)
+        if kind < 0.75:
+            return f"{self.operand()} {self.random.choice(OPERATORS)} {self.operand()}"
+        if kind < 0.82:
+            return f"{self.operand()} / ({self.operand()} | 1)"
+        if kind < 0.88:
+            return f"{self.operand()} {self.random.choice(['<<', '>>'])} {self.random.randint(0, 7)}"
+        if kind < 0.94 and depth == 0:
+            return f"({self.test()} ? {self.expression(1)} : {self.expression(1)})"
+        return self.random.choice(["-", "~", "!"]) + self.simple()
+
+    def test(self):
+        """A condition."""
+        plain = f"{self.operand()} {self.random.choice(COMPARISONS)} {self.operand()}"
+        kind = self.random.random()
+        if kind < 0.15:
+            return f"{plain} && ({self.random.choice(self.usual)}) > {self.random.randint(0, 9)}"
+        return f"{plain} || {self.operand()}" if kind < 0.3 else plain
+
+    def place(self):
+        """Something that can be assigned."""
+        kind = self.random.random()
+        if kind < 0.65:
+            return self.random.choice([*self.locals, *self.locals, "p0", "p1", *GLOBALS])
+        index = self.random.choice(self.names)
+        return self.random.choice([f"table[{index} & 7]", f"local[{index} & 3]", "duo.first", "duo.cells[2]", "box.first", "box.cells[1]",
+                                   "*where", "*aim", "mixed.number", "mixed.bytes[1]"])
+
+    def block(self, depth, count, loops):
+        """Some statements."""
+        for _ in range(count):
+            self.statement(depth, loops)
+
+    def statement(self, depth, loops):
+        """A statement of some kind."""
+        kinds = [self.assign] * 8 + [self.call] * 2 + [self.point, self.copy, self.show]
+        if depth < 4:
+            kinds += [self.branch] * 4 + [self.loop, self.switch, self.jump, self.leave_early]
+        self.random.choice(kinds)(depth, loops)
+
+    def assign(self, depth, loops):
+        """An assignment."""
+        del loops
+        sign = self.random.choice(["=", "=", "=", "=", "+=", "^="])
+        self.put(self.random.choice([f"{self.place()} {sign} {self.expression()};"] * 5 + [f"{self.place()}++;", f"--{self.place()};"]), depth)
+
+    def call(self, depth, loops):
+        """A call, by name or through the table."""
+        del loops
+        name = self.random.choice([f"f{self.random.randrange(self.program.count)}"] * 3 + [f"actions[p0 % {len(self.program.addressed)}]"])
+        target = f"{self.random.choice([*self.locals, 'g1', 'g2'])} = " if self.random.random() < 0.8 else ""
+        self.put(f"{target}{name}({self.expression()}, {self.simple()});", depth)
+
+    def point(self, depth, loops):
+        """A pointer that points elsewhere."""
+        del loops
+        self.put(self.random.choice([f"where = {self.target()};", "aim = &g3;", "aim = &g4;"]), depth)
+
+    def copy(self, depth, loops):
+        """A copy of a struct."""
+        del loops
+        self.put(self.random.choice(["box = duo;", "duo = box;"]), depth)
+
+    def show(self, depth, loops):
+        """Something is printed."""
+        del loops
+        self.put(f"printf(\"%u\\n\", {self.operand()});", depth)
+
+    def branch(self, depth, loops):
+        """A test."""
+        self.put(f"if ({self.test()}) {{", depth)
+        self.block(depth + 1, self.random.randint(1, 3), loops)
+        if self.random.random() < 0.5:
+            self.put("} else {", depth)
+            self.block(depth + 1, self.random.randint(1, 3), loops)
+        self.put("}", depth)
+
+    def loop(self, depth, loops):
+        """A loop with a counter of its own."""
+        counter = f"k{self.counters}"
+        self.counters += 1
+        bound = self.random.randint(1, 4)
+        form = self.random.choice(["for", "while", "do"])
+        if form == "for":
+            self.put(f"for ({counter} = 0; {counter} < {bound}; {counter}++) {{", depth)
+        else:
+            self.put(f"{counter} = {bound};", depth)
+            self.put(f"while ({counter}-- > 0) {{" if form == "while" else "do {", depth)
+        self.block(depth + 1, self.random.randint(1, 3), loops + 1)
+        if self.random.random() < 0.3:
+            self.put(f"if ({self.test()})", depth + 1)
+            # a loop of the last form would not count behind `continue`
+            self.put("break;" if form == "do" else self.random.choice(["break;", "continue;"]), depth + 2)
+        self.put(f"}} while (--{counter} > 0);" if form == "do" else "}", depth)
+
+    def switch(self, depth, loops):
+        """A switch."""
+        self.put(f"switch ({self.operand()} & 3) {{", depth)
+        for case in self.random.sample(range(4), k=self.random.randint(1, 3)):
+            self.put(f"case {case}:", depth)
+            self.block(depth + 1, self.random.randint(1, 2), loops)
+            if self.random.random() < 0.7:
+                self.put("break;", depth + 1)
+        if self.random.random() < 0.5:
+            self.put("default:", depth)
+            self.block(depth + 1, 1, loops)
+        self.put("}", depth)
+
+    def jump(self, depth, loops):
+        """A jump forward, over statements that are reached or not."""
+        label = f"l{self.labels}"
+        self.labels += 1
+        if self.random.random() < 0.7:
+            self.put(f"if ({self.test()})", depth)
+            depth_of_jump = depth + 1
+        else:
+            depth_of_jump = depth
+        self.put(f"goto {label};", depth_of_jump)
+        self.block(depth, self.random.randint(1, 2), loops)
+        self.put(f"{label}:;", depth)
+
+    def leave_early(self, depth, loops):
+        """A return, or an end of the program."""
+        del loops
+        self.put(f"if ({self.test()})", depth)
+        self.put(f"stop({self.simple()});" if self.random.random() < 0.1 else f"return {self.expression()};", depth + 1)

@@ -1,0 +1,282 @@
+"""gcc's own form of a C program as C again, changed where tacflow's facts say that it does not matter. Not verified.
+
+A value that is dead is overwritten, a statement that is never reached ends the program by a trap, an expression that is already
+computed is compared with what it gave the last time, and one that is very busy with what it gives the next time.
+"""
+
+import re
+
+from gimple import operands
+from gimple.code import Variable
+from gimple.dump import statements_in
+
+HEADER = re.compile(r";; Function (?P<name>\S+) \(.*decl_uid=(?P<uid>\d+)")
+UNTURNED = re.compile(r"VIEW_CONVERT|BIT_FIELD|FRAME|CHAIN|REALPART|IMAGPART|COMPLEX|_Complex|__builtin_va|\.VA_ARG|MEM ?[<\[]"
+                      r"|\bMIN|\bMAX|\bABS|__asm")
+NAME = re.compile(rf"(?<![\w$])(?P<declared>{operands.DECLARED})|(?<![\w$.])(?P<temporary>{operands.TEMPORARY})|\b0B\b")
+GUARD = "unsigned *guard{0} __attribute__((cleanup(leave_guard))) = {1};"
+CHANGED = 0x5a
+
+
+class CanNotTurn(Exception):
+    """A form of gcc's that this script does not write as C."""
+
+
+class Body:
+    """A function's lines in gcc's form, as C: pairs of a text and its statement, None where there is none."""
+
+    def __init__(self, function, lines):
+        self.function = function
+        self.own = {name: re.sub(r"\W", "_", name) for name in [*function.parameters, *function.locals]}
+        self.typed = set()
+        self.statements = iter(list(statements_in(function.body)))
+        opened = lines.index("{")
+        heading = " ".join(lines[:opened])
+        self.heading = re.sub(r"__attribute__\(\(.*?\)\) ?", "", self.name_all(heading))
+        plain = [operands.without_places(line.strip()) for line in lines[opened + 1:-1]]
+        plain = [line for line in plain if line and not line.startswith("//")]
+        count = self.declared(plain)
+        self.top = [self.name_all(line) for line in plain[:count]]
+        self.rows = [(line, None) if line in ("{", "}", "try", "finally") else self.statement(line) for line in plain[count:]]
+        self.take_cleanups()
+
+    @staticmethod
+    def declared(plain):
+        """How many lines are declarations."""
+        for count, line in enumerate(plain):
+            if line.startswith("static "):
+                raise CanNotTurn(line)
+            is_declaration = line.endswith(";") and re.search(r"D\.\d+(\[\d+\])*;$", line) and " = " not in line
+            if not is_declaration or line.startswith(("goto ", "return ")):
+                return count
+        return len(plain)
+
+    def statement(self, line):
+        """A line with its statement."""
+        statement = next(self.statements)
+        return (self.turned(line, statement), statement)
+
+    def take_cleanups(self):
+        """Writes what runs at the end of blocks as gcc's own cleanups."""
+        opened, starts = [], {}
+        rows, skipped = [], 0
+        at = 0
+        while at < len(self.rows):
+            text = self.rows[at][0]
+            if text == "try":
+                opened.append(len(rows))
+            elif text == "finally":
+                end = next(place for place in range(at, len(self.rows)) if self.rows[place][0] == "}")
+                calls = [row[0] for row in self.rows[at + 2:end] if row[0] != ";"]
+                start = opened.pop()
+                guards = [re.match(r"leave \((&\w+)\);$", call) for call in calls]
+                if None in guards or len(guards) > 1:
+                    raise CanNotTurn(calls)
+                starts[start] = GUARD.format(start, guards[0][1]) if guards else ""
+                skipped += end - at
+                at = end
+            else:
+                rows.append(self.rows[at])
+            at += 1
+        self.rows = []
+        for number, row in enumerate(rows):
+            self.rows.append(row)
+            if number in starts and starts[number]:
+                self.rows.append((starts[number], None))
+
+    def text(self, before, after, top):
+        """The function, with lines before and behind the rows of statements, and at its top."""
+        lines = [self.heading, "{", *self.top, *top]
+        for text, statement in self.rows:
+            lines += [*before.get(statement, ()), text, *after.get(statement, ())]
+        return "\n".join([*lines, "}"])
+
+    def name_all(self, text):
+        """A text with names that C takes."""
+        parts = operands.STRING.split(text)
+        strings = [*operands.STRING.findall(text), ""]
+        return "".join(NAME.sub(self.named, part) + string for part, string in zip(parts, strings))
+
+    def named(self, found):
+        """A name of gcc's as C takes it."""
+        name = found.group()
+        if name == "0B":
+            return "0"
+        if name in self.own:
+            return self.own[name]
+        if found["temporary"]:
+            return "t_" + re.sub(r"\W", "_", name)
+        return re.sub(r"D\.\d+$", "", name) or f"D_{name[2:]}"
+
+    def turned(self, plain, statement):
+        """A statement as C."""
+        if UNTURNED.search(plain):
+            raise CanNotTurn(plain)
+        if plain.startswith("<"):
+            return re.sub(r"<D\.(\d+)>:", r"L\1:;", plain)
+        if "= {CLOBBER" in plain:
+            return ";"
+        if plain.startswith(("if ", "goto ", "switch ")):
+            plain = re.sub(r"<D\.(\d+)>", r"L\1", re.sub(r" ?\[(?:INV|[\d.]+%)\]", "", plain))
+            return self.switch(plain) if plain.startswith("switch") else self.name_all(plain)
+        if statement.kind == "label":
+            return self.name_all(plain) + ";"
+        return self.assigned(plain, statement)
+
+    def switch(self, plain):
+        """A switch: `switch (x) <default: L1, case 2: L3>`."""
+        value, cases = re.match(r"switch \((.*)\) <(.*)>$", plain).groups()
+        rows = " ".join(re.sub(r": (L\d+)$", r": goto \1;", case.strip()) for case in cases.split(", "))
+        return f"switch ({self.name_all(value)}) {{ {rows} }}"
+
+    def assigned(self, plain, statement):
+        """An assignment or a call."""
+        if statement.kind == "return":
+            return self.name_all(plain)
+        target, sign, value = plain.rstrip(";").partition(" = ")
+        if not sign:
+            return self.name_all(plain)
+        if value == "{}":
+            return f"__builtin_memset(&{self.name_all(target)}, 0, sizeof({self.name_all(target)}));"
+        shown, given = self.name_all(target), self.name_all(value)
+        if statement.kind == "assign" and statement.words[0] == "pointer_plus_expr":
+            left, right = (self.name_all(part) for part in value.split(" + "))
+            given = f"(__typeof__({left}))((char *)({left}) + ({right}))"
+        kind = "__auto_type " if re.fullmatch(operands.TEMPORARY, target) and target not in self.typed else ""
+        self.typed.add(target)
+        return f"{kind}{shown} = {given};"
+
+
+class Changes:
+    """What is added to the bodies of one program."""
+
+    def __init__(self, world, bodies, written, facts):
+        self.world = world
+        self.bodies = bodies
+        self.facts = facts
+        self.declared = {variable: declared for (_, declared), variable in world.locals.items()}
+        self.notes = [note for note in written.notes if note[1].origin]
+        self.never = {number for number, told in facts.items() if ("never_reached", "") in told}
+        self.before, self.after, self.top, self.globals = {}, {}, {}, []
+        self.counts = dict.fromkeys(("dead", "never", "computed", "busy"), 0)
+        self.copies = {}
+        for number, step, procedure in self.notes:
+            self.copies.setdefault((step.origin, step.slot), []).append((number, step, procedure))
+
+    def make(self, kinds):
+        """Makes the changes of these kinds."""
+        if "dead" in kinds:
+            self.overwrite()
+        if "never" in kinds:
+            self.trap()
+        self.compare(kinds)
+
+    def body_of(self, procedure):
+        """The body of a procedure, None where it has none as C."""
+        return self.bodies.get(procedure.function.uid) if procedure.function else None
+
+    def holds(self, step, kind, name):
+        """Whether all copies of a step that are reached have a fact."""
+        copies = [number for number, _, _ in self.copies[step.origin, step.slot] if number not in self.never]
+        return bool(copies) and all((kind, name) in self.facts.get(number, ()) for number in copies)
+
+    def overwrite(self):
+        """Overwrites each value that is dead."""
+        done = set()
+        for _, step, procedure in self.notes:
+            statement = step.origin
+            if step.kind != "set" or step.role != "plain" or statement in done or self.body_of(procedure) is None:
+                continue
+            if re.fullmatch(operands.TEMPORARY, statement.words[1]):
+                continue
+            if statement.kind in ("assign", "call") and self.holds(step, "dead", step.variable.name):
+                target = self.body_of(procedure).name_all(operands.without_places(statement.words[1]))
+                self.after.setdefault(statement, []).append(f"__builtin_memset((void *)&({target}), {CHANGED}, sizeof({target}));")
+                done.add(statement)
+                self.counts["dead"] += 1
+
+    def trap(self):
+        """Ends the program where no way leads."""
+        reached = {step.origin for number, step, _ in self.notes if number not in self.never}
+        for statement in {step.origin for _, step, _ in self.notes} - reached:
+            self.before.setdefault(statement, []).append("__builtin_trap();")
+            self.counts["never"] += 1
+
+    def shown(self, step, procedure):
+        """An expression as C, None where a variable has no name in the procedure."""
+        names = []
+        for part in step.operands:
+            if not isinstance(part, Variable):
+                names.append(re.sub(r"^0B$", "0", part.text))
+            elif part.owner is None and part.source:
+                names.append(part.source)
+            elif part.owner is procedure and part in self.declared:
+                names.append(self.body_of(procedure).own[self.declared[part]])
+            else:
+                return None
+        if step.is_element:
+            return f"{names[0]}[{names[1]}]"
+        return f"({step.operator}{names[0]})" if len(names) == 1 else f"({names[0]} {step.operator} {names[1]})"
+
+    def compare(self, kinds):
+        """Compares what expressions give that are already computed, or very busy."""
+        evaluations = {}
+        for _, step, procedure in self.notes:
+            if step.expression and step.slot == min(other.slot for other in [step]):
+                evaluations.setdefault(step.expression, {}).setdefault((step.origin, procedure), step)
+        for number, (text, places) in enumerate(evaluations.items()):
+            shown = {key: self.shown(step, key[1]) if self.body_of(key[1]) else None for key, step in places.items()}
+            if None not in shown.values():
+                self.compare_one(text, places, shown, number, kinds)
+
+    def compare_one(self, text, places, shown, number, kinds):
+        """The same of one expression."""
+        tests = [(step, procedure) for _, step, procedure in self.notes if step.role == "test" and "busy" in kinds
+                 and self.holds(step, "busy", text) and self.body_of(procedure) and self.shown(next(iter(places.values())), procedure)]
+        again = {key for key, step in places.items() if "computed" in kinds and self.holds(step, "computed", text)}
+        if not tests and not again:
+            return
+        old, known, next_value, awaited = (f"{name}_{number}" for name in ("old", "known", "next", "awaited"))
+        is_local = any(isinstance(part, Variable) and part.owner for part in next(iter(places.values())).operands)
+        first_step, first_procedure = next(iter(places.items()))[1], next(iter(places))[1]
+        form = shown[first_step.origin, first_procedure]
+        lines = [f"__typeof__{form if form.startswith('(') else '(' + form + ')'} {old}, {next_value};", f"int {known} = 0, {awaited} = 0;"]
+        if is_local:
+            self.top.setdefault(first_procedure.function.uid, []).extend(lines)
+        else:
+            self.globals += ["static " + line for line in lines]
+        for (statement, procedure), expression in shown.items():
+            added = [f"if ({awaited} && {next_value} != {expression}) __builtin_trap(); {awaited} = 0;"]
+            if (statement, procedure) in again:
+                self.counts["computed"] += 1
+                added.append(f"if (!{known} || {old} != {expression}) __builtin_trap();")
+            self.before.setdefault(statement, []).extend([*added, f"{old} = {expression}; {known} = 1;"])
+        for step, procedure in tests:
+            self.counts["busy"] += 1
+            expression = self.shown(first_step, procedure)
+            self.before.setdefault(step.origin, []).append(f"{next_value} = {expression}; {awaited} = 1;")
+        self.at_ends(first_procedure if is_local else None, awaited)
+
+    def at_ends(self, procedure, awaited):
+        """Where a function ends, or main for what is no local, no expression is awaited."""
+        for body in self.bodies.values():
+            if body.function is (procedure.function if procedure else None) or procedure is None and body.function.name == "main":
+                for _, statement in body.rows:
+                    if statement is not None and statement.kind == "return":
+                        self.before.setdefault(statement, []).append(f"if ({awaited}) __builtin_trap();")
+
+
+def bodies_of(text, functions):
+    """The functions of a dump that can be written as C, by their numbers."""
+    by_uid = {function.uid: function for function in functions}
+    found = {}
+    for part in re.split(r"\n(?=;; Function )", text):
+        head = HEADER.match(part)
+        function = by_uid.get(int(head["uid"])) if head else None
+        if function is None:
+            continue
+        try:
+            found[function.uid] = Body(function, [line for line in part.rstrip().split("\n")[1:] if line.strip()])
+        except CanNotTurn:
+            pass
+    return found

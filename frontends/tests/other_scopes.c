@@ -1,0 +1,10 @@
+/* The other file of scopes.c: its own is another variable. */
+extern int shared;
+static int own = 3;
+
+int other(int n)
+{
+    if (n > 4)              /* expect: 'own * shared' is very busy */
+        n = 5;
+    return own * shared + n;
+}

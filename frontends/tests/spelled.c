@@ -1,0 +1,61 @@
+/* Only what stands in the source is told, and as it stands there. */
+/* options: --whole */
+int printf(const char *, ...);
+
+#define SIZE 16
+#define NEXT(i) ((i) + 1)
+#define BOTH(x) x = 1; x = 2
+#define TWICE(x) ((x) * 3 + (x) * 3)
+
+struct item { long key, value; };
+
+static int table[10];
+static struct item items[10];
+
+static int elements(int i, struct item *p, unsigned long n)
+{
+    table[i + 1] += 2;      /* gcc evaluates i + 1 twice, the source once */
+    p[i].key = 1;
+    p[i].value = 2;         /* gcc multiplies i, the source does not */
+    p[n].key = 3;
+    p[n].value = 4;
+    (p - n)->key = 5;
+    (p - n)->value = 6;
+    return table[i + 1];    /* expect: 'i + 1' is already computed */
+}
+
+static unsigned constants(unsigned size, int i)
+{
+    int a = i + SIZE;
+    int b = i + SIZE;       /* expect: 'i + SIZE' is already computed */
+    unsigned c = size - 1;
+    unsigned d = size - 1;  /* expect: 'size - 1' is already computed */
+    int e = 7 * i;
+    int f = i * 7;          /* expect: 'i * 7' is already computed */
+    int g = 'a' + i;
+    int h = 'a' + i;        /* expect: ''a' + i' is already computed */
+    return a + b + c + d + e + f + g + h;
+}
+
+static int macros(int i)
+{
+    int x, y;
+    BOTH(x);                /* the second x = 1 of the place is read */
+    y = NEXT(i);
+    y = y + NEXT(i);        /* expect: 'i + 1' is already computed */
+    return x + y + TWICE(i);    /* the first i * 3 of the place is new */
+}
+
+static int steps(int i, int n)
+{
+    int before = i + 1;
+    i++;                    /* expect: 'i + 1' is already computed */
+    n = before + n;
+    before += n;
+    return n + before + i;
+}
+
+int main(int argc, char **argv)
+{
+    return elements(argc, items, argc) + constants(argc, argc) + macros(argc) + steps(argc, 2);
+}

@@ -1,0 +1,160 @@
+"""Tries the words of check-c, its formats, and what it does where something fails: `run` calls this. Not verified."""
+
+import json
+import os
+import re
+import signal
+import subprocess
+import sys
+import tempfile
+import time
+
+HERE = os.path.dirname(os.path.realpath(__file__))
+CHECK = os.path.join(HERE, "..", "check-c")
+ONE_REMARK = "int printf(const char *, ...);\nint main(int c, char **v)\n{\n\tint gone = c * 2;\n    return 0;\n}\n"
+BROKEN = "int main(void) { return x; }\n"
+LIBRARY = "int f(int n)\n{\n    int gone = n * 2;\n    return n;\n}\n"
+FILES = {"one.c": ONE_REMARK, "broken.c": BROKEN, "library.c": LIBRARY, "empty.c": "", "other.txt": "x"}
+
+# The words, the status, and what standard error has.
+CASES = [
+    ("", 2, r"check-c: no C file is named; see check-c --help$"),
+    ("--nonsense one.c", 2, r"check-c: --nonsense is no option;"),
+    ("--kinds dead,nothing one.c", 2, r"check-c: nothing is no kind: dead, dead-initial, "),
+    ("--kinds= one.c", 2, r"check-c: nothing is no kind"),
+    ("--kinds dead --kinds dead one.c", 2, r"--kinds is given twice"),
+    ("--format xml one.c", 2, r"--format is one of text, json, sarif"),
+    ("--whole --together one.c", 2, r"give one of them"),
+    ("--whole library.c", 2, r"--whole needs the file that has main"),
+    ("-x c++ one.c", 2, r"-x c\+\+: only C is taken"),
+    ("-xc++ one.c", 2, r"only C is taken"),
+    ("-E one.c", 2, r"-E has gcc write no code"),
+    ("-fsyntax-only one.c", 2, r"-fsyntax-only has gcc write no code"),
+    ("-j 0 one.c", 2, r"-j takes a number"),
+    ("-j", 2, r"-j takes a word behind it"),
+    ("other.txt", 2, r"other.txt is no C file"),
+    ("folder.c", 2, r"folder.c is a folder"),
+    ("-p nowhere", 2, r"nowhere: No such file or directory"),
+    ("-p one.c", 2, r"one.c is no compilation database"),
+    ("--baseline one.c one.c", 2, r"one.c is no baseline"),
+    ("missing.c", 3, r"check-c: missing.c: gcc failed: "),
+    ("broken.c", 3, r"check-c: broken.c: gcc failed: broken.c:1:25: error: "),
+    ("empty.c", 0, r"check-c: 0 remarks on 1 file$"),
+    ("one.c", 0, r"check-c: 1 remark on 1 file: 1 dead$"),
+    ("--error one.c", 1, r"1 remark on"),
+    ("--error --kinds never one.c", 0, r"0 remarks on"),
+    ("-x c -j2 -o x.o -MF y.d -I . -DX=1 -std=gnu11 one.c z.o -lm", 0, r"1 remark on 1 file"),
+    ("--whole one.c library.c", 0, r"2 remarks on 2 files: 1 dead, 1 never"),
+    ("--together one.c library.c", 0, r"2 remarks on 2 files: 2 dead"),
+    ("one.c library.c one.c", 0, r"2 remarks on 3 files: 2 dead"),
+    ("one.c broken.c library.c", 3, r"(?s)broken.c: gcc failed.*2 remarks on 3 files: 2 dead"),
+    ("--together one.c broken.c library.c", 3, r"(?s)broken.c: gcc failed.*2 remarks on 3 files: 2 dead"),
+    ("--whole one.c broken.c library.c", 3, r"(?s)the rest is not taken as the whole program.*2 remarks on 3 files: 2 dead"),
+    ("--version", 0, r"$"),
+]
+SHOWN = """one.c:4:6: warning: assignment to 'gone' is dead [tacflow-dead]
+    4 | \tint gone = c * 2;
+      | \t    ^
+"""
+
+
+def run(words, folder, **parts):
+    """Runs check-c in a folder."""
+    parts = {"stdout": subprocess.PIPE, "stderr": subprocess.PIPE} | parts
+    return subprocess.run([sys.executable, CHECK, *words.split()], cwd=folder, text=True, check=False, **parts)
+
+
+def wrong_cases(folder):
+    """The cases of which the outcome is another one."""
+    for words, status, pattern in CASES:
+        done = run(words, folder)
+        if done.returncode != status or not re.search(pattern, done.stderr.strip()) or status == 2 and done.stderr.count("\n") != 1:
+            yield f"check-c {words}: status {done.returncode}: {done.stderr.strip()}"
+
+
+def wrong_forms(folder):
+    """What is wrong with the forms of remarks."""
+    if run("one.c", folder).stdout != SHOWN:
+        yield f"text: {run('one.c', folder).stdout}"
+    rows = [json.loads(line) for line in run("--format json one.c library.c", folder).stdout.splitlines()]
+    if [(row["file"], row["line"], row["column"], row["kind"], row["function"]) for row in rows] != [
+            ("one.c", 4, 6, "dead", "main"), ("library.c", 3, 9, "dead", "f")]:
+        yield f"json: {rows}"
+    sarif = json.loads(run("--format sarif one.c", folder).stdout)["runs"][0]
+    result = sarif["results"][0]
+    place = result["locations"][0]["physicalLocation"]
+    if (sarif["tool"]["driver"]["rules"][result["ruleIndex"]]["id"] != "tacflow-dead" or place["artifactLocation"] != {"uri": "one.c"}
+            or place["region"] != {"startLine": 4, "startColumn": 6}):
+        yield f"sarif: {result}"
+
+
+def wrong_baselines(folder):
+    """What is wrong with baselines: known remarks are not told again, also on other lines; new ones are."""
+    run("--write-baseline known one.c", folder)
+    with open(os.path.join(folder, "one.c"), "w", encoding="utf-8") as file:
+        file.write("\n\n" + ONE_REMARK.replace("return 0;", "c = 3; return 0;"))
+    told = run("--baseline known one.c", folder)
+    if [line for line in told.stdout.splitlines() if "warning" in line] != ["one.c:7:7: warning: assignment to 'c' is dead [tacflow-dead]"]:
+        yield f"baseline: {told.stdout}{told.stderr}"
+
+
+def wrong_databases(folder):
+    """What is wrong with a compilation database."""
+    entries = [{"directory": os.path.join(folder, "build"), "file": "../library.c", "command": "gcc -O2 -g -DX='a b' -c -o l.o ../library.c"},
+               {"directory": folder, "file": "one.c", "arguments": ["ccache", "gcc", "-MD", "-MF", "one.d", "-c", "one.c", "-o", "one.o"]},
+               {"directory": folder, "file": "x.cc", "command": "g++ -c x.cc"}]
+    with open(os.path.join(folder, "compile_commands.json"), "w", encoding="utf-8") as file:
+        json.dump(entries, file)
+    for words, names in (("-p .", {"library.c", "one.c"}), ("-p compile_commands.json -j 2 library.c", {"library.c"})):
+        told = run(words + " --format json", folder)
+        if told.returncode or {json.loads(line)["file"] for line in told.stdout.splitlines()} != names:
+            yield f"check-c {words}: {told.stdout}{told.stderr}"
+
+
+def wrong_ends(folder):
+    """What is wrong where the answer can't be written, or where the run is interrupted."""
+    with open("/dev/full", "w", encoding="utf-8") as full:
+        done = run("one.c", folder, stdout=full)
+    if done.returncode != 3 or done.stderr != "check-c: standard output: No space left on device\n":
+        yield f"a full device: status {done.returncode}: {done.stderr}"
+    reader, writer = os.pipe()
+    os.close(reader)
+    done = run("one.c", folder, stdout=writer)
+    os.close(writer)
+    if done.returncode != 3 or done.stderr != "check-c: standard output: Broken pipe\n":
+        yield f"a closed pipe: status {done.returncode}: {done.stderr}"
+    slow = os.path.join(folder, "slow")
+    with open(slow, "w", encoding="utf-8") as file:
+        file.write("#!/bin/sh\nexec sleep 20\n")
+    os.chmod(slow, 0o755)
+    for words in ("one.c", "-j2 one.c library.c"):
+        started = subprocess.Popen([sys.executable, CHECK, *words.split()], cwd=folder, stderr=subprocess.PIPE, text=True,
+                                   env=dict(os.environ, TACVIEW=slow), start_new_session=True)
+        time.sleep(1.5)
+        os.killpg(started.pid, signal.SIGINT)
+        told = started.communicate()[1]
+        if started.returncode != 130 or told != "check-c: interrupted\n":
+            yield f"an interrupt of {words}: status {started.returncode}: {told}"
+
+
+def main():
+    """Tries all; answers the status."""
+    wrong = []
+    groups = (wrong_cases, wrong_forms, wrong_baselines, wrong_databases, wrong_ends)
+    for group in groups:
+        with tempfile.TemporaryDirectory() as folder:
+            os.mkdir(os.path.join(folder, "folder.c"))
+            os.mkdir(os.path.join(folder, "build"))
+            for name, text in FILES.items():
+                with open(os.path.join(folder, name), "w", encoding="utf-8") as file:
+                    file.write(text)
+            wrong.append(list(group(os.path.realpath(folder))))
+    for line in (line for lines in wrong for line in lines):
+        print(line)
+    failed = sum(map(bool, wrong))
+    print(f"{len(groups) - failed} passed, {failed} failed")
+    return 1 if failed else 0
+
+
+if __name__ == "__main__":
+    sys.exit(main())
