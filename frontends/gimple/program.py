@@ -129,6 +129,7 @@ def fill_root(root, services, world, procedures):
     if main:
         read_parameters(build, main)
         build.call([main])
+        build.use([main.result] if main.result else ())
     build.label(end)
     build.call([services.unknown])
 

@@ -114,6 +114,7 @@ def call_from_outside(build, procedures, target):
         for procedure in some:
             read_parameters(build, procedure)
         build.call(some)
+        build.use(procedure.result for procedure in some if procedure.result)
         if target:
             build.add("goto", label=target)
         build.label(other)

@@ -1,5 +1,5 @@
 /* options: --all --whole */
-/* With --all, address arithmetic is an expression, temporaries are variables, and results are told of: nothing here reads that of main. */
+/* With --all, address arithmetic is an expression, temporaries are variables, and results are told of. */
 
 char *later(char *p, unsigned long n)
 {
@@ -8,9 +8,15 @@ char *later(char *p, unsigned long n)
     return q < r ? q : r;
 }
 
+static int result_unread(int n)
+{
+    return n * 2;               /* expect: assignment to 'result_unread__value' is dead */
+}
+
 int main(void)
 {
     char word[4];
     char *end = later(word, 2);
-    return end - word;          /* expect: assignment to 'main__value' is dead */
+    result_unread(2);
+    return end - word;          /* read by whoever started the program */
 }
