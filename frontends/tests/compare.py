@@ -13,6 +13,8 @@ import re
 import subprocess
 import sys
 
+import words
+
 HERE = os.path.dirname(os.path.realpath(__file__))
 CHECK = os.path.join(HERE, "..", "check-c")
 COMMENT = re.compile(r"/\* (expect|note|noted|options|files): (.*?) \*/")
@@ -79,15 +81,16 @@ def is_noted(place, stderr):
 
 
 def main():
-    """Runs all tests; answers the status."""
+    """Runs all tests, or those that are named; answers the status."""
     names = sys.argv[1:] or sorted(name for name in os.listdir(HERE) if name.endswith(".c") and not name.startswith("other_"))
-    passed = failed = 0
-    for name in names:
-        wrong = difference(name)
-        passed += not wrong
-        failed += bool(wrong)
-        for line in wrong:
+    wrong = {name: difference(name) for name in names}
+    if not sys.argv[1:]:
+        wrong |= {f"words {number}": lines for number, lines in enumerate(words.differences(), 1)}
+    for name, lines in wrong.items():
+        for line in lines:
             print(f"{name}: {line}")
+    failed = sum(map(bool, wrong.values()))
+    passed = len(wrong) - failed
     print(f"{passed} passed, {failed} failed")
     return 1 if failed else 0
 

@@ -137,8 +137,8 @@ def wrong_ends(folder):
             yield f"an interrupt of {words}: status {started.returncode}: {told}"
 
 
-def main():
-    """Tries all; answers the status."""
+def differences():
+    """What is wrong, for each group of trials the lines that say so."""
     wrong = []
     groups = (wrong_cases, wrong_forms, wrong_baselines, wrong_databases, wrong_ends)
     for group in groups:
@@ -149,12 +149,4 @@ def main():
                 with open(os.path.join(folder, name), "w", encoding="utf-8") as file:
                     file.write(text)
             wrong.append(list(group(os.path.realpath(folder))))
-    for line in (line for lines in wrong for line in lines):
-        print(line)
-    failed = sum(map(bool, wrong))
-    print(f"{len(groups) - failed} passed, {failed} failed")
-    return 1 if failed else 0
-
-
-if __name__ == "__main__":
-    sys.exit(main())
+    return wrong
