@@ -17,6 +17,10 @@ from .compiling import BadWords, run_gcc
 from .findings import Findings
 from .sources import Sources
 
+# More statements of gcc's than these are no program within tacview's limits; so many functions and statements mostly are.
+MANY_STATEMENTS = 24000
+FEW_STATEMENTS = 8000
+FEW_FUNCTIONS = 180
 HERE = os.path.dirname(os.path.realpath(__file__))
 
 
@@ -133,17 +137,22 @@ class Analysis:
 
     def run(self):
         """Analyses the program, in parts where it is too large."""
-        try:
-            self.analyse_part(frozenset())
-        except emit.TooLarge as fault:
-            self.analyse_in_parts(fault)
+        weights = {function: function.size() for function in self.functions()}
+        total = sum(weights.values())
+        if total <= MANY_STATEMENTS and (self.task.is_whole or len(weights) <= emit.LIMITS["procedures"]):
+            try:
+                self.analyse_part(frozenset())
+                return
+            except emit.TooLarge as fault:
+                self.outcome.notes.append(f"{self.files[0].name}: {fault}; analysed in parts, between which less is known")
+        else:
+            self.outcome.notes.append(f"{self.files[0].name}: {len(weights)} functions with {total} statements are more than tacflow takes; "
+                                      "analysed in parts, between which less is known")
+        self.analyse_in_parts(weights, max(2, -(-total // FEW_STATEMENTS), -(-len(weights) // FEW_FUNCTIONS)))
 
-    def analyse_in_parts(self, fault):
+    def analyse_in_parts(self, weights, count):
         """Analyses functions by functions, the others taken as code that is not known."""
-        weights = {procedure.function: weight for procedure, weight in fault.weights.items() if procedure.function}
-        parts = cut(self.functions(), weights, -(-fault.total * 3 // (fault.limit * 2)))
-        if self.task.is_whole:
-            self.outcome.notes.append(f"{fault}; analysed in parts, between which less is known")
+        parts = cut(self.functions(), weights, count)
         if self.task.processes == 1:
             for part in parts:
                 self.try_part(part, weights)

@@ -76,13 +76,18 @@ class Function:
     named: tuple = None
 
     def names(self):
-        """The declared names in its statements, callees too."""
+        """The declared names in its statements that are none of its locals, callees too."""
         if self.named is None:
             words = [word for statement in statements_in(self.body)
                      for word in [*words_of(statement), *(statement.words[:1] if statement.kind == "call" else ())]]
             text = " ".join(operands.STRING.sub("", operands.without_places(word)) for word in words)
-            self.named = tuple(dict.fromkeys(re.findall(operands.DECLARED, text)))
+            own = self.locals.union(self.parameters)
+            self.named = tuple(name for name in dict.fromkeys(re.findall(operands.DECLARED, text)) if name not in own)
         return self.named
+
+    def size(self):
+        """How many statements it has."""
+        return sum(1 for _ in statements_in(self.body)) + 1
 
     @property
     def is_nested(self):

@@ -40,19 +40,14 @@ def bits_of(variables, numbers):
     return bits
 
 
-def written(step):
-    """The variables that a step writes."""
-    return [step.variable] if step.variable is not None else []
-
-
 def live_before(steps, variables):
     """For each place the bits of the variables whose values are still read from there on, and the bit of each variable.
 
     What a step reads of the result of a call is left out: that value was made by the callee.
     """
     numbers = {variable: 1 << number for number, variable in enumerate(variables)}
-    reads = [0 if step.result_of_call else bits_of(step.reads(), numbers) for step in steps]
-    kills = [0 if step.weak else bits_of(written(step), numbers) for step in steps]
+    reads = [0 if step.result_of_call or not step.operands else bits_of(step.operands, numbers) for step in steps]
+    kills = [0 if step.weak or step.variable is None else numbers.get(step.variable, 0) for step in steps]
     live = [0] * (len(steps) + 1)
     blocks, leads = blocks_of(steps)
     before = [[] for _ in blocks]
@@ -77,9 +72,11 @@ def live_before(steps, variables):
 def mark_unset(steps, variables):
     """Notes at each step the variables that it reads and that nothing on some way from the entry has touched, and those that
     nothing has touched on any way."""
+    if not variables:
+        return
     numbers = {variable: 1 << number for number, variable in enumerate(variables)}
     every = (1 << len(variables)) - 1
-    touches = [bits_of([*written(step), *step.touched], numbers) for step in steps]
+    touches = [numbers.get(step.variable, 0) | bits_of(step.touched, numbers) for step in steps]
     ends = [numbers.get(step.variable, 0) if step.ends_life else 0 for step in steps]
     blocks, leads = blocks_of(steps)
     unset = [None] * len(blocks)
@@ -100,7 +97,8 @@ def mark_unset(steps, variables):
                 waiting.append(place)
     for (first, end), value, seen in zip(blocks, unset, touched):
         for at in range(first, end) if value is not None else ():
-            note_unset(steps[at], numbers, value, seen)
+            if steps[at].operands:
+                note_unset(steps[at], numbers, value, seen)
             value = value & ~touches[at] | ends[at]
             seen = (seen | touches[at]) & ~ends[at]
 

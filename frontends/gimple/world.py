@@ -198,11 +198,14 @@ class World:
     def take_addresses(self):
         """Marks each variable and function whose address the statements take."""
         for file in self.files:
+            outside = [function for function in file.functions if function.uid in file.outside]
+            for name in dict.fromkeys(name for function in outside for name in function.names()):
+                self.take_outside_name(file, name)
             for function in file.functions:
                 procedure = file.by_uid.get(function.uid)
-                if procedure is None or function.fault:
-                    self.take_all(file, procedure or Procedure(function.name, function=function))
-                else:
+                if function.fault:
+                    self.take_all(file)
+                elif procedure is not None:
                     for statement in statements_in(function.body):
                         self.take_addresses_in(file, procedure, statement)
         if any(file.symbols.starts_by_table() for file in self.files):
@@ -215,7 +218,7 @@ class World:
             if reference is None or (reference.base is None and reference.constant is None and not reference.is_memory):
                 procedure.refusal = Refusal(f"an operand that is not known: {operands.without_places(word)}",
                                             statement.place or function_place(file, procedure))
-                self.take_all(file, procedure)
+                self.take_all(file)
                 return
             for name in [*reference.addressed, *operands.names_read(reference)]:
                 self.take_name(file, procedure, name, name in reference.addressed)
@@ -234,29 +237,23 @@ class World:
         if is_address and variable:
             variable.is_addressed = True
 
-    def take_all(self, file, procedure):
-        """Marks all that a function names which is taken as unknown code; of one that can't be read all that its file has."""
-        function = procedure.function
-        if function.fault or procedure.refusal:
-            for variable in self.variables_of(file):
-                variable.is_addressed = True
-            self.addressed_procedures.update(dict.fromkeys(self.procedures_of(file)))
-            return
-        for name in function.names():
-            self.take_outside_name(file, procedure, name)
+    def take_all(self, file):
+        """Marks all that a file has, since some function of it can't be read."""
+        for variable in self.variables_of(file):
+            variable.is_addressed = True
+        self.addressed_procedures.update(dict.fromkeys(self.procedures_of(file)))
 
-    def take_outside_name(self, file, procedure, name):
-        """Marks a name that a function of other code has."""
-        if self.is_local(procedure, name):
-            return
+    def take_outside_name(self, file, name):
+        """Marks a name that a function of other code has, none of its locals."""
+        source, uid = operands.split_declared(name)
         if self.is_function(file, name):
             found = self.callee(file, name).procedure
             if found:
                 self.visible[found] = None
-        elif operands.split_declared(name)[0] in file.symbols.by_name or operands.split_declared(name)[1] in file.statics:
-            variable = self.variable(file, procedure, name)
-            if variable:
-                variable.is_addressed = True
+        elif uid in file.statics:
+            file.statics[uid].is_addressed = True
+        elif source in file.symbols.by_name and name not in file.symbols.volatile:
+            self.file_variable(file, source).is_addressed = True
 
 
 def function_place(file, procedure):
