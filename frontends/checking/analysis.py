@@ -5,9 +5,8 @@ import os
 import signal
 import subprocess
 import tempfile
+from concurrent.futures import ThreadPoolExecutor
 from dataclasses import dataclass, field, replace
-from multiprocessing import get_context
-from multiprocessing.pool import ThreadPool
 
 from gimple import emit, inputs, program
 from gimple.faults import Refusal
@@ -75,6 +74,12 @@ class Outcome:
 shared = []
 
 
+def processes(count, begin, *parts):
+    """A pool of so many processes, each of which has this one's memory as it is now and begins with a call of this function."""
+    from multiprocessing import get_context  # it takes a while, and one program needs none
+    return get_context("fork").Pool(count, begin, parts)
+
+
 def take_up(*parts):
     """Begins a process that does parts of an analysis; an interrupt is the first process's matter."""
     signal.signal(signal.SIGINT, signal.SIG_IGN)
@@ -111,12 +116,12 @@ def analyse(task):
 def compile_all(task, outcome):
     """The files of a task; those that gcc refuses are left out."""
     files = []
-    with tempfile.TemporaryDirectory() as folder, ThreadPool(task.processes) as threads:
-        started = [threads.apply_async(run_gcc, (given.file, given.options, given.directory, os.path.join(folder, str(number))))
+    with tempfile.TemporaryDirectory() as folder, ThreadPoolExecutor(task.processes) as threads:
+        started = [threads.submit(run_gcc, given.file, given.options, given.directory, os.path.join(folder, str(number)))
                    for number, given in enumerate(task.inputs)]
         for given, run in zip(task.inputs, started):
             try:
-                dump = run.get()
+                dump = run.result()
                 files += [inputs.read_file(dump, given.file)] if dump else []
             except Refusal as refusal:
                 outcome.faults.append(str(refusal))
@@ -157,8 +162,7 @@ class Analysis:
             for part in parts:
                 self.try_part(part, weights)
             return
-        # a process takes what the others need not have from this one's memory
-        with get_context("fork").Pool(self.task.processes, take_up, (self, parts, weights)) as pool:
+        with processes(self.task.processes, take_up, self, parts, weights) as pool:
             for outcome in pool.imap(do_part, range(len(parts)), chunksize=1):
                 self.outcome.join(outcome)
 

@@ -1,14 +1,12 @@
 """The command check-c, from its words to its status."""
 
-import multiprocessing
 import os
-import signal
 import subprocess
 import sys
 from collections import Counter
 
 from . import baseline, formats
-from .analysis import HERE, Input, Task, analyse
+from .analysis import HERE, Input, Task, analyse, processes, take_up
 from .compiling import BadWords
 from .database import inputs_of
 from .remark import in_source_order
@@ -52,17 +50,12 @@ def prepare_tacview():
         subprocess.run([os.path.join(ROOT, "tacview"), "--help"], stdout=subprocess.DEVNULL, check=False)
 
 
-def outcomes_of(tasks, processes):
-    """What came of all tasks."""
-    if processes == 1 or len(tasks) == 1:
+def outcomes_of(tasks, count):
+    """What came of all tasks, by so many processes."""
+    if count == 1 or len(tasks) == 1:
         return [analyse(task) for task in tasks]
-    with multiprocessing.get_context("fork").Pool(min(processes, len(tasks)), leave_interrupts) as pool:
+    with processes(min(count, len(tasks)), take_up) as pool:
         return pool.map(analyse, tasks, chunksize=1)
-
-
-def leave_interrupts():
-    """An interrupt is the first process's matter."""
-    signal.signal(signal.SIGINT, signal.SIG_IGN)
 
 
 def joined(outcomes):
