@@ -26,7 +26,11 @@ class Calls:
         self.note_addresses(words)
         values = [self.value(word) for word in words]
         found = self.target_of(callee)
-        if isinstance(found, Value):
+        if getattr(found, "name", "") == "__builtin_expect" and target != "NULL":
+            # what is expected says nothing of what is
+            exact = values[0].exact
+            self.store(target, "", () if exact is None else (exact,), values[0].reads if exact is None else ())
+        elif isinstance(found, Value):
             self.call_any(found, values, target)
         elif found.procedure:
             others = [self.services.unknown] if found.is_replaceable else []

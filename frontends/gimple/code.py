@@ -46,7 +46,8 @@ class Step:
     kind: 'set', 'read', 'use', 'fork', 'goto', 'call', 'return', 'label', 'note'. A set has `variable` and, for an expression,
     `operator` and `operands`; one that is `weak` may also leave the variable as it is. A use reads its operands, and leads to
     `label` or on where it is a test. A fork leads to `label` or on. A note stands for no statement: it says that the
-    variables of `touched` may be written from there on, through an address or a part.
+    variables of `touched` may be written from there on, through an address or a part. A test that compares one variable with a number
+    has variable, operation and number in `compares`.
     """
     kind: str
     variable: Variable = None
@@ -65,6 +66,7 @@ class Step:
     result_of_call: bool = False
     is_element: bool = False
     expression: str = ""
+    compares: tuple = ()
 
     def reads(self):
         """The variables that it reads."""

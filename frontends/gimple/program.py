@@ -7,6 +7,7 @@ from .activations import callees_of, keep_activations_apart
 from .code import Builder, Label, Procedure, Variable
 from .dump import statements_in
 from .faults import Refusal
+from .known_tests import lead_past
 from .services import call_from_outside, called_back, fill_memory, fill_unknown, make_services, read_parameters
 from .translate import Translator
 from .values import Constants
@@ -66,6 +67,7 @@ def translate_all(world, services):
     for (file, _), procedure in world.procedures.items():
         try:
             Translator(world, file, procedure, services, constants).translate()
+            lead_past(procedure)
         except Refusal as refusal:
             procedure.refusal = refusal
             services.make_unknown(file, procedure)

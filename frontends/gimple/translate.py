@@ -7,6 +7,7 @@ from .calls import Calls
 from .code import Builder, Label, Variable
 from .dump import Try, cases_of, statements_in
 from .faults import Refusal
+from .known_tests import OUTCOMES, number_of
 from .labels import Copies, Exits, Labels, label_name, labels_in, named_labels
 from .values import Pending, Value
 from .world import function_place
@@ -337,9 +338,15 @@ class Translator(Calls):
 
     def turn_cond(self, statement):
         """A test."""
-        _, left, right, if_true, if_false = statement.words
-        reads = [*self.value(left).reads, *self.value(right).reads]
-        self.test(reads, label_name(if_true), "test")
+        operation, left, right, if_true, if_false = statement.words
+        values = [self.value(left), self.value(right)]
+        numbers = [number_of(value.exact) for value in values]
+        if operation in OUTCOMES and None not in numbers:
+            self.jump(label_name(if_true if OUTCOMES[operation](*numbers) else if_false), "made")
+            return
+        self.test([*values[0].reads, *values[1].reads], label_name(if_true), "test")
+        if operation in OUTCOMES and numbers[1] is not None and isinstance(values[0].exact, Variable):
+            self.procedure.steps[-1].compares = (values[0].exact, operation, numbers[1])
         self.jump(label_name(if_false), "made")
 
     def test(self, reads, name, role):
