@@ -12,7 +12,7 @@ from gimple.dump import statements_in
 
 HEADER = re.compile(r";; Function (?P<name>\S+) \(.*decl_uid=(?P<uid>\d+)")
 UNTURNED = re.compile(r"VIEW_CONVERT|BIT_FIELD|FRAME|CHAIN|REALPART|IMAGPART|COMPLEX|_Complex|__builtin_va|\.VA_ARG|MEM ?[<\[]"
-                      r"|\bMIN|\bMAX|\bABS|__asm")
+                      r"|\bMIN|\bMAX|\bABS|__asm|\*\.LC|= \"|\{[^}C]")
 NAME = re.compile(rf"(?<![\w$])(?P<declared>{operands.DECLARED})|(?<![\w$.])(?P<temporary>{operands.TEMPORARY})|\b0B\b")
 GUARD = "unsigned *guard{0} __attribute__((cleanup(leave_guard))) = {1};"
 CHANGED = 0x5a
@@ -31,8 +31,7 @@ class Body:
         self.typed = set()
         self.statements = iter(list(statements_in(function.body)))
         opened = lines.index("{")
-        heading = " ".join(lines[:opened])
-        self.heading = re.sub(r"__attribute__\(\(.*?\)\) ?", "", self.name_all(heading))
+        self.heading = self.name_all(" ".join(line for line in lines[:opened] if not line.startswith("__attribute__")))
         plain = [operands.without_places(line.strip()) for line in lines[opened + 1:-1]]
         plain = [line for line in plain if line and not line.startswith("//")]
         count = self.declared(plain)
@@ -207,7 +206,7 @@ class Changes:
         names = []
         for part in step.operands:
             if not isinstance(part, Variable):
-                names.append(re.sub(r"^0B$", "0", part.text))
+                names.append(self.body_of(procedure).name_all(part.text))
             elif part.owner is None and part.source:
                 names.append(part.source)
             elif part.owner is procedure and part in self.declared:
