@@ -12,7 +12,7 @@ from gimple.dump import statements_in
 
 HEADER = re.compile(r";; Function (?P<name>\S+) \(.*decl_uid=(?P<uid>\d+)")
 UNTURNED = re.compile(r"VIEW_CONVERT|BIT_FIELD|FRAME|CHAIN|REALPART|IMAGPART|COMPLEX|_Complex|__builtin_va|\.VA_ARG|MEM ?[<\[]"
-                      r"|\bMIN|\bMAX|\bABS|__asm|\*\.LC|= \"|\{[^}C]")
+                      r"|<retval>|\bMIN|\bMAX|\bABS|__asm|\*\.LC|= \"|\{[^}C]")
 NAME = re.compile(rf"(?<![\w$])(?P<declared>{operands.DECLARED})|(?<![\w$.])(?P<temporary>{operands.TEMPORARY})|\b0B\b")
 GUARD = "unsigned *guard{0} __attribute__((cleanup(leave_guard))) = {1};"
 CHANGED = 0x5a
