@@ -188,7 +188,8 @@ class Analysis:
             raise BadWords("--whole needs the file that has main")
         built = program.build(world, self.task.shows_all)
         written = emit.Writer().write(built.procedures)
-        told = run_tacview(written.text)
+        told, said = run_tacview(written.text)
+        self.outcome.notes += said
         if self.task.keep:
             keep(self.task.keep, written, told)
         found = Findings(built, written, read_facts(told), self.sources, self.files, self.task.shows_all)
@@ -226,17 +227,17 @@ def cut(functions, weights, count):
 
 
 def run_tacview(text):
-    """What tacview tells of a program, as lines of JSON."""
+    """What tacview tells of a program, as lines of JSON, and what it says on standard error, as that it runs unproved."""
     tacview = os.environ.get("TACVIEW", os.path.join(HERE, "..", "..", "tacview"))
     try:
         done = subprocess.run([tacview, "--format", "json", "--facts", "none", "--cut", "512"], input=text.encode("ascii"),
                               capture_output=True, check=False)
     except OSError as fault:
         raise Refusal(f"{tacview}: {fault.strerror}") from None
+    said = done.stderr.decode("utf-8", "replace").strip().splitlines()
     if done.returncode:
-        told = done.stderr.decode("utf-8", "replace").strip().splitlines()
-        raise Refusal(f"tacview failed with the status {done.returncode}" + (f": {told[-1]}" if told else ""))
-    return done.stdout.decode("ascii")
+        raise Refusal(f"tacview failed with the status {done.returncode}" + (f": {said[-1]}" if said else ""))
+    return done.stdout.decode("ascii"), said
 
 
 def read_facts(told):

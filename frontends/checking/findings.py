@@ -1,6 +1,5 @@
 """From facts of a program to remarks on the C sources that it was made of."""
 
-from gimple import flow
 from gimple.code import Variable
 
 from .remark import Note, Remark
