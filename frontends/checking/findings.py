@@ -28,11 +28,8 @@ class Findings:
         self.never = {number for number, told in facts.items() if ("never_reached", "") in told}
         self.traces = Traces()
         self.remarks = {}
-        self.by_claim = {}
-        for line in self.lines:
-            for claim in self.claims(line):
-                self.by_claim.setdefault(claim, []).append(line)
-        self.spans = self.find_spans()
+        told = {line[1].origin.place for line in self.lines if line[0] in facts}
+        self.by_claim = self.gather(line for line in self.lines if line[1].origin.place in told)
         self.take_all()
 
     # What can be told at a place
@@ -49,6 +46,14 @@ class Findings:
         if step.role == "test":
             yield place, "busy", ""
         yield place, "never", ""
+
+    def gather(self, lines):
+        """Lines by what could be told of them."""
+        found = {}
+        for line in lines:
+            for claim in self.claims(line):
+                found.setdefault(claim, []).append(line)
+        return found
 
     def name(self, variable):
         """What a variable is called, '' where it has no name in the source."""
@@ -116,7 +121,7 @@ class Findings:
         file = self.files[function.file]
         if (function.name, variable.source) in file.symbols.cast_away:
             return True
-        name, first, last = self.spans.get(procedure, (function.file, 0, 0))
+        name, first, last = self.span_of(procedure)
         return self.sources.get(name).is_marked_unused(variable.source, first, last)
 
     def is_plain_initial(self, step):
@@ -241,17 +246,12 @@ class Findings:
         column = self.sources.get(found[0]).line(found[1]).find(function.name) + 1
         return (*found, max(column, 1))
 
-    def find_spans(self):
-        """For each procedure the file and the lines that it spans, by its definition and its statements."""
-        spans = {}
-        for _, step, procedure in self.lines:
-            place = step.origin.place
-            start = self.definition_of(procedure) if procedure.function else None
-            file = start[0] if start else place.file
-            if place.file == file:
-                _, first, last = spans.get(procedure, (file, start[1] if start else place.line, place.line))
-                spans[procedure] = (file, min(first, place.line), max(last, place.line))
-        return spans
+    def span_of(self, procedure):
+        """The file and the lines that a function spans, by its definition and its statements."""
+        places = [step.origin.place for step in procedure.steps if step.origin and step.origin.place]
+        start = self.definition_of(procedure) or places[0]
+        lines = [place.line for place in places if place.file == start[0]]
+        return start[0], min([start[1], *lines]), max([start[1], *lines])
 
     @staticmethod
     def remark(line, kind, text, notes=()):
@@ -265,8 +265,7 @@ class Findings:
 
     def seen_in(self, shared):
         """The keys of all that could be told at places in files that other programs share."""
-        found = {claim for claim in self.by_claim if claim[0].file in shared
-                 and any(line[0] not in self.never for line in self.by_claim[claim])}
+        found = set(self.gather(line for line in self.lines if line[1].origin.place.file in shared and line[0] not in self.never))
         for procedure in self.program.procedures:
             place = self.definition_of(procedure) if procedure.function else None
             if place and place[0] in shared:

@@ -2,8 +2,6 @@
 
 import re
 
-from gimple import operands
-
 PART = re.compile(r"[A-Za-z_$][\w$]*(?:(?:\.|->)[A-Za-z_$][\w$]*|\[(?!_\d)\w+\])+$")
 
 
@@ -12,6 +10,6 @@ def part_named(step):
     statement = step.origin
     if statement.kind not in ("assign", "call") or len(statement.words) < 2 or not step.weak:
         return ""
-    plain = re.sub(r"\.D\.\d+", "", operands.without_places(statement.words[1]))
+    plain = re.sub(r"\.D\.\d+", "", statement.words[1])
     plain = re.sub(r"D\.\d+", "", plain)
     return plain if PART.match(plain) and plain.startswith(step.variable.source) else ""

@@ -40,17 +40,14 @@ class Calls:
 
     def target_of(self, word):
         """The callee that is named, or the value of a pointer."""
-        name = operands.without_places(word)
-        if name.startswith("."):
-            return NamedOnly(name)
-        is_declared = operands.is_declared(name)
-        if is_declared and not self.world.is_local(self.procedure, name) and self.world.is_function(self.file, name):
-            return self.world.callee(self.file, name)
-        if is_declared and not self.world.is_local(self.procedure, name):
-            if operands.split_declared(name)[0].startswith("__builtin_"):
-                return NamedOnly(operands.split_declared(name)[0])
-            return self.world.callee(self.file, name)
-        return self.value(word)
+        if word.startswith("."):
+            return NamedOnly(word)
+        if not operands.is_declared(word) or self.world.is_local(self.procedure, word):
+            return self.value(word)
+        source = operands.split_declared(word)[0]
+        if source.startswith("__builtin_") and not self.world.is_function(self.file, word):
+            return NamedOnly(source)
+        return self.world.callee(self.file, word)
 
     def call_library(self, callee, values, target):
         """A call of a function that has no body here."""

@@ -47,7 +47,7 @@ class Step:
     `operator` and `operands`; one that is `weak` may also leave the variable as it is. A use reads its operands, and leads to
     `label` or on where it is a test. A fork leads to `label` or on. A note stands for no statement: it says that the
     variables of `touched` may be written from there on, through an address or a part. A test that compares one variable with a number
-    has variable, operation and number in `compares`.
+    has variable, operation and number in `compares`, one of two numbers its outcome in `outcome`.
     """
     kind: str
     variable: Variable = None
@@ -67,6 +67,7 @@ class Step:
     is_element: bool = False
     expression: str = ""
     compares: tuple = ()
+    outcome: bool = None
 
     def reads(self):
         """The variables that it reads."""

@@ -28,7 +28,7 @@ class Place(NamedTuple):
 
 @dataclass(eq=False)
 class Statement:
-    """A statement: its kind, its words as the dump has them, and its place, None where gcc made it."""
+    """A statement: its kind, its words as the dump has them but for places, and its own place, None where gcc made it."""
     kind: str
     words: list
     place: Place
@@ -80,7 +80,7 @@ class Function:
         if self.named is None:
             words = [word for statement in statements_in(self.body)
                      for word in [*words_of(statement), *(statement.words[:1] if statement.kind == "call" else ())]]
-            text = " ".join(operands.STRING.sub("", operands.without_places(word)) for word in words)
+            text = " ".join(operands.STRING.sub("", word) for word in words)
             own = self.locals.union(self.parameters)
             self.named = tuple(name for name in dict.fromkeys(re.findall(operands.DECLARED, text)) if name not in own)
         return self.named
@@ -221,7 +221,7 @@ class Reader:
         found = STATEMENT.match(line)
         if not found:
             raise Refusal(f"a statement that is not known: {line[:60]}", place or self.last_place)
-        return Statement(found["kind"], operands.split_words(found["words"]), place, self.count, self.file,
+        return Statement(found["kind"], operands.split_words(operands.without_places(found["words"])), place, self.count, self.file,
                          found["rest"])
 
 
@@ -250,7 +250,7 @@ class Reader:
         if kind == "CLOBBER":
             statement.touches_memory = '"memory"' in rest
             return
-        for word in operands.split_words(rest):
+        for word in operands.split_words(operands.without_places(rest)):
             named = OPERAND_NAME.match(word)
             if kind == "LABEL":
                 statement.labels.append(word.split()[-1])
@@ -318,7 +318,7 @@ def declare(function, text):
 
 def cases_of(statement):
     """The labels of a switch, the default first."""
-    return CASE.findall(operands.without_places(", ".join(statement.words[1:])))
+    return CASE.findall(", ".join(statement.words[1:]))
 
 
 def read(text, file):

@@ -1,8 +1,12 @@
 """Small analyses of one procedure that the encodings rest on: what may run next, what is in use, what may be unset."""
 
 
-def successors(steps):
-    """For each step the places that may come next; the end is the number of steps."""
+def successors(steps, by_outcome=False):
+    """For each step the places that may come next; the end is the number of steps.
+
+    by_outcome: a test of two numbers leads one way. A program has both ways of it: which numbers they are is a matter of how it
+    was compiled, and nothing is to be told of that.
+    """
     places = {step.label: at for at, step in enumerate(steps) if step.kind == "label"}
     found = []
     for at, step in enumerate(steps):
@@ -10,6 +14,8 @@ def successors(steps):
             found.append(())
         elif step.kind == "goto":
             found.append((places[step.label],))
+        elif by_outcome and step.outcome is not None:
+            found.append((places[step.label] if step.outcome else at + 1,))
         elif step.kind in ("fork", "use"):
             found.append((at + 1, places[step.label]))
         else:
@@ -17,9 +23,9 @@ def successors(steps):
     return found
 
 
-def blocks_of(steps):
+def blocks_of(steps, by_outcome=False):
     """The stretches of steps that run one after the other, as pairs of first place and the place behind, and where each leads."""
-    follow = successors(steps)
+    follow = successors(steps, by_outcome)
     firsts = {0}
     for at, places in enumerate(follow):
         if places != (at + 1,):
@@ -78,7 +84,7 @@ def mark_unset(steps, variables):
     every = (1 << len(variables)) - 1
     touches = [numbers.get(step.variable, 0) | bits_of(step.touched, numbers) for step in steps]
     ends = [numbers.get(step.variable, 0) if step.ends_life else 0 for step in steps]
-    blocks, leads = blocks_of(steps)
+    blocks, leads = blocks_of(steps, True)
     unset = [None] * len(blocks)
     touched = [0] * len(blocks)
     if blocks:

@@ -24,12 +24,11 @@ class Jumps:
         operation, left, right, if_true, if_false = statement.words
         values = [self.value(left), self.value(right)]
         numbers = [number_of(value.exact) for value in values]
-        if operation in OUTCOMES and None not in numbers:
-            self.jump(label_name(if_true if OUTCOMES[operation](*numbers) else if_false), "made")
-            return
         self.test([*values[0].reads, *values[1].reads], label_name(if_true), "test")
         if operation in OUTCOMES and numbers[1] is not None and isinstance(values[0].exact, Variable):
             self.procedure.steps[-1].compares = (values[0].exact, operation, numbers[1])
+        elif operation in OUTCOMES and None not in numbers:
+            self.procedure.steps[-1].outcome = OUTCOMES[operation](*numbers)
         self.jump(label_name(if_false), "made")
 
     def test(self, reads, name, role):

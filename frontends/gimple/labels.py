@@ -43,7 +43,7 @@ class Copies:
 
 def label_name(word):
     """A label's name without its brackets."""
-    return operands.without_places(word).strip("<>")
+    return word.strip("<>")
 
 
 def labels_in(body):

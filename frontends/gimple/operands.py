@@ -256,14 +256,9 @@ def names_read(reference):
     return own + reference.reads
 
 
-def parse(text):
-    """The Reference of an operand's text, or None where its form is not known. It is shared: nobody changes it."""
-    return parse_plain(without_places(text))
-
-
 @functools.lru_cache(maxsize=1 << 16)
-def parse_plain(plain):
-    """The same of a text without places."""
-    if plain.startswith("{CLOBBER"):
+def parse(text):
+    """The Reference of an operand without places, or None where its form is not known. It is shared: nobody changes it."""
+    if text.startswith("{CLOBBER"):
         return Reference(constant="clobber")
-    return Parser(STRING.sub(" string_ ", plain)).parse()
+    return Parser(STRING.sub(" string_ ", text)).parse()

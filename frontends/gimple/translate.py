@@ -150,8 +150,7 @@ class Translator(Calls, Jumps):
         reference = operands.parse(word)
         if reference.is_address or reference.constant is not None:
             reads = self.reads_of(reference.reads)
-            text = operands.without_places(word)
-            return Value(reads, self.constants.number(text, self.file.name) if not reads else None)
+            return Value(reads, self.constants.number(word, self.file.name) if not reads else None)
         if reference.is_memory:
             self.build.use(self.reads_of(reference.reads))
             self.read_memory()

@@ -216,7 +216,7 @@ class World:
         for word in words_of(statement):
             reference = operands.parse(word)
             if reference is None or (reference.base is None and reference.constant is None and not reference.is_memory):
-                procedure.refusal = Refusal(f"an operand that is not known: {operands.without_places(word)}",
+                procedure.refusal = Refusal(f"an operand that is not known: {word}",
                                             statement.place or function_place(file, procedure))
                 self.take_all(file)
                 return

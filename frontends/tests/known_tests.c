@@ -30,8 +30,20 @@ static int flagged(int n)
     return n;
 }
 
+#define CONFIGURED 0
+
+static int configured(int n)
+{
+    int x, traced = n * 2;  /* read where it is configured */
+    if (CONFIGURED && n > 3) {
+        printf("%d", traced + x);   /* nothing is told of what this configuration does not reach */
+        n = 3;
+    }
+    return n;
+}
+
 int main(int argc, char **argv)
 {
     struct value v = { 3, argc };
-    return both(&v, &v) + flagged(argc);
+    return both(&v, &v) + flagged(argc) + configured(argc);
 }

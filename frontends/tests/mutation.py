@@ -109,6 +109,7 @@ class Body:
 
     def turned(self, plain, statement):
         """A statement as C."""
+        plain = plain.replace(" [return slot optimization]", "").replace(" [tail call]", "")
         if UNTURNED.search(plain):
             raise CanNotTurn(plain)
         if plain.startswith("<"):
@@ -189,7 +190,7 @@ class Changes:
             if re.fullmatch(operands.TEMPORARY, statement.words[1]):
                 continue
             if statement.kind in ("assign", "call") and self.holds(step, "dead", step.variable.name):
-                target = self.body_of(procedure).name_all(operands.without_places(statement.words[1]))
+                target = self.body_of(procedure).name_all(statement.words[1])
                 self.after.setdefault(statement, []).append(f"__builtin_memset((void *)&({target}), {CHANGED}, sizeof({target}));")
                 done.add(statement)
                 self.counts["dead"] += 1
