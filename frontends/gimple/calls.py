@@ -1,6 +1,5 @@
 """Calls as steps of a procedure: of functions with a body, of the C library's, of what a pointer leads to."""
 
-import re
 from dataclasses import dataclass
 
 from . import library, operands
@@ -100,7 +99,7 @@ class Calls:
         is_one = len(call) == 1 and results
         start = len(self.procedure.steps)
         self.store(target, "", tuple(results) if is_one else (), () if is_one else tuple(results))
-        if re.fullmatch(operands.TEMPORARY, target):
+        if operands.is_temporary(target):
             self.flush_all_of(target)
         for step in self.procedure.steps[start:]:
             step.result_of_call = True

@@ -3,7 +3,7 @@
 from dataclasses import dataclass, field
 
 
-@dataclass(eq=False)
+@dataclass(eq=False, slots=True)
 class Variable:
     """A variable of the program, which stands for one of the C program or for a value that gcc made.
 
@@ -39,7 +39,7 @@ class Label:
     name: str = ""
 
 
-@dataclass(eq=False)
+@dataclass(eq=False, slots=True)
 class Step:
     """One statement of the program.
 
@@ -54,7 +54,7 @@ class Step:
     operator: str = ""
     operands: tuple = ()
     label: object = None
-    callees: list = field(default_factory=list)
+    callees: tuple = ()
     weak: bool = False
     touched: tuple = ()
     ends_life: bool = False
@@ -112,8 +112,7 @@ class Builder:
     def add(self, kind, **parts):
         """Adds a step of this kind for the C statement at hand."""
         self.slot += 1
-        parts.setdefault("role", self.role)
-        step = Step(kind, origin=self.origin, slot=self.slot, **parts)
+        step = Step(kind, origin=self.origin, slot=self.slot, role=parts.pop("role", self.role), **parts)
         self.procedure.steps.append(step)
         return step
 
@@ -144,7 +143,7 @@ class Builder:
             other = Label()
             if not is_last:
                 self.add("fork", label=other, role="made")
-            self.add("call", callees=callees[at:at + 8])
+            self.add("call", callees=tuple(callees[at:at + 8]))
             if not is_last:
                 self.add("goto", label=done, role="made")
                 self.label(other)

@@ -26,7 +26,7 @@ class Place(NamedTuple):
         return f"{self.file}:{self.line}:{self.column}"
 
 
-@dataclass(eq=False)
+@dataclass(eq=False, slots=True)
 class Statement:
     """A statement: its kind, its words as the dump has them but for places, and its own place, None where gcc made it."""
     kind: str
@@ -37,7 +37,7 @@ class Statement:
     rest: str = ""
 
 
-@dataclass(eq=False)
+@dataclass(eq=False, slots=True)
 class Assembler(Statement):
     """A statement of assembler: its operands with their constraints, and where it may jump to.
 

@@ -47,12 +47,20 @@ def split_words(text):
     return words
 
 
+@functools.lru_cache(maxsize=1 << 16)
 def is_declared(text):
     """Whether a text is one declared name, as `xD.12`, and no field of one."""
     found = re.match(DECLARED, text)
     return bool(found) and found.end() == len(text)
 
 
+@functools.lru_cache(maxsize=1 << 16)
+def is_temporary(text):
+    """Whether a text is a temporary of gcc's, as `_12`."""
+    return bool(re.fullmatch(TEMPORARY, text))
+
+
+@functools.lru_cache(maxsize=1 << 16)
 def split_declared(name):
     """A dump's `xD.12` as the source's name, empty where gcc made the variable, and the number 12."""
     source, number = name.rsplit("D.", 1)

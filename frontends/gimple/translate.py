@@ -242,7 +242,7 @@ class Translator(Calls, Jumps):
 
     def store(self, target, operator, parts, reads):
         """Writes to a target the value of an expression, a copy, or something that was made of what is read."""
-        if re.fullmatch(operands.TEMPORARY, target):
+        if operands.is_temporary(target):
             self.hold(target, operator, parts, reads)
             return
         reference = operands.parse(target)

@@ -1,23 +1,20 @@
 """What operands give while a function is turned: values, numbers for constants, and temporaries that are still to be read."""
 
 import re
-from dataclasses import dataclass
+from typing import NamedTuple
 
 from .code import Number
 
 STRANGE_NUMBERS = 1 << 62
 
 
-@dataclass(frozen=True)
-class Value:
+class Value(NamedTuple):
     """What an operand gives.
 
-    reads: the variables that it reads. exact: the variable or number that it is exactly, if it is one. is_scaled: whether it is
-    a multiple or a negative, as gcc makes of an index.
+    reads: the variables that it reads. exact: the variable or number that it is exactly, if it is one.
     """
     reads: tuple = ()
     exact: object = None
-    is_scaled: bool = False
 
 
 class Constants:

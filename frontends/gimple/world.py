@@ -1,6 +1,7 @@
 """All files together: which variable or function a name of a dump stands for, and what pointers may lead to."""
 
 import re
+from collections import Counter
 from dataclasses import dataclass, field
 
 from . import operands
@@ -31,6 +32,16 @@ class File:
     by_uid: dict = field(default_factory=dict)
     by_name: dict = field(default_factory=dict)
     outside: set = field(default_factory=set)
+    naming: Counter = None
+
+    def named_outside(self):
+        """The names that functions have which are taken as other code."""
+        if not self.outside:
+            return []
+        if self.naming is None:
+            self.naming = Counter(name for function in self.functions for name in function.names())
+        inside = Counter(name for function in self.functions if function.uid not in self.outside for name in function.names())
+        return [name for name, count in self.naming.items() if count > inside[name]]
 
 
 class World:
@@ -198,8 +209,7 @@ class World:
     def take_addresses(self):
         """Marks each variable and function whose address the statements take."""
         for file in self.files:
-            outside = [function for function in file.functions if function.uid in file.outside]
-            for name in dict.fromkeys(name for function in outside for name in function.names()):
+            for name in file.named_outside():
                 self.take_outside_name(file, name)
             for function in file.functions:
                 procedure = file.by_uid.get(function.uid)
