@@ -142,6 +142,8 @@ class Analysis:
 
     def run(self):
         """Analyses the program, in parts where it is too large."""
+        if self.is_whole and not any(function.name == "main" for function in self.functions()):
+            raise BadWords("--whole needs the file that has main")
         weights = {function: function.size() for function in self.functions()}
         total = sum(weights.values())
         if total <= MANY_STATEMENTS and (self.task.is_whole or len(weights) <= emit.LIMITS["procedures"]):
@@ -184,8 +186,6 @@ class Analysis:
     def analyse_part(self, outside):
         """Analyses all functions but those outside."""
         world = World(self.files, self.is_whole, outside)
-        if self.is_whole and not outside and "main" not in world.public:
-            raise BadWords("--whole needs the file that has main")
         built = program.build(world, self.task.shows_all)
         written = emit.Writer().write(built.procedures)
         told, said = run_tacview(written.text)

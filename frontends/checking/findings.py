@@ -106,7 +106,7 @@ class Findings:
             return
         if self.is_meant(procedure, step.variable):
             return
-        kind = "dead-initial" if self.is_plain_initial(step) else "dead"
+        kind = "dead-initial" if all(self.is_plain_initial(copy[1]) for copy in self.by_claim[claim]) else "dead"
         shown = part_named(step) or name
         text = f"initial value of '{shown}' is dead" if kind == "dead-initial" else f"assignment to '{shown}' is dead"
         notes = () if step.variable.owner is not procedure else tuple(

@@ -79,7 +79,7 @@ def location(at, sources):
     source = sources.get(at.file)
     line = source.line(at.line)
     column = len(line) - len(source.behind(at.line, at.column)) + 1 if line else at.column
-    uri = "/".join(map(quoted, at.file.split(os.sep)))
+    uri = "file://" * os.path.isabs(at.file) + "/".join(map(quoted, at.file.split(os.sep)))
     return {"physicalLocation": {"artifactLocation": {"uri": uri}, "region": {"startLine": at.line, "startColumn": column}}}
 
 

@@ -73,7 +73,7 @@ class Way:
         if step.kind == "label":
             return at + 1
         if step.kind == "goto":
-            return self.places[step.label]
+            return self.places.get(step.label)
         if is_plain(self.procedure, step):
             return self.pass_copy(step, at)
         if step.kind == "use" and step.compares:

@@ -25,10 +25,20 @@ static int need(int n)
     return r;               /* the other two ways don't come here */
 }
 
+static int flag(int n)
+{
+    int ended = 0;
+    if (n > 4) {
+        ended = 1;          /* expect: assignment to 'ended' is dead */
+        abort();
+    }
+    return ended;
+}
+
 int main(int argc, char **argv)
 {
     int gone = argc * 2;    /* expect: assignment to 'gone' is dead */
-    code = argc;            /* fatal reads it */
+    code = flag(argc);      /* fatal reads it */
     gone = need(argc);
     if (gone > 5) {
         int last = gone;    /* expect: assignment to 'last' is dead */

@@ -14,6 +14,7 @@ int main(int argc, char **argv)
     int three = 3;          /* expect: assignment to 'three' is dead */
     int later;
     int cells[4];
+    int filled[3] = { 0, argc };    /* expect: assignment to 'filled' is dead */
     struct pair parts;
     later = 0;              /* expect: assignment to 'later' is dead */
     zero = argc;
