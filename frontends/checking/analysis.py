@@ -25,16 +25,18 @@ HERE = os.path.dirname(os.path.realpath(__file__))
 
 @dataclass(frozen=True)
 class Input:
-    """A C file: its name, the options that gcc takes for it, and the folder that names begin at."""
+    """A C file: its name, the options that gcc takes for it, and the folder that names begin at, '.' where a word named it."""
     file: str
     options: tuple
     directory: str = "."
 
     def shown(self, name):
-        """What a file of gcc's is called in messages."""
-        if self.directory in (".", os.getcwd()) or os.path.isabs(name):
-            return name
-        return os.path.relpath(os.path.join(self.directory, name))
+        """What a file of gcc's is called in messages: as it was named, or else from here where it is below this folder."""
+        if self.directory == ".":
+            return os.path.normpath(name) if "/../" in name else name
+        path = os.path.normpath(os.path.join(self.directory, name))
+        here = os.getcwd() + os.sep
+        return path.removeprefix(here)
 
 
 @dataclass(frozen=True)
@@ -55,9 +57,14 @@ class Task:
 
 @dataclass
 class Outcome:
-    """What came of a task: remarks by key, what could have one in files that others share, notes, and what was refused."""
+    """What came of a task.
+
+    remarks: by key. seen: what could have one at places that other programs may have too, as in headers. own: the files of which this
+    program alone is the judge, should others take them in. notes, faults: what is to be said, and what was refused.
+    """
     remarks: dict = field(default_factory=dict)
     seen: set = field(default_factory=set)
+    own: set = field(default_factory=set)
     notes: list = field(default_factory=list)
     faults: list = field(default_factory=list)
 
@@ -66,6 +73,7 @@ class Outcome:
         for key, remark in other.remarks.items():
             self.remarks.setdefault(key, remark)
         self.seen |= other.seen
+        self.own |= other.own
         self.notes += other.notes
         self.faults += other.faults
 
@@ -204,6 +212,7 @@ class Analysis:
             notes = tuple(replace(note, file=shown(note.file)) for note in remark.notes)
             self.outcome.remarks.setdefault(plain_key(key, shown), replace(remark, file=shown(remark.file), notes=notes))
         if not self.task.is_alone:
+            self.outcome.own |= set(map(shown, own))
             others = {place.file for place in found.places() if place.file not in own}
             self.outcome.seen |= {plain_key(key, shown) for key in found.seen_in(others)}
 

@@ -13,6 +13,7 @@ from .remark import in_source_order
 from .sources import Sources
 from .words import Words, help_text
 
+SYSTEM_HEADERS = ("/usr/include/", "/usr/lib/", "/usr/local/include/")
 ROOT = os.path.join(HERE, "..", "..")
 
 
@@ -36,8 +37,8 @@ def tasks_of(words):
         raise BadWords("the compilation database has no C file")
     if is_whole or words.flags["--together"]:
         return [Task(tuple(given), is_whole, shows_all, folder, processes=words.processes)]
-    counts = Counter(one.file for one in given)
-    repeated = frozenset(file for file, count in counts.items() if count > 1)
+    counts = Counter(one.shown(one.file) for one in given)
+    repeated = frozenset(one.file for one in given if counts[one.shown(one.file)] > 1)
     return [Task((one,), False, shows_all, folder, len(given) == 1, repeated, words.processes if len(given) == 1 else 1) for one in given]
 
 
@@ -59,19 +60,20 @@ def outcomes_of(tasks, count):
 
 
 def joined(outcomes):
-    """The remarks of all programs: each place is told of once, and only what holds in all copies of it."""
+    """The remarks of all programs: each place is told of once, and only what holds in all copies of it; no system header is."""
     remarks = {}
     for outcome in outcomes:
         for key, remark in outcome.remarks.items():
             remarks.setdefault(key, remark)
-    return [remark for key, remark in remarks.items() if all(agrees(outcome, key) for outcome in outcomes)]
+    return [remark for key, remark in remarks.items()
+            if not remark.file.startswith(SYSTEM_HEADERS) and all(agrees(outcome, key) for outcome in outcomes)]
 
 
 def agrees(outcome, key):
     """Whether a program has what a key says, or no copy of its place. That something may be unset is true where one copy has it."""
     file, line, column, kind, name = key
     claim = (file, line, column, kind, "" if kind == "busy" else name)
-    return kind == "unset" or claim not in outcome.seen or key in outcome.remarks
+    return kind == "unset" or key in outcome.remarks or claim not in outcome.seen and file not in outcome.own
 
 
 def write(words, remarks):

@@ -5,7 +5,7 @@ import os
 import shlex
 
 from .analysis import Input
-from .compiling import PASSED_OVER, BadWords, take_option
+from .compiling import BadWords, take_option
 
 
 def inputs_of(path, wanted):
@@ -37,23 +37,18 @@ def real(given):
 
 
 def input_of(entry):
-    """The C file of an entry, or None where it is of another language."""
+    """The C file of an entry, or None where it is of another language or its words have gcc write no code."""
     words = entry["arguments"] if "arguments" in entry else shlex.split(entry["command"])
     file, directory = entry["file"], os.path.realpath(entry["directory"])
     if not file.endswith(".c"):
         return None
-    here = os.path.realpath(".")
     whole = os.path.join(directory, file)
     options, rest = [], iter(words[1:])
-    for word in rest:
-        if os.path.join(directory, word) != whole and not PASSED_OVER.match(word) and word != "--":
-            take_entry_word(word, rest, options)
-    if directory == here:
-        return Input(os.path.relpath(whole) if whole.startswith(here + os.sep) else file, tuple(options))
+    try:
+        for word in rest:
+            # what is no option and not the file is the compiler behind `ccache`, or an object
+            if os.path.join(directory, word) != whole and word.startswith("-") and not take_option(word, rest, options):
+                options.append(word)
+    except BadWords:
+        return None
     return Input(file, tuple(options), directory)
-
-
-def take_entry_word(word, rest, options):
-    """Takes in a word of an entry; what stands before the compiler's own words, as `ccache gcc`, is passed over."""
-    if word.startswith("-") and not take_option(word, rest, options):
-        raise BadWords(f"a compilation database with {word}")
