@@ -7,6 +7,8 @@ mod bench;
 #[cfg(test)]
 mod many_tests;
 #[cfg(test)]
+mod refusal_tests;
+#[cfg(test)]
 mod script_tests;
 #[cfg(test)]
 mod scripts;

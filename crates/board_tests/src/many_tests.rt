@@ -9,7 +9,7 @@ use std::thread::{Threads, join};
 
 /// No bit at all, so that each slice is finished as soon as it is drawn.
 #[derive(Drop)]
-struct Nothing;
+pub(crate) struct Nothing;
 
 impl Wanted for Nothing {
     ghost wants = { λ _ _ _. ⊥ };
@@ -28,7 +28,7 @@ fn open_cut(
 }
 
 // A board of so many bits in slices of a width, and its first pass.
-fn open(
+pub(crate) fn open(
     alloc: Global,
     points: usize,
     bits: u32,
@@ -53,7 +53,7 @@ fn turn(board: &Board<Nothing>, pass: &mut Pass<Nothing>) -> Option<u32>
 }
 
 // Draws slices until there is none, and finishes each.
-fn drain(board: &Board<Nothing>, mut pass: Pass<Nothing>) -> Pass<Nothing>
+pub(crate) fn drain(board: &Board<Nothing>, mut pass: Pass<Nothing>) -> Pass<Nothing>
     requires { IsOf board.now pass }
     ensures { IsOf board.now result }
 {
@@ -73,7 +73,7 @@ fn closed(board: Board<Nothing>, pass: Pass<Nothing>) -> Option<(u32, u32, u32)>
     }
 }
 
-fn closes(board: Board<Nothing>, pass: Pass<Nothing>) -> bool
+pub(crate) fn closes(board: Board<Nothing>, pass: Pass<Nothing>) -> bool
     requires { IsOf board pass }
 {
     closed(board, pass).is_some()
@@ -338,20 +338,4 @@ fn two_threads(rt: HostRuntime) -> Result<(), CutFault> {
         );
     }
     Ok(())
-}
-
-// A board, where there is memory for one; it draws its slices and closes.
-fn opens_or_refuses(rt: &impl Abort, alloc: Global) -> Result<(), CutFault> {
-    let (board, pass) = open(alloc, 3, 130, 64)?;
-    let pass = drain(&board, pass);
-    assert!(rt; closes(board, pass));
-    Ok(())
-}
-
-// Tried with each request for memory refused in turn: it opens, or answers that there is no memory.
-#[test]
-fn requests_refused(rt: HostRuntime) {
-    if let Err(fault) = opens_or_refuses(&rt, rt.alloc()) {
-        assert!(rt; fault == CutFault::OutOfMemory);
-    }
 }

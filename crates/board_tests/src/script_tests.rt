@@ -18,23 +18,19 @@ const BOTH: Case = Case {
         (Second, Finish),
     ],
     joins: true,
+    alone: &[],
     last: &[Finish],
 };
 
-// The second worker is dropped with its slice.
+// The second worker is dropped with its slice, before the first posts.
 const DROPPED: Case = Case {
     points: 1,
     bits: 2,
     places: &[1],
     wanted: &[(0, 0), (0, 1)],
-    steps: &[
-        (First, Claim),
-        (Second, Claim),
-        (First, Post(0, 0, 1)),
-        (First, Finish),
-        (First, Claim),
-    ],
+    steps: &[(First, Claim), (Second, Claim)],
     joins: false,
+    alone: &[Post(0, 0, 1), Finish, Claim],
     last: &[],
 };
 
@@ -44,16 +40,9 @@ const DROPPED_BEHIND_ALL: Case = Case {
     bits: 2,
     places: &[1],
     wanted: &[(0, 0), (0, 1)],
-    steps: &[
-        (First, Claim),
-        (Second, Claim),
-        (Second, Post(0, 0, 2)),
-        (First, Post(0, 0, 1)),
-        (First, Look(0, 0)),
-        (First, Finish),
-        (First, Claim),
-    ],
+    steps: &[(First, Claim), (Second, Claim), (Second, Post(0, 0, 2))],
     joins: false,
+    alone: &[Post(0, 0, 1), Look(0, 0), Finish, Claim],
     last: &[],
 };
 
@@ -74,6 +63,7 @@ const TOO_EARLY: Case = Case {
         (Second, Claim),
     ],
     joins: true,
+    alone: &[],
     last: &[Finish],
 };
 
@@ -99,6 +89,7 @@ const FIRST_POSTS_FIRST: Case = Case {
         (Second, Finish),
     ],
     joins: true,
+    alone: &[],
     last: &[],
 };
 
@@ -124,6 +115,7 @@ const SECOND_POSTS_FIRST: Case = Case {
         (Second, Finish),
     ],
     joins: true,
+    alone: &[],
     last: &[],
 };
 
@@ -151,6 +143,7 @@ const POSTS_IN_TURN: Case = Case {
         (Second, Finish),
     ],
     joins: true,
+    alone: &[],
     last: &[],
 };
 

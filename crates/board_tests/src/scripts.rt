@@ -37,7 +37,9 @@ pub(crate) struct Case {
     pub(crate) steps: &'static [(Who, Step)],
     /// Whether the second worker's pass is joined to the first's then, or dropped.
     pub(crate) joins: bool,
-    /// What the first worker does between the first `close` and the second.
+    /// What the first worker does then.
+    pub(crate) alone: &'static [Step],
+    /// What it does between the first `close` and the second.
     pub(crate) last: &'static [Step],
 }
 
@@ -90,10 +92,9 @@ fn take(
     }
 }
 
-// Tells how many slices are finished, and takes the steps behind that.
-fn take_last(
+// The steps of a worker who is alone.
+fn take_alone(
     log: &mut String,
-    unfinished: &Unfinished,
     board: &Board<Sets>,
     sets: &Sets,
     worker: &mut Worker,
@@ -106,7 +107,6 @@ fn take_last(
     ensures of { IsOf board.now worker.new.pass }
     ensures noted { AreNoted worker.new.mine worker.new.pass.posted }
 {
-    tell_unfinished(log, unfinished)?;
     for step in steps {
         take(log, board, sets, worker, step)?;
     }
@@ -191,7 +191,7 @@ fn workers(
     Ok((first, second))
 }
 
-// The steps of two workers, and the one that is left. None where both hold a slice.
+// The steps of two workers, and those of the one that is left. None where both hold a slice.
 fn work(
     alloc: Global,
     log: &mut String,
@@ -209,7 +209,13 @@ fn work(
     let other = board.split(&mut pass);
     let (mut first, mut second) = workers(alloc, sets, pass, other)?;
     take_both(log, board, sets, &mut first, &mut second, case.steps)?;
-    Ok(meet(board, first, second, case.joins))
+    match meet(board, first, second, case.joins) {
+        Some(mut left) => {
+            take_alone(log, board, sets, &mut left, case.alone)?;
+            Ok(Some(left))
+        }
+        None => Ok(None),
+    }
 }
 
 // Closes the board a second time.
@@ -236,7 +242,8 @@ fn work_on(
     requires wanted { board.wanted ≡ sets.now }
     requires board { IsFor board sets.now.rows }
 {
-    take_last(log, unfinished, &board, sets, &mut worker, case.last)?;
+    tell_unfinished(log, unfinished)?;
+    take_alone(log, &board, sets, &mut worker, case.last)?;
     close_again(log, board, worker.pass)
 }
 
