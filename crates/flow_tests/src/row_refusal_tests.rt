@@ -1,4 +1,4 @@
-// Calls on rows, cuts, orders and sets of points, with each of their requests for memory refused in turn, as `refusal_tests` has it.
+// Calls on rows, cuts, orders and sets of points that take memory, as `refusal_tests` has them.
 
 use crate::refusal_tests::named;
 use bit_rows::{Cut, CutFault, OutOfMemory, Row, Rows};
