@@ -110,6 +110,8 @@ def tried(library, case):
         ample, requests, _ = run(library, notes.name, case, 0, 0)
         if case.is_test and ample.status != 0:
             faults.append(f"with ample memory it ended with {ample}")
+        if not requests:
+            faults.append("none of its requests could be refused: is it linked to the C library's malloc?")
         for first in itertools.count(1):
             outcome, _, refused = run(library, notes.name, case, first, LAST if case.is_all else first)
             call = call_named(case, outcome, ample)
@@ -121,19 +123,25 @@ def tried(library, case):
     return Found(case, requests, first - 1, calls, faults)
 
 
+def built(name):
+    """The program of this name, or the one of a crate's tests."""
+    if name in CALLS:
+        return os.path.join(CRATES, name, "out", f"{name}_tests")
+    return os.environ.get(name.upper(), os.path.join(CRATES, name, "out", name))
+
+
 def programs():
     """The runs of both programs: each text and words, by each number of workers, in slices of one bit."""
     for name, words in WORDS.items():
-        program = os.environ.get(name.upper(), os.path.join(CRATES, name, "out", name))
         for word, workers, given in itertools.product(words, WORKERS, TEXTS):
-            command = [program, *word.split(), "--workers", str(workers), "--cut", "1"]
+            command = [built(name), *word.split(), "--workers", str(workers), "--cut", "1"]
             yield from (Case(name, f"{word} --workers {workers}", command, given, False, is_all) for is_all in (False, True))
 
 
 def tests():
     """The tests of refused memory of each crate."""
     for name in CALLS:
-        program = os.path.join(CRATES, name, "out", f"{name}_tests")
+        program = built(name)
         named = subprocess.run([program, "--list"], capture_output=True, check=True).stdout.decode()
         for test in re.findall(r"^(.*refusal_tests::.*): test$", named, re.MULTILINE):
             yield from (Case(name, test, [program, test], b"", True, is_all) for is_all in (False, True))
@@ -175,6 +183,10 @@ def main():
     if sys.argv[1:] not in ([], ["--table"]):
         print("usage: checks/refused [--table]", file=sys.stderr)
         return 2
+    absent = [name for name in [*WORDS, *CALLS] if not os.access(built(name), os.X_OK)]
+    if absent:
+        print(f"failed: not built: {', '.join(absent)}; `rt ci` builds them, and `rt test` the tests of a crate")
+        return 1
     with tempfile.TemporaryDirectory(prefix="refused-") as folder:
         library = library_in(folder)
         with concurrent.futures.ProcessPoolExecutor() as pool:

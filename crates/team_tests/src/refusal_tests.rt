@@ -1,5 +1,5 @@
-// What is left where memory is refused on the way. With ample memory the tests end as all others; to refuse the Nth request is the
-// caller's part (`rt try --test --fail-alloc N`).
+// What is left where memory is refused on the way. With ample memory the tests end as all others. Where a request is refused
+// (`checks/refused`), they fail by what it met, once all that is asserted of it holds, or by want of memory where no call met it.
 
 ghost use Rattle.std.specs.Prelude.{IfOk};
 ghost use Rattle.flow_team.specs.Tables.{IsTableOf};
@@ -13,22 +13,32 @@ use crate::gates::Recorder;
 use crate::job_tests::{closed, opened};
 use crate::texts::{CALLEE_LOOPS, Question, RECURSIVE, RECURSIVE_REACH, check, lines, slices};
 use flow_graph::{Analysis, Graph};
-use flow_team::{GraphSets, Job, OpenGate, OutOfMemory, Table, analyse};
+use flow_team::{GraphSets, Job, OpenGate, OutOfMemory, Table, TeamFault, analyse};
 use slice_board::{Pass, Wanted};
 use std::alloc::Global;
 use std::process::Abort;
 use std::test::Fail;
 use std::thread::Threads;
 
-// Which of three slices was claimed and not finished.
-fn lost_slice(gate: &Recorder) -> &'static str {
+// What a call met that was refused.
+fn refused(call: &'static str) -> Fail {
+    Fail::new(format_args!("refused: {call}"))
+}
+
+// Where the last slice that was claimed is the one that was not finished, which of the three it is.
+fn left_slice(gate: &Recorder) -> &'static str {
     let (claimed, finished, _, _) = gate.told();
-    match claimed & !finished {
-        0 => "no slice was lost",
-        1 => "slice 0 was lost",
-        2 => "slice 1 was lost",
-        4 => "slice 2 was lost",
-        _ => "several slices were lost",
+    match (claimed, finished) {
+        (1, 0) => "analyse, which leaves slice 0",
+        (3, 1) => "analyse, which leaves slice 1",
+        (7, 3) => "analyse, which leaves slice 2",
+        _ => {
+            if claimed == finished {
+                "analyse, which leaves no slice"
+            } else {
+                "analyse, which leaves a slice before the last"
+            }
+        }
     }
 }
 
@@ -57,12 +67,13 @@ impl<'a> Question for ByWorkers<'a> {
             self.gate,
         ) {
             Ok(table) => Ok(lines(alloc, graph, &table)?),
-            Err(_) => Err(Fail::new(lost_slice(self.gate))),
+            Err(TeamFault::OutOfMemory) => Err(refused(left_slice(self.gate))),
+            Err(TeamFault::BadWorkers) => Err(Fail::new("workers that are refused")),
         }
     }
 }
 
-// The lines of the recursive program, or which slice was lost.
+// The lines of the recursive program, or which slice was left.
 fn check_by_workers<R: Threads + Sync + Abort + AllocGlobal>(
     rt: &R,
     workers: u32,
@@ -121,7 +132,7 @@ fn check_worked<W: Wanted, R: Abort>(
     assert_eq!(rt; gate.told(), told, "slice {slice} is finished");
 }
 
-// Works a slice. Where the call is refused, the pass holds the slice, and the next call works it.
+// Works a slice, and tells whether the call was refused: the pass then holds the slice, and the next call works it.
 fn work_slice<'g, 'p, R: Abort>(
     rt: &R,
     alloc: Global,
@@ -129,58 +140,65 @@ fn work_slice<'g, 'p, R: Abort>(
     pass: &mut Pass<GraphSets<'g, 'p>>,
     gate: &Recorder,
     slice: (u32, Told, Told),
-) -> Result<(), OutOfMemory>
+) -> Result<bool, OutOfMemory>
     requires { IsOf job.now pass.old }
     ensures { IfOk result (λ _. IsOf job.now pass.new) }
 {
     let (number, held, finished) = slice;
-    let worked = match job.work(alloc, pass, 0, gate) {
-        Ok(worked) => worked,
+    let (worked, refused) = match job.work(alloc, pass, 0, gate) {
+        Ok(worked) => (worked, false),
         Err(_) => {
             check_held(rt, &*pass, gate, number, held);
-            job.work(alloc, pass, 0, gate)?
+            (job.work(alloc, pass, 0, gate)?, true)
         }
     };
     check_worked(rt, worked, &*pass, gate, number, finished);
-    Ok(())
+    Ok(refused)
 }
 
-// Works all slices in order; there is no other.
+// Works all slices in order, of which there is no other, and tells whose call was refused.
 fn work_all<'g, 'p, R: Abort>(
     rt: &R,
     alloc: Global,
     job: &Job<'g, 'p>,
     pass: &mut Pass<GraphSets<'g, 'p>>,
     gate: &Recorder,
-) -> Result<(), OutOfMemory>
+) -> Result<Option<u32>, OutOfMemory>
     requires { IsOf job.now pass.old }
     ensures { IfOk result (λ _. IsOf job.now pass.new) }
 {
+    let mut refused = None;
     for slice in SLICES {
-        work_slice(rt, alloc, job, pass, gate, *slice)?;
+        if work_slice(rt, alloc, job, pass, gate, *slice)? {
+            refused = Some(slice.0);
+        }
     }
     assert_eq!(rt; job.work(alloc, pass, 0, gate)?, None);
-    Ok(())
+    Ok(refused)
 }
 
-// The table of a job, with calls that are refused or not.
+// The table of a job, and the slice whose call was refused.
 fn table_of_job<'g, 'p, R: Abort>(
     rt: &R,
     alloc: Global,
     job: Job<'g, 'p>,
     pass: Pass<GraphSets<'g, 'p>>,
-) -> Result<Table, Fail>
+) -> Result<(Table, Option<u32>), Fail>
     requires { IsOf job pass }
-    ensures { IfOk result (IsTableOf job.entry.wanted.program) }
+    ensures { IfOk result (λ r. IsTableOf job.entry.wanted.program r.0) }
 {
     let mut pass = pass;
-    work_all(rt, alloc, &job, &mut pass, &Recorder::new())?;
-    closed(job, pass)
+    let refused = work_all(rt, alloc, &job, &mut pass, &Recorder::new())?;
+    Ok((closed(job, pass)?, refused))
 }
 
-// The table of three slices.
-fn table_after_refusals<R: Abort>(rt: &R, alloc: Global, graph: &Graph<'_>) -> Result<Table, Fail>
-    ensures { IfOk result (IsTableOf graph.now) }
+// The table of three slices, and the one whose call was refused.
+fn table_after_refusals<R: Abort>(
+    rt: &R,
+    alloc: Global,
+    graph: &Graph<'_>,
+) -> Result<(Table, Option<u32>), Fail>
+    ensures { IfOk result (λ r. IsTableOf graph.now r.0) }
 {
     let (job, pass) = opened(alloc, graph, Analysis::Reach)?;
     table_of_job(rt, alloc, job, pass)
@@ -196,8 +214,20 @@ impl Question for WithRefusals {
         alloc: Global,
         graph: &Graph<'_>,
     ) -> Result<String, Fail> {
-        let table = table_after_refusals(rt, alloc, graph)?;
-        Ok(lines(alloc, graph, &table)?)
+        let (table, refused) = table_after_refusals(rt, alloc, graph)?;
+        let lines = lines(alloc, graph, &table)?;
+        match refused {
+            Some(slice) => told_again(Some(lines), RECURSIVE_REACH, name_of_work(slice)),
+            None => Ok(lines),
+        }
+    }
+}
+
+fn name_of_work(slice: u32) -> &'static str {
+    match slice {
+        0 => "Job::work of slice 0",
+        1 => "Job::work of slice 1",
+        _ => "Job::work of slice 2",
     }
 }
 
@@ -226,7 +256,7 @@ fn lines_of_opened<R: Abort>(
     let cut = slices(alloc, graph, Analysis::Reach, 1)?;
     match Job::open(alloc, graph, Analysis::Reach, cut) {
         Ok((job, pass)) => {
-            let table = table_of_job(rt, alloc, job, pass)?;
+            let (table, _) = table_of_job(rt, alloc, job, pass)?;
             Ok(Some(lines(alloc, graph, &table)?))
         }
         Err(_) => Ok(None),
@@ -280,14 +310,14 @@ fn name_of(call: Call) -> &'static str {
     }
 }
 
-// What a call that was refused tells the second time: the test then fails by the call's name.
+// What a call that was refused tells the second time, where it is not refused again: the test then fails by the call's name.
 fn told_again(lines: Option<String>, want: &str, call: &'static str) -> Result<String, Fail> {
-    let same = match lines {
-        Some(lines) => lines.as_str() == want,
-        None => false,
+    let Some(lines) = lines else {
+        return Err(Fail::from(TeamFault::OutOfMemory));
     };
+    let same = lines.as_str() == want;
     if same {
-        Err(Fail::new(call))
+        Err(refused(call))
     } else {
         Err(Fail::new("another answer the second time"))
     }

@@ -168,10 +168,7 @@ pub fn table_by<R: Threads + Sync, G: Gate>(
 {
     let (analysis, cutting, workers) = how;
     let cut = cut(alloc, graph, analysis, cutting)?;
-    match analyse(rt, alloc, graph, analysis, cut, workers, gate) {
-        Ok(table) => Ok(table),
-        Err(_) => Err(Fail::new("refused")),
-    }
+    Ok(analyse(rt, alloc, graph, analysis, cut, workers, gate)?)
 }
 
 // Its lines.

@@ -73,24 +73,6 @@ pub fn summed(alloc: Global, count: u32) -> Result<String, OutOfMemory> {
     Ok(text)
 }
 
-// The program of a text that is one.
-fn program(alloc: Global, text: &str) -> Result<Program, Fail> {
-    match read(alloc, text.as_bytes()) {
-        Ok(program) => Ok(program),
-        Err(_) => Err(Fail::new("the text is no program")),
-    }
-}
-
-// Its graph.
-fn graph(alloc: Global, program: &Program) -> Result<Graph<'_>, Fail>
-    ensures { IfOk result (λ graph. graph ≡ program.now) }
-{
-    match Graph::build(alloc, program) {
-        Ok(graph) => Ok(graph),
-        Err(_) => Err(Fail::new("no graph")),
-    }
-}
-
 /// What is asked of a graph.
 pub trait Question {
     fn answer<R: Threads + Sync + Abort>(
@@ -109,7 +91,7 @@ fn answered_of_program<R: Threads + Sync + Abort, Q: Question>(
     program: &Program,
     question: &Q,
 ) -> Result<String, Fail> {
-    let graph = graph(alloc, program)?;
+    let graph = Graph::build(alloc, program)?;
     question.answer(rt, alloc, &graph)
 }
 
@@ -120,7 +102,7 @@ pub fn answered<R: Threads + Sync + Abort, Q: Question>(
     text: &str,
     question: &Q,
 ) -> Result<String, Fail> {
-    let program = program(alloc, text)?;
+    let program = read(alloc, text.as_bytes())?;
     answered_of_program(rt, alloc, &program, question)
 }
 
@@ -187,10 +169,7 @@ pub fn words(
 pub fn slices(alloc: Global, graph: &Graph<'_>, analysis: Analysis, width: u32) -> Result<Cut, Fail>
     ensures { IfOk result (λ cut. cut.bits ≡ bits_of graph.now analysis) }
 {
-    match Cut::even(alloc, graph.bits(analysis), width) {
-        Ok(cut) => Ok(cut),
-        Err(_) => Err(Fail::new("no cut")),
-    }
+    Ok(Cut::even(alloc, graph.bits(analysis), width)?)
 }
 
 /// The bits of an analysis in slices that begin at these places.
@@ -202,8 +181,5 @@ pub fn slices_at(
 ) -> Result<Cut, Fail>
     ensures { IfOk result (λ cut. cut.bits ≡ bits_of graph.now analysis) }
 {
-    match Cut::at(alloc, graph.bits(analysis), places) {
-        Ok(cut) => Ok(cut),
-        Err(_) => Err(Fail::new("no cut")),
-    }
+    Ok(Cut::at(alloc, graph.bits(analysis), places)?)
 }
