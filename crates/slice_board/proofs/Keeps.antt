@@ -72,6 +72,7 @@ module _ {T : Type 0} (wants : T → ℕ → ℕ → Type 0) (about : About T) w
     within : (p q j : ℕ) → p < about.points → q < width → bit_at (get_or ws (row_place about p q) 0) j ≡ 1 → wants about.wanted p (64 * q + j)
     complete : (x : ℕ) → x < slices → done_bit ws x ≡ 1
         → (p b : ℕ) → p < about.points → wants about.wanted p b → InSlice about.cut x b → bit_at (get_or ws (row_place about p (b / 64)) 0) (b % 64) ≡ 1
+    padding : (x : ℕ) → slices ≤ x → x / 64 < tally_words about → (claim_bit ws x ≡ 0) × (done_bit ws x ≡ 0)
 
   moved : (s : St) (l : L s) (id : ℕ) (v w : View T) (ws : List ℕ) → get_elem? s.views id ≡ some v → Change s v ws w
       → L (record { words = ws; homes = s.homes; views = set s.views id w })
@@ -89,6 +90,7 @@ module _ {T : Type 0} (wants : T → ℕ → ℕ → Type 0) (about : About T) w
           known = λ k u e. ⊎_elim (λ h. subst (F ws) h.1 c.fits) (λ h. grow s.words ws u c.grows (l.lawful.known k u h.1)) (at_set s.views id k w u e);
           finished = λ x h. omega (arith, total-set (λ o. times x o.finished) s.views id v w me, l.lawful.finished x h, c.finished x h);
           complete = c.complete;
+          padding = c.padding;
         };
       }
 
@@ -113,6 +115,10 @@ module _ {T : Type 0} (wants : T → ℕ → ℕ → Type 0) (about : About T) w
         posted = λ p q j _ _. (0, omega arith, stays (row_place about p q) j (omega arith) ∙ omega arith);
         within = λ p q j a b e. l.lawful.within p q j a b (sym (stays (row_place about p q) j (omega arith)) ∙ e);
         complete = λ y a e p b hp hw hi. ored_grows s.words i (2 ^ (x % 64)) in_words _ _ (l.lawful.complete y a (sym (stays (done_place about (y / 64)) (y % 64) (omega arith)) ∙ e) p b hp hw hi);
+        padding = λ y far low. let was = l.lawful.padding y far low in (
+          bit_stays s.words i (x % 64) (y / 64) (y % 64) in_words (one_bit x y (λ e. omega arith)) ∙ was.0,
+          stays (done_place about (y / 64)) (y % 64) (omega arith) ∙ was.1,
+        );
       }
 
   module _ (s : St) (l : L s) (id x : ℕ) (v : View T) (me : get_elem? s.views id ≡ some v) (h : x < slices) where
@@ -214,6 +220,7 @@ module _ {T : Type 0} (wants : T → ℕ → ℕ → Type 0) (about : About T) w
           known = λ k u e. ⊎_elim (λ h. l.lawful.known k u h) (λ h. subst (F s.words) h (fresh_fits s.words v.about (l.lawful.known id v at).board)) (at_snoc s.views new u k e);
           finished = λ x h. omega (arith, total-append (λ o. times x o.finished) s.views (new ∷ []), l.lawful.finished x h);
           complete = l.lawful.complete;
+          padding = l.lawful.padding;
         };
       })
 
@@ -245,6 +252,7 @@ module _ {T : Type 0} (wants : T → ℕ → ℕ → Type 0) (about : About T) w
               })) (λ i. l.lawful.known k u i.1) (at_set s.views id k (joined_view v w) u h.1)) (at_set vs other k spent_view u e);
           finished = λ x h. once (λ o. times x o.finished) refl (times-append x v.finished w.finished) ∙ l.lawful.finished x h;
           complete = l.lawful.complete;
+          padding = l.lawful.padding;
         };
       }
 
@@ -299,6 +307,10 @@ module _ {T : Type 0} (wants : T → ℕ → ℕ → Type 0) (about : About T) w
       complete = λ y hy e p b hp hw hi. stays_put (row_place about p (b / 64)) (b % 64) (λ e. absurd (omega arith)) ∙ dite (ℕ_discrete y x)
           (λ same. its_rows p b hp hw (subst (λ (n : ℕ). InSlice about.cut n b) same hi))
           (λ n. l.lawful.complete y hy (sym (stays_put (done_place about (y / 64)) (y % 64) (λ e. one_bit x y n (omega arith))) ∙ e) p b hp hw hi);
+      padding = λ y far low. let was = l.lawful.padding y far low in (
+        stays_put (y / 64) (y % 64) (λ e. absurd (omega arith)) ∙ was.0,
+        stays_put (done_place about (y / 64)) (y % 64) (λ e. one_bit x y (λ same. omega arith) (omega arith)) ∙ was.1,
+      );
     }
 
   -- what a pass says that it knows of the board is so
@@ -349,6 +361,10 @@ module _ {T : Type 0} (wants : T → ℕ → ℕ → Type 0) (about : About T) w
           (λ is. dite (ℕ_discrete (bit_at m j) 1) (wanted j) (λ n. l.lawful.within p q j hp hq (let a = ored_here s.words (row_place about p q) m j has_row in let b = bit_at-lt m j in let c = bit_at-lt (get_or s.words (row_place about p q) 0) j in omega arith))) is)
           (λ n. l.lawful.within p' q' j hp' hq' (ap (λ (n : ℕ). bit_at n j) (sym n.1) ∙ is)) (row_cases p' q' hp');
       complete = λ y hy e p' b hp' hw hi. g _ _ (l.lawful.complete y hy (ap (λ (n : ℕ). bit_at n (y % 64)) (sym (low_stays (done_place about (y / 64)) (omega arith))) ∙ e) p' b hp' hw hi);
+      padding = λ y far low. let was = l.lawful.padding y far low in (
+        ap (λ (n : ℕ). bit_at n (y % 64)) (low_stays (y / 64) (omega arith)) ∙ was.0,
+        ap (λ (n : ℕ). bit_at n (y % 64)) (low_stays (done_place about (y / 64)) (omega arith)) ∙ was.1,
+      );
     }
 
   -- two places of rows that are one are of one word
@@ -384,6 +400,7 @@ module _ {T : Type 0} (wants : T → ℕ → ℕ → Type 0) (about : About T) w
     posted = λ p q j _ _. (0, ap (marks_at p q j) d ∙ omega arith, omega arith);
     within = l.lawful.within;
     complete = l.lawful.complete;
+    padding = l.lawful.padding;
   }
 
   abbrev Says : ℕ → Sat T → Sat T → ℕ × (ℕ × About T) → Type 0

@@ -78,3 +78,6 @@ module _ {T : Type 0} where
       pub complete : (s : ℕ) → s < slice_count about.cut → bit_in words.dones s ≡ 1
           → (point bit : ℕ) → point < about.points → wants about.wanted point bit → InSlice about.cut s bit
           → bit_at (words.rows point (bit / 64)) (bit % 64) ≡ 1
+      -- 6. No bit of a claim or done word is set at or beyond the number of slices.
+      pub padding : (s : ℕ) → slice_count about.cut ≤ s → s / 64 < words_for (slice_count about.cut)
+          → (bit_in words.claims s ≡ 0) × (bit_in words.dones s ≡ 0)
