@@ -1,3 +1,4 @@
+pub mod FiniteSearch
 pub mod bits
 pub mod edges
 pub mod graphs

@@ -1,4 +1,5 @@
 pub mod Complement
+pub mod Finishing
 pub mod PathLemmas
 pub mod Reversal
 pub mod RunLemmas

@@ -1,6 +1,6 @@
 -- What is proved of runs.
-use Rattle.std.specs.Prelude.{ℕ, List, ◌++◌, ◌⊎◌}
-use Rattle.flow_graph.specs.Paths.{Edge, Shape, Transfer, root, IsPath, IsValidPath, HasBackwardPath, IsBackwardValidPath, SomeBackwardPathHas, IsWellFormed}
+use Rattle.std.specs.Prelude.{ℕ, List, ◌++◌}
+use Rattle.flow_graph.specs.Paths.{Edge, Shape, Transfer, root, IsPath, IsValidPath, IsBackwardValidPath, SomeBackwardPathHas, IsWellFormed}
 use Rattle.flow_graph.specs.Runs.{IsDoubtful, CanAlwaysFinish, IsRun, Accesses, ReadsBeforeWriting, CallsReturn, IsLiveness}
 
 -- What follows a point on a valid path is a run from that point, whatever was open there. (With an empty front: a valid
@@ -21,11 +21,9 @@ FrontsOfRunsAreRuns =
 abbrev pub WhatFinishesIsNotDoubtful : Type 0
 WhatFinishesIsNotDoubtful = (shape : Shape) (point : ℕ) → CanAlwaysFinish shape point → ¬ (IsDoubtful shape point)
 
--- and the other way round where it is known of each point whether it has a backward valid path
+-- and the other way round, since it is decided which points have a backward valid path
 abbrev pub UndoubtedFinishes : Type 0
-UndoubtedFinishes =
-    (shape : Shape) (point : ℕ) → ((ahead : ℕ) → HasBackwardPath shape ahead ⊎ (¬ (HasBackwardPath shape ahead)))
-    → ¬ (IsDoubtful shape point) → CanAlwaysFinish shape point
+UndoubtedFinishes = (shape : Shape) (point : ℕ) → IsWellFormed shape → ¬ (IsDoubtful shape point) → CanAlwaysFinish shape point
 
 -- Where each point ahead can finish, each run can be extended to a backward valid path: each open call is finished by a
 -- path inside its callee, the latest first, and then the path leaves through the returns that are still pending.
@@ -35,13 +33,12 @@ RunsExtend =
     → CanAlwaysFinish shape start → IsRun shape start run finish
     → (rest : List Edge) × IsBackwardValidPath shape (run ++ rest) start
 
--- So from a point that is not doubtful no run is without such an extension. (That a point is not doubtful is a denial, so
--- the extension is told as one too.)
+-- So from a point that is not doubtful each run can be extended to a backward valid path.
 abbrev pub UndoubtedRunsExtend : Type 0
 UndoubtedRunsExtend =
     (shape : Shape) (start finish : ℕ) (run : List Edge) → IsWellFormed shape → CallsReturn shape
     → ¬ (IsDoubtful shape start) → IsRun shape start run finish
-    → ¬ ((rest : List Edge) → ¬ (IsBackwardValidPath shape (run ++ rest) start))
+    → (rest : List Edge) × IsBackwardValidPath shape (run ++ rest) start
 
 -- Where a point is not doubtful and a variable is not live there, no run from it reads the variable before writing it,
 -- also where the execution never ends.

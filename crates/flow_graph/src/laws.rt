@@ -53,7 +53,7 @@ pub fn valid_paths_continue_as_runs()
     ensures front { FrontsOfRunsAreRuns }
 {}
 
-/// A point is not doubtful exactly where each point ahead can finish, as far as it is known which points can.
+/// A point is not doubtful exactly where each point ahead can finish.
 pub fn undoubted_points_finish()
     ensures finishing { WhatFinishesIsNotDoubtful }
     ensures undoubted { UndoubtedFinishes }

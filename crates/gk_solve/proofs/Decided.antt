@@ -1,12 +1,12 @@
 -- The meets are decided, since the least solution is
 use Rattle.std.proofs.Common.{◌≡◌, ℕ, Bool, true, false, not, List, ◌⊎◌, ◌↔◌, inl, inr, refl, sym, ◌∙◌}
 use Rattle.flow_graph.specs.declared.edge.Edge.{Edge}
-use Rattle.flow_graph.specs.Paths.{Shape, Transfer, IsValidPath, IsBackwardValidPath, value_after, value_before, HasBackwardPath, EveryPathHas, EveryBackwardPathHas, SomePathHas, SomeBackwardPathHas, IsWellFormed, complemented_transfer, reversed_shape, reversed_transfer}
+use Rattle.flow_graph.specs.Paths.{Shape, Transfer, IsValidPath, IsBackwardValidPath, value_after, value_before, EveryPathHas, EveryBackwardPathHas, SomePathHas, SomeBackwardPathHas, IsWellFormed, complemented_transfer, reversed_shape, reversed_transfer}
 use Rattle.flow_graph.proofs.paths.Complement.{value_after-complemented, value_before-complemented, meets_complement}
-use Rattle.flow_graph.proofs.paths.RunLemmas.{runs_extend, undoubted_finishes}
-use Rattle.gk_solve.specs.Laws.{SolutionIsDecided, MeetsAreDecided, BackwardMeetsAreDecided, EachUndoubtedRunExtends}
+use Rattle.flow_graph.proofs.paths.Finishing.{has_backward_decided}
+use Rattle.gk_solve.specs.Laws.{SolutionIsDecided, MeetsAreDecided, BackwardMeetsAreDecided}
 use Rattle.gk_solve.proofs.Meet.{solution_is_meet}
-use Rattle.gk_solve.proofs.Backward.{backward_flags_are_reversed, backward_may_is_reversed}
+use Rattle.gk_solve.proofs.Backward.{backward_may_is_reversed}
 use Rattle.gk_solve.proofs.SolutionTests.{flag_decided, solution_decided}
 
 either_iff : {A B : Type 0} → A ↔ B → A ⊎ (¬ A) → B ⊎ (¬ B)
@@ -26,9 +26,6 @@ some_decided shape transfer point well = either_iff (solution_is_meet shape tran
 some_backward_decided : (shape : Shape) (transfer : Transfer) (point : ℕ) → IsWellFormed shape → SomeBackwardPathHas shape transfer point ⊎ (¬ (SomeBackwardPathHas shape transfer point))
 some_backward_decided shape transfer point well =
     either_iff (backward_may_is_reversed shape transfer point well) (solution_decided (reversed_shape shape) (reversed_transfer transfer) point)
-
-pub has_backward_decided : (shape : Shape) → IsWellFormed shape → (point : ℕ) → HasBackwardPath shape point ⊎ (¬ (HasBackwardPath shape point))
-has_backward_decided shape well point = either_iff (backward_flags_are_reversed shape point well) (flag_decided (reversed_shape shape) point)
 
 every_decided : (shape : Shape) (transfer : Transfer) (point : ℕ) → SomePathHas shape (complemented_transfer transfer) point ⊎ (¬ (SomePathHas shape (complemented_transfer transfer) point))
     → EveryPathHas shape transfer point ⊎ ((path : List Edge) × IsValidPath shape path point × (value_after transfer path transfer.boundary ≡ false))
@@ -55,7 +52,3 @@ backward_meets_are_decided shape transfer point well = (
   some_backward_decided shape transfer point well,
   every_backward_decided shape transfer point (some_backward_decided shape (complemented_transfer transfer) point well),
 )
-
-pub each_undoubted_run_extends : EachUndoubtedRunExtends
-each_undoubted_run_extends shape start finish run well returns undoubted =
-    runs_extend shape start finish run well returns (undoubted_finishes shape start (has_backward_decided shape well) undoubted)

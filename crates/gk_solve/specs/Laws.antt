@@ -1,12 +1,11 @@
 -- What joins the least solution of the equations to the paths.
-use Rattle.std.specs.Prelude.{◌≡◌, ℕ, Bool, true, false, IsTrue, List, ◌++◌, ◌<◌, ◌⊎◌, ◌↔◌}
+use Rattle.std.specs.Prelude.{◌≡◌, ℕ, Bool, true, false, IsTrue, List, ◌<◌, ◌⊎◌, ◌↔◌}
 use Rattle.tac_reader.specs.Programs.{Program}
 use Rattle.tac_reader.specs.Sound.{IsSound}
 use Rattle.flow_graph.specs.Analyses.{HasPathAt, IsInTable, is_must, may_shape, may_transfer}
 use Rattle.flow_graph.specs.declared.analysis.Analysis.{Analysis}
 use Rattle.flow_graph.specs.declared.edge.Edge.{Edge}
 use Rattle.flow_graph.specs.Paths.{Shape, Transfer, IsValidPath, IsBackwardValidPath, value_before, IsPathFromEntry, IsEnteringPath, value_after, is_kept_along, HasPath, SomePathHas, EveryPathHas, HasBackwardPath, SomeBackwardPathHas, EveryBackwardPathHas, IsWellFormed, AgreesOnSteps, reversed_shape, reversed_transfer, complemented_transfer}
-use Rattle.flow_graph.specs.Runs.{IsDoubtful, IsRun, CallsReturn}
 use Rattle.gk_solve.specs.Equations.{Reached, Kept, Made, Entered, Brought, HasFlag, IsInSolution, IsClosedReached, IsClosedKept, IsClosedMade, IsClosedEntered, IsClosedBrought}
 
 -- Reached, kept and made say that some matched path from the entry of the point's procedure exists, keeps the bit, makes
@@ -133,13 +132,6 @@ BackwardMeetsAreDecided =
     → (HasBackwardPath shape point ⊎ (¬ (HasBackwardPath shape point)))
     × (SomeBackwardPathHas shape transfer point ⊎ (¬ (SomeBackwardPathHas shape transfer point)))
     × (EveryBackwardPathHas shape transfer point ⊎ ((path : List Edge) × IsBackwardValidPath shape path point × (value_before transfer path transfer.boundary ≡ false)))
-
--- Hence from a point that is not doubtful each run can be extended to a backward valid path.
-abbrev pub EachUndoubtedRunExtends : Type 0
-EachUndoubtedRunExtends =
-    (shape : Shape) (start finish : ℕ) (run : List Edge) → IsWellFormed shape → CallsReturn shape
-    → ¬ (IsDoubtful shape start) → IsRun shape start run finish
-    → (rest : List Edge) × IsBackwardValidPath shape (run ++ rest) start
 
 -- The tables of a program's four analyses are the least solutions of their may forms, complemented for a must analysis; and so
 -- are their flags.

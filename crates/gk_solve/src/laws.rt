@@ -1,15 +1,28 @@
 //! Laws of the equations: each is the clause of a function without a body.
+//!
+//! The path theorem, that their least solution is the meet over all valid paths, has four claims, which stand here whole:
+//! `summaries_are_paths`, `entries_are_paths`, `solution_is_meet` and `reversal_and_complement_carry_the_meet`.
 
-ghost use Rattle.gk_solve.specs.Laws.{SummariesArePaths, EntriesArePaths, SolutionIsMeet, ForwardMustIsComplement, BackwardFlagsAreReversed, BackwardMayIsReversed, BackwardMustIsReversedComplement, SolutionIsClosed, ReachedIsLeast, KeptIsLeast, MadeIsLeast, EnteredIsLeast, BroughtIsLeast, BitsAreApart, SolutionIsDecided, MeetsAreDecided, BackwardMeetsAreDecided, EachUndoubtedRunExtends, FlagsAreSolutions, MayTablesAreSolutions, MustTablesAreSolutions, TablesAreDecided};
+ghost use Rattle.flow_graph.specs.PathLaws.{MatchedReturnsLeaveTheirCallee, CalleePathsJoin, ValidPathsSplit};
+ghost use Rattle.gk_solve.specs.Laws.{SummariesArePaths, EntriesArePaths, SolutionIsMeet, ForwardMustIsComplement, BackwardFlagsAreReversed, BackwardMayIsReversed, BackwardMustIsReversedComplement, SolutionIsClosed, ReachedIsLeast, KeptIsLeast, MadeIsLeast, EnteredIsLeast, BroughtIsLeast, BitsAreApart, SolutionIsDecided, MeetsAreDecided, BackwardMeetsAreDecided, FlagsAreSolutions, MayTablesAreSolutions, MustTablesAreSolutions, TablesAreDecided};
 
-/// Reached, kept and made at a point: some matched path from its procedure's entry exists, keeps the bit, makes the bit.
-pub fn summaries_are_paths()
-    ensures { SummariesArePaths }
+/// On a valid path a return that matches a call leaves from the callee that the call entered.
+pub fn matched_returns_leave_their_callee()
+    ensures { MatchedReturnsLeaveTheirCallee }
 {}
 
-/// Entered and brought of a procedure: some valid path enters it, and one that does has the bit in its value.
+/// Reached, kept and made at a point: some matched path from its procedure's entry exists, keeps the bit, makes the bit. A
+/// matched path of a callee, put between the call and the return of one site, is matched.
+pub fn summaries_are_paths()
+    ensures summaries { SummariesArePaths }
+    ensures callee { CalleePathsJoin }
+{}
+
+/// Entered and brought of a procedure: some valid path enters it, and one that does has the bit in its value. A path is
+/// valid exactly where it splits at its last open call.
 pub fn entries_are_paths()
-    ensures { EntriesArePaths }
+    ensures entries { EntriesArePaths }
+    ensures split { ValidPathsSplit }
 {}
 
 /// The least solution of a forward may problem is its meet over valid paths: a flag exactly where some valid path exists, a
@@ -18,16 +31,13 @@ pub fn solution_is_meet()
     ensures { SolutionIsMeet }
 {}
 
-/// A bit is in the meet of a forward must problem exactly where it is not in the complemented problem's solution.
-pub fn forward_must_is_complement()
-    ensures { ForwardMustIsComplement }
-{}
-
-/// The flags and sets of a backward problem are those of the reversed one, complemented for a must problem.
-pub fn backward_problems_are_reversed()
-    ensures flags { BackwardFlagsAreReversed }
-    ensures may { BackwardMayIsReversed }
-    ensures must { BackwardMustIsReversedComplement }
+/// The flags and sets of a backward problem are those of the reversed one, and the sets of a must problem are what the
+/// complemented one has not.
+pub fn reversal_and_complement_carry_the_meet()
+    ensures forward_must { ForwardMustIsComplement }
+    ensures backward_flags { BackwardFlagsAreReversed }
+    ensures backward_may { BackwardMayIsReversed }
+    ensures backward_must { BackwardMustIsReversedComplement }
 {}
 
 /// The families are closed under the clauses of the equations.
@@ -54,12 +64,6 @@ pub fn solution_is_decided()
     ensures solution { SolutionIsDecided }
     ensures forward { MeetsAreDecided }
     ensures backward { BackwardMeetsAreDecided }
-{}
-
-/// From a point that is not doubtful each run can be extended to a path to the end of the root's procedure, through its
-/// open calls and then its pending returns.
-pub fn each_undoubted_run_extends()
-    ensures { EachUndoubtedRunExtends }
 {}
 
 /// The tables and flags of a program's four analyses are the least solutions of their may forms, for a must analysis the

@@ -1,8 +1,8 @@
 -- A run is extended to a backward valid path
-use Rattle.std.proofs.Common.{◌≡◌, ℕ, Bool, true, false, not, ◌&&◌, ◌||◌, List, [], ◌∷◌, ◌++◌, Option, Some, None, option_and_then, nat_eq, if◌then◌else◌, IsSome, ◌⊎◌, inl, inr, refl, sym, ap, ◌∙◌, arith}
+use Rattle.std.proofs.Common.{◌≡◌, ℕ, Bool, true, false, not, ◌&&◌, ◌||◌, List, [], ◌∷◌, ◌++◌, Option, Some, None, option_and_then, nat_eq, if◌then◌else◌, IsSome, refl, sym, ap, ◌∙◌, arith}
 use Rattle.flow_graph.specs.Paths.{Edge, Step, Call, Ret, source_of, Shape, Transfer, IsEdge, final, IsPath, open_sites_after, value_across, HasBackwardPath, IsBackwardValidPath, sites_before_edge, open_sites_before, value_before, IsWellFormed, reversed_path, reversed_shape}
 use Rattle.flow_graph.specs.Runs.{run_sites_after, IsRun, Accesses, is_unwritten_along, CallsReturn, IsLiveness}
-use Rattle.flow_graph.specs.RunLaws.{ContinuationsAreRuns, FrontsOfRunsAreRuns, WhatFinishesIsNotDoubtful, UndoubtedFinishes, RunsExtend, UndoubtedRunsExtend, DeadIsSafe}
+use Rattle.flow_graph.specs.RunLaws.{ContinuationsAreRuns, FrontsOfRunsAreRuns, WhatFinishesIsNotDoubtful, RunsExtend, DeadIsSafe}
 use Rattle.flow_graph.proofs.paths.PathLemmas.{IsPath-append, path_split, valid_front, open_sites_after-append, open_sites_after-none, some_sites, nat_eq_same, same_site}
 use Rattle.flow_graph.proofs.paths.Reversal.{path_back, open_sites_after-reversed, reversed_path-twice, valid_reversed, reversed_is_well_formed}
 use Rattle.flow_graph.proofs.paths.Splitting.{sites_kept, valid_split, OpenCalls}
@@ -55,13 +55,6 @@ pub what_finishes_is_not_doubtful : WhatFinishesIsNotDoubtful
 what_finishes_is_not_doubtful shape point can doubtful =
     let (path, ahead, is_path, none) = doubtful in
     none (can path ahead is_path)
-
-pub undoubted_finishes : UndoubtedFinishes
-undoubted_finishes shape point known undoubted path ahead is_path = go (known ahead)
-  where
-    go : HasBackwardPath shape ahead ⊎ (¬ (HasBackwardPath shape ahead)) → HasBackwardPath shape ahead
-    go (inl has) = has
-    go (inr none) = absurd (undoubted (path, ahead, is_path, none))
 
 open_sites_before-append : (front back : List Edge) (sites : Option (List ℕ)) → open_sites_before (front ++ back) sites ≡ open_sites_before front (open_sites_before back sites)
 open_sites_before-append [] back sites = refl
@@ -183,11 +176,6 @@ pub runs_extend : RunsExtend
 runs_extend shape start finish run well returns can is_run =
     extend shape well returns ((rest : List Edge) × IsBackwardValidPath shape (run ++ rest) start) run start finish
     (λ path ahead is_path done. done (can path ahead is_path)) is_run (λ rest to_end valid. (rest, valid))
-
-pub undoubted_runs_extend : UndoubtedRunsExtend
-undoubted_runs_extend shape start finish run well returns undoubted is_run none =
-    extend shape well returns ⊥ run start finish
-    (λ path ahead is_path done. undoubted (path, ahead, is_path, done)) is_run (λ rest to_end valid. none rest valid)
 
 module _ (shape : Shape) (transfer : Transfer) (accesses : Accesses) (live : IsLiveness shape transfer accesses) where
   -- what is live behind steps that do not write it is live before them

@@ -1,4 +1,5 @@
-use Rattle.flow_graph.proofs.paths.RunLemmas.{runs_extend, undoubted_runs_extend}
+use Rattle.flow_graph.proofs.paths.RunLemmas.{runs_extend}
+use Rattle.flow_graph.proofs.paths.Finishing.{undoubted_runs_extend}
 use Rattle.flow_graph.proofs.laws.runs_extend.Goals as goal
 
 pub returns-clause-settled : goal.returns-clause-settled

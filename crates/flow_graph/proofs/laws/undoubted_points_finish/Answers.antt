@@ -1,4 +1,5 @@
-use Rattle.flow_graph.proofs.paths.RunLemmas.{what_finishes_is_not_doubtful, undoubted_finishes}
+use Rattle.flow_graph.proofs.paths.RunLemmas.{what_finishes_is_not_doubtful}
+use Rattle.flow_graph.proofs.paths.Finishing.{undoubted_finishes}
 use Rattle.flow_graph.proofs.laws.undoubted_points_finish.Goals as goal
 
 pub returns-clause-finishing : goal.returns-clause-finishing
