@@ -9,6 +9,8 @@ use Rattle.flow_links.specs.contracts.links.Links as Links
 use Rattle.gk_solve.specs.contracts.routes.Routes as Routes
 use Rattle.gk_solve.specs.contracts.solver.Solver as Solver
 use Rattle.work_list.specs.contracts.order.Order as Order
+use Rattle.flow_team.proofs.slice_job.SliceJob.TheSendSync.{the_sync as jobs_sync}
+use Rattle.flow_team.specs.contracts.job.Job as Job
 use Rattle.flow_team.specs.contracts.sets.GraphSets as GraphSets
 use Rattle.flow_team.specs.contracts.asked.AskedWords as AskedWords
 use Rattle.flow_team.specs.contracts.direction.Direction as Direction
@@ -56,6 +58,12 @@ pub sets_sync : (g p : NamedLft) → IsSync (GraphSets.the_row g p)
 sets_sync g p = search (routes_sync, solver_sync, crosses, sendable) depth 60 fits 5000
 
 pub ruleset sets_cross = (sets_send, sets_sync, crosses, sendable)
+
+-- So a caller may lend a job to threads of its own.
+pub job_sync : (g p : NamedLft) → IsSync (Job.the_row g p)
+job_sync g p = search (jobs_sync, sets_cross) depth 60 fits 5000
+
+pub ruleset jobs_cross = (job_sync, crosses, sendable)
 
 pub direction_send : (g p : NamedLft) → IsSend (Direction.the_row g p)
 direction_send g p = search (routes_send, solver_send, crosses, sendable) depth 60 fits 5000

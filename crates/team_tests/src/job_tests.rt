@@ -1,6 +1,7 @@
 // Jobs, step by step.
 
 ghost use Rattle.std.specs.Prelude.{◌≡◌, IfOk};
+ghost use Rattle.std.specs.Thread.{IsSync};
 ghost use Rattle.flow_graph.specs.Points.{point_count as points_of};
 ghost use Rattle.flow_graph.specs.Universes.{bits as bits_of};
 ghost use Rattle.flow_team.specs.Tables.{IsTableOf};
@@ -14,7 +15,7 @@ use slice_board::Pass;
 use std::alloc::Global;
 use std::process::Abort;
 use std::test::Fail;
-use std::thread::Threads;
+use std::thread::{Threads, join};
 
 // Two slices of the recursive program's reaching definitions are worked, a slice for each, with what is seen on the way: the definitions
 // at the beginning and at line 2, which are in the first two slices.
@@ -230,4 +231,116 @@ fn two_passes_over_one_job(rt: HostRuntime) -> Result<(), Fail> {
     let text = prints(alloc, 70)?;
     let want = printed(alloc, 70)?;
     check(&rt, text.as_str(), &InTurns, want.as_str(), (0, 2))
+}
+
+// What a thread does over a job that it shares, with a pass of its own: a closure that goes to a thread cannot name the two
+// lifetimes of a job.
+trait Activity<P>: Sync {
+    // the pass is of the job
+    ghost is_of: { Self → P → Type 0 };
+
+    /// Works until no slice is left.
+    fn work_all(&self, alloc: Global, worker: u32, pass: P) -> Result<P, OutOfMemory>
+        requires { is_of self.now pass }
+        ensures { IfOk result (is_of self.now) };
+}
+
+impl<'g, 'p> Activity<Pass<GraphSets<'g, 'p>>> for Job<'g, 'p> {
+    ghost is_of = { IsOf };
+
+    fn work_all(
+        &self,
+        alloc: Global,
+        worker: u32,
+        pass: Pass<GraphSets<'g, 'p>>,
+    ) -> Result<Pass<GraphSets<'g, 'p>>, OutOfMemory> {
+        let mut pass = pass;
+        for _ in 0..=self.slices() {
+            if self.work(alloc, &mut pass, worker, &OpenGate)?.is_none() {
+                return Ok(pass);
+            }
+        }
+        Ok(pass)
+    }
+}
+
+// Two threads work over one job until no slice is left.
+fn worked_by_two<P: Send + Drop, J: Activity<P>, R: Threads + Sync>(
+    rt: &R,
+    alloc: Global,
+    job: &J,
+    first: P,
+    second: P,
+) -> (Result<P, OutOfMemory>, Result<P, OutOfMemory>)
+    requires first { J.is_of job.now first }
+    requires second { J.is_of job.now second }
+    ensures first { IfOk result.0 (J.is_of job.now) }
+    ensures second { IfOk result.1 (J.is_of job.now) }
+{
+    join(
+        rt,
+        move || -> Result<P, OutOfMemory>
+            requires { J.is_of job.now first }
+            ensures { IfOk result (J.is_of job.entry.now) }
+        { job.work_all(alloc, 0, first) },
+        move || -> Result<P, OutOfMemory>
+            requires { J.is_of job.now second }
+            ensures { IfOk result (J.is_of job.entry.now) }
+        { job.work_all(alloc, 1, second) },
+    )
+}
+
+// Both passes as one.
+fn worked_side_by_side<'g, 'p, R: Threads + Sync>(
+    rt: &R,
+    alloc: Global,
+    job: &Job<'g, 'p>,
+    pass: Pass<GraphSets<'g, 'p>>,
+) -> Result<Pass<GraphSets<'g, 'p>>, Fail>
+    requires { IsOf job.now pass }
+    ensures { IfOk result (IsOf job.now) }
+{
+    let mut first = pass;
+    let second = job.split(&mut first);
+    let (first, second) = worked_by_two(rt, alloc, job, first, second);
+    match job.join(first?, second?) {
+        Ok(pass) => Ok(pass),
+        Err(_) => Err(Fail::new("both hold a slice")),
+    }
+}
+
+// The table of the variables that are live, by two threads over one job.
+fn table_side_by_side<R: Threads + Sync>(
+    rt: &R,
+    alloc: Global,
+    graph: &Graph<'_>,
+) -> Result<Table, Fail>
+    ensures { IfOk result (IsTableOf graph.now) }
+{
+    let (job, pass) = opened(alloc, graph, Analysis::Live)?;
+    let pass = worked_side_by_side(rt, alloc, &job, pass)?;
+    closed(job, pass)
+}
+
+// Side by side.
+struct SideBySide;
+
+impl Question for SideBySide {
+    fn answer<R: Threads + Sync + Abort>(
+        &self,
+        rt: &R,
+        alloc: Global,
+        graph: &Graph<'_>,
+    ) -> Result<String, Fail> {
+        let table = table_side_by_side(rt, alloc, graph)?;
+        Ok(lines(alloc, graph, &table)?)
+    }
+}
+
+#[test]
+fn two_activities_over_one_job(rt: HostRuntime) -> Result<(), Fail> {
+    let alloc = rt.alloc();
+    let text = prints(alloc, 70)?;
+    let want = printed(alloc, 70)?;
+    check(&rt, text.as_str(), &SideBySide, want.as_str(), (0, 2))
 }
