@@ -3,6 +3,7 @@
 
 mod call_edges;
 mod call_walk;
+mod exits;
 mod keys;
 mod link;
 mod links;

@@ -226,9 +226,9 @@ fn hard_programs(rt: HostRuntime) -> Result<(), Fail> {
     Ok(())
 }
 
-/// How many steps are followed to solve a text's program for reaching definitions, without any bit; none is told of a text that
-/// has no graph.
-fn steps_followed(alloc: Global, text: &[u8]) -> Result<Option<u64>, OutOfMemory> {
+/// How many steps are followed to solve a text's program for reaching definitions: for the flags alone, and with all its bits; none
+/// is told of a text that has no graph.
+fn steps_followed(alloc: Global, text: &[u8]) -> Result<Option<(u64, u64)>, OutOfMemory> {
     match read(alloc, text) {
         Ok(program) => steps_of_program(alloc, &program),
         Err(ReadFault::OutOfMemory) => Err(OutOfMemory),
@@ -236,19 +236,41 @@ fn steps_followed(alloc: Global, text: &[u8]) -> Result<Option<u64>, OutOfMemory
     }
 }
 
-fn steps_of_program(alloc: Global, program: &Program) -> Result<Option<u64>, OutOfMemory> {
+fn steps_of_program(alloc: Global, program: &Program) -> Result<Option<(u64, u64)>, OutOfMemory> {
     match Graph::build(alloc, program) {
         Ok(graph) => {
             let problem = Problem::of(alloc, &graph, Analysis::Reach)?;
-            let (_, followed) = solve_counted(alloc, &problem, 0, 0)?;
-            Ok(Some(followed))
+            let (_, for_flags) = solve_counted(alloc, &problem, 0, 0)?;
+            let (_, for_all) = solve_counted(alloc, &problem, 0, problem.bits())?;
+            Ok(Some((for_flags, for_all)))
         }
         Err(GraphFault::OutOfMemory) => Err(OutOfMemory),
         Err(_) => Ok(None),
     }
 }
 
-fn write_line_of_skips(text: &mut String) -> Result<(), OutOfMemory> {
+/// A program without loops and without recursion.
+#[derive(Clone, Copy)]
+enum Onward {
+    /// A line of statements that do nothing.
+    Line,
+    /// Blocks of an assignment and a jump to the next one, so many numbers from one to the next in the text, round and round.
+    Blocks(u32),
+    /// Calls of four procedures, of which each calls the one before, and which lie against their steps.
+    Relays,
+}
+
+/// Programs, and how many steps they have.
+const ONWARD: &[(Onward, u64)] = &[
+    (Onward::Line, 100),
+    (Onward::Blocks(1), 302),
+    (Onward::Blocks(149), 302),
+    (Onward::Blocks(7), 302),
+    (Onward::Blocks(77), 302),
+    (Onward::Relays, 50),
+];
+
+fn write_line(text: &mut String) -> Result<(), OutOfMemory> {
     text.push_str("proc main\n")?;
     for _ in 0..100 {
         text.push_str("skip\n")?;
@@ -256,11 +278,92 @@ fn write_line_of_skips(text: &mut String) -> Result<(), OutOfMemory> {
     text.push_str("end\n")
 }
 
+fn write_blocks(text: &mut String, stride: u32) -> Result<(), OutOfMemory> {
+    text.push_str("proc main\ngoto b0\n")?;
+    for place in 0..150_u32 {
+        let number = place * (stride % 150) % 150;
+        write!(
+            text,
+            "b{number}: v{} = v{} + {number}\ngoto b{}\n",
+            number % 70,
+            (number + 1) % 70,
+            number + 1
+        )?;
+    }
+    text.push_str("b150: print v0\nend\n")
+}
+
+fn write_relays(text: &mut String) -> Result<(), OutOfMemory> {
+    text.push_str("proc main\n")?;
+    for _ in 0..40 {
+        text.push_str("call q3 | q1 | q0 | q2\nskip\n")?;
+    }
+    text.push_str("end\n")?;
+    for number in 1..4_u32 {
+        write!(
+            text,
+            "proc q{number}\ngoto below\nback: goto out\nbelow: call q{}\ngoto back\nout:\nend\n",
+            number - 1
+        )?;
+    }
+    text.push_str("proc q0\nx = 1\nend\n")
+}
+
+fn write_onward(text: &mut String, onward: Onward) -> Result<(), OutOfMemory> {
+    match onward {
+        Onward::Line => write_line(text),
+        Onward::Blocks(stride) => write_blocks(text, stride),
+        Onward::Relays => write_relays(text),
+    }
+}
+
+fn check_steps<R: Abort + AllocGlobal>(rt: &R, onward: Onward, steps: u64) -> Result<(), Fail> {
+    let mut text = String::new(rt.alloc());
+    write_onward(&mut text, onward)?;
+    let followed = steps_followed(rt.alloc(), text.as_bytes())?;
+    assert_eq!(rt; followed, Some((steps, 2 * steps)));
+    Ok(())
+}
+
+/// However a text is laid out: without loops and recursion each step is followed once for the flags, and once for a group of words.
 #[test]
-fn steps_of_a_line(rt: HostRuntime) -> Result<(), Fail> {
-    let alloc = rt.alloc();
-    let mut text = String::new(alloc);
-    write_line_of_skips(&mut text)?;
-    assert_eq!(rt; steps_followed(alloc, text.as_bytes())?, Some(100));
+fn each_step_is_followed_once(rt: HostRuntime) -> Result<(), Fail> {
+    for (onward, steps) in ONWARD {
+        check_steps(&rt, *onward, *steps)?;
+    }
+    Ok(())
+}
+
+/// Loops within one another, so many, each with a test and an assignment.
+fn write_loops(text: &mut String, depth: u32) -> Result<(), OutOfMemory> {
+    text.push_str("proc main\n")?;
+    for number in 0..depth {
+        write!(text, "l{number}: if c goto m{number}\nv{number} = 1\n")?;
+    }
+    for inner in 0..depth {
+        let number = depth - 1 - inner;
+        write!(text, "goto l{number}\nm{number}: skip\n")?;
+    }
+    text.push_str("end\n")
+}
+
+fn check_loops<R: Abort + AllocGlobal>(rt: &R, depth: u32) -> Result<(), Fail> {
+    let mut text = String::new(rt.alloc());
+    write_loops(&mut text, depth)?;
+    let followed = steps_followed(rt.alloc(), text.as_bytes())?;
+    let (for_flags, for_all) = followed.expect(rt, "a graph");
+    // A test has two steps, and each other statement one.
+    let steps = 5 * u64::from(depth);
+    assert_eq!(rt; for_flags, steps);
+    assert!(rt; for_all - steps <= (u64::from(depth) + 2) * steps);
+    Ok(())
+}
+
+/// A step is followed at most twice more than there are loops around it.
+#[test]
+fn loops_are_gone_over_as_deep_as_they_lie(rt: HostRuntime) -> Result<(), Fail> {
+    for depth in [0, 1, 2, 10, 100] {
+        check_loops(&rt, depth)?;
+    }
     Ok(())
 }

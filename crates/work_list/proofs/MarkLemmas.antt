@@ -1,7 +1,7 @@
 -- One bit of the words of a set of points
-use Rattle.std.proofs.Common.{◌≡◌, ◌≢◌, ◌<◌, ◌≤◌, ◌+◌, ◌-◌, ◌*◌, ◌/◌, ◌%◌, ◌^◌, inl, inr, length, get_or, set, replicate, true, false, Bool, ℕ, List, arith, refl, sym, ◌∙◌, subst, ap, nat_eq, eq-eqb}
+use Rattle.std.proofs.Common.{◌≡◌, ◌≢◌, ◌<◌, ◌≤◌, ◌+◌, ◌-◌, ◌*◌, ◌/◌, ◌%◌, ◌^◌, inl, inr, length, get_or, set, replicate, true, false, Bool, ◌&&◌, ℕ, List, arith, refl, sym, ◌∙◌, subst, ap, nat_eq, eq-eqb}
 use Rattle.std.proofs.lemmas.Bool.{cases_eq, cases_lt}
-use Rattle.std.proofs.lemmas.Nat.{one_shl}
+use Rattle.std.proofs.lemmas.Nat.{and_le_l, one_shl}
 use Rattle.std.proofs.lemmas.List.{length-replicate, get_or-replicate, get_or_past, get_or_default, get_or-set_same, get_or-set_other, get_or-map, length-map, ext_get_or}
 use Rattle.std.proofs.Math.ListN.{length-set}
 use Rattle.std.proofs.lemmas.Nat.Bits.{bit_at_set_same, bit_at_set_other, bit_at_clear_same, bit_at_clear_other, bit_at-trailing_zeros, bit_at_ones, bit_at_ones_above}
@@ -9,10 +9,10 @@ use Rattle.std.specs.Int.{bit_not, w64, trailing_zeros}
 use Rattle.std.specs.Int.RustNames.{bit_or}
 use lib.Bits.{bit_and}
 use Rattle.bit_rows.specs.Words.{has_bit}
-use Rattle.bit_rows.proofs.WordBits.{has_bit-zero, has_bit-max}
+use Rattle.bit_rows.proofs.WordBits.{has_bit-and, has_bit-zero, has_bit-max}
 use Rattle.work_list.specs.Marks.{IsMarked, AreClear}
 use Rattle.work_list.specs.Orders.{IsOrder}
-use Rattle.work_list.specs.Tables.MarkWords.{is_marked_in, marks_of, AreMarkWords, IsClearBefore, AreFull}
+use Rattle.work_list.specs.Tables.MarkWords.{is_marked_in, marks_of, AreMarkWords, AreFull}
 
 pub length-marks_of : (words ranks : List ℕ) → length (marks_of words ranks) ≡ length ranks
 unfolding marks_of
@@ -127,14 +127,6 @@ low_of words ranks x view is within = let same : length view ≡ length ranks = 
 pub word_of : (words : List ℕ) (bits r : ℕ) → AreMarkWords bits words → r < bits → r / 64 < length words
 word_of words bits r are low = let room = are.room in omega arith
 
--- a write leaves the words before it as they are
-pub clear-write : (words : List ℕ) (at word next behind : ℕ) → IsClearBefore words next behind → behind ≤ at → IsClearBefore (set words at word) next behind
-clear-write words at word next behind clear later k before_next before_behind =
-    let apart : k ≢ at = omega arith in get_or-set_other words at k word 0 apart ∙ clear k before_next before_behind
-
-pub clear-at : (words : List ℕ) (at word behind : ℕ) → IsClearBefore words at behind → IsClearBefore (set words at word) at behind
-clear-at words at word behind clear k before_at before_behind = let apart : k ≢ at = omega arith in get_or-set_other words at k word 0 apart ∙ clear k before_at before_behind
-
 -- what a write of the words does to the set
 pub record Writes (words ranks : List ℕ) (x : ℕ) (bit : Bool) (after : List ℕ) : Type 0 where
   pub marks : marks_of after ranks ≡ set (marks_of words ranks) x bit
@@ -151,47 +143,44 @@ puts words ranks x r read are order low rank is =
     let others : (i : ℕ) → i < 64 → i ≢ r % 64 → has_bit word i ≡ has_bit (get_or words (r / 64) 0) i = λ i below other. set_other read (r % 64) small i below other ∙ ap (λ w. has_bit w i) read_is in
     record { marks = marks-write words ranks x r word true are order low (sym rank) here others; holds = words-write words ranks x r word true are order low (sym rank) here others }
 
--- the lowest bit of a word that is not 0
-pub record IsFirstIn (words : List ℕ) (bits at word : ℕ) : Type 0 where
-  pub low : 64 * at + trailing_zeros w64 word < bits
-  pub marked : is_marked_in words (64 * at + trailing_zeros w64 word) ≡ true
-
-pub first_in : (words : List ℕ) (bits at word : ℕ) → AreMarkWords bits words → at < length words → word ≡ get_or words at word → 0 < get_or words at 0 → word < 2 ^ 64 → IsFirstIn words bits at word
+-- a bit of a word, at its rank
+marked_at : (words : List ℕ) (at k : ℕ) → k < 64 → has_bit (get_or words at 0) k ≡ true → is_marked_in words (64 * at + k) ≡ true
 unfolding is_marked_in
-first_in words bits at word are inside is some fits =
-    let word_is : word ≡ get_or words at 0 = is ∙ get_or_default words at word 0 inside in
-    let h = lowest word (omega arith) fits in
-    by_place (64 * at + trailing_zeros w64 word) (trailing_zeros w64 word) refl refl word_is h.0 h.1
-  where
-    by_place : (r k : ℕ) → r ≡ 64 * at + k → k ≡ trailing_zeros w64 word → word ≡ get_or words at 0 → k < 64 → has_bit word k ≡ true → IsFirstIn words bits at word
-    by_place r k r_is k_is word_is small has =
-        let word_at : r / 64 ≡ at = omega arith in
-        let place : r % 64 ≡ k = omega arith in
-        let marked : is_marked_in words r ≡ true = ap (λ n. has_bit (get_or words n 0) (r % 64)) word_at ∙ (ap (has_bit (get_or words at 0)) place ∙ (ap (λ w. has_bit w k) (sym word_is) ∙ has)) in
-        let r_full : r ≡ 64 * at + trailing_zeros w64 word = r_is ∙ ap (λ n. 64 * at + n) k_is in
-        record { low = subst (λ n. n < bits) r_full (marked-low words bits r are marked); marked = subst (λ n. is_marked_in words n ≡ true) r_full marked }
+marked_at words at k small has =
+    let word_at : (64 * at + k) / 64 ≡ at = omega arith in
+    let place : (64 * at + k) % 64 ≡ k = omega arith in
+    ap (λ n. has_bit (get_or words n 0) ((64 * at + k) % 64)) word_at ∙ (ap (has_bit (get_or words at 0)) place ∙ has)
 
-pub takes : (words ranks : List ℕ) (at word x : ℕ) → AreMarkWords (length ranks) words → IsOrder ranks → at < length words → word ≡ get_or words at word → 0 < get_or words at 0 → word < 2 ^ 64
-    → x < length ranks → get_or ranks x 0 ≡ 64 * at + trailing_zeros w64 word
-    → Writes words ranks x false (set words at (bit_and word (bit_not w64 (1 * 2 ^ (trailing_zeros w64 word) % 2 ^ 64)))) × IsMarked (marks_of words ranks) x
-takes words ranks at word x are order inside is some fits low rank =
-    let first = first_in words (length ranks) at word are inside is some fits in
-    let h = lowest word (let same = get_or_default words at word 0 inside in omega arith) fits in
-    (by_place (64 * at + trailing_zeros w64 word) (trailing_zeros w64 word) refl refl rank h.0, mark_at words ranks x low ∙ (ap (is_marked_in words) rank ∙ first.marked))
+-- the lowest bit of a word that is not 0
+pub lowest_marked : (words : List ℕ) (at : ℕ) → get_or words at 0 ≢ 0 → get_or words at 0 < 2 ^ 64 → is_marked_in words (64 * at + trailing_zeros w64 (get_or words at 0)) ≡ true
+lowest_marked words at some fits = let h = lowest (get_or words at 0) (omega arith) fits in marked_at words at (trailing_zeros w64 (get_or words at 0)) h.0 h.1
+
+-- and the lowest of those within a mask
+pub masked_marked : (words : List ℕ) (at mask : ℕ) → bit_and (get_or words at 0) mask ≢ 0 → get_or words at 0 < 2 ^ 64 → is_marked_in words (64 * at + trailing_zeros w64 (bit_and (get_or words at 0) mask)) ≡ true
+masked_marked words at mask some fits =
+    let word : ℕ = bit_and (get_or words at 0) mask in
+    let least = and_le_l (get_or words at 0) mask in
+    let h = lowest word (omega arith) (omega (arith, least, fits)) in
+    let has = first _ _ (sym (has_bit-and (get_or words at 0) mask (trailing_zeros w64 word)) ∙ h.1) in
+    marked_at words at (trailing_zeros w64 word) h.0 has
   where
-    by_place : (r k : ℕ) → r ≡ 64 * at + k → k ≡ trailing_zeros w64 word → get_or ranks x 0 ≡ r → k < 64
-        → Writes words ranks x false (set words at (bit_and word (bit_not w64 (1 * 2 ^ (trailing_zeros w64 word) % 2 ^ 64))))
-    by_place r k r_is k_is rank small =
-        let word_is : word ≡ get_or words at 0 = is ∙ get_or_default words at word 0 inside in
-        let word_at : r / 64 ≡ at = omega arith in
-        let place : r % 64 ≡ k = omega arith in
-        let after : ℕ = bit_and word (bit_not w64 (1 * 2 ^ k % 2 ^ 64)) in
-        let here : has_bit after (r % 64) ≡ false = ap (has_bit after) place ∙ clear_same word k small in
-        let others : (i : ℕ) → i < 64 → i ≢ r % 64 → has_bit after i ≡ has_bit (get_or words (r / 64) 0) i =
-        λ i below other. clear_other word k small i below (subst (λ n. i ≢ n) place other) ∙ (ap (λ w. has_bit w i) word_is ∙ ap (λ n. has_bit (get_or words n 0) i) (sym word_at)) in
-        subst (λ n. Writes words ranks x false (set words n (bit_and word (bit_not w64 (1 * 2 ^ (trailing_zeros w64 word) % 2 ^ 64))))) word_at
-        (subst (λ n. Writes words ranks x false (set words (r / 64) (bit_and word (bit_not w64 (1 * 2 ^ n % 2 ^ 64))))) k_is
-        record { marks = marks-write words ranks x r after false are order low rank here others; holds = words-write words ranks x r after false are order low rank here others })
+    first : (a b : Bool) → a && b ≡ true → a ≡ true
+    first true b e = refl
+    first false b e = e
+
+-- the bit of a point that is taken out
+pub takes : (words ranks : List ℕ) (r read x : ℕ) → AreMarkWords (length ranks) words → IsOrder ranks → is_marked_in words r ≡ true → read ≡ get_or words (r / 64) read → x < length ranks → get_or ranks x 0 ≡ r
+    → Writes words ranks x false (set words (r / 64) (bit_and read (bit_not w64 (1 * 2 ^ (r % 64) % 2 ^ 64)))) × IsMarked (marks_of words ranks) x
+takes words ranks r read x are order marked is low rank =
+    let small : r % 64 < 64 = omega arith in
+    let rank_low : r < length ranks = marked-low words (length ranks) r are marked in
+    let read_is : read ≡ get_or words (r / 64) 0 = is ∙ get_or_default words (r / 64) read 0 (word_of words (length ranks) r are rank_low) in
+    let word : ℕ = bit_and read (bit_not w64 (1 * 2 ^ (r % 64) % 2 ^ 64)) in
+    let here : has_bit word (r % 64) ≡ false = clear_same read (r % 64) small in
+    let others : (i : ℕ) → i < 64 → i ≢ r % 64 → has_bit word i ≡ has_bit (get_or words (r / 64) 0) i = λ i below other. clear_other read (r % 64) small i below other ∙ ap (λ w. has_bit w i) read_is in (
+      record { marks = marks-write words ranks x r word false are order low rank here others; holds = words-write words ranks x r word false are order low rank here others },
+      mark_at words ranks x low ∙ (ap (is_marked_in words) rank ∙ marked),
+    )
 
 -- words of zeros are a set of no points
 pub blank : (words : List ℕ) (bits : ℕ) → bits ≤ 2 ^ 16 → bits ≤ 64 * length words → 64 * length words < bits + 64 → ((k : ℕ) → k < length words → get_or words k 0 ≡ 0) → AreMarkWords bits words

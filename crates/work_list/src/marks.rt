@@ -1,33 +1,34 @@
 // A set of points, kept in words of 64 bits by their ranks, from which one is taken at a time.
-ghost use Rattle.std.specs.Prelude.{◌≡◌, ℕ, ◌+◌, ◌*◌, ◌<◌, ◌≤◌, ◌^◌, IfOk, MatchOption, false, true, length, replicate, slice_index, slice_set};
+ghost use Rattle.std.specs.Prelude.{◌≡◌, ℕ, ◌+◌, ◌*◌, ◌<◌, ◌≤◌, ◌^◌, IfOk, MatchOption, IfSome, false, true, length, replicate, slice_index, slice_set};
 ghost use Rattle.work_list.specs.Marks.{IsMarked, AreClear};
-ghost use Rattle.work_list.specs.Tables.MarkWords.{AreFull, IsClearBefore};
+ghost use Rattle.work_list.specs.Tables.MarkWords.{AreFull, is_marked_in};
 
 use crate::OutOfMemory;
-use crate::order::Order;
+use crate::order::{Order, Ranks};
 use std::alloc::Global;
 use std::marker::Model;
 
 /// A set of points, from which one is taken at a time. It is seen as a list that tells for each point whether it is marked.
 ///
-/// It has a copy of the order by which they are taken.
+/// It has a copy of the order by which they are taken. The parts of the order are taken up again, one by one, until none of their
+/// points is left.
 pub struct Marks {
     order: Order,
     words: Vec<u64>,
     next: usize,
-    behind: usize,
+    part: Ranks,
+    whole: Ranks,
 }
 
 impl Model for Marks {
     ghost use Rattle.std.specs.Prelude.{List, Bool, length};
-    ghost use Rattle.work_list.specs.Tables.MarkWords.{marks_of, AreMarkWords, IsClearBefore};
+    ghost use Rattle.work_list.specs.Tables.MarkWords.{marks_of, AreMarkWords};
 
     ghost Value = { List Bool };
 
     ghost view = { λ marks. marks_of marks.words.items marks.order };
 
-    ghost invariant = { λ marks. AreMarkWords (length marks.order) marks.words.items
-        × IsClearBefore marks.words.items marks.next marks.behind };
+    ghost invariant = { λ marks. AreMarkWords (length marks.order) marks.words.items };
 }
 
 impl Drop for Marks {
@@ -37,42 +38,60 @@ impl Drop for Marks {
             order: _,
             words: _,
             next: _,
-            behind: _,
+            part: _,
+            whole: _,
         } = self;
     }
 }
 
-// The first word from a place on that is not 0.
-fn first_marked(words: &[u64], from: usize) -> Option<usize>
-    ensures { MatchOption result
-        ((k : ℕ) → from ≤ k → k < length words.now → slice_index words.now k ≡ 0)
-        (λ at. (at < length words.now) × (0 < slice_index words.now at)
-        × ((k : ℕ) → from ≤ k → k < at → slice_index words.now k ≡ 0)) }
+// The first marked rank from one on, in its word and the words behind it, if it is below a limit.
+#[inline(always)]
+fn first_marked(words: &[u64], from: usize, to: usize) -> Option<usize>
+    requires few { length words.now ≤ 1024 }
+    ensures { IfSome result (λ rank. is_marked_in words.now rank ≡ true) }
 {
-    for at in from..words.len() {
-        if words[at] != 0 {
-            return Some(at);
+    let mut mask = u64::MAX << (from % 64);
+    for at in from / 64..words.len().min(to.div_ceil(64)) {
+        let word = words[at] & mask;
+        if word != 0 {
+            let rank = 64 * at + word.trailing_zeros() as usize;
+            return if rank < to { Some(rank) } else { None };
+        }
+        mask = u64::MAX;
+    }
+    None
+}
+
+// The lowest marked rank of all.
+fn lowest_marked(words: &[u64]) -> Option<usize>
+    requires few { length words.now ≤ 1024 }
+    ensures { MatchOption result
+        ((k : ℕ) → k < length words.now → slice_index words.now k ≡ 0)
+        (λ rank. is_marked_in words.now rank ≡ true) }
+{
+    for at in 0..words.len() {
+        let word = words[at];
+        if word != 0 {
+            return Some(64 * at + word.trailing_zeros() as usize);
         }
     }
     None
 }
 
-// The first word that is not 0, from `next` on, or else from `behind` on, the first one marked there since; and where the
-// next one behind it is sought.
-fn next_marked(words: &[u64], next: usize, behind: usize) -> Option<(usize, usize)>
-    requires { IsClearBefore words.now next behind }
+// A marked rank in the first of these places that has one, else the lowest of all.
+#[inline(always)]
+fn next_marked(words: &[u64], places: &[(usize, usize)]) -> Option<usize>
+    requires few { length words.now ≤ 1024 }
     ensures { MatchOption result
         ((k : ℕ) → k < length words.now → slice_index words.now k ≡ 0)
-        (λ found. (found.0 < length words.now) × (0 < slice_index words.now found.0)
-        × IsClearBefore words.now found.0 found.1) }
+        (λ rank. is_marked_in words.now rank ≡ true) }
 {
-    match first_marked(words, next) {
-        Some(at) => Some((at, behind)),
-        None => match first_marked(words, behind) {
-            Some(at) => Some((at, words.len())),
-            None => None,
-        },
+    for (from, to) in places {
+        if let Some(rank) = first_marked(words, *from, *to) {
+            return Some(rank);
+        }
     }
+    lowest_marked(words)
 }
 
 // Fills the words of so many bits.
@@ -96,7 +115,8 @@ impl Marks {
             order: order.copy(alloc)?,
             words: vec![in alloc; 0u64; points.div_ceil(64)]?,
             next: 0,
-            behind: 0,
+            part: Ranks::none(),
+            whole: Ranks::none(),
         })
     }
 
@@ -115,7 +135,17 @@ impl Marks {
         let rank = self.order.rank(point);
         let at = rank / 64;
         self.words[at] |= 1 << (rank % 64);
-        self.behind = self.behind.min(at);
+    }
+
+    // Goes behind a rank, and where it leads out of the part, into the part around it.
+    fn go_behind(&mut self, rank: usize)
+        ensures { self.new ≡ self.old }
+    {
+        self.next = rank.saturating_add(1);
+        if !self.part.has(rank) {
+            self.part = self.order.part_around(rank);
+            self.whole = self.order.whole_around(rank);
+        }
     }
 
     /// Puts all points into the set.
@@ -125,25 +155,36 @@ impl Marks {
         let points = self.order.points() as usize;
         fill_words(self.words.as_mut_slice(), points);
         self.next = 0;
-        self.behind = 0;
     }
 
-    /// Takes out a point: the one of lowest rank from the word on in which the last one was, and else the one of lowest rank
-    /// of all.
+    // Where the next marked rank is sought: behind the last one in its part, else up to it there; else behind this part in its whole,
+    // else before it there; else behind this whole.
+    #[inline(always)]
+    fn places(&self) -> [(usize, usize); 5] {
+        [
+            (self.next, self.part.end),
+            (self.part.start, self.next),
+            (self.part.end, self.whole.end),
+            (self.whole.start, self.part.start),
+            (self.whole.end, self.order.points() as usize),
+        ]
+    }
+
+    /// Takes out a point: one of the part in which the last one stood, as long as there is one, and else of the whole around it. In a
+    /// part ranks rise, and from its end on it is gone over again.
     pub fn take(&mut self) -> Option<usize>
         ensures { MatchOption result
             (AreClear self.old × (self.new ≡ self.old))
             (λ point. IsMarked self.old point × (self.new ≡ slice_set self.old point false)) }
     {
-        let (at, behind) = match next_marked(self.words.as_slice(), self.next, self.behind) {
-            Some(found) => found,
+        let places = self.places();
+        let rank = match next_marked(self.words.as_slice(), &places) {
+            Some(rank) => rank,
             None => return None,
         };
-        let word = self.words[at];
-        let bit = word.trailing_zeros();
-        self.words[at] = word & !(1 << bit);
-        self.next = at;
-        self.behind = behind;
-        Some(self.order.point_at(64 * at + bit as usize))
+        let point = self.order.point_at(rank);
+        self.words[rank / 64] &= !(1 << (rank % 64));
+        self.go_behind(rank);
+        Some(point)
     }
 }

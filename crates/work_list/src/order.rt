@@ -8,13 +8,38 @@ use crate::OutOfMemory;
 use std::alloc::Global;
 use std::marker::Model;
 
+/// Ranks in a row.
+#[derive(Clone, Copy)]
+pub(crate) struct Ranks {
+    /// The first.
+    pub start: usize,
+    /// The one behind the last.
+    pub end: usize,
+}
+
+impl Ranks {
+    /// No rank.
+    pub(crate) fn none() -> Ranks {
+        Ranks { start: 0, end: 0 }
+    }
+
+    /// Whether a rank is one of these.
+    #[inline(always)]
+    pub(crate) fn has(&self, rank: usize) -> bool {
+        self.start <= rank && rank < self.end
+    }
+}
+
 /// An order of points: any list of their numbers in which each stands once. It is seen as the rank of each point.
 ///
-/// The order is free: it bears on the time alone.
+/// Points whose ranks stand in a row can be a part, to be gone over again until nothing is left to do in it, and parts in a row a
+/// whole. Order, parts and wholes are free: they bear on the time alone.
 #[derive(Drop)]
 pub struct Order {
     ranks: Vec<u16>,
     points: Vec<u16>,
+    part_ends: Vec<u32>,
+    whole_ends: Vec<u32>,
 }
 
 impl Model for Order {
@@ -76,6 +101,17 @@ fn ranks_of(alloc: Global, points: &[u16]) -> Result<Vec<u16>, OutOfMemory>
     Ok(ranks)
 }
 
+// The ranks between two ends that have a rank among them; the ends rise.
+fn ranks_around(ends: &[u32], rank: usize, points: usize) -> Ranks {
+    let place = ends.partition_point(|end| *end as usize <= rank);
+    let start = match place.checked_sub(1) {
+        Some(before) => ends.get(before).map_or(0, |end| *end as usize),
+        None => 0,
+    };
+    let end = ends.get(place).map_or(points, |end| *end as usize);
+    Ranks { start, end }
+}
+
 impl Order {
     /// The order of the numbers below a count, each of which is its own rank.
     pub fn numbers(alloc: Global, count: u32) -> Result<Order, OutOfMemory>
@@ -86,6 +122,8 @@ impl Order {
         Ok(Order {
             ranks: numbers.as_slice().to_vec(alloc)?,
             points: numbers,
+            part_ends: Vec::new(alloc),
+            whole_ends: Vec::new(alloc),
         })
     }
 
@@ -98,9 +136,25 @@ impl Order {
         if leads_back(ranks.as_slice(), points.as_slice())
             && leads_back(points.as_slice(), ranks.as_slice())
         {
-            return Ok(Order { ranks, points });
+            return Ok(Order {
+                ranks,
+                points,
+                part_ends: Vec::new(alloc),
+                whole_ends: Vec::new(alloc),
+            });
         }
         Order::numbers(alloc, points.len() as u32)
+    }
+
+    /// The same order in parts, and these in wholes: the rank behind the last of each. They rise.
+    pub fn in_parts(self, part_ends: Vec<u32>, whole_ends: Vec<u32>) -> Order
+        ensures { result ≡ self }
+    {
+        Order {
+            part_ends,
+            whole_ends,
+            ..self
+        }
     }
 
     /// How many points it has.
@@ -130,6 +184,16 @@ impl Order {
         self.points[rank] as usize
     }
 
+    /// The part in which a rank stands.
+    pub(crate) fn part_around(&self, rank: usize) -> Ranks {
+        ranks_around(self.part_ends.as_slice(), rank, self.ranks.len())
+    }
+
+    /// The whole in which a rank stands.
+    pub(crate) fn whole_around(&self, rank: usize) -> Ranks {
+        ranks_around(self.whole_ends.as_slice(), rank, self.ranks.len())
+    }
+
     /// The same order once more.
     pub(crate) fn copy(&self, alloc: Global) -> Result<Order, OutOfMemory>
         ensures { IfOk result (λ copy. copy ≡ self.now) }
@@ -137,6 +201,8 @@ impl Order {
         Ok(Order {
             ranks: self.ranks.as_slice().to_vec(alloc)?,
             points: self.points.as_slice().to_vec(alloc)?,
+            part_ends: self.part_ends.as_slice().to_vec(alloc)?,
+            whole_ends: self.whole_ends.as_slice().to_vec(alloc)?,
         })
     }
 }

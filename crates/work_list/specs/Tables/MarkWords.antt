@@ -17,10 +17,6 @@ pub record AreMarkWords (bits : ℕ) (words : List ℕ) : Type 0 where
   pub full : 64 * length words < bits + 64
   pub above : (x : ℕ) → bits ≤ x → is_marked_in words x ≡ false
 
--- no bit is set in the words that lie before both places
-abbrev pub IsClearBefore : List ℕ → ℕ → ℕ → Type 0
-IsClearBefore words next behind = (k : ℕ) → k < next → k < behind → slice_index words k ≡ 0
-
 -- the words' first bits are set, so many, and no other
 abbrev pub AreFull : ℕ → List ℕ → Type 0
 AreFull bits words = ((x : ℕ) → x < bits → is_marked_in words x ≡ true) × ((x : ℕ) → bits ≤ x → is_marked_in words x ≡ false)

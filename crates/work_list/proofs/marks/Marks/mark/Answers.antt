@@ -1,5 +1,5 @@
 use Rattle.std.proofs.Common.{◌≡◌, ◌<◌, ◌/◌, arith, rules, length, vec_len, set, true, sym, subst, ap, ◌∙◌}
-use Rattle.work_list.proofs.MarkLemmas.{low_of, word_of, clear-write, puts}
+use Rattle.work_list.proofs.MarkLemmas.{low_of, word_of, puts}
 use Rattle.work_list.proofs.marks.Marks.mark.Goals as goal
 
 pub rank-rank-requires : goal.rank-rank-requires
@@ -10,19 +10,16 @@ index_mut-requires c =
     let len : vec_len c.self.inside.words ≡ length c.self.inside.words.items = search rules in
     let low = low_of c.self.inside.words.items c.self.inside.order c.args.point c.args.self.now c.self.view_is c.requires in
     let rank : c.rank-rank.result < length c.self.inside.order = subst (λ n. n < length c.self.inside.order) (sym c.rank-rank.ensures.rank) (c.rank-rank.ensures.order.in_range c.args.point low) in
-    let inside = word_of c.self.inside.words.items (length c.self.inside.order) c.rank-rank.result c.self.invariant.0 rank in
+    let inside = word_of c.self.inside.words.items (length c.self.inside.order) c.rank-rank.result c.self.invariant rank in
     omega (arith, len, inside)
 
 pub invariant_of-self : goal.invariant_of-self
 invariant_of-self c =
     let low = low_of c.self.inside.words.items c.self.inside.order c.args.point c.args.self.now c.self.view_is c.requires in
-    let min = c.min-self-inside.ensures in (
-      (puts c.self.inside.words.items c.self.inside.order c.args.point c.rank-rank.result c.index_mut.result.now c.self.invariant.0 c.rank-rank.ensures.order low c.rank-rank.ensures.rank c.index_mut.ensures.value).holds,
-      clear-write c.self.inside.words.items (c.rank-rank.result / 64) _ c.self.inside.next c.min-self-inside.result (λ k before_next before_behind. c.self.invariant.1 k before_next (omega (arith, min, before_behind))) (omega (arith, min)),
-    )
+    (puts c.self.inside.words.items c.self.inside.order c.args.point c.rank-rank.result c.index_mut.result.now c.self.invariant c.rank-rank.ensures.order low c.rank-rank.ensures.rank c.index_mut.ensures.value).holds
 
 pub returns : goal.returns
 returns c =
     let low = low_of c.self.inside.words.items c.self.inside.order c.args.point c.args.self.now c.self.view_is c.requires in
-    (puts c.self.inside.words.items c.self.inside.order c.args.point c.rank-rank.result c.index_mut.result.now c.self.invariant.0 c.rank-rank.ensures.order low c.rank-rank.ensures.rank c.index_mut.ensures.value).marks
+    (puts c.self.inside.words.items c.self.inside.order c.args.point c.rank-rank.result c.index_mut.result.now c.self.invariant c.rank-rank.ensures.order low c.rank-rank.ensures.rank c.index_mut.ensures.value).marks
     ∙ ap (λ marks. set marks c.args.point true) c.self.view_is

@@ -13,12 +13,10 @@ invariant_of-self c =
     let len : c.self.inside.words.len ≡ length words = search rules in
     let old : length words ≡ length c.self.inside.words.items = search rules in
     let full = subst (λ n. AreFull n words) c.points-points.ensures.count c.fill_words.ensures in
-    let room = c.self.invariant.0.room in
-    let most = c.self.invariant.0.full in (
-      subst (λ (xs : List ℕ). AreMarkWords (length c.self.inside.order) xs) (sym (back c.self.inside.words.len words c.self.inside.words.items len))
-          record { few = c.self.invariant.0.few; room = omega (arith, room, old); full = omega (arith, most, old); above = full.1 },
-      λ k none. absurd (omega (arith, none)),
-    )
+    let room = c.self.invariant.room in
+    let most = c.self.invariant.full in
+    subst (λ (xs : List ℕ). AreMarkWords (length c.self.inside.order) xs) (sym (back c.self.inside.words.len words c.self.inside.words.items len))
+    record { few = c.self.invariant.few; room = omega (arith, room, old); full = omega (arith, most, old); above = full.1 }
 
 pub returns : goal.returns
 returns c =

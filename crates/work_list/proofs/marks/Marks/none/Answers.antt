@@ -22,7 +22,7 @@ invariant_of-result c =
     let few = c.points-points.ensures.order.few in
     let made = c.points-points.ensures.count in
     let count : c.points-points.result ≡ length c.in_ok-copy.field-0 = c.points-points.ensures.count ∙ ap length (sym c.in_ok-copy.ensures) in
-    (subst (λ n. AreMarkWords n words) count (blank words c.points-points.result (omega (arith, few, made)) enough full (zeros words c.div_ceil.result is)), λ k none. absurd (omega (arith, none)))
+    subst (λ n. AreMarkWords n words) count (blank words c.points-points.result (omega (arith, few, made)) enough full (zeros words c.div_ceil.result is))
 
 pub returns : goal.returns
 returns c =
