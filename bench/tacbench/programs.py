@@ -57,7 +57,7 @@ def proved_program():
     out = ROOT / "crates" / "tacflow" / "out"
     mark = out / "launched"
     if not os.access(out / "tacflow", os.X_OK) or not mark.exists():
-        raise Unready("tacflow is not proved and built: ./tacflow --help does that; or TACFLOW=PATH names another program")
+        raise Unready("tacflow is not proved and built: ./tacflow --prove does that; or TACFLOW=PATH names another program")
     if mark.read_text().split("\n")[0].strip() != sources_sum():
         raise Unready("tacflow was built from other sources: ./tacflow --help proves and builds it; or TACFLOW=PATH names another program")
     return str(out / "tacflow")

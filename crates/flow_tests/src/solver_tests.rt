@@ -261,7 +261,7 @@ enum Onward {
 }
 
 /// Programs, and how many steps they have.
-const ONWARD: &[(Onward, u64)] = &[
+const ONWARD: &[(Onward, u32)] = &[
     (Onward::Line, 100),
     (Onward::Blocks(1), 302),
     (Onward::Blocks(149), 302),
@@ -317,10 +317,11 @@ fn write_onward(text: &mut String, onward: Onward) -> Result<(), OutOfMemory> {
     }
 }
 
-fn check_steps<R: Abort + AllocGlobal>(rt: &R, onward: Onward, steps: u64) -> Result<(), Fail> {
+fn check_steps<R: Abort + AllocGlobal>(rt: &R, onward: Onward, steps: u32) -> Result<(), Fail> {
     let mut text = String::new(rt.alloc());
     write_onward(&mut text, onward)?;
     let followed = steps_followed(rt.alloc(), text.as_bytes())?;
+    let steps = u64::from(steps);
     assert_eq!(rt; followed, Some((steps, 2 * steps)));
     Ok(())
 }
@@ -347,23 +348,35 @@ fn write_loops(text: &mut String, depth: u32) -> Result<(), OutOfMemory> {
     text.push_str("end\n")
 }
 
-fn check_loops<R: Abort + AllocGlobal>(rt: &R, depth: u32) -> Result<(), Fail> {
+/// Depths of loops, with how many steps there are, since a test has two and each other statement one, and how many are followed at most:
+/// for the flags each once, and for a group of words each at most twice more than there are loops around one another.
+const LOOPS: &[(u32, u64, u64)] = &[
+    (0, 0, 0),
+    (1, 5, 20),
+    (2, 10, 50),
+    (10, 50, 650),
+    (100, 500, 51_500),
+];
+
+fn check_loops<R: Abort + AllocGlobal>(
+    rt: &R,
+    depth: u32,
+    steps: u64,
+    most: u64,
+) -> Result<(), Fail> {
     let mut text = String::new(rt.alloc());
     write_loops(&mut text, depth)?;
     let followed = steps_followed(rt.alloc(), text.as_bytes())?;
     let (for_flags, for_all) = followed.expect(rt, "a graph");
-    // A test has two steps, and each other statement one.
-    let steps = 5 * u64::from(depth);
     assert_eq!(rt; for_flags, steps);
-    assert!(rt; for_all - steps <= (u64::from(depth) + 2) * steps);
+    assert!(rt; for_all <= most);
     Ok(())
 }
 
-/// A step is followed at most twice more than there are loops around it.
 #[test]
 fn loops_are_gone_over_as_deep_as_they_lie(rt: HostRuntime) -> Result<(), Fail> {
-    for depth in [0, 1, 2, 10, 100] {
-        check_loops(&rt, depth)?;
+    for (depth, steps, most) in LOOPS {
+        check_loops(&rt, *depth, *steps, *most)?;
     }
     Ok(())
 }

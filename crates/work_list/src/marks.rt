@@ -79,8 +79,7 @@ fn lowest_marked(words: &[u64]) -> Option<usize>
 }
 
 // A marked rank in the first of these places that has one, else the lowest of all.
-#[inline(always)]
-fn next_marked(words: &[u64], places: &[(usize, usize)]) -> Option<usize>
+fn marked_elsewhere(words: &[u64], places: &[(usize, usize)]) -> Option<usize>
     requires few { length words.now ≤ 1024 }
     ensures { MatchOption result
         ((k : ℕ) → k < length words.now → slice_index words.now k ≡ 0)
@@ -92,6 +91,29 @@ fn next_marked(words: &[u64], places: &[(usize, usize)]) -> Option<usize>
         }
     }
     lowest_marked(words)
+}
+
+// The next marked rank: from one on in its part, else before it there; else behind this part in its whole, else before it there; else
+// behind this whole, and before it.
+#[inline(always)]
+fn next_marked(words: &[u64], from: usize, part: Ranks, whole: Ranks) -> Option<usize>
+    requires few { length words.now ≤ 1024 }
+    ensures { MatchOption result
+        ((k : ℕ) → k < length words.now → slice_index words.now k ≡ 0)
+        (λ rank. is_marked_in words.now rank ≡ true) }
+{
+    match first_marked(words, from, part.end) {
+        Some(rank) => Some(rank),
+        None => marked_elsewhere(
+            words,
+            &[
+                (part.start, from),
+                (part.end, whole.end),
+                (whole.start, part.start),
+                (whole.end, usize::MAX),
+            ],
+        ),
+    }
 }
 
 // Fills the words of so many bits.
@@ -137,14 +159,22 @@ impl Marks {
         self.words[at] |= 1 << (rank % 64);
     }
 
+    // Goes into the part and the whole around a rank.
+    fn go_around(&mut self, rank: usize)
+        ensures { self.new ≡ self.old }
+    {
+        self.part = self.order.part_around(rank);
+        self.whole = self.order.whole_around(rank);
+    }
+
     // Goes behind a rank, and where it leads out of the part, into the part around it.
+    #[inline(always)]
     fn go_behind(&mut self, rank: usize)
         ensures { self.new ≡ self.old }
     {
         self.next = rank.saturating_add(1);
         if !self.part.has(rank) {
-            self.part = self.order.part_around(rank);
-            self.whole = self.order.whole_around(rank);
+            self.go_around(rank);
         }
     }
 
@@ -157,28 +187,16 @@ impl Marks {
         self.next = 0;
     }
 
-    // Where the next marked rank is sought: behind the last one in its part, else up to it there; else behind this part in its whole,
-    // else before it there; else behind this whole.
-    #[inline(always)]
-    fn places(&self) -> [(usize, usize); 5] {
-        [
-            (self.next, self.part.end),
-            (self.part.start, self.next),
-            (self.part.end, self.whole.end),
-            (self.whole.start, self.part.start),
-            (self.whole.end, self.order.points() as usize),
-        ]
-    }
-
     /// Takes out a point: one of the part in which the last one stood, as long as there is one, and else of the whole around it. In a
     /// part ranks rise, and from its end on it is gone over again.
+    #[inline(always)]
     pub fn take(&mut self) -> Option<usize>
         ensures { MatchOption result
             (AreClear self.old × (self.new ≡ self.old))
             (λ point. IsMarked self.old point × (self.new ≡ slice_set self.old point false)) }
     {
-        let places = self.places();
-        let rank = match next_marked(self.words.as_slice(), &places) {
+        let words = self.words.as_slice();
+        let rank = match next_marked(words, self.next, self.part, self.whole) {
             Some(rank) => rank,
             None => return None,
         };
