@@ -252,7 +252,7 @@ fn steps_of_program(alloc: Global, program: &Program) -> Result<Option<(u64, u64
 /// A program without loops and without recursion.
 #[derive(Clone, Copy)]
 enum Onward {
-    /// A line of statements that do nothing.
+    /// A line of assignments.
     Line,
     /// Blocks of an assignment and a jump to the next one, so many numbers from one to the next in the text, round and round.
     Blocks(u32),
@@ -273,7 +273,7 @@ const ONWARD: &[(Onward, u32)] = &[
 fn write_line(text: &mut String) -> Result<(), OutOfMemory> {
     text.push_str("proc main\n")?;
     for _ in 0..100 {
-        text.push_str("skip\n")?;
+        text.push_str("x = 1\n")?;
     }
     text.push_str("end\n")
 }
