@@ -239,7 +239,7 @@ def run_tacview(text):
     """What tacview tells of a program, as lines of JSON, and what it says on standard error, as that it runs unproved."""
     tacview = os.environ.get("TACVIEW", os.path.join(HERE, "..", "..", "tacview"))
     try:
-        done = subprocess.run([tacview, "--format", "json", "--facts", "none", "--cut", "512"], input=text.encode("ascii"),
+        done = subprocess.run([tacview, "--format", "json", "--facts", "none"], input=text.encode("ascii"),
                               capture_output=True, check=False)
     except OSError as fault:
         raise Refusal(f"{tacview}: {fault.strerror}") from None
