@@ -116,8 +116,10 @@ def analyse(task):
         outcome.faults.append(str(refusal))
     except OSError as fault:
         outcome.faults.append(f"{fault.filename or task.inputs[0].file}: {fault.strerror}")
-    except RecursionError:
-        outcome.faults.append(f"{task.inputs[0].file}: an operand that is nested too deeply")
+    except BadWords:
+        raise
+    except Exception as fault:  # one file on which this front end itself fails does not lose the others
+        outcome.faults.append(f"{task.inputs[0].file}: a fault of check-c itself: {type(fault).__name__}: {fault}")
     return outcome
 
 
