@@ -1,5 +1,7 @@
 """From facts of a program to remarks on the C sources that it was made of."""
 
+import re
+
 from gimple.code import Variable
 
 from .remark import Note, Remark
@@ -7,6 +9,7 @@ from .sources import canonical
 from .traces import Traces
 from .written import part_named
 
+WORD = re.compile(r"[A-Za-z_$][\w$]*")
 SHOWN_ROLES = ("plain", "test", "result")
 PLAIN_VALUES = frozenset(["0", "0B", "0.0", "{}", '""', "0.0e+0", "0x0"])
 
@@ -104,7 +107,7 @@ class Findings:
             return
         if not self.holds(claim, lambda copy: self.has_fact(copy, "dead", copy[1].variable.name)):
             return
-        if self.is_meant(procedure, step.variable):
+        if self.is_meant(procedure, step.variable) or not self.holds_for_macro(step):
             return
         kind = "dead-initial" if all(self.is_plain_initial(copy[1]) for copy in self.by_claim[claim]) else "dead"
         shown = part_named(step) or name
@@ -112,6 +115,24 @@ class Findings:
         notes = () if step.variable.owner is not procedure else tuple(
             Note(place.file, place.line, place.column, "overwritten here") for place in self.traces.overwritten(procedure, step))
         self.put(claim, self.remark(line, kind, text, notes))
+
+    def holds_for_macro(self, step):
+        """Whether an assignment is no macro's, or all of this macro's in its file to variables of this name are dead."""
+        word = self.macro_at(step)
+        if not word:
+            return True
+        name, file = step.variable.source, step.origin.place.file
+        return all(self.has_fact(line, "dead", line[1].variable.name) for line in self.lines
+                   if line[0] not in self.never and line[1].kind == "set" and line[1].role in SHOWN_ROLES
+                   and line[1].variable.source == name and line[1].origin.place.file == file and self.macro_at(line[1]) == word)
+
+    def macro_at(self, step):
+        """The macro at whose name an assignment stands, '' where it stands at its own sign, its variable or the function it calls."""
+        statement = step.origin
+        behind = self.sources.get(statement.place.file).behind(statement.place.line, statement.place.column)
+        word = WORD.match(behind)
+        is_callee = word and statement.kind == "call" and statement.words[0].startswith(word.group() + "D.")
+        return "" if not word or is_callee or word.group() == step.variable.source else word.group()
 
     def is_meant(self, procedure, variable):
         """Whether the source says that a variable need not be read."""

@@ -46,6 +46,18 @@ static int macros(int i)
     return x + y + TWICE(i);    /* the first i * 3 of the place is new */
 }
 
+#define KEPT(x, y) (y = (x) + 2, (x) * 2)
+#define LOST(x, y) (y = (x) + 3, (x) * 3)
+
+static int by_macro(int i, int n)
+{
+    int y, z;
+    n = n + KEPT(i, y);     /* this y is not read, but that of the next line is: the macro needs it */
+    n = n * KEPT(n, y) + y;
+    n = n + LOST(i, z);     /* expect: assignment to 'z' is dead */
+    return n + LOST(n, z);  /* expect: assignment to 'z' is dead */
+}
+
 static int steps(int i, int n)
 {
     int before = i + 1;
@@ -57,5 +69,6 @@ static int steps(int i, int n)
 
 int main(int argc, char **argv)
 {
-    return elements(argc, items, argc) + constants(argc, argc) + macros(argc) + steps(argc, 2);
+    return elements(argc, items, argc) + constants(argc, argc) + macros(argc) + steps(argc, 2)
+        + by_macro(argc, 1);
 }
