@@ -1,6 +1,6 @@
-// Each call that takes memory, with each of its requests refused in turn. With ample memory these tests end as all others. Where the
-// Nth request of each test is refused (`rt try --test --fail-alloc N`), the call that met it is made once more and has to give the same
-// answer; then the test fails by the call's name. A test that fails by want of memory met it before its call or behind it.
+// Each call that takes memory. With ample memory these tests end as all others. Where a request is refused (`checks/refused`), the call
+// that met it is made once more and has to give the same answer; then the test fails by the call's name. A test that fails by want of
+// memory met it before its call or behind it.
 
 ghost use Rattle.std.specs.Prelude.{◌≡◌, IfOk};
 ghost use Rattle.flow_team.specs.Tables.{IsTableOf};
@@ -37,7 +37,7 @@ enum Call {
 // Fails by the name of a call that was refused.
 fn named(refused: bool, call: &'static str) -> Result<(), Fail> {
     if refused {
-        Err(Fail::new(call))
+        Err(Fail::new(format_args!("refused: {call}")))
     } else {
         Ok(())
     }
