@@ -1,15 +1,16 @@
 -- What is found of a program is knowledge of it, and what a report lists as dead is safe
-use Rattle.std.proofs.Common.{◌≡◌, ℕ, suc, ◌<◌, Bool, true, false, not, ◌&&◌, List, [], ◌∷◌, length, Option, Some, None, option_and_then, if◌then◌else◌, refl, sym, ap, ◌∙◌, arith}
+use Rattle.std.proofs.Common.{◌≡◌, ℕ, zero, suc, ◌<◌, Bool, true, false, not, ◌&&◌, List, [], ◌∷◌, ◌++◌, inl, inr, length, map, get_or, subst, Contains, Option, Some, None, option_and_then, if◌then◌else◌, refl, sym, ap, ◌∙◌, arith}
+use Rattle.std.proofs.lemmas.List.Elements.{All-map, All-contains, Contains-get_or, Contains-append_cases}
 use Rattle.tac_reader.specs.Programs.{Program}
 use Rattle.tac_reader.specs.Sound.{IsSound}
 use Rattle.tac_reader.specs.declared.program.StmtKind.{StmtKind}
-use Rattle.flow_graph.specs.Analyses.{shape_of, accesses_of}
 use Rattle.flow_graph.specs.Points.{kind_at, point_count}
-use Rattle.flow_graph.specs.Runs.{ReadsBeforeWriting}
 use Rattle.flow_graph.proofs.graphs.GraphLaws.{dead_variables_are_safe}
 use Rattle.flow_graph.proofs.places.Standing.{Stands, stands}
 use Rattle.flow_texts.specs.code.Findings.{AreFindings, TellDoubtful, knowledge_of}
-use Rattle.flow_texts.specs.Reports.{IsKnowledge, IsListedDead, IsReport, Knowledge, ListsSafely, assigned, dead_at, report_of}
+use Rattle.flow_texts.specs.Reports.{IsKnowledge, IsListedDead, IsReport, IsSafeToDelete, Knowledge, ListsSafely, assigned, busy_at, computed_at, dead_at, remarks_at, remarks_when_reached, report_of, unset_at}
+use Rattle.flow_texts.specs.declared.remark.Remark.{Remark}
+use Rattle.flow_texts.specs.declared.remark.Remark.TheVariants.{NeverReached, Unset, Computed, VeryBusy, Dead}
 use Rattle.flow_texts.specs.declared.findings.Findings.{Findings}
 use Rattle.flow_texts.proofs.KnownReports.{all_is_known, all_known, report_of_all}
 use Rattle.flow_texts.proofs.RemarkLines.{assigned_there, next_below}
@@ -22,37 +23,89 @@ record IsDead (program : Program) (known : Knowledge) (point variable : ℕ) : T
   sure : known.doubtful (suc point) ≡ false
   dead : known.live.contains (suc point) variable ≡ false
 
-dead_of : (program : Program) (known : Knowledge) (point variable : ℕ) → dead_at program known point ≡ variable ∷ [] → IsDead program known point variable
+-- what is made otherwise is no remark that an assignment is dead
+none_made : (make : ℕ → Remark) (xs : List ℕ) (variable : ℕ) → ((x : ℕ) → ¬ (make x ≡ Dead variable)) → ¬ (Contains (map make xs) (Dead variable))
+none_made make xs variable other at =
+    All-contains (λ r. r ≡ Dead variable → ⊥) (map make xs) (Dead variable) (All-map (λ r. r ≡ Dead variable → ⊥) make xs (λ k d low. other _)) at refl
+
+-- and one that is made so is made of its variable
+made_dead : (xs : List ℕ) (variable : ℕ) → Contains (map (λ v. Dead v) xs) (Dead variable) → Contains xs variable
+made_dead xs variable at =
+    All-contains (λ r. r ≡ Dead variable → Contains xs variable) (map (λ v. Dead v) xs) (Dead variable)
+    (All-map (λ r. r ≡ Dead variable → Contains xs variable) (λ v. Dead v) xs (λ k d low same. subst (Contains xs) (dead_variable _ variable same) (Contains-get_or xs k d low))) at refl
+  where
+    dead_variable : (x y : ℕ) → Dead x ≡ Dead y → x ≡ y
+    dead_variable x y same = cc
+
+-- of a list of one that one is an element
+only : (x variable : ℕ) → Contains (x ∷ []) variable → x ≡ variable
+only x variable at = go at.0 at.1 at.2
+  where
+    go : (i : ℕ) → i < 1 → get_or (x ∷ []) i variable ≡ variable → x ≡ variable
+    go zero low is = is
+    go (suc i) low is = absurd (omega arith)
+
+-- an assignment that a remark of a point calls dead is the dead one there
+listed_there : (program : Program) (known : Knowledge) (point variable : ℕ) → Contains (remarks_at program known point) (Dead variable) → Contains (dead_at program known point) variable
+listed_there program known point variable listed = by_kind (kind_at program point) (known.reach.has_path point) listed
+  where
+    of_four : (first second third fourth : List Remark) → ¬ (Contains first (Dead variable)) → ¬ (Contains second (Dead variable)) → ¬ (Contains third (Dead variable))
+        → (Contains fourth (Dead variable) → Contains (dead_at program known point) variable) → Contains (first ++ second ++ third ++ fourth) (Dead variable) → Contains (dead_at program known point) variable
+    of_four first second third fourth no_a no_b no_c of_d at = elim (Contains-append_cases (first ++ second ++ third) fourth (Dead variable) at) [
+      | inr last ↦ of_d last
+      | inl before ↦ elim (Contains-append_cases (first ++ second) third (Dead variable) before) [
+        | inr there ↦ absurd (no_c there)
+        | inl front ↦ elim (Contains-append_cases first second (Dead variable) front) [
+          | inr there ↦ absurd (no_b there)
+          | inl there ↦ absurd (no_a there)
+        ]
+      ]
+    ]
+
+    reached : Contains (remarks_when_reached program known point) (Dead variable) → Contains (dead_at program known point) variable
+    reached at = of_four (map (λ x. Unset x) (unset_at program known point)) (map (λ x. Computed x) (computed_at program known point)) (map (λ x. VeryBusy x) (busy_at program known point)) (map (λ x. Dead x) (dead_at program known point)) (none_made (λ x. Unset x) (unset_at program known point) variable (λ x same. cc))
+        (none_made (λ x. Computed x) (computed_at program known point) variable (λ x same. cc)) (none_made (λ x. VeryBusy x) (busy_at program known point) variable (λ x same. cc))
+        (made_dead (dead_at program known point) variable) at
+
+    by_kind : (o : Option StmtKind) (has_path : Bool)
+        → Contains (elim o [
+          | Some statement ↦ if has_path then remarks_when_reached program known point else NeverReached ∷ []
+          | None ↦ []
+        ]) (Dead variable) → Contains (dead_at program known point) variable
+    by_kind None has_path at = absurd (omega (arith, at.1))
+    by_kind (Some statement) true at = reached at
+    by_kind (Some statement) false at = absurd (none_made (λ x. NeverReached) (0 ∷ []) variable (λ x same. cc) at)
+
+dead_of : (program : Program) (known : Knowledge) (point variable : ℕ) → Contains (dead_at program known point) variable → IsDead program known point variable
 dead_of program known point variable listed = by_kind (kind_at program point) refl listed
   where
     by_tests : (k : StmtKind) (x : ℕ) (d l : Bool) → kind_at program point ≡ Some k → assigned k ≡ Some x → known.doubtful (suc point) ≡ d → known.live.contains (suc point) x ≡ l
-        → (if not d && not l then x ∷ [] else []) ≡ variable ∷ [] → IsDead program known point variable
-    by_tests k x true l at sets sure dead is = absurd (cc is)
-    by_tests k x false true at sets sure dead is = absurd (cc is)
+        → Contains (if not d && not l then x ∷ [] else []) variable → IsDead program known point variable
+    by_tests k x true l at sets sure dead is = absurd (omega (arith, is.1))
+    by_tests k x false true at sets sure dead is = absurd (omega (arith, is.1))
     by_tests k x false false at sets sure dead is =
-        let same : x ≡ variable = cc in
+        let same : x ≡ variable = only x variable is in
         record { statement = k; there = at; sets = sets ∙ ap (λ v. let o : Option ℕ = Some v in o) same; sure = sure; dead = ap (known.live.contains (suc point)) (sym same) ∙ dead }
 
     by_variable : (k : StmtKind) (o : Option ℕ) → kind_at program point ≡ Some k → assigned k ≡ o
-        → elim o [
+        → Contains (elim o [
           | Some x ↦ if not (known.doubtful (suc point)) && not (known.live.contains (suc point) x) then x ∷ [] else []
           | None ↦ []
-        ] ≡ variable ∷ [] → IsDead program known point variable
-    by_variable k None at sets is = absurd (cc is)
+        ]) variable → IsDead program known point variable
+    by_variable k None at sets is = absurd (omega (arith, is.1))
     by_variable k (Some x) at sets is = by_tests k x (known.doubtful (suc point)) (known.live.contains (suc point) x) at sets refl refl is
 
     by_kind : (o : Option StmtKind) → kind_at program point ≡ o
-        → elim (option_and_then assigned o) [
+        → Contains (elim (option_and_then assigned o) [
           | Some x ↦ if not (known.doubtful (suc point)) && not (known.live.contains (suc point) x) then x ∷ [] else []
           | None ↦ []
-        ] ≡ variable ∷ [] → IsDead program known point variable
-    by_kind None at is = absurd (cc is)
+        ]) variable → IsDead program known point variable
+    by_kind None at is = absurd (omega (arith, is.1))
     by_kind (Some k) at is = by_variable k (assigned k) at refl is
 
-listed_dead_is_safe : (program : Program) (known : Knowledge) (point variable : ℕ) → IsSound program → IsKnowledge program known → IsListedDead program known point variable
-    → ¬ (ReadsBeforeWriting (shape_of program) (accesses_of program variable) (suc point))
-listed_dead_is_safe program known point variable sound is_known (below, reached, listed) =
-    let dead : IsDead program known point variable = dead_of program known point variable listed in
+listed_dead_is_safe : (program : Program) (known : Knowledge) (point variable : ℕ) → IsSound program → IsKnowledge program known → IsListedDead program known point variable → IsSafeToDelete program point variable
+listed_dead_is_safe program known point variable sound is_known (below, listed) =
+    let dead : IsDead program known point variable = dead_of program known point variable (listed_there program known point variable listed) in
     let stand : Stands program point dead.statement = stands program sound point dead.statement below dead.there in
     let next : suc point < point_count program = omega (arith, next_below program point dead.statement stand) in
     let there : variable < length program.variable_names = assigned_there program point variable dead.statement stand dead.sets in

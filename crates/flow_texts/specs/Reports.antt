@@ -1,5 +1,5 @@
 -- The report on a program: what the four analyses say of each statement.
-use Rattle.std.specs.Prelude.{◌≡◌, ◌↔◌, ℕ, suc, ◌<◌, Bool, true, false, not, ◌&&◌, List, [], ◌∷◌, ◌++◌, map, flat_map, filter, length, Option, Some, None, option_and_then, option_map, unwrap_or, if◌then◌else◌, codes, decimal}
+use Rattle.std.specs.Prelude.{◌≡◌, ◌↔◌, ℕ, suc, ◌<◌, Bool, true, false, not, ◌&&◌, List, [], ◌∷◌, ◌++◌, map, flat_map, filter, length, Contains, Option, Some, None, option_and_then, option_map, unwrap_or, if◌then◌else◌, codes, decimal}
 use Rattle.std.specs.List.{range_with_len}
 use Rattle.flow_graph.specs.Analyses.{shape_of, accesses_of}
 use Rattle.flow_graph.specs.Points.{points, point_count, kind_at}
@@ -127,16 +127,17 @@ pub record IsReport (program : Program) (text : List ℕ) : Type 0 where
   pub is_known : IsKnowledge program known
   pub is_text : text ≡ report_of program known
 
--- the assignment at a point is listed as dead
+-- The text has a line which says that the assignment to the variable at the point is dead, for whatever reason it is there.
 abbrev pub IsListedDead : Program → Knowledge → ℕ → ℕ → Type 0
-IsListedDead program known point variable =
-    (point < point_count program) × (known.reach.has_path point ≡ true) × (dead_at program known point ≡ variable ∷ [])
+IsListedDead program known point variable = (point < point_count program) × Contains (remarks_at program known point) (Dead variable)
 
--- The text is the report over the meets over all valid paths, and what it lists as dead is safe to delete: no run from the point
--- after it, finished or not, reads the variable before writing it.
+-- No run from the point after an assignment, finished or not, reads the variable before writing it.
+abbrev pub IsSafeToDelete : Program → ℕ → ℕ → Type 0
+IsSafeToDelete program point variable = ¬ (ReadsBeforeWriting (shape_of program) (accesses_of program variable) (suc point))
+
+-- The text is the report over the meets over all valid paths, and what its lines call dead is safe to delete.
 pub record ListsSafely (program : Program) (text : List ℕ) : Type 0 where
   pub known : Knowledge
   pub is_known : IsKnowledge program known
   pub is_text : text ≡ report_of program known
-  pub safe : (point variable : ℕ) → IsListedDead program known point variable
-      → ¬ (ReadsBeforeWriting (shape_of program) (accesses_of program variable) (suc point))
+  pub safe : (point variable : ℕ) → IsListedDead program known point variable → IsSafeToDelete program point variable

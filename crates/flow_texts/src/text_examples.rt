@@ -1,10 +1,10 @@
 //! Texts of tables and reports over facts that are written out by hand, checked by computing them.
 
-ghost use Rattle.std.specs.Prelude.{◌≡◌, codes};
+ghost use Rattle.std.specs.Prelude.{◌≡◌, false, codes};
 ghost use Rattle.flow_graph.specs.ProgramExamples.{calls_twice, adds_to_itself, calls_endless, may_loop};
 ghost use Rattle.flow_graph.specs.declared.analysis.Analysis.TheVariants.{Reach, Avail, Busy};
 ghost use Rattle.tac_reader.specs.Programs.{program_of};
-ghost use Rattle.flow_texts.specs.Reports.{report_of};
+ghost use Rattle.flow_texts.specs.Reports.{IsSafeToDelete, report_of};
 ghost use Rattle.flow_texts.specs.Tables.{table_text_of};
 ghost use Rattle.flow_texts.specs.WorkedTexts.{reach_of_two_calls, known_of_sum, known_of_endless_callee, known_of_loop, known_of_branches};
 
@@ -27,4 +27,11 @@ pub fn report_examples()
         ≡ codes "points 6, variables 2, definitions 3, expressions 0\n3: c may be used before it is set\n" }
     ensures very_busy { report_of (program_of (codes "proc main\nread b\nread c\nif c goto L\nx = b + c\nprint x\nreturn\nL: y = b + c\nprint y\nend\n")) known_of_branches
         ≡ codes "points 9, variables 4, definitions 8, expressions 1\n4: b + c is very busy\n" }
+{}
+
+/// Why doubt is asked: behind line 2 of this loop the variable is not live, and an execution that stays in the loop reads it. So
+/// no report is safe that calls the assignment dead, however it comes to that.
+pub fn doubt_examples()
+    ensures not_live { known_of_loop.live.contains 1 0 ≡ false }
+    ensures not_safe { ¬ (IsSafeToDelete may_loop 0 0) }
 {}
