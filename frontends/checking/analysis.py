@@ -6,7 +6,7 @@ import signal
 import subprocess
 import tempfile
 from concurrent.futures import ThreadPoolExecutor
-from dataclasses import dataclass, field, replace
+from dataclasses import dataclass, field
 
 from gimple import emit, inputs, program
 from gimple.faults import Refusal
@@ -21,22 +21,6 @@ MANY_STATEMENTS = 24000
 FEW_STATEMENTS = 8000
 FEW_FUNCTIONS = 180
 HERE = os.path.dirname(os.path.realpath(__file__))
-
-
-@dataclass(frozen=True)
-class Input:
-    """A C file: its name, the options that gcc takes for it, and the folder that names begin at, '.' where a word named it."""
-    file: str
-    options: tuple
-    directory: str = "."
-
-    def shown(self, name):
-        """What a file of gcc's is called in messages: as it was named, or else from here where it is below this folder."""
-        if self.directory == ".":
-            return os.path.normpath(name) if "/../" in name else name
-        path = os.path.normpath(os.path.join(self.directory, name))
-        here = os.getcwd() + os.sep
-        return path.removeprefix(here)
 
 
 @dataclass(frozen=True)
@@ -127,12 +111,12 @@ def compile_all(task, outcome):
     """The files of a task; those that gcc refuses are left out."""
     files = []
     with tempfile.TemporaryDirectory() as folder, ThreadPoolExecutor(task.processes) as threads:
-        started = [threads.submit(run_gcc, given.file, given.options, given.directory, os.path.join(folder, str(number)))
+        started = [threads.submit(run_gcc, given, os.path.join(folder, str(number)))
                    for number, given in enumerate(task.inputs)]
         for given, run in zip(task.inputs, started):
             try:
                 dump = run.result()
-                files += [inputs.read_file(dump, given.file)] if dump else []
+                files += [inputs.read_file(dump, given.shown(given.file), given.shown)] if dump else []
             except Refusal as refusal:
                 outcome.faults.append(str(refusal))
     return files
@@ -148,7 +132,7 @@ class Analysis:
         self.is_whole = task.is_whole and not outcome.faults
         if task.is_whole and outcome.faults:
             outcome.notes.append("files are missing, so the rest is not taken as the whole program")
-        self.sources = Sources(task.inputs[0].directory)
+        self.sources = Sources()
 
     def run(self):
         """Analyses the program, in parts where it is too large."""
@@ -207,22 +191,13 @@ class Analysis:
         self.outcome.notes += [f"{procedure.refusal}; '{procedure.source}' is taken as unknown code" for procedure in built.refused]
 
     def take(self, found):
-        """Takes in what was found, under the names that are shown."""
-        shown = self.task.inputs[0].shown
-        own = {given.file for given in self.task.inputs} - self.task.repeated
+        """Takes in what was found."""
         for key, remark in found.remarks.items():
-            notes = tuple(replace(note, file=shown(note.file)) for note in remark.notes)
-            self.outcome.remarks.setdefault(plain_key(key, shown), replace(remark, file=shown(remark.file), notes=notes))
+            self.outcome.remarks.setdefault(key, remark)
         if not self.task.is_alone:
-            self.outcome.own |= set(map(shown, own))
-            others = {place.file for place in found.places() if place.file not in own}
-            self.outcome.seen |= {plain_key(key, shown) for key in found.seen_in(others)}
-
-
-def plain_key(key, shown):
-    """A key as plain values, with the file's name as it is shown."""
-    (file, line, column), kind, name = key
-    return (shown(file), line, column, kind, name)
+            own = {given.shown(given.file) for given in self.task.inputs} - self.task.repeated
+            self.outcome.own |= own
+            self.outcome.seen |= found.seen_in({place.file for place in found.places() if place.file not in own})
 
 
 def cut(functions, weights, count):

@@ -6,8 +6,8 @@ import sys
 from collections import Counter
 
 from . import baseline, formats
-from .analysis import HERE, Input, Task, analyse, processes, take_up
-from .compiling import BadWords
+from .analysis import HERE, Task, analyse, processes, take_up
+from .compiling import BadWords, Input
 from .database import inputs_of
 from .remark import in_source_order
 from .sources import Sources
@@ -38,7 +38,7 @@ def tasks_of(words):
     if is_whole or words.flags["--together"]:
         return [Task(tuple(given), is_whole, shows_all, folder, processes=words.processes)]
     counts = Counter(one.shown(one.file) for one in given)
-    repeated = frozenset(one.file for one in given if counts[one.shown(one.file)] > 1)
+    repeated = frozenset(file for file, count in counts.items() if count > 1)
     return [Task((one,), False, shows_all, folder, len(given) == 1, repeated, words.processes if len(given) == 1 else 1) for one in given]
 
 
@@ -71,9 +71,9 @@ def joined(outcomes):
 
 def agrees(outcome, key):
     """Whether a program has what a key says, or no copy of its place. That something may be unset is true where one copy has it."""
-    file, line, column, kind, name = key
-    claim = (file, line, column, kind, "" if kind == "busy" else name)
-    return kind == "unset" or key in outcome.remarks or claim not in outcome.seen and file not in outcome.own
+    place, kind, name = key
+    claim = (place, kind, "" if kind == "busy" else name)
+    return kind == "unset" or key in outcome.remarks or claim not in outcome.seen and place[0] not in outcome.own
 
 
 def write(words, remarks):

@@ -3,6 +3,7 @@
 import os
 import re
 import subprocess
+from dataclasses import dataclass
 
 from gimple.faults import Refusal
 
@@ -18,6 +19,22 @@ LEFT_OUT = re.compile(r"""-(?:c|S|pipe|pg|p|s|v|g.*|O.*|o.+|MD|MMD|MP|MG|MF.+|MT
 OTHER_WORK = frozenset(["-E", "-M", "-MM", "-fsyntax-only", "-###", "--help", "--version"])
 DOUBLE = re.compile(r"--(?:sysroot|param|std|coverage|include|define-macro)(?:=|$)")
 PASSED_OVER = re.compile(r".*\.(?:o|a|so(?:\.\d+)*|lo|s|S|ld|map)$")
+
+
+@dataclass(frozen=True)
+class Input:
+    """A C file: its name, the options that gcc takes for it, and the folder that names begin at, '.' where a word named it."""
+    file: str
+    options: tuple
+    directory: str = "."
+
+    def shown(self, name):
+        """What a file of gcc's is called in messages: as it was named, or else from here where it is below this folder."""
+        if self.directory == ".":
+            return os.path.normpath(name) if "/../" in name else name
+        path = os.path.normpath(os.path.join(self.directory, name))
+        here = os.getcwd() + os.sep
+        return path.removeprefix(here)
 
 
 class BadWords(Exception):
@@ -53,19 +70,19 @@ def following(word, rest):
     return found
 
 
-def run_gcc(file, options, directory, folder):
+def run_gcc(given, folder):
     """Has gcc dump a file's code into a new folder; answers the path of the dump, or None where there is no function."""
     gcc = os.environ.get("GCC", "gcc")
     os.mkdir(folder)
-    command = [gcc, "-S", "-o", os.path.join(folder, "out.s"), "-w", *options, *ASKED, "-aux-info", os.path.join(folder, "c.aux"),
-               "-dumpdir", folder + "/", "-dumpbase", "c", file]
+    command = [gcc, "-S", "-o", os.path.join(folder, "out.s"), "-w", *given.options, *ASKED, "-aux-info", os.path.join(folder, "c.aux"),
+               "-dumpdir", folder + "/", "-dumpbase", "c", given.file]
     try:
-        done = subprocess.run(command, cwd=directory, capture_output=True, text=True, errors="surrogateescape", check=False)
+        done = subprocess.run(command, cwd=given.directory, capture_output=True, text=True, errors="surrogateescape", check=False)
     except OSError as fault:
         raise Refusal(f"{fault.filename or gcc}: {fault.strerror}") from None
     if done.returncode:
         told = done.stderr.strip().splitlines()
         first = next((line for line in told if "error" in line), told[0] if told else f"status {done.returncode}")
-        raise Refusal(f"gcc failed: {first}", file)
+        raise Refusal(f"gcc failed: {first}", given.shown(given.file))
     dumps = [name for name in os.listdir(folder) if name.endswith(".lower")]
     return os.path.join(folder, dumps[0]) if dumps else None

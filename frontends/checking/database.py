@@ -4,8 +4,7 @@ import json
 import os
 import shlex
 
-from .analysis import Input
-from .compiling import BadWords, take_option
+from .compiling import BadWords, Input, take_option
 
 
 def inputs_of(path, wanted):

@@ -1,6 +1,5 @@
 """The text of C sources: what stands at a place, how an expression is written there, and which remarks a comment silences."""
 
-import os
 import re
 
 IGNORE = re.compile(r"tacflow:\s*ignore\b(?:\s+(?P<kinds>[a-z-]+(?:\s*,\s*[a-z-]+)*))?")
@@ -120,12 +119,11 @@ def canonical(operator, operands, is_element):
 class Sources:
     """All source files that are asked for."""
 
-    def __init__(self, folder="."):
-        self.folder = folder
+    def __init__(self):
         self.known = {}
 
     def get(self, file):
-        """A source file by its name in gcc's dumps."""
+        """A source file by its name."""
         if file not in self.known:
-            self.known[file] = Source(os.path.join(self.folder, file))
+            self.known[file] = Source(file)
         return self.known[file]

@@ -1,5 +1,6 @@
 """Reading gcc's dump `-fdump-tree-lower-raw-lineno-uid`: functions, what they declare, and their statements."""
 
+import functools
 import re
 from dataclasses import dataclass, field
 from typing import NamedTuple
@@ -106,9 +107,10 @@ class Function:
 
 
 class Reader:
-    """A reader of one dump's lines."""
+    """A reader of one dump's lines. shown: what a file of the dump's is called in places."""
 
-    def __init__(self, text, file):
+    def __init__(self, text, file, shown):
+        self.shown = functools.cache(shown)
         self.lines = text.split("\n")
         self.at = 0
         self.file = file
@@ -187,7 +189,7 @@ class Reader:
             line = self.next_line().strip()
             if line == closing:
                 return found
-            place, line = place_of(line)
+            place, line = self.placed(line)
             self.last_place = place or self.last_place
             if line.startswith("gimple_try <"):
                 found.append(self.try_block(line))
@@ -207,6 +209,21 @@ class Reader:
         self.pass_line(">")
         return Try(body, cleanup)
 
+    def placed(self, line):
+        """The place that a line begins with, or None, and the line without it."""
+        found = operands.PLACE.match(line)
+        if not found:
+            return None, line
+        rest = line[found.end():]
+        if found[1] == "<built-in>" or found[2] == "0":
+            return None, rest
+        return Place(self.shown(found[1]), int(found[2]), int(found[3])), rest
+
+    def first_place(self, line):
+        """The first place that a line names: a switch of which gcc tells none is placed at its first case."""
+        places = [self.placed(found.group())[0] for found in operands.PLACE.finditer(line)]
+        return min(filter(None, places), key=lambda place: (place.line, place.column), default=None)
+
     def pass_line(self, wanted):
         """Passes a line that has to be there."""
         line = self.next_line().strip()
@@ -217,7 +234,7 @@ class Reader:
         """A statement of one line."""
         self.count += 1
         if line.startswith("gimple_switch") and place is None:
-            place = first_place(line)
+            place = self.first_place(line)
         found = STATEMENT.match(line)
         if not found:
             raise Refusal(f"a statement that is not known: {line[:60]}", place or self.last_place)
@@ -259,23 +276,6 @@ class Reader:
                 target.append((named["constraint"], named["operand"]))
             else:
                 raise Refusal("assembler that is not written as expected", statement.place)
-
-
-def place_of(line):
-    """The place that a line begins with, or None, and the line without it."""
-    found = operands.PLACE.match(line)
-    if not found:
-        return None, line
-    rest = line[found.end():]
-    if found[1] == "<built-in>" or found[2] == "0":
-        return None, rest
-    return Place(found[1], int(found[2]), int(found[3])), rest
-
-
-def first_place(line):
-    """The first place that a line names: a switch of which gcc tells none is placed at its first case."""
-    places = [place_of(found.group())[0] for found in operands.PLACE.finditer(line)]
-    return min(filter(None, places), key=lambda place: (place.line, place.column), default=None)
 
 
 def closing_bracket(text):
@@ -321,9 +321,9 @@ def cases_of(statement):
     return CASE.findall(", ".join(statement.words[1:]))
 
 
-def read(text, file):
+def read(text, file, shown):
     """The functions of a dump."""
-    return Reader(text, file).functions()
+    return Reader(text, file, shown).functions()
 
 
 def words_of(statement):

@@ -27,8 +27,11 @@ def beside(path, stem, ending, option):
     return found[-1]
 
 
-def read_file(path, name=None):
-    """A C file by the dump of this path and those that stand beside it; `name` is what messages call it."""
+def read_file(path, name=None, shown=str):
+    """A C file by the dump of this path and those that stand beside it.
+
+    name: what messages call it. shown: what they call a file that the dumps name.
+    """
     match = LOWER.match(path)
     if not match:
         raise Refusal(f"{path}: a dump's name ends with .lower, as in a.c.010t.lower")
@@ -37,11 +40,12 @@ def read_file(path, name=None):
     known = symbols.Symbols()
     symbols.read_table(read_text(beside(path, stem, ".cgraph", "-fdump-ipa-cgraph")), known)
     symbols.read_blocks(read_text(beside(path, stem, ".ssa", "-fdump-tree-ssa-lineno-uid-blocks")), known)
-    for ending, read in ((".aux", symbols.read_definitions), (".original", symbols.read_casts)):
-        for other in glob.glob(glob.escape(stem) + "*" + ending):
-            read(read_text(other), known)
+    for other in glob.glob(glob.escape(stem) + "*.aux"):
+        symbols.read_definitions(read_text(other), known, shown)
+    for other in glob.glob(glob.escape(stem) + "*.original"):
+        symbols.read_casts(read_text(other), known)
     name = name or stem
     try:
-        return File(name, dump.read(text, name), known)
+        return File(name, dump.read(text, name, shown), known)
     except (ValueError, IndexError):
         raise Refusal("a dump that is not written as expected", name) from None

@@ -130,13 +130,13 @@ def take_volatile(line, symbols):
             symbols.volatile.add(found.group())
 
 
-def read_definitions(text, symbols):
-    """Reads `-aux-info`: where functions are defined."""
+def read_definitions(text, symbols, shown):
+    """Reads `-aux-info`: where functions are defined, in files as they are shown."""
     for line in text.split("\n"):
         found = DEFINITION.match(line)
         name = DEFINED_NAME.search(found["rest"]) if found else None
         if name:
-            symbols.definitions[name[1]] = (found["file"], int(found["line"]))
+            symbols.definitions[name[1]] = (shown(found["file"]), int(found["line"]))
 
 
 def read_casts(text, symbols):

@@ -105,7 +105,8 @@ def wrong_databases(folder):
                {"directory": folder, "file": "x.cc", "command": "g++ -c x.cc"}]
     with open(os.path.join(folder, "compile_commands.json"), "w", encoding="utf-8") as file:
         json.dump(entries, file)
-    for words, names in (("-p .", {"library.c", "one.c"}), ("-p compile_commands.json -j 2 library.c", {"library.c"})):
+    for words, names in (("-p .", {"library.c", "one.c"}), ("-p compile_commands.json -j 2 library.c", {"library.c"}),
+                         ("-p . --together", {"library.c", "one.c"})):
         told = run(words + " --format json", folder)
         if told.returncode or {json.loads(line)["file"] for line in told.stdout.splitlines()} != names:
             yield f"check-c {words}: {told.stdout}{told.stderr}"
