@@ -17,8 +17,7 @@ PLAIN_VALUES = frozenset(["0", "0B", "0.0", "{}", '""', "0.0e+0", "0x0"])
 class Findings:
     """The remarks on one program.
 
-    remarks: by keys, which are the same for all copies of a place in all programs. seen: for places in files that other programs
-    share, what could have a remark there, whether it has one or not.
+    remarks: by keys, which are the same for all copies of a place in all programs. tried: the keys that were looked at.
     """
 
     def __init__(self, program, written, facts, sources, files, shows_all):
@@ -31,6 +30,7 @@ class Findings:
         self.never = {number for number, told in facts.items() if ("never_reached", "") in told}
         self.traces = Traces()
         self.remarks = {}
+        self.tried = set()
         told = {line[1].origin.place for line in self.lines if line[0] in facts}
         self.by_claim = self.gather(line for line in self.lines if line[1].origin.place in told)
         self.take_all()
@@ -93,6 +93,12 @@ class Findings:
         self.take_never_reached()
         self.take_never_called()
 
+    def is_new(self, key):
+        """Whether a key was not looked at before."""
+        known = key in self.tried
+        self.tried.add(key)
+        return not known
+
     def put(self, key, remark):
         """Keeps a remark unless a comment silences it."""
         if not self.sources.get(remark.file).is_silenced(remark.kind, remark.line):
@@ -103,7 +109,7 @@ class Findings:
         _, step, procedure = line
         name = self.name(step.variable)
         claim = (step.origin.place, "dead", name)
-        if claim not in self.by_claim or claim in self.remarks or line not in self.by_claim[claim]:
+        if not name or step.role not in SHOWN_ROLES and not self.shows_all or not self.is_new(claim):
             return
         if not self.holds(claim, lambda copy: self.has_fact(copy, "dead", copy[1].variable.name)):
             return
@@ -158,7 +164,7 @@ class Findings:
         """An expression that is evaluated once more."""
         _, step, procedure = line
         claim = (step.origin.place, "computed", self.plain_expression(step))
-        if step.expression != name or claim in self.remarks or line not in self.by_claim.get(claim, ()):
+        if step.expression != name or not claim[2] or step.role not in SHOWN_ROLES and not self.shows_all or not self.is_new(claim):
             return
         if not self.holds(claim, lambda copy: self.has_fact(copy, "computed", copy[1].expression)):
             return
@@ -184,7 +190,7 @@ class Findings:
             return
         claim = (step.origin.place, "busy", "")
         key = (step.origin.place, "busy", self.plain_expression(found))
-        if key in self.remarks or not self.holds(claim, lambda copy: self.is_busy_copy(copy, key[2])):
+        if not self.is_new(key) or not self.holds(claim, lambda copy: self.is_busy_copy(copy, key[2])):
             return
         places = self.traces.evaluated_next(procedure, step, name)
         notes = tuple(Note(place.file, place.line, place.column, "evaluated here") for place in places)
