@@ -5,10 +5,11 @@ import os
 import signal
 import subprocess
 import tempfile
+from collections import Counter
 from concurrent.futures import ThreadPoolExecutor
 from dataclasses import dataclass, field
 
-from gimple import emit, inputs, program
+from gimple import dump, emit, inputs, program
 from gimple.faults import Refusal
 from gimple.world import World
 
@@ -52,14 +53,29 @@ class Outcome:
     notes: list = field(default_factory=list)
     faults: list = field(default_factory=list)
 
-    def join(self, other):
-        """Takes in what came of another part."""
-        for key, remark in other.remarks.items():
-            self.remarks.setdefault(key, remark)
-        self.seen |= other.seen
-        self.own |= other.own
-        self.notes += other.notes
-        self.faults += other.faults
+    def join(self, parts):
+        """Takes in what came of the parts of a program."""
+        self.remarks.update(agreed(parts))
+        for part in parts:
+            self.seen |= part.seen
+            self.notes += part.notes
+            self.faults += part.faults
+
+
+def agreed(outcomes):
+    """The remarks of several programs by key: each once, and only what holds in all copies of its place."""
+    remarks = {}
+    for outcome in outcomes:
+        for key, remark in outcome.remarks.items():
+            remarks.setdefault(key, remark)
+    return {key: remark for key, remark in remarks.items() if all(agrees(outcome, key) for outcome in outcomes)}
+
+
+def agrees(outcome, key):
+    """Whether a program has what a key says, or no copy of its place. That something may be unset is true where one copy has it."""
+    place, kind, name = key
+    claim = (place, kind, "" if kind == "busy" else name)
+    return kind == "unset" or key in outcome.remarks or claim not in outcome.seen and place[0] not in outcome.own
 
 
 # What the processes of one analysis share: the analysis, its parts, their weights.
@@ -81,12 +97,12 @@ def take_up(*parts):
 def do_part(number):
     """Does a part in a process of its own."""
     analysis, parts, weights = shared
-    analysis.outcome = Outcome()
+    analysis.parts = []
     try:
         analysis.try_part(parts[number], weights)
     except Refusal as refusal:
-        analysis.outcome.faults.append(str(refusal))
-    return analysis.outcome
+        analysis.parts.append(Outcome(faults=[str(refusal)]))
+    return analysis.parts
 
 
 def analyse(task):
@@ -115,8 +131,8 @@ def compile_all(task, outcome):
                    for number, given in enumerate(task.inputs)]
         for given, run in zip(task.inputs, started):
             try:
-                dump = run.result()
-                files += [inputs.read_file(dump, given.shown(given.file), given.shown)] if dump else []
+                path = run.result()
+                files += [inputs.read_file(path, given.shown(given.file), given.shown)] if path else []
             except Refusal as refusal:
                 outcome.faults.append(str(refusal))
     return files
@@ -133,8 +149,17 @@ class Analysis:
         if task.is_whole and outcome.faults:
             outcome.notes.append("files are missing, so the rest is not taken as the whole program")
         self.sources = Sources()
+        self.parts = []
+        self.shared = frozenset()
 
     def run(self):
+        """Analyses the program, and joins what came of its parts."""
+        self.analyse()
+        self.outcome.join(self.parts)
+        if not self.task.is_alone:
+            self.outcome.own |= self.own_files()
+
+    def analyse(self):
         """Analyses the program, in parts where it is too large."""
         if self.is_whole and not any(function.name == "main" for function in self.functions()):
             raise BadWords("--whole needs the file that has main")
@@ -154,13 +179,27 @@ class Analysis:
     def analyse_in_parts(self, weights, count):
         """Analyses functions by functions, the others taken as code that is not known."""
         parts = cut(self.functions(), weights, count)
+        self.shared = self.shared_places()
         if self.task.processes == 1:
             for part in parts:
                 self.try_part(part, weights)
             return
         with processes(self.task.processes, take_up, self, parts, weights) as pool:
-            for outcome in pool.imap(do_part, range(len(parts)), chunksize=1):
-                self.outcome.join(outcome)
+            for done in pool.imap(do_part, range(len(parts)), chunksize=1):
+                self.parts += done
+
+    def shared_places(self):
+        """The places that several functions have, as those of headers and macros, which may come into several parts."""
+        counts = Counter()
+        for file in self.files:
+            for function in file.functions:
+                definition = file.symbols.definitions.get(function.name)
+                counts.update({statement.place for statement in dump.statements_in(function.body)} | {definition and (*definition, 0)})
+        return frozenset(place for place, count in counts.items() if place and count > 1)
+
+    def own_files(self):
+        """The files of this program that no other one compiles."""
+        return {given.shown(given.file) for given in self.task.inputs} - self.task.repeated
 
     def functions(self):
         """All functions of all files."""
@@ -172,7 +211,7 @@ class Analysis:
             self.analyse_part(frozenset(self.functions()) - frozenset(part))
         except emit.TooLarge as fault:
             if len(part) == 1:
-                self.outcome.notes.append(f"{part[0].file}: '{part[0].name}' is left out: {fault}")
+                self.parts.append(Outcome(notes=[f"{part[0].file}: '{part[0].name}' is left out: {fault}"]))
                 return
             for half in cut(part, weights, 2):
                 self.try_part(half, weights)
@@ -183,21 +222,16 @@ class Analysis:
         built = program.build(world, self.task.shows_all)
         written = emit.Writer().write(built.procedures)
         told, said = run_tacview(written.text)
-        self.outcome.notes += said
         if self.task.keep:
             keep(self.task.keep, written, told)
         found = Findings(built, written, read_facts(told), self.sources, self.files, self.task.shows_all)
-        self.take(found)
-        self.outcome.notes += [f"{procedure.refusal}; '{procedure.source}' is taken as unknown code" for procedure in built.refused]
+        said += [f"{procedure.refusal}; '{procedure.source}' is taken as unknown code" for procedure in built.refused]
+        self.parts.append(Outcome(found.remarks, self.seen_in(found), notes=said))
 
-    def take(self, found):
-        """Takes in what was found."""
-        for key, remark in found.remarks.items():
-            self.outcome.remarks.setdefault(key, remark)
-        if not self.task.is_alone:
-            own = {given.shown(given.file) for given in self.task.inputs} - self.task.repeated
-            self.outcome.own |= own
-            self.outcome.seen |= found.seen_in({place.file for place in found.places() if place.file not in own})
+    def seen_in(self, found):
+        """What could be told at places that other programs, or other parts of this one, may have too."""
+        own = self.own_files()
+        return found.seen_at(lambda place: place in self.shared or not self.task.is_alone and place[0] not in own)
 
 
 def cut(functions, weights, count):

@@ -6,13 +6,14 @@ import sys
 from collections import Counter
 
 from . import baseline, formats
-from .analysis import HERE, Task, analyse, processes, take_up
+from .analysis import HERE, Task, agreed, analyse, processes, take_up
 from .compiling import BadWords, Input
 from .database import inputs_of
 from .remark import in_source_order
 from .sources import Sources
 from .words import Words, help_text
 
+# As gcc itself, check-c tells nothing of these.
 SYSTEM_HEADERS = ("/usr/include/", "/usr/lib/", "/usr/local/include/")
 ROOT = os.path.join(HERE, "..", "..")
 
@@ -59,23 +60,6 @@ def outcomes_of(tasks, count):
         return pool.map(analyse, tasks, chunksize=1)
 
 
-def joined(outcomes):
-    """The remarks of all programs: each place is told of once, and only what holds in all copies of it; no system header is."""
-    remarks = {}
-    for outcome in outcomes:
-        for key, remark in outcome.remarks.items():
-            remarks.setdefault(key, remark)
-    return [remark for key, remark in remarks.items()
-            if not remark.file.startswith(SYSTEM_HEADERS) and all(agrees(outcome, key) for outcome in outcomes)]
-
-
-def agrees(outcome, key):
-    """Whether a program has what a key says, or no copy of its place. That something may be unset is true where one copy has it."""
-    place, kind, name = key
-    claim = (place, kind, "" if kind == "busy" else name)
-    return kind == "unset" or key in outcome.remarks or claim not in outcome.seen and place[0] not in outcome.own
-
-
 def write(words, remarks):
     """Writes the remarks to standard output."""
     sources = Sources()
@@ -108,7 +92,8 @@ def check(words):
     prepare_tacview()
     outcomes = outcomes_of(tasks, words.processes)
     files = [given.shown(given.file) for task in tasks for given in task.inputs]
-    remarks = in_source_order([remark for remark in joined(outcomes) if remark.kind in words.kinds], files)
+    told = [remark for remark in agreed(outcomes).values() if remark.kind in words.kinds and not remark.file.startswith(SYSTEM_HEADERS)]
+    remarks = in_source_order(told, files)
     if words.values["--baseline"] is not None:
         remarks = baseline.without_known(words.values["--baseline"], remarks)
     if words.values["--write-baseline"] is not None:

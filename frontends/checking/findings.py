@@ -286,15 +286,11 @@ class Findings:
         place = line[1].origin.place
         return Remark(place.file, place.line, place.column, kind, text, line[2].source, notes)
 
-    def places(self):
-        """All places of statements."""
-        return {line[1].origin.place for line in self.lines}
-
-    def seen_in(self, shared):
-        """The keys of all that could be told at places in files that other programs share."""
-        found = set(self.gather(line for line in self.lines if line[1].origin.place.file in shared and line[0] not in self.never))
+    def seen_at(self, is_shared):
+        """The keys of all that could be told at places that are shared."""
+        found = set(self.gather(line for line in self.lines if line[0] not in self.never and is_shared(line[1].origin.place)))
         for procedure in self.program.procedures:
             place = self.definition_of(procedure) if procedure.function else None
-            if place and place[0] in shared:
+            if place and is_shared((*place[:2], 0)):
                 found.add(((*place[:2], 0), "never", procedure.source))
         return found

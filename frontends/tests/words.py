@@ -8,6 +8,7 @@ import subprocess
 import sys
 import tempfile
 import time
+from collections import Counter
 
 HERE = os.path.dirname(os.path.realpath(__file__))
 CHECK = os.path.join(HERE, "..", "check-c")
@@ -112,6 +113,23 @@ def wrong_databases(folder):
             yield f"check-c {words}: {told.stdout}{told.stderr}"
 
 
+def wrong_parts(folder):
+    """What is wrong where a program is analysed in parts: a header's remark holds in the copies of all parts, or is not told."""
+    header = "static int state;\nstatic inline void set(int x)\n{\n    int twice = x * 2;\n    state = x;\n}\n"
+    for name, own in (("first", "set(n); return state;"), ("second", "set(n); return n;")):
+        functions = "".join(f"int {name}{number}(int n)\n{{\n    int gone = n * 2;\n    return n;\n}}\n" for number in range(150))
+        with open(os.path.join(folder, name + ".c"), "w", encoding="utf-8") as file:
+            file.write(f'#include "parts.h"\nint {name}(int n) {{ {own} }}\n{functions}')
+    with open(os.path.join(folder, "parts.h"), "w", encoding="utf-8") as file:
+        file.write(header)
+    for words in ("--together first.c second.c", "--together -j 2 first.c second.c"):
+        told = run(words + " --format json", folder)
+        places = Counter((row["file"], row["message"]) for row in map(json.loads, told.stdout.splitlines()))
+        gone = "assignment to 'gone' is dead"
+        if places != {("first.c", gone): 150, ("second.c", gone): 150, ("parts.h", "assignment to 'twice' is dead"): 1}:
+            yield f"check-c {words}: {places}{told.stderr}"
+
+
 def wrong_ends(folder):
     """What is wrong where the answer can't be written, or where the run is interrupted."""
     with open("/dev/full", "w", encoding="utf-8") as full:
@@ -141,7 +159,7 @@ def wrong_ends(folder):
 def differences():
     """What is wrong, for each group of trials the lines that say so."""
     wrong = []
-    groups = (wrong_cases, wrong_forms, wrong_baselines, wrong_databases, wrong_ends)
+    groups = (wrong_cases, wrong_forms, wrong_baselines, wrong_databases, wrong_parts, wrong_ends)
     for group in groups:
         with tempfile.TemporaryDirectory() as folder:
             os.mkdir(os.path.join(folder, "folder.c"))
