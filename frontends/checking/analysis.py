@@ -64,18 +64,25 @@ class Outcome:
 
 def agreed(outcomes):
     """The remarks of several programs by key: each once, and only what holds in all copies of its place."""
-    remarks = {}
+    remarks, by_claim, by_file = {}, {}, {}
     for outcome in outcomes:
         for key, remark in outcome.remarks.items():
-            remarks.setdefault(key, remark)
-    return {key: remark for key, remark in remarks.items() if all(agrees(outcome, key) for outcome in outcomes)}
+            if key not in remarks:
+                remarks[key] = remark
+                by_claim.setdefault(claim_of(key), []).append(key)
+                by_file.setdefault(remark.file, []).append(key)
+    denied = set()
+    for outcome in outcomes:
+        there = [by_claim[claim] for claim in by_claim.keys() & outcome.seen] + [by_file[file] for file in by_file.keys() & outcome.own]
+        denied.update(key for keys in there for key in keys if key not in outcome.remarks)
+    # that something may be unset is true where one copy has it
+    return {key: remark for key, remark in remarks.items() if key not in denied or key[1] == "unset"}
 
 
-def agrees(outcome, key):
-    """Whether a program has what a key says, or no copy of its place. That something may be unset is true where one copy has it."""
+def claim_of(key):
+    """What a program has seen where it could have a remark of this key: of tests not for each expression."""
     place, kind, name = key
-    claim = (place, kind, "" if kind == "busy" else name)
-    return kind == "unset" or key in outcome.remarks or claim not in outcome.seen and place[0] not in outcome.own
+    return (place, kind, "" if kind == "busy" else name)
 
 
 # What the processes of one analysis share: the analysis, its parts, their weights.
