@@ -25,17 +25,30 @@ pub(crate) fn check_fault<R: Abort>(
     assert!(rt; got.starts_with(line));
 }
 
-// With ample memory this answer, and where a growth was refused want of memory and nothing written.
+// With ample memory this answer. Where a request was refused, nothing was written, and the test fails by the call's name.
 pub(crate) fn check_outcome<R: Abort>(
     rt: &R,
+    call: &'static str,
     outcome: Result<(), Fault>,
     taken: &[u8],
     answer: &[u8],
 ) -> Result<(), Fail> {
     match outcome {
         Ok(()) => check_same(rt, taken, answer),
-        Err(Fault::OutOfMemory) => assert!(rt; taken.is_empty()),
+        Err(Fault::OutOfMemory) => {
+            assert!(rt; taken.is_empty());
+            return named(true, call);
+        }
         Err(_) => return Err(Fail::from("another answer")),
     }
     Ok(())
+}
+
+// Fails by the name of a call that was refused.
+pub(crate) fn named(refused: bool, call: &'static str) -> Result<(), Fail> {
+    if refused {
+        Err(Fail::new(format_args!("refused: {call}")))
+    } else {
+        Ok(())
+    }
 }

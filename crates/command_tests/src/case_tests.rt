@@ -1,7 +1,7 @@
 // Values by hand: tables and reports of small programs, and programs at the limits.
 
 use crate::devices::{ALONE, blank_page};
-use crate::tacflow_tests::{check, check_all, told};
+use crate::tacflow_tests::{check, check_all, check_by, told};
 use crate::texts::{numbered, push_numbered};
 use flow_commands::Show;
 use std::process::Abort;
@@ -106,6 +106,22 @@ const AVAIL_TABLES: &[(&str, &str)] = &[
 #[test]
 fn tables_of_available_expressions(rt: HostRuntime) -> Result<(), Fail> {
     check_all(&rt, Show::Avail, AVAIL_TABLES)
+}
+
+const PRINTS_A_NUMBER: &[u8] = b"proc main\nprint 1\nend\n";
+
+// Where there are no bits there are no slices, and 64 workers find nothing to draw.
+#[test]
+fn table_without_bits_by_64_workers(rt: HostRuntime) -> Result<(), Fail> {
+    let answer = b"main 0: -\nmain 1: -\n";
+    check_by(
+        &rt,
+        PRINTS_A_NUMBER,
+        usize::MAX,
+        Show::Avail,
+        (64, 64),
+        answer,
+    )
 }
 
 const BUSY_TABLES: &[(&str, &str)] = &[

@@ -13,7 +13,7 @@ mod devices;
 #[cfg(test)]
 mod example_tests;
 #[cfg(test)]
-mod growth_tests;
+mod refusal_tests;
 #[cfg(test)]
 mod tacflow_tests;
 #[cfg(test)]

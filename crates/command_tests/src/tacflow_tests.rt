@@ -1,6 +1,6 @@
 // `tacflow`'s values by hand: what small texts are told, what words name, and what faults of devices leave.
 
-use crate::answers::{check_fault, check_outcome, check_same, check_team};
+use crate::answers::{check_fault, check_same, check_team};
 use crate::devices::{ALONE, Page, Pieces, TEAMS, blank_page};
 use crate::texts::{numbered, repeated};
 use clap::error;
@@ -19,7 +19,7 @@ use text_pieces::{FromRead, ToWrite};
 pub(crate) const NAME: &str = "tacflow";
 
 // What comes of a run from the reader to the page.
-fn run_to_page<R: Threads + Sync + AllocGlobal, D: Read + Drop>(
+pub(crate) fn run_to_page<R: Threads + Sync + AllocGlobal, D: Read + Drop>(
     rt: &R,
     reader: D,
     page: &mut Page,
@@ -525,62 +525,6 @@ fn listing_of_two_pieces(rt: HostRuntime) -> Result<(), Fail> {
         check_writer(&rt, text, Show::List, text, *left, None)?;
     }
     check_by(&rt, text, usize::MAX, Show::List, ALONE, text)
-}
-
-// With ample memory this answer, and where a growth is refused want of memory and nothing written.
-pub(crate) fn check_growths<R: Threads + Sync + Abort + AllocGlobal>(
-    rt: &R,
-    text: &str,
-    show: Show,
-    answer: &str,
-    workers: u32,
-) -> Result<(), Fail> {
-    let options = Options::new(workers, 1, show).ok_or("options")?;
-    let Ok(taken) = Vec::with_capacity(rt.alloc(), 512) else {
-        return Ok(());
-    };
-    let mut page = blank_page(rt.alloc());
-    page.taken = taken;
-    let outcome = run_to_page(rt, text.as_bytes(), &mut page, options);
-    check_outcome(rt, outcome, &page.taken, answer.as_bytes())
-}
-
-const RECURSION: &str =
-    "proc main\nx = 1\ncall f\nprint x\nend\nproc f\nif x goto L\ncall f\nx = 2\nL:\nend\n";
-
-const BRANCHES: &str =
-    "proc main\nread b\nread c\nif c goto L\nx = b + c\nprint x\nreturn\nL: y = b + c\nprint y\nend\n";
-
-const GROWTHS: &[(&str, Show, &str)] = &[
-    (
-        RECURSION,
-        Show::List,
-        "proc main\n  x = 1\n  call f\n  print x\nend\nproc f\n  if x goto L\n  call f\n  x = 2\nL:\nend\n",
-    ),
-    (
-        RECURSION,
-        Show::Reach,
-        "main 0: x@entry\nmain 1: x@2\nmain 2: x@2, x@9\nmain 3: x@2, x@9\nf 0: x@2\nf 1: x@2\nf 2: x@2, x@9\nf 3: x@2, x@9\n",
-    ),
-    (
-        BRANCHES,
-        Show::Busy,
-        "main 0: -\nmain 1: -\nmain 2: b + c\nmain 3: b + c\nmain 4: -\nmain 5: -\nmain 6: b + c\nmain 7: -\nmain 8: -\n",
-    ),
-    (
-        BRANCHES,
-        Show::Report,
-        "points 9, variables 4, definitions 8, expressions 1\n4: b + c is very busy\n",
-    ),
-];
-
-#[test]
-fn growths_refused(rt: HostRuntime) -> Result<(), Fail> {
-    for (text, show, answer) in GROWTHS {
-        check_growths(&rt, text, *show, answer, 1)?;
-        check_growths(&rt, text, *show, answer, 3)?;
-    }
-    Ok(())
 }
 
 // The line that tells the fault.

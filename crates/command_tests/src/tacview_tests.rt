@@ -1,6 +1,6 @@
 // `tacview`'s values by hand: what small texts are told, what words name, and what faults of devices leave.
 
-use crate::answers::{check_fault, check_outcome, check_same, check_team};
+use crate::answers::{check_fault, check_same, check_team};
 use crate::devices::{ALONE, Page, Pieces, TEAMS, blank_page};
 use crate::texts::repeated;
 use clap::error;
@@ -38,26 +38,26 @@ const REACH: Chosen = Chosen {
 
 // What is asked of a program.
 #[derive(Clone, Copy)]
-struct Asked<'a> {
+pub(crate) struct Asked<'a> {
     format: Format,
     facts: Chosen,
     procedure: Option<&'a str>,
 }
 
-const GRAPH: Asked<'static> = Asked {
+pub(crate) const GRAPH: Asked<'static> = Asked {
     format: Format::Dot,
     facts: NONE,
     procedure: None,
 };
 
-const LINES: Asked<'static> = Asked {
+pub(crate) const LINES: Asked<'static> = Asked {
     format: Format::Json,
     facts: ALL,
     procedure: None,
 };
 
 // None where memory is refused.
-fn options(alloc: Global, asked: Asked<'_>, team: (u32, u32)) -> Option<Options> {
+pub(crate) fn options(alloc: Global, asked: Asked<'_>, team: (u32, u32)) -> Option<Options> {
     let procedure = match asked.procedure {
         Some(name) => Some(String::from_str(alloc, name).ok()?),
         None => None,
@@ -66,7 +66,7 @@ fn options(alloc: Global, asked: Asked<'_>, team: (u32, u32)) -> Option<Options>
 }
 
 // What comes of a run from the reader to the page.
-fn run_to_page<R: Threads + Sync + AllocGlobal, D: Read + Drop>(
+pub(crate) fn run_to_page<R: Threads + Sync + AllocGlobal, D: Read + Drop>(
     rt: &R,
     reader: D,
     page: &mut Page,
@@ -140,12 +140,12 @@ fn check<R: Threads + Sync + Abort + AllocGlobal>(
     check_by(rt, slow, 1, asked, ALONE, answer)
 }
 
-const SMALL: &str = "proc main\nL: x = 1\nend\n";
+pub(crate) const SMALL: &str = "proc main\nL: x = 1\nend\n";
 
-const SMALL_GRAPH: &str =
+pub(crate) const SMALL_GRAPH: &str =
     "digraph \"tacflow\" {\n  graph [fontname=\"monospace\", labeljust=l];\n  node [shape=box, fontname=\"monospace\", fontsize=11];\n  edge [fontname=\"monospace\", fontsize=10];\n  subgraph \"cluster_0\" {\n    label=\"main\";\n    0 [label=\"2: x = 1\\lassignment to x is dead\\l\", style=filled, fillcolor=khaki];\n    1 [label=\"end of main\\l\"];\n  }\n  0 -> 1;\n}\n";
 
-const SMALL_LINES: &str =
+pub(crate) const SMALL_LINES: &str =
     "{\"type\":\"program\",\"points\":2,\"procedures\":[\"main\"],\"variables\":[\"x\"],\"definitions\":2,\"expressions\":0}\n{\"type\":\"point\",\"point\":0,\"procedure\":\"main\",\"place\":0,\"line\":2,\"first\":14,\"last\":18,\"statement\":\"x = 1\",\"edges\":[{\"kind\":\"step\",\"to\":1}],\"reach\":{\"path\":true,\"bits\":[0],\"names\":[\"x@entry\"]},\"live\":{\"path\":true,\"bits\":[],\"names\":[]},\"avail\":{\"path\":true,\"bits\":[],\"names\":[]},\"busy\":{\"path\":true,\"bits\":[],\"names\":[]}}\n{\"type\":\"point\",\"point\":1,\"procedure\":\"main\",\"place\":1,\"line\":null,\"first\":null,\"last\":null,\"statement\":null,\"edges\":[],\"reach\":{\"path\":true,\"bits\":[1],\"names\":[\"x@2\"]},\"live\":{\"path\":true,\"bits\":[],\"names\":[]},\"avail\":{\"path\":true,\"bits\":[],\"names\":[]},\"busy\":{\"path\":true,\"bits\":[],\"names\":[]}}\n{\"type\":\"remark\",\"point\":0,\"line\":2,\"first\":14,\"last\":18,\"kind\":\"dead\",\"variable\":\"x\"}\n";
 
 // `main` and a procedure that calls itself.
@@ -155,7 +155,7 @@ const RECURSION: &str =
 const RECURSION_GRAPH: &str =
     "digraph \"tacflow\" {\n  graph [fontname=\"monospace\", labeljust=l];\n  node [shape=box, fontname=\"monospace\", fontsize=11];\n  edge [fontname=\"monospace\", fontsize=10];\n  subgraph \"cluster_0\" {\n    label=\"main\";\n    0 [label=\"2: x = 1\\l\"];\n    1 [label=\"3: call f\\l\"];\n    2 [label=\"4: print x\\l\"];\n    3 [label=\"end of main\\l\"];\n  }\n  subgraph \"cluster_1\" {\n    label=\"f\";\n    4 [label=\"7: if x goto L\\l\"];\n    5 [label=\"8: call f\\l\"];\n    6 [label=\"9: x = 2\\l\"];\n    7 [label=\"end of f\\l\"];\n  }\n  0 -> 1;\n  1 -> 4 [style=dashed, label=\"call 3\"];\n  2 -> 3;\n  4 -> 5;\n  4 -> 7;\n  5 -> 4 [style=dashed, label=\"call 8\"];\n  6 -> 7;\n  7 -> 2 [style=dashed, label=\"return 3\"];\n  7 -> 6 [style=dashed, label=\"return 8\"];\n}\n";
 
-const F_GRAPH: &str =
+pub(crate) const F_GRAPH: &str =
     "digraph \"tacflow\" {\n  graph [fontname=\"monospace\", labeljust=l];\n  node [shape=box, fontname=\"monospace\", fontsize=11];\n  edge [fontname=\"monospace\", fontsize=10];\n  subgraph \"cluster_1\" {\n    label=\"f\";\n    4 [label=\"7: if x goto L\\lreach: x@2\\l\"];\n    5 [label=\"8: call f\\lreach: x@2\\l\"];\n    6 [label=\"9: x = 2\\lreach: x@2, x@9\\l\"];\n    7 [label=\"end of f\\lreach: x@2, x@9\\l\"];\n  }\n  4 -> 5;\n  4 -> 7;\n  5 -> 4 [style=dashed, label=\"call 8\"];\n  5 -> 6 [style=dashed, label=\"call\"];\n  6 -> 7;\n  7 -> 6 [style=dashed, label=\"return 8\"];\n}\n";
 
 const F_LINES: &str =
@@ -184,7 +184,7 @@ fn whole_programs(rt: HostRuntime) -> Result<(), Fail> {
 }
 
 // What is asked of `f` or of `main` alone.
-const GRAPH_OF_F: Asked<'static> = Asked {
+pub(crate) const GRAPH_OF_F: Asked<'static> = Asked {
     format: Format::Dot,
     facts: REACH,
     procedure: Some("f"),
@@ -325,40 +325,6 @@ fn faults_of_writers(rt: HostRuntime) -> Result<(), Fail> {
     }
     for left in &[0, 1, 100, SMALL_LINES.len() - 1] {
         check_writer(&rt, LINES, SMALL_LINES, *left)?;
-    }
-    Ok(())
-}
-
-// With ample memory this answer, and where a growth is refused want of memory and nothing written.
-fn check_growths<R: Threads + Sync + Abort + AllocGlobal>(
-    rt: &R,
-    text: &str,
-    options: &Options,
-    answer: &str,
-) -> Result<(), Fail> {
-    let Ok(taken) = Vec::with_capacity(rt.alloc(), 2048) else {
-        return Ok(());
-    };
-    let mut page = blank_page(rt.alloc());
-    page.taken = taken;
-    let outcome = run_to_page(rt, text.as_bytes(), &mut page, options);
-    check_outcome(rt, outcome, &page.taken, answer.as_bytes())
-}
-
-const GROWTHS: &[(&str, Asked<'static>, &str)] = &[
-    (SMALL, GRAPH, SMALL_GRAPH),
-    (SMALL, LINES, SMALL_LINES),
-    (RECURSION, GRAPH_OF_F, F_GRAPH),
-];
-
-#[test]
-fn growths_refused(rt: HostRuntime) -> Result<(), Fail> {
-    for (text, asked, answer) in GROWTHS {
-        for team in TEAMS {
-            if let Some(options) = options(rt.alloc(), *asked, *team) {
-                check_growths(&rt, text, &options, answer)?;
-            }
-        }
     }
     Ok(())
 }

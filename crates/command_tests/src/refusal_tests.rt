@@ -1,9 +1,15 @@
-// Each request for memory refused in turn (`rt try --test --fail-alloc N`): with ample memory these tests end as all others.
+// Calls that take memory. With ample memory these tests end as all others. Where a request is refused (`checks/refused`), what is told
+// of it is asserted, and then the test fails by the call's name. A test that fails by want of memory met it before its call or behind it.
 
-use crate::answers::check_same;
-use crate::tacflow_tests::{ALL_WORDS, NAME, check_growths, check_line, check_options, named_by};
+use crate::answers::{check_outcome, check_same, named};
+use crate::devices::{TEAMS, blank_page};
+use crate::tacflow_tests::{ALL_WORDS, NAME, check_line, check_options, named_by, run_to_page};
+use crate::tacview_tests;
+use crate::tacview_tests::{
+    Asked, F_GRAPH, GRAPH, GRAPH_OF_F, LINES, SMALL, SMALL_GRAPH, SMALL_LINES,
+};
 use clap::error::ErrorKind;
-use flow_commands::Show;
+use flow_commands::{Options, Show};
 use flow_runs::{Fault, fault_line};
 use std::process::Abort;
 use std::test::Fail;
@@ -104,37 +110,95 @@ const BOTH_BRANCHES_SHOWN: &[(Show, &str)] = &[
     ),
 ];
 
+// The answer to a text, by so many workers in slices of one bit.
+fn check_show<R: Threads + Sync + Abort + AllocGlobal>(
+    rt: &R,
+    text: &str,
+    show: Show,
+    answer: &str,
+    workers: u32,
+) -> Result<(), Fail> {
+    let options = Options::new(workers, 1, show).ok_or("options")?;
+    let mut page = blank_page(rt.alloc());
+    page.taken = Vec::with_capacity(rt.alloc(), 512)?;
+    let outcome = run_to_page(rt, text.as_bytes(), &mut page, options);
+    check_outcome(
+        rt,
+        "run of tacflow",
+        outcome,
+        &page.taken,
+        answer.as_bytes(),
+    )
+}
+
 // Each kind of answer to a text, by one worker and by three.
-fn check_all_growths<R: Threads + Sync + Abort + AllocGlobal>(
+fn check_shows<R: Threads + Sync + Abort + AllocGlobal>(
     rt: &R,
     text: &str,
     answers: &[(Show, &str)],
 ) -> Result<(), Fail> {
     for (show, answer) in answers {
-        check_growths(rt, text, *show, answer, 1)?;
-        check_growths(rt, text, *show, answer, 3)?;
+        check_show(rt, text, *show, answer, 1)?;
+        check_show(rt, text, *show, answer, 3)?;
     }
     Ok(())
 }
 
 #[test]
-fn growths_of_a_recursive_program(rt: HostRuntime) -> Result<(), Fail> {
-    check_all_growths(&rt, RECURSION, RECURSION_SHOWN)
+fn run_of_a_recursive_program_is_refused(rt: HostRuntime) -> Result<(), Fail> {
+    check_shows(&rt, RECURSION, RECURSION_SHOWN)
 }
 
 #[test]
-fn growths_of_a_call_between(rt: HostRuntime) -> Result<(), Fail> {
-    check_all_growths(&rt, CALL_BETWEEN, CALL_BETWEEN_SHOWN)
+fn run_of_a_call_between_is_refused(rt: HostRuntime) -> Result<(), Fail> {
+    check_shows(&rt, CALL_BETWEEN, CALL_BETWEEN_SHOWN)
 }
 
 #[test]
-fn growths_of_both_branches(rt: HostRuntime) -> Result<(), Fail> {
-    check_all_growths(&rt, BOTH_BRANCHES, BOTH_BRANCHES_SHOWN)
+fn run_of_both_branches_is_refused(rt: HostRuntime) -> Result<(), Fail> {
+    check_shows(&rt, BOTH_BRANCHES, BOTH_BRANCHES_SHOWN)
+}
+
+// The answer of the other program to a text.
+fn check_view<R: Threads + Sync + Abort + AllocGlobal>(
+    rt: &R,
+    text: &str,
+    options: &view_commands::Options,
+    answer: &str,
+) -> Result<(), Fail> {
+    let mut page = blank_page(rt.alloc());
+    page.taken = Vec::with_capacity(rt.alloc(), 2048)?;
+    let outcome = tacview_tests::run_to_page(rt, text.as_bytes(), &mut page, options);
+    check_outcome(
+        rt,
+        "run of tacview",
+        outcome,
+        &page.taken,
+        answer.as_bytes(),
+    )
+}
+
+const VIEWS: &[(&str, Asked<'static>, &str)] = &[
+    (SMALL, GRAPH, SMALL_GRAPH),
+    (SMALL, LINES, SMALL_LINES),
+    (RECURSION, GRAPH_OF_F, F_GRAPH),
+];
+
+#[test]
+fn run_of_the_other_program_is_refused(rt: HostRuntime) -> Result<(), Fail> {
+    for (text, asked, answer) in VIEWS {
+        for team in TEAMS {
+            if let Some(options) = tacview_tests::options(rt.alloc(), *asked, *team) {
+                check_view(&rt, text, &options, answer)?;
+            }
+        }
+    }
+    Ok(())
 }
 
 // The line of a fault, or want of memory; and then the line.
 #[test]
-fn line_of_a_fault_is_told_again(rt: HostRuntime) -> Result<(), Fail> {
+fn line_of_a_fault_is_refused(rt: HostRuntime) -> Result<(), Fail> {
     let refusal = Refusal {
         kind: RefusalKind::UnknownLabel,
         line: 12,
@@ -144,18 +208,22 @@ fn line_of_a_fault_is_told_again(rt: HostRuntime) -> Result<(), Fail> {
     let wanted = "tacflow: 12:6: refusal 9: UnknownLabel\n";
     match fault_line(rt.alloc(), NAME, &fault) {
         Ok(line) => check_same(&rt, &line, wanted.as_bytes()),
-        Err(_) => check_line(&rt, &fault, wanted)?,
+        Err(_) => {
+            check_line(&rt, &fault, wanted)?;
+            return named(true, "fault_line");
+        }
     }
     Ok(())
 }
 
 // What the words name, or want of memory; and then what they name.
 #[test]
-fn words_are_taken_again(rt: HostRuntime) -> Result<(), Fail> {
-    let mut named = named_by(rt.alloc(), ALL_WORDS);
-    if named == Err(ErrorKind::OutOfMemory) {
-        named = named_by(rt.alloc(), ALL_WORDS);
+fn words_are_refused(rt: HostRuntime) -> Result<(), Fail> {
+    let mut options = named_by(rt.alloc(), ALL_WORDS);
+    let refused = options == Err(ErrorKind::OutOfMemory);
+    if refused {
+        options = named_by(rt.alloc(), ALL_WORDS);
     }
-    check_options(&rt, named?, (64, 4096), Show::Busy);
-    Ok(())
+    check_options(&rt, options?, (64, 4096), Show::Busy);
+    named(refused, "Options::from_words")
 }
