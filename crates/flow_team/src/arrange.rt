@@ -8,8 +8,18 @@ use flow_graph::Analysis;
 use std::alloc::Global;
 use work_list::group;
 
+// A solver solves so many words at once, a group: a slice that cuts groups would solve the same words again.
+const GROUP_WORDS: u32 = 4;
+
 // At most so many groups of words are told apart in each analysis, so that a group's number fits into 16 bits.
 const MOST_GROUPS: u32 = 1 << 14;
+
+/// How many groups of words hold so many bits: at least one.
+pub(crate) fn groups_for(bits: u32) -> u32
+    ensures { 0 < result }
+{
+    bits.div_ceil(64 * GROUP_WORDS).max(1)
+}
 
 /// The same asks group by group, the number of each, and where each group begins.
 #[derive(Drop)]
@@ -18,13 +28,12 @@ pub(crate) struct AskOrder {
     pub(crate) order: Vec<Ask>,
     /// The number that each of them has among those that were given.
     pub(crate) places: Vec<u32>,
-    /// Where each group begins in that order, and at the end how many asks there are.
+    /// Where each group begins in that order, as many of each analysis, and at the end how many asks there are.
     pub(crate) starts: Vec<u32>,
 }
 
-// Asks of one analysis in so many words are solved together.
-fn key_of(ask: Ask, width: u32, groups: u32) -> u16
-    requires width { 0 < width }
+// Asks of one analysis in one group of words are solved together.
+fn key_of(ask: Ask, groups: u32) -> u16
     requires some { 0 < groups }
     requires most { groups ≤ 2 ^ 14 }
     ensures { result < 4 * groups }
@@ -35,25 +44,23 @@ fn key_of(ask: Ask, width: u32, groups: u32) -> u16
         Analysis::Avail => 2 * groups,
         Analysis::Busy => 3 * groups,
     };
-    (first + (ask.word / width).min(groups - 1)) as u16
+    (first + (ask.word / GROUP_WORDS).min(groups - 1)) as u16
 }
 
-// How many groups of so many words each analysis has.
-fn group_count(asks: &[Ask], width: u32) -> u32
-    requires { 0 < width }
+// How many groups of words each analysis has.
+fn group_count(asks: &[Ask]) -> u32
     ensures some { 0 < result }
     ensures most { result ≤ 2 ^ 14 }
 {
     let mut last = 0;
     for ask in asks {
-        last = last.max(ask.word / width);
+        last = last.max(ask.word / GROUP_WORDS);
     }
     last.min(MOST_GROUPS - 1) + 1
 }
 
 // The group of each ask.
-fn keys(alloc: Global, asks: &[Ask], width: u32, groups: u32) -> Result<Vec<u16>, OutOfMemory>
-    requires width { 0 < width }
+fn keys(alloc: Global, asks: &[Ask], groups: u32) -> Result<Vec<u16>, OutOfMemory>
     requires some { 0 < groups }
     requires most { groups ≤ 2 ^ 14 }
     ensures count { IfOk result (λ keys. length keys.items ≡ length asks.now) }
@@ -61,7 +68,7 @@ fn keys(alloc: Global, asks: &[Ask], width: u32, groups: u32) -> Result<Vec<u16>
 {
     let mut keys = Vec::with_capacity(alloc, asks.len())?;
     for ask in asks {
-        keys.push(key_of(*ask, width, groups))?;
+        keys.push(key_of(*ask, groups))?;
     }
     Ok(keys)
 }
@@ -79,14 +86,13 @@ fn picked(alloc: Global, asks: &[Ask], places: &[u32]) -> Result<Vec<Ask>, OutOf
     Ok(order)
 }
 
-/// The asks in an order in which those of one analysis and of so many words, which are solved together, stand side by side.
-pub(crate) fn arranged(alloc: Global, asks: &[Ask], width: u32) -> Result<AskOrder, OutOfMemory>
-    requires width { 0 < width }
-    requires few { length asks.now < 2 ^ 32 }
+/// The asks in an order in which those of one analysis and of one group of words, which are solved together, stand side by side.
+pub(crate) fn arranged(alloc: Global, asks: &[Ask]) -> Result<AskOrder, OutOfMemory>
+    requires { length asks.now < 2 ^ 32 }
     ensures { IfOk result (λ r. Arranges asks.now r.order.items r.places.items) }
 {
-    let groups = group_count(asks, width);
-    let keys = keys(alloc, asks, width, groups)?;
+    let groups = group_count(asks);
+    let keys = keys(alloc, asks, groups)?;
     let grouped = group(alloc, keys.as_slice(), 4 * groups)?;
     let order = picked(alloc, asks, grouped.places.as_slice())?;
     Ok(AskOrder {

@@ -77,14 +77,22 @@ pub(crate) fn directions_here<'g, 'p>(
     Ok((forward, backward))
 }
 
-// Where slices end between so many asks: where a group does that has an ask, and is not the last.
-fn ends(alloc: Global, starts: &[u32], count: u32) -> Result<Vec<u32>, OutOfMemory>
-    requires { 64 * count < 2 ^ 32 }
+// Where slices of so many groups end between so many asks: no slice has asks of two analyses, and each has one.
+fn ends(
+    alloc: Global,
+    starts: &[u32],
+    slice_groups: u32,
+    count: u32,
+) -> Result<Vec<u32>, OutOfMemory>
+    requires groups { 0 < slice_groups }
+    requires few { 64 * count < 2 ^ 32 }
 {
+    let analysis_groups = (starts.len() / 4).max(1);
     let mut ends = Vec::new(alloc);
     let mut last = 0;
-    for start in starts {
-        if last < *start && *start < count {
+    for (key, start) in starts.iter().enumerate() {
+        let begins_slice = key % analysis_groups % slice_groups as usize == 0;
+        if begins_slice && last < *start && *start < count {
             last = *start;
             ends.push(64 * last)?;
         }
@@ -92,12 +100,13 @@ fn ends(alloc: Global, starts: &[u32], count: u32) -> Result<Vec<u32>, OutOfMemo
     Ok(ends)
 }
 
-// So many asks cut into slices, one for each group that has an ask.
-fn cut_of(alloc: Global, starts: &[u32], count: u32) -> Result<Cut, OutOfMemory>
-    requires { 64 * count < 2 ^ 32 }
+// So many asks cut into slices of so many groups.
+fn cut_of(alloc: Global, starts: &[u32], slice_groups: u32, count: u32) -> Result<Cut, OutOfMemory>
+    requires groups { 0 < slice_groups }
+    requires few { 64 * count < 2 ^ 32 }
     ensures { IfOk result (λ cut. cut.bits ≡ 64 * count) }
 {
-    let ends = ends(alloc, starts, count)?;
+    let ends = ends(alloc, starts, slice_groups, count)?;
     match Cut::at(alloc, 64 * count, ends.as_slice()) {
         Ok(cut) => Ok(cut),
         Err(CutFault::OutOfMemory | CutFault::BadPlaces | CutFault::ZeroWidth) => Err(AllocError),
@@ -122,24 +131,26 @@ fn on_board<'g, 'p>(
     Ok((SliceJob::on_board(board, asked), pass))
 }
 
-/// The job of these asks of a graph, in any order, and a pass of it with empty lists. A slice has the asks of one analysis in so many words.
+/// The job of these asks of a graph, in any order, and a pass of it with empty lists. A slice has the asks of one analysis in so many groups
+/// of words.
 pub(crate) fn asked_job<'g, 'p>(
     alloc: Global,
     directions: (Direction<'g, 'p>, Direction<'g, 'p>),
     asks: Vec<Ask>,
-    width: u32,
+    slice_groups: u32,
 ) -> Result<(AskedJob<'g, 'p>, Pass<AskedWords<'g, 'p>>), OutOfMemory>
     requires forward { directions.0 ≡ record { program = directions.0.program; some = Reach; every = Avail } }
     requires backward { directions.1 ≡ record { program = directions.0.program; some = Live; every = Busy } }
     requires asks { AreAsksOf directions.0.program asks.items }
-    requires width { 0 < width }
+    requires groups { 0 < slice_groups }
     requires few { 64 * length asks.items < 2 ^ 32 }
     ensures program { IfOk result (λ r. r.0.wanted.program ≡ directions.entry.0.program) }
     ensures asks { IfOk result (λ r. r.0.wanted.asks ≡ asks.items) }
     ensures pass { IfOk result (λ r. r.1 ≡ fresh_pass r.0) }
 {
-    let arranged = arranged(alloc, asks.as_slice(), width)?;
-    let cut = cut_of(alloc, arranged.starts.as_slice(), asks.len() as u32)?;
+    let arranged = arranged(alloc, asks.as_slice())?;
+    let count = asks.len() as u32;
+    let cut = cut_of(alloc, arranged.starts.as_slice(), slice_groups, count)?;
     let (forward, backward) = directions;
     let asked = AskedWords::of(forward, backward, asks, arranged.order, arranged.places);
     on_board(alloc, asked, cut)

@@ -6,6 +6,7 @@ ghost use Rattle.flow_team.specs.Tables.{IsTableOf};
 
 use crate::OutOfMemory;
 use crate::answers::Answers;
+use crate::arrange::groups_for;
 use crate::ask::Ask;
 use crate::asked::AskedWords;
 use crate::asked_job::{answers_of, asked_job, directions, directions_here};
@@ -19,16 +20,6 @@ use bit_rows::Cut;
 use flow_graph::{Analysis, Graph};
 use std::alloc::{AllocError, Global};
 use std::thread::Threads;
-
-// A solver solves so many words at once: slices that are narrower solve the same words again.
-const WORDS_AT_ONCE: u32 = 4;
-
-// How many words a slice of so many bits has, where no fewer are solved at once.
-fn words_in(cut: u32) -> u32
-    ensures { 0 < result }
-{
-    cut.div_ceil(64).max(WORDS_AT_ONCE)
-}
 
 // Whether a team cannot be of so many workers.
 fn is_bad_number(workers: u32) -> bool
@@ -105,7 +96,7 @@ fn worked_answers<'g, 'p, R: Threads + Sync, G: Gate>(
     ensures answers { IfOk result (AreAnswers graph.now) }
 {
     let directions = directions(rt, alloc, graph, workers)?;
-    let (job, pass) = asked_job(alloc, directions, asks, words_in(cut))?;
+    let (job, pass) = asked_job(alloc, directions, asks, groups_for(cut))?;
     let pass = run_workers(rt, alloc, &job, gate, workers, pass)?;
     answers_of(alloc, job, pass)
 }
@@ -147,7 +138,7 @@ pub fn answer_here(alloc: Global, graph: &Graph<'_>, asks: Vec<Ask>) -> Result<A
     ensures answers { IfOk result (AreAnswers graph.now) }
 {
     let directions = directions_here(alloc, graph)?;
-    let (job, pass) = asked_job(alloc, directions, asks, WORDS_AT_ONCE)?;
+    let (job, pass) = asked_job(alloc, directions, asks, 1)?;
     let pass = run_here(alloc, &job, pass)?;
     answers_of(alloc, job, pass)
 }
