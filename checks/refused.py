@@ -6,7 +6,7 @@ to pass, or to fail by want of memory, or to fail by the name of the call that w
 call of CALLS has to be named so in some run.
 
     checks/refused           a line for each fault, and then `N passed, M failed`
-    checks/refused --table   the table of requests in docs/ARCHITECTURE.md
+    checks/refused --table   the same, and a table of the requests that were met
 
 TACFLOW=/path/to/program and TACVIEW=/path/to/program take other programs than those in crates/NAME/out.
 """
