@@ -1,12 +1,11 @@
--- The four analyses of a program, over its valid paths, and the forward may problem by which each is solved.
-use Rattle.std.specs.Prelude.{ℕ, Bool, true, false, length, if◌then◌else◌, codes}
+-- The four analyses of a program, over its valid paths.
+use Rattle.std.specs.Prelude.{ℕ, Bool, true, false, length, codes}
 use Rattle.tac_reader.specs.Programs.{Program, number_of}
-use Rattle.flow_graph.specs.Paths.{Shape, Transfer, HasPath, SomePathHas, EveryPathHas, HasBackwardPath, SomeBackwardPathHas, EveryBackwardPathHas, reversed_shape, reversed_transfer, complemented_transfer}
-use Rattle.flow_graph.specs.Runs.{Accesses}
+use Rattle.flow_graph.specs.Paths.{Shape, Transfer, HasPath, SomePathHas, EveryPathHas, HasBackwardPath, SomeBackwardPathHas, EveryBackwardPathHas}
 use Rattle.flow_graph.specs.Points.{entry_point, end_point, procedure_at}
 use Rattle.flow_graph.specs.Edges.{edges}
 use Rattle.flow_graph.specs.Universes.{Analysis, Reach, Live, Avail, Busy}
-use Rattle.flow_graph.specs.Transfers.{gens, kills, is_in_boundary, reads, writes}
+use Rattle.flow_graph.specs.Transfers.{gens, kills, is_in_boundary}
 
 abbrev pub main_procedure : Program → ℕ
 main_procedure program = number_of program.procedure_names (codes "main")
@@ -29,10 +28,6 @@ transfer_of program analysis bit = record {
   kill = λ x y. kills program analysis x bit;
   boundary = is_in_boundary program analysis bit;
 }
-
--- what the statements do with one variable
-abbrev pub accesses_of : Program → ℕ → Accesses
-accesses_of program variable = record { reads = λ point. reads program point variable; writes = λ point. writes program point variable }
 
 -- Whether the analysis has a valid path at the point: from the beginning of `main` to it, or from it to the end of `main`.
 abbrev pub HasPathAt : Program → Analysis → ℕ → Type 0
@@ -58,16 +53,3 @@ abbrev pub is_must : Analysis → Bool
 is_must Avail = true
 is_must Busy = true
 is_must _ = false
-
--- The may form: the forward may problem whose solution, complemented for a must analysis, is the table. A backward
--- analysis has its edges reversed, and the end of `main` as root; a must analysis its sets complemented.
-abbrev pub may_shape : Program → Analysis → Shape
-may_shape program analysis = if is_backward analysis then reversed_shape (shape_of program) else shape_of program
-
-abbrev pub directed_transfer : Program → Analysis → ℕ → Transfer
-directed_transfer program analysis bit =
-    if is_backward analysis then reversed_transfer (transfer_of program analysis bit) else transfer_of program analysis bit
-
-abbrev pub may_transfer : Program → Analysis → ℕ → Transfer
-may_transfer program analysis bit =
-    if is_must analysis then complemented_transfer (directed_transfer program analysis bit) else directed_transfer program analysis bit

@@ -3,14 +3,17 @@ pub mod Edges
 pub mod Examples
 pub mod Leading
 pub mod Limits
+pub mod MatchedPaths
 pub mod PathLaws
 pub mod Paths
 pub mod Points
 pub mod Problems
 pub mod ProgramExamples
 pub mod ProgramLaws
+pub mod Reversals
 pub mod RunLaws
 pub mod Runs
 pub mod Transfers
 pub mod Universes
+pub mod WellFormed
 pub mod code

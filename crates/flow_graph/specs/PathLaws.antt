@@ -1,6 +1,9 @@
 -- What is proved of paths and of their values.
 use Rattle.std.specs.Prelude.{◌≡◌, ℕ, Bool, not, ◌&&◌, ◌||◌, List, [], ◌∷◌, ◌++◌, Some, ◌<◌, ◌↔◌}
-use Rattle.flow_graph.specs.Paths.{Edge, Step, Call, Ret, Shape, Transfer, IsEdge, IsPath, open_sites_after, IsValidPath, IsPathFromEntry, IsEnteringPath, value_after, HasPath, SomePathHas, EveryPathHas, IsBackwardValidPath, value_before, HasBackwardPath, SomeBackwardPathHas, EveryBackwardPathHas, IsWellFormed, HasSameEdges, AgreesOnSteps, reversed_path, reversed_shape, reversed_transfer, complemented_transfer}
+use Rattle.flow_graph.specs.Paths.{Edge, Step, Call, Ret, Shape, Transfer, IsEdge, IsPath, open_sites_after, IsValidPath, value_after, HasPath, SomePathHas, EveryPathHas, IsBackwardValidPath, value_before, HasBackwardPath, SomeBackwardPathHas, EveryBackwardPathHas}
+use Rattle.flow_graph.specs.Reversals.{reversed_path, reversed_shape, reversed_transfer, complemented_transfer}
+use Rattle.flow_graph.specs.WellFormed.{IsWellFormed, HasSameEdges, AgreesOnSteps}
+use Rattle.flow_graph.specs.MatchedPaths.{IsPathFromEntry, IsEnteringPath}
 
 -- A backward valid path of a problem, walked backwards, is a forward valid path of the reversed problem, and the other way
 -- round.

@@ -4,7 +4,7 @@
 -- may be left open at its end (interprocedurally valid paths: Reps, Horwitz, Sagiv 1995). Its value is the boundary taken
 -- through gen union (X minus kill), edge by edge (Aho, Lam, Sethi, Ullman, 2nd edition, 9.2 and 9.5). The meet over all
 -- valid paths asks whether some of them, or every one, has a bit in its value (Kildall 1973).
-use Rattle.std.specs.Prelude.{◌≡◌, ◌↔◌, ℕ, Bool, true, not, ◌&&◌, ◌||◌, List, [], ◌∷◌, ◌++◌, map, Option, Some, None, option_and_then, IsSome, Contains, nat_eq, if◌then◌else◌, ◌<◌, ◌⊎◌}
+use Rattle.std.specs.Prelude.{◌≡◌, ℕ, Bool, true, not, ◌&&◌, ◌||◌, List, [], ◌∷◌, Option, Some, None, option_and_then, IsSome, Contains, nat_eq, if◌then◌else◌}
 pub use Rattle.flow_graph.specs.declared.edge.Edge.{Edge}
 pub use Rattle.flow_graph.specs.declared.edge.Edge.TheVariants.{Step, Call, Ret}
 
@@ -72,24 +72,6 @@ open_sites_after (edge ∷ path) sites = open_sites_after path (option_and_then 
 abbrev pub IsValidPath : Shape → List Edge → ℕ → Type 0
 IsValidPath shape path point = IsPath shape (root shape) path point × IsSome (open_sites_after path (Some []))
 
--- A matched path: each return matches a call of the path, and each call of the path returns.
-abbrev pub IsMatchedPath : Shape → ℕ → List Edge → ℕ → Type 0
-IsMatchedPath shape start path finish = IsPath shape start path finish × (open_sites_after path (Some []) ≡ Some [])
-
--- a matched path to a point from the entry of that point's procedure
-abbrev pub IsPathFromEntry : Shape → List Edge → ℕ → Type 0
-IsPathFromEntry shape path point = IsMatchedPath shape (shape.entry (shape.procedure_of point)) path point
-
--- a path whose last edge is a call of a procedure
-abbrev pub EndsInCallOf : Shape → List Edge → ℕ → Type 0
-EndsInCallOf shape path procedure = (front : List Edge) × (site : ℕ) × (point : ℕ) × (path ≡ front ++ Call site point (shape.entry procedure) ∷ [])
-
--- A valid path by which a procedure is entered: the empty one at the root, or one whose last edge is a call of it.
-abbrev pub IsEnteringPath : Shape → List Edge → ℕ → Type 0
-IsEnteringPath shape path procedure =
-    IsValidPath shape path (shape.entry procedure)
-    × (((path ≡ []) × (procedure ≡ shape.root_procedure)) ⊎ EndsInCallOf shape path procedure)
-
 -- One bit of gen union (X minus kill), X being the set before the edge in a forward problem and after it in a backward
 -- one. Calls and returns change nothing.
 abbrev pub value_across : Transfer → Edge → Bool → Bool
@@ -101,13 +83,6 @@ value_across transfer (Ret site source target) value = value
 abbrev pub value_after : Transfer → List Edge → Bool → Bool
 value_after transfer [] value = value
 value_after transfer (edge ∷ path) value = value_after transfer path (value_across transfer edge value)
-
--- whether no step of a path kills the bit
-abbrev pub is_kept_along : (ℕ → ℕ → Bool) → List Edge → Bool
-is_kept_along kill [] = true
-is_kept_along kill (Step source target ∷ path) = not (kill source target) && is_kept_along kill path
-is_kept_along kill (Call site source target ∷ path) = is_kept_along kill path
-is_kept_along kill (Ret site source target ∷ path) = is_kept_along kill path
 
 -- some valid path leads to the point
 abbrev pub HasPath : Shape → ℕ → Type 0
@@ -160,53 +135,3 @@ SomeBackwardPathHas shape transfer point =
 abbrev pub EveryBackwardPathHas : Shape → Transfer → ℕ → Type 0
 EveryBackwardPathHas shape transfer point =
     (path : List Edge) → IsBackwardValidPath shape path point → value_before transfer path transfer.boundary ≡ true
-
--- Procedures, points and edges fit together: an entry and an exit lie in their procedure, a step stays in its procedure,
--- a call ends at an entry, a return begins at an exit, and the call and the returns of one site lie in one procedure.
-pub record IsWellFormed (shape : Shape) : Type 0 where
-  pub root_in_range : shape.root_procedure < shape.procedures
-  pub entry_inside : (procedure : ℕ) → procedure < shape.procedures → shape.procedure_of (shape.entry procedure) ≡ procedure
-  pub exit_inside : (procedure : ℕ) → procedure < shape.procedures → shape.procedure_of (shape.exit procedure) ≡ procedure
-  pub step_inside : (x y : ℕ) → IsEdge shape (Step x y) → shape.procedure_of x ≡ shape.procedure_of y
-  pub call_to_entry : (site x y : ℕ) → IsEdge shape (Call site x y) → (shape.procedure_of y < shape.procedures) × (y ≡ shape.entry (shape.procedure_of y))
-  pub return_from_exit : (site x y : ℕ) → IsEdge shape (Ret site x y) → (shape.procedure_of x < shape.procedures) × (x ≡ shape.exit (shape.procedure_of x))
-  pub site_inside : (site x y u z : ℕ) → IsEdge shape (Call site x y) → IsEdge shape (Ret site u z) → shape.procedure_of x ≡ shape.procedure_of z
-
--- Two shapes agree in all that paths speak of: where they begin, where they end, and the edges, in whatever order.
-pub record HasSameEdges (first second : Shape) : Type 0 where
-  pub same_root : root first ≡ root second
-  pub same_final : final first ≡ final second
-  pub same_edges : (edge : Edge) → IsEdge first edge ↔ IsEdge second edge
-
--- Two transfers agree in all that a problem asks of them: gen and kill of the steps that are edges, and the boundary.
-pub record AgreesOnSteps (shape : Shape) (first second : Transfer) : Type 0 where
-  pub same_gen : (x y : ℕ) → IsEdge shape (Step x y) → first.gen x y ≡ second.gen x y
-  pub same_kill : (x y : ℕ) → IsEdge shape (Step x y) → first.kill x y ≡ second.kill x y
-  pub same_boundary : first.boundary ≡ second.boundary
-
--- An edge turned round: a return turned round is a call, a call a return.
-abbrev pub reversed_edge : Edge → Edge
-reversed_edge (Step source target) = Step target source
-reversed_edge (Call site source target) = Ret site target source
-reversed_edge (Ret site source target) = Call site target source
-
--- its edges turned round, in the opposite order
-abbrev pub reversed_path : List Edge → List Edge
-reversed_path [] = []
-reversed_path (edge ∷ path) = reversed_path path ++ reversed_edge edge ∷ []
-
--- the shape of the reversed problem: each edge turned round, entries and exits exchanged
-abbrev pub reversed_shape : Shape → Shape
-reversed_shape shape = record shape { entry = shape.exit; exit = shape.entry; edges = map reversed_edge shape.edges }
-
--- the transfer of the reversed problem: a step has the gen and kill of the step that it reverses
-abbrev pub reversed_transfer : Transfer → Transfer
-reversed_transfer transfer = record transfer { gen = λ x y. transfer.gen y x; kill = λ x y. transfer.kill y x }
-
--- the transfer of the complemented problem: gen becomes kill minus gen, kill becomes gen, the boundary its opposite
-abbrev pub complemented_transfer : Transfer → Transfer
-complemented_transfer transfer = record {
-  gen = λ x y. transfer.kill x y && not (transfer.gen x y);
-  kill = transfer.gen;
-  boundary = not transfer.boundary;
-}

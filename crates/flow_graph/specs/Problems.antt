@@ -1,8 +1,10 @@
--- What stands for a may form, and its gen and kill by the points of statements.
+-- The forward may problem by which an analysis is solved, what stands for it, and its gen and kill by the points of statements.
 use Rattle.std.specs.Prelude.{◌≡◌, ◌<◌, ◌⊎◌, ℕ, true, ◌+◌, ◌*◌, Bool, not, ◌&&◌, nat_lt, if◌then◌else◌}
 use Rattle.bit_rows.specs.Words.{has_bit}
 use Rattle.tac_reader.specs.Programs.{Program}
-use Rattle.flow_graph.specs.Analyses.{is_must}
+use Rattle.flow_graph.specs.Analyses.{is_backward, is_must, shape_of, transfer_of}
+use Rattle.flow_graph.specs.Paths.{Shape, Transfer}
+use Rattle.flow_graph.specs.Reversals.{reversed_shape, reversed_transfer, complemented_transfer}
 use Rattle.flow_graph.specs.Transfers.{gens, kills, is_in_boundary}
 use Rattle.flow_graph.specs.Universes.{Analysis}
 
@@ -10,6 +12,19 @@ use Rattle.flow_graph.specs.Universes.{Analysis}
 pub record MayForm : Type 0 where
   pub program : Program
   pub analysis : Analysis
+
+-- The may form: the forward may problem whose solution, complemented for a must analysis, is the table. A backward
+-- analysis has its edges reversed, and the end of `main` as root; a must analysis its sets complemented.
+abbrev pub may_shape : Program → Analysis → Shape
+may_shape program analysis = if is_backward analysis then reversed_shape (shape_of program) else shape_of program
+
+abbrev pub directed_transfer : Program → Analysis → ℕ → Transfer
+directed_transfer program analysis bit =
+    if is_backward analysis then reversed_transfer (transfer_of program analysis bit) else transfer_of program analysis bit
+
+abbrev pub may_transfer : Program → Analysis → ℕ → Transfer
+may_transfer program analysis bit =
+    if is_must analysis then complemented_transfer (directed_transfer program analysis bit) else directed_transfer program analysis bit
 
 -- Whether the step of the statement at a point generates the bit in the may form, and whether it kills it; and whether the
 -- boundary has it. (A must analysis is complemented.)

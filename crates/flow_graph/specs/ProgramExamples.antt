@@ -1,7 +1,8 @@
 -- Small programs, each by its text, the sets of their bits as lists, and what makes them the shapes that are written by hand.
 use Rattle.std.specs.Prelude.{◌≡◌, ℕ, Bool, List, filter, map, codes}
 use Rattle.std.specs.List.{range_with_len}
-use Rattle.tac_reader.specs.Programs.{Program, program_of}
+use Rattle.tac_reader.specs.Programs.{Program}
+use Rattle.tac_reader.specs.Parses.{program_of}
 use Rattle.flow_graph.specs.Analyses.{shape_of, transfer_of}
 use Rattle.flow_graph.specs.Paths.{Shape, Transfer}
 use Rattle.flow_graph.specs.Points.{point_count}

@@ -3,12 +3,13 @@ use Rattle.std.specs.Prelude.{◌≡◌, ◌↔◌, ◌/◌, ◌%◌, ◌^◌, �
 use Rattle.bit_rows.specs.Words.{has_bit}
 use Rattle.tac_reader.specs.Programs.{Program}
 use Rattle.tac_reader.specs.Sound.{IsSound}
-use Rattle.flow_graph.specs.Analyses.{shape_of, transfer_of, accesses_of, HasPathAt, IsInTable, is_backward, is_must, may_shape, may_transfer}
+use Rattle.flow_graph.specs.Analyses.{shape_of, transfer_of, HasPathAt, IsInTable, is_backward, is_must}
+use Rattle.flow_graph.specs.Runs.{accesses_of, IsDoubtful, ReadsBeforeWriting, CallsReturn, IsLiveness}
+use Rattle.flow_graph.specs.Problems.{may_shape, may_transfer, IsWordOf, MayForm, may_gens, may_kills, may_boundary}
 use Rattle.flow_graph.specs.Edges.{edges, edges_from}
-use Rattle.flow_graph.specs.Paths.{Edge, Call, Ret, source_of, target_of, IsWellFormed, HasPath, SomePathHas}
+use Rattle.flow_graph.specs.Paths.{Edge, Call, Ret, source_of, target_of, HasPath, SomePathHas}
+use Rattle.flow_graph.specs.WellFormed.{IsWellFormed}
 use Rattle.flow_graph.specs.Points.{point_count, point_of, place_of, end_place, end_point, entry_point, procedure_at}
-use Rattle.flow_graph.specs.Problems.{IsWordOf, MayForm, may_gens, may_kills, may_boundary}
-use Rattle.flow_graph.specs.Runs.{IsDoubtful, ReadsBeforeWriting, CallsReturn, IsLiveness}
 use Rattle.flow_graph.specs.Universes.{Analysis, Live, Definition, definitions}
 
 -- Each place of a procedure has a point, and the point tells the place.

@@ -1,6 +1,7 @@
 -- What is proved of runs.
 use Rattle.std.specs.Prelude.{ℕ, List, ◌++◌}
-use Rattle.flow_graph.specs.Paths.{Edge, Shape, Transfer, root, IsPath, IsValidPath, IsBackwardValidPath, SomeBackwardPathHas, IsWellFormed}
+use Rattle.flow_graph.specs.Paths.{Edge, Shape, Transfer, root, IsPath, IsValidPath, IsBackwardValidPath, SomeBackwardPathHas}
+use Rattle.flow_graph.specs.WellFormed.{IsWellFormed}
 use Rattle.flow_graph.specs.Runs.{IsDoubtful, CanAlwaysFinish, IsRun, Accesses, ReadsBeforeWriting, CallsReturn, IsLiveness}
 
 -- What follows a point on a valid path is a run from that point, whatever was open there. (With an empty front: a valid

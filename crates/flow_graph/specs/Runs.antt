@@ -1,6 +1,8 @@
 -- Doubtful points, runs, and what it is to read a variable before it is written.
 use Rattle.std.specs.Prelude.{◌≡◌, ℕ, Bool, true, false, not, List, [], ◌∷◌, Option, Some, None, option_and_then, IsSome, nat_eq, if◌then◌else◌}
 use Rattle.std.specs.List.{list_all}
+use Rattle.tac_reader.specs.Programs.{Program}
+use Rattle.flow_graph.specs.Transfers.{reads, writes}
 use Rattle.flow_graph.specs.Paths.{Edge, Step, Call, Ret, source_of, Shape, Transfer, IsEdge, final, IsPath, HasBackwardPath}
 
 -- A point is doubtful where some path from it, the empty one too and whichever call a return belongs to, leads to a point
@@ -58,3 +60,7 @@ pub record IsLiveness (shape : Shape) (transfer : Transfer) (accesses : Accesses
   pub kill_writes : (x y : ℕ) → IsEdge shape (Step x y) → transfer.kill x y ≡ accesses.writes x
   pub reader_steps : (edge : Edge) → IsEdge shape edge → accesses.reads (source_of edge) ≡ true → (x : ℕ) × (y : ℕ) × (edge ≡ Step x y)
   pub final_reads_nothing : accesses.reads (final shape) ≡ false
+
+-- what the statements do with one variable
+abbrev pub accesses_of : Program → ℕ → Accesses
+accesses_of program variable = record { reads = λ point. reads program point variable; writes = λ point. writes program point variable }

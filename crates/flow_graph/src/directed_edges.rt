@@ -2,8 +2,9 @@
 
 ghost use Rattle.std.specs.Prelude.{◌≡◌, ◌++◌, IfOk, OnOk, map};
 ghost use Rattle.flow_graph.specs.Edges.{edges as edges_of};
-ghost use Rattle.flow_graph.specs.Analyses.{is_backward as is_backward_of, may_shape};
-ghost use Rattle.flow_graph.specs.Paths.{reversed_edge};
+ghost use Rattle.flow_graph.specs.Analyses.{is_backward as is_backward_of};
+ghost use Rattle.flow_graph.specs.Problems.{may_shape};
+ghost use Rattle.flow_graph.specs.Reversals.{reversed_edge};
 
 use crate::OutOfMemory;
 use crate::analysis::Analysis;

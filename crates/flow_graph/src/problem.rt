@@ -1,11 +1,11 @@
 ghost use Rattle.std.specs.Prelude.{◌≡◌, ◌+◌, ◌*◌, ◌/◌, ◌<◌, ℕ, false, true, IfOk, IfSome, length, option_map, unwrap_or};
 ghost use Rattle.bit_rows.specs.Words.{has_bit};
-ghost use Rattle.flow_graph.specs.Analyses.{is_backward as is_backward_of, is_must, main_procedure, may_shape};
+ghost use Rattle.flow_graph.specs.Analyses.{is_backward as is_backward_of, is_must, main_procedure};
+ghost use Rattle.flow_graph.specs.Problems.{may_shape, IsAffected, IsWordOf, may_boundary, may_gens, may_kills};
 ghost use Rattle.flow_graph.specs.code.Effects.{depends};
 ghost use Rattle.flow_graph.specs.Limits.{HasFewBits, HasFewPoints};
-ghost use Rattle.flow_graph.specs.Paths.{IsWellFormed};
+ghost use Rattle.flow_graph.specs.WellFormed.{IsWellFormed};
 ghost use Rattle.flow_graph.specs.Points.{end_point, point_count, procedure_at};
-ghost use Rattle.flow_graph.specs.Problems.{IsAffected, IsWordOf, may_boundary, may_gens, may_kills};
 ghost use Rattle.flow_graph.specs.Universes.{bits as bits_of};
 ghost use Rattle.tac_reader.specs.Sound.{IsSound};
 
@@ -33,11 +33,10 @@ pub struct Problem<'g, 'p> {
 }
 
 impl<'g, 'p> Model for Problem<'g, 'p> {
-    ghost use Rattle.flow_graph.specs.Problems.{MayForm};
+    ghost use Rattle.flow_graph.specs.Problems.{MayForm, may_shape};
     ghost use Rattle.std.specs.Prelude.{◌≡◌};
-    ghost use Rattle.flow_graph.specs.Analyses.{may_shape};
     ghost use Rattle.flow_graph.specs.code.Effects.{AreEffects, AreDependenceWords, IsDependence};
-    ghost use Rattle.flow_graph.specs.Paths.{IsWellFormed};
+    ghost use Rattle.flow_graph.specs.WellFormed.{IsWellFormed};
 
     ghost Value = { MayForm };
 

@@ -1,7 +1,8 @@
 //! Worked programs: their points, edges, bits, gen, kill and may forms, each checked by computing it.
 
 ghost use Rattle.std.specs.Prelude.{◌≡◌, true, false, Some, None, [], ◌∷◌, length, map};
-ghost use Rattle.flow_graph.specs.Analyses.{main_procedure, shape_of, may_shape, may_transfer};
+ghost use Rattle.flow_graph.specs.Analyses.{main_procedure, shape_of};
+ghost use Rattle.flow_graph.specs.Problems.{may_shape, may_transfer};
 ghost use Rattle.flow_graph.specs.Edges.{edges_from};
 ghost use Rattle.flow_graph.specs.Examples.{two_calls, earlier_definition, later_definition, recursive_procedure, inner_definition, recursive_main, only_definition, value_at_entry, endless_callee, sum_expression, two_prints, live_first, endless_loop, live_in_loop, several_callees, outer_definition, inner_of_first, one_call, uncalled_caller};
 ghost use Rattle.flow_graph.specs.Paths.{root, final};

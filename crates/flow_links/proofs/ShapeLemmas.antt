@@ -4,10 +4,12 @@ use Rattle.std.proofs.lemmas.List.{length-map, get_or-map}
 use Rattle.std.proofs.lemmas.List.Elements.{All-contains_itself}
 use Rattle.tac_reader.specs.Programs.{Program}
 use Rattle.tac_reader.specs.Sound.{IsSound}
-use Rattle.flow_graph.specs.Analyses.{main_procedure, shape_of, may_shape, is_backward}
+use Rattle.flow_graph.specs.Analyses.{main_procedure, shape_of, is_backward}
+use Rattle.flow_graph.specs.Problems.{may_shape}
 use Rattle.flow_graph.specs.declared.edge.Edge.{Edge}
 use Rattle.flow_graph.specs.declared.edge.Edge.TheVariants.{Step, Call, Ret}
-use Rattle.flow_graph.specs.Paths.{IsEdge, source_of, target_of, reversed_edge, reversed_shape}
+use Rattle.flow_graph.specs.Paths.{IsEdge, source_of, target_of}
+use Rattle.flow_graph.specs.Reversals.{reversed_edge, reversed_shape}
 use Rattle.flow_graph.specs.Points.{point_count, procedure_at, entry_point}
 use Rattle.flow_graph.specs.ProgramLaws.{IsPlaced}
 use Rattle.flow_graph.specs.declared.analysis.Analysis.{Analysis}

@@ -4,7 +4,9 @@ use Rattle.tac_reader.specs.Programs.{Program}
 use Rattle.flow_graph.specs.Analyses.{shape_of}
 use Rattle.flow_graph.specs.declared.edge.Edge.{Edge}
 use Rattle.flow_graph.specs.declared.edge.Edge.TheVariants.{Call, Ret}
-use Rattle.flow_graph.specs.Paths.{Shape, IsEdge, IsWellFormed, source_of, target_of, reversed_shape}
+use Rattle.flow_graph.specs.Paths.{Shape, IsEdge, source_of, target_of}
+use Rattle.flow_graph.specs.Reversals.{reversed_shape}
+use Rattle.flow_graph.specs.WellFormed.{IsWellFormed}
 
 -- a program, and whether its edges are turned round
 pub record LinkedProgram : Type 0 where

@@ -1,6 +1,6 @@
 // The calls among the edges.
 ghost use Rattle.std.specs.Prelude.{◌≡◌, IfOk, filter};
-ghost use Rattle.flow_graph.specs.Analyses.{may_shape};
+ghost use Rattle.flow_graph.specs.Problems.{may_shape};
 ghost use Rattle.flow_links.specs.Tables.EdgeLists.{is_call};
 
 use crate::OutOfMemory;

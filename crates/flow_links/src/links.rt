@@ -1,5 +1,6 @@
 ghost use Rattle.std.specs.Prelude.{◌≡◌, ◌<◌, ◌≤◌, ℕ, IfOk, length, slice_index};
-ghost use Rattle.flow_graph.specs.Analyses.{is_backward as is_backward_of, may_shape};
+ghost use Rattle.flow_graph.specs.Analyses.{is_backward as is_backward_of};
+ghost use Rattle.flow_graph.specs.Problems.{may_shape};
 ghost use Rattle.flow_graph.specs.Limits.{HasFewPoints};
 ghost use Rattle.flow_graph.specs.Points.{point_count};
 ghost use Rattle.flow_links.specs.LinkLists.{AreStepsFrom, AreCallsFrom, AreCallersOf, AreSitesIn};

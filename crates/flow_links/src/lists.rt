@@ -1,6 +1,7 @@
 // The lists, side by side in blocks.
 ghost use Rattle.std.specs.Prelude.{◌≡◌, IfOk, filter};
-ghost use Rattle.flow_graph.specs.Analyses.{is_backward as is_backward_of, may_shape};
+ghost use Rattle.flow_graph.specs.Analyses.{is_backward as is_backward_of};
+ghost use Rattle.flow_graph.specs.Problems.{may_shape};
 ghost use Rattle.flow_graph.specs.Points.{point_count};
 ghost use Rattle.flow_links.specs.Tables.EdgeLists.{AreListed, call_link, call_source, is_call, key_of, site_link, step_target};
 

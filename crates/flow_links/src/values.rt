@@ -1,6 +1,7 @@
 // What stands for each edge in the lists.
 ghost use Rattle.std.specs.Prelude.{◌≡◌, ℕ, ◌<◌, IfOk, length, map, slice_index};
-ghost use Rattle.flow_graph.specs.Analyses.{is_backward as is_backward_of, may_shape};
+ghost use Rattle.flow_graph.specs.Analyses.{is_backward as is_backward_of};
+ghost use Rattle.flow_graph.specs.Problems.{may_shape};
 ghost use Rattle.flow_graph.specs.Paths.{IsEdge};
 ghost use Rattle.flow_links.specs.Tables.EdgeLists.{AreEdges, call_link, call_source, edge_at, site_link, step_target};
 

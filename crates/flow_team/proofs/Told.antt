@@ -4,7 +4,8 @@ use Rattle.std.specs.Prelude.{bit_xor}
 use Rattle.bit_rows.specs.RowSet.{IsWordOf, contains}
 use Rattle.bit_rows.specs.RowTable.{RowTable, set_at}
 use Rattle.bit_rows.specs.Words.{has_bit}
-use Rattle.flow_graph.specs.Analyses.{HasPathAt, IsInTable, is_backward, is_must, may_shape, may_transfer}
+use Rattle.flow_graph.specs.Analyses.{HasPathAt, IsInTable, is_backward, is_must}
+use Rattle.flow_graph.specs.Problems.{may_shape, may_transfer}
 use Rattle.flow_graph.specs.Paths.{SomePathHas}
 use Rattle.flow_graph.specs.Points.{point_count}
 use Rattle.flow_graph.specs.Universes.{bits}

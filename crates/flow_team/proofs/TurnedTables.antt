@@ -7,7 +7,8 @@ use Rattle.bit_rows.specs.RowSet.{RowSet, IsWordOf, contains, empty_set}
 use Rattle.bit_rows.specs.RowTable.{RowTable, set_at}
 use Rattle.bit_rows.specs.Words.{has_bit}
 use Rattle.bit_rows.proofs.RowSets.{contains-set_of, contains-above, hi_of-set_of}
-use Rattle.flow_graph.specs.Analyses.{IsInTable, is_must, may_shape, may_transfer}
+use Rattle.flow_graph.specs.Analyses.{IsInTable, is_must}
+use Rattle.flow_graph.specs.Problems.{may_shape, may_transfer}
 use Rattle.flow_graph.specs.Paths.{SomePathHas}
 use Rattle.flow_graph.specs.Universes.{bits}
 use Rattle.flow_graph.specs.declared.analysis.Analysis.{Analysis}
@@ -15,7 +16,7 @@ use Rattle.flow_graph.proofs.graphs.MayForms.{flags_are_may_forms, may_tables_ar
 use Rattle.gk_solve.specs.Solved.{IsMeetOverPaths}
 use Rattle.tac_reader.specs.Programs.{Program}
 use Rattle.flow_team.specs.Tables.{IsTableOf}
-use Rattle.flow_team.specs.code.Turned.{turned, turned_set, turned_table}
+use Rattle.flow_team.specs.code.Turned.{table_facts, turned, turned_set, turned_table}
 use Rattle.flow_team.proofs.Turns.{has_bit-xor}
 
 and_true : (b : Bool) → (b && true) ≡ b
@@ -77,11 +78,10 @@ module _ (program : Program) (analysis : Analysis) (point bit : ℕ) (set : Bool
 -- the sets of the may form, turned where the analysis is over every path, are its table
 pub turned_is_table : (program : Program) (analysis : Analysis) (rows : RowTable)
     → IsMeetOverPaths (record { program = program; analysis = analysis }) 0 (bits program analysis) rows
-    → IsTableOf program (record { analysis = analysis; rows = turned_table (is_must analysis) rows })
+    → IsTableOf program (table_facts analysis (turned_table (is_must analysis) rows))
 turned_is_table program analysis rows meet = record {
-  from_first = refl;
-  to_last = meet.same_hi;
-  count = meet.count;
+  points = meet.count;
+  bits = meet.same_hi;
   facts = record {
     paths = λ point there.
         let law = flags_are_may_forms program analysis point in

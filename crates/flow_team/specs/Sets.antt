@@ -1,9 +1,8 @@
 -- The sets that workers publish: those of the may form of an analysis.
 use Rattle.std.specs.Prelude.{ℕ, ◌<◌}
-use Rattle.flow_graph.specs.Analyses.{may_shape, may_transfer}
+use Rattle.flow_graph.specs.Problems.{may_shape, may_transfer, MayForm}
 use Rattle.flow_graph.specs.Paths.{HasPath, SomePathHas}
 use Rattle.flow_graph.specs.Points.{point_count}
-use Rattle.flow_graph.specs.Problems.{MayForm}
 use Rattle.flow_graph.specs.Universes.{bits}
 
 -- some valid path leads to the point, in the direction of the may form

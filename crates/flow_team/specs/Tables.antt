@@ -1,10 +1,8 @@
 -- The table of an analysis: at each point exactly the meet over its valid paths.
-use Rattle.std.specs.Prelude.{◌≡◌, ◌↔◌, ℕ, ◌<◌, Bool, true, length}
-use Rattle.bit_rows.specs.RowSet.{contains}
-use Rattle.bit_rows.specs.RowTable.{RowTable, flag_at, set_at}
+use Rattle.std.specs.Prelude.{◌≡◌, ◌↔◌, ℕ, ◌<◌, Bool, true}
 use Rattle.flow_graph.specs.Analyses.{HasPathAt, IsInTable}
 use Rattle.flow_graph.specs.Points.{point_count}
-use Rattle.flow_graph.specs.Universes.{bits}
+use Rattle.flow_graph.specs.Universes.{bits as bits_of}
 use Rattle.flow_graph.specs.declared.analysis.Analysis.{Analysis}
 use Rattle.tac_reader.specs.Programs.{Program}
 
@@ -16,21 +14,18 @@ pub record Facts : Type 0 where
 -- They are those of an analysis of a program: at each point and bit exactly the meet over its valid paths.
 pub record AreFacts (program : Program) (analysis : Analysis) (facts : Facts) : Type 0 where
   pub paths : (point : ℕ) → point < point_count program → (facts.has_path point ≡ true) ↔ HasPathAt program analysis point
-  pub sets : (point bit : ℕ) → point < point_count program → bit < bits program analysis
+  pub sets : (point bit : ℕ) → point < point_count program → bit < bits_of program analysis
       → (facts.contains point bit ≡ true) ↔ IsInTable program analysis point bit
 
--- an analysis, and for each point a flag and a set of bits
-pub record TableRows : Type 0 where
+-- A table: its analysis, how many points and how many bits it has, and what it says of them.
+pub record TableFacts : Type 0 where
   pub analysis : Analysis
-  pub rows : RowTable
+  pub points : ℕ
+  pub bits : ℕ
+  pub facts : Facts
 
--- what the rows tell
-abbrev pub facts_of : TableRows → Facts
-facts_of table = record { has_path = flag_at table.rows; contains = λ point bit. contains (set_at table.rows point) bit }
-
--- The table is of this program: one flag and one set of all bits for each point, and they are the analysis's facts.
-pub record IsTableOf (program : Program) (table : TableRows) : Type 0 where
-  pub from_first : table.rows.lo ≡ 0
-  pub to_last : table.rows.hi ≡ bits program table.analysis
-  pub count : length table.rows.flags ≡ point_count program
-  pub facts : AreFacts program table.analysis (facts_of table)
+-- The table is of this program: of each point and bit, it says the facts of its analysis.
+pub record IsTableOf (program : Program) (table : TableFacts) : Type 0 where
+  pub points : table.points ≡ point_count program
+  pub bits : table.bits ≡ bits_of program table.analysis
+  pub facts : AreFacts program table.analysis table.facts

@@ -1,7 +1,6 @@
-ghost use Rattle.std.specs.Prelude.{◌≡◌, ℕ, ◌+◌, ◌*◌, ◌≤◌, ◌<◌, false, length};
-ghost use Rattle.bit_rows.specs.RowSet.{IsWordOf, contains as is_in};
-ghost use Rattle.bit_rows.specs.RowTable.{flag_at, set_at};
+ghost use Rattle.std.specs.Prelude.{◌≡◌, ℕ, ◌+◌, ◌*◌, ◌≤◌, ◌<◌, false};
 ghost use Rattle.bit_rows.specs.Words.{has_bit};
+ghost use Rattle.flow_team.specs.code.Turned.{table_facts};
 
 use crate::turned_words::TurnedWords;
 use flow_graph::Analysis;
@@ -16,18 +15,17 @@ pub struct Table {
 }
 
 impl Model for Table {
-    ghost use Rattle.flow_team.specs.Tables.{TableRows};
+    ghost use Rattle.flow_team.specs.Tables.{TableFacts};
 
-    ghost Value = { TableRows };
+    ghost Value = { TableFacts };
 
-    ghost view = { λ table. record { analysis = table.analysis; rows = table.words } };
+    ghost view = { λ table. table_facts table.analysis table.words };
 }
 
 impl Table {
     /// The table of these sets.
     pub(crate) fn of(analysis: Analysis, words: TurnedWords) -> Table
-        ensures analysis { result.analysis ≡ analysis }
-        ensures rows { result.rows ≡ words }
+        ensures { result ≡ table_facts analysis words }
     {
         Table { analysis, words }
     }
@@ -41,27 +39,26 @@ impl Table {
 
     /// Whether some valid path leads to the point, or for a backward analysis from it to the end of `main`.
     pub fn has_path(&self, point: u32) -> bool
-        requires { point < length self.now.rows.flags }
-        ensures { result ≡ flag_at self.now.rows point }
+        requires { point < self.now.points }
+        ensures { result ≡ self.now.facts.has_path point }
     {
         self.words.flag(point)
     }
 
     /// Whether the bit is in the set of the point.
     pub fn contains(&self, point: u32, bit: u32) -> bool
-        requires point { point < length self.now.rows.flags }
-        requires low { self.now.rows.lo ≤ bit }
-        requires high { bit < self.now.rows.hi }
-        ensures { result ≡ is_in (set_at self.now.rows point) bit }
+        requires point { point < self.now.points }
+        requires bit { bit < self.now.bits }
+        ensures { result ≡ self.now.facts.contains point bit }
     {
         (self.word(point, bit / 64) >> (bit % 64)) & 1 == 1
     }
 
     /// A word of the point's set: bit `64 * word + k` at place `k`; 0 at all places past the last bit.
     pub fn word(&self, point: u32, word: u32) -> u64
-        requires { point < length self.now.rows.flags }
-        ensures set { IsWordOf (set_at self.now.rows point) word result }
-        ensures past { (k : ℕ) → k < 64 → self.now.rows.hi ≤ 64 * word + k → has_bit result k ≡ false }
+        requires { point < self.now.points }
+        ensures set { (k : ℕ) → k < 64 → has_bit result k ≡ self.now.facts.contains point (64 * word + k) }
+        ensures past { (k : ℕ) → k < 64 → self.now.bits ≤ 64 * word + k → has_bit result k ≡ false }
     {
         self.words.word(point, word)
     }

@@ -2,8 +2,6 @@
 
 ghost use Rattle.std.specs.Prelude.{◌≡◌, ℕ, Bool, true, false, ◌+◌, ◌-◌, ◌<◌, ◌≤◌, ◌||◌, codes, filter, length, map};
 ghost use Rattle.std.specs.List.{range_with_len};
-ghost use Rattle.bit_rows.specs.RowSet.{contains as is_in};
-ghost use Rattle.bit_rows.specs.RowTable.{set_at};
 ghost use Rattle.bit_rows.specs.Words.{has_bit};
 ghost use Rattle.text_pieces.specs.code.Lists.{after, some_stand, text_at};
 ghost use Rattle.flow_texts.specs.code.Members.{Wrote, chosen};
@@ -140,9 +138,9 @@ fn write_words<K: Sink>(
 ) -> bool
     ghost member: { ℕ → Bool }
     requires ready { IsOpen (outlet K.contents K.faults out.old) }
-    requires point { point < length table.now.rows.flags }
+    requires point { point < table.now.points }
     requires bits { bits ≤ length texts.now.texts }
-    requires member { (bit : ℕ) → is_in (set_at table.now.rows point) bit ≡ member bit }
+    requires member { (bit : ℕ) → table.now.facts.contains point bit ≡ member bit }
     ensures same_reference { out.new.sink.ghost_name ≡ out.old.sink.ghost_name }
     ensures wrote { Wrote texts.now.between (chosen texts.now.texts member) false 0 bits
         (outlet K.contents K.faults out.old) (outlet K.contents K.faults out.new) result }
@@ -172,10 +170,10 @@ pub fn write_members<K: Sink>(
     bits: u32,
 ) -> bool
     requires ready { IsOpen (outlet K.contents K.faults out.old) }
-    requires point { point < length table.now.rows.flags }
+    requires point { point < table.now.points }
     requires bits { bits ≤ length texts.now.texts }
     ensures same_reference { out.new.sink.ghost_name ≡ out.old.sink.ghost_name }
-    ensures wrote { Wrote texts.now.between (chosen texts.now.texts (is_in (set_at table.now.rows point))) false 0 bits
+    ensures wrote { Wrote texts.now.between (chosen texts.now.texts (table.now.facts.contains point)) false 0 bits
         (outlet K.contents K.faults out.old) (outlet K.contents K.faults out.new) result }
 {
     write_words(out, texts, table, point, bits)
@@ -194,11 +192,11 @@ pub fn write_set<K: Sink>(
 )
     requires ready { IsOpen (outlet K.contents K.faults out.old) }
     requires commas { texts.now.between ≡ codes ", " }
-    requires point { point < length table.now.rows.flags }
+    requires point { point < table.now.points }
     requires bits { bits ≤ length texts.now.texts }
     ensures same_reference { out.new.sink.ghost_name ≡ out.old.sink.ghost_name }
     ensures takes { Takes (outlet K.contents K.faults out.old) (outlet K.contents K.faults out.new)
-        (listed (map (text_at texts.now.texts) (filter (is_in (set_at table.now.rows point)) (range_with_len 0 bits)))) }
+        (listed (map (text_at texts.now.texts) (filter (table.now.facts.contains point) (range_with_len 0 bits)))) }
 {
     if write_members(out, texts, table, point, bits) {
         return;

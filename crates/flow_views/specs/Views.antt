@@ -7,7 +7,8 @@ use Rattle.flow_graph.specs.declared.analysis.Analysis.TheVariants.{Reach, Live,
 use Rattle.flow_team.specs.Tables.{Facts}
 use Rattle.flow_texts.specs.Reports.{Knowledge}
 use Rattle.tac_reader.specs.Listings.{name_at}
-use Rattle.tac_reader.specs.Programs.{Names, Program}
+use Rattle.tac_reader.specs.Programs.{Program}
+use Rattle.tac_reader.specs.Parses.{Names}
 use Rattle.flow_views.specs.declared.view.Chosen.{Chosen}
 use Rattle.flow_views.specs.declared.view.View.{View}
 

@@ -2,8 +2,6 @@
 
 ghost use Rattle.std.specs.Prelude.{◌≡◌, ◌+◌, ◌++◌, ◌<◌, ◌≤◌, Some, codes, decimal, filter, flat_map, length, map, IfOk, IfSome};
 ghost use Rattle.std.specs.List.{range_with_len};
-ghost use Rattle.bit_rows.specs.RowSet.{contains as is_in};
-ghost use Rattle.bit_rows.specs.RowTable.{set_at};
 ghost use Rattle.flow_graph.specs.Points.{place_of, point_count, procedure_at, statement_at};
 ghost use Rattle.flow_texts.specs.code.Findings.{AreFindings, IsRemarkIn};
 ghost use Rattle.text_pieces.specs.code.Lists.{text_at};
@@ -144,10 +142,10 @@ fn write_array<K: Sink>(
 )
     requires ready { IsOpen (outlet K.contents K.faults out.old) }
     requires commas { texts.now.between ≡ codes "," }
-    requires point { point < length table.now.rows.flags }
+    requires point { point < table.now.points }
     requires bits { bits ≤ length texts.now.texts }
     ensures same_reference { out.new.sink.ghost_name ≡ out.old.sink.ghost_name }
-    ensures takes { Takes (outlet K.contents K.faults out.old) (outlet K.contents K.faults out.new) (array (map (text_at texts.now.texts) (filter (is_in (set_at table.now.rows point)) (range_with_len 0 bits)))) }
+    ensures takes { Takes (outlet K.contents K.faults out.old) (outlet K.contents K.faults out.new) (array (map (text_at texts.now.texts) (filter (table.now.facts.contains point) (range_with_len 0 bits)))) }
 {
     out.write(b"[");
     write_members(out, texts, table, point, bits);

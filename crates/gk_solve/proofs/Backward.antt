@@ -1,6 +1,7 @@
 -- Must and backward problems, by complement and reversal
 use Rattle.std.proofs.Common.{false, ◌↔◌}
-use Rattle.flow_graph.specs.Paths.{Transfer, complemented_transfer, reversed_shape, reversed_transfer}
+use Rattle.flow_graph.specs.Paths.{Transfer}
+use Rattle.flow_graph.specs.Reversals.{complemented_transfer, reversed_shape, reversed_transfer}
 use Rattle.flow_graph.proofs.paths.Complement.{meets_complement}
 use Rattle.flow_graph.proofs.paths.Reversal.{meets_reverse, reversed_is_well_formed}
 use Rattle.gk_solve.specs.Laws.{ForwardMustIsComplement, BackwardFlagsAreReversed, BackwardMayIsReversed, BackwardMustIsReversedComplement}

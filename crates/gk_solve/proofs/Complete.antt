@@ -2,7 +2,8 @@
 use Rattle.std.proofs.Common.{◌≡◌, ℕ, Bool, true, false, not, ◌&&◌, ◌||◌, List, [], ◌∷◌, Some, ◌<◌, refl, sym, ◌∙◌, inl, inr, ◌⊎◌}
 use Rattle.flow_graph.specs.declared.edge.Edge.{Edge}
 use Rattle.flow_graph.specs.declared.edge.Edge.TheVariants.{Step, Call, Ret}
-use Rattle.flow_graph.specs.Paths.{Shape, Transfer, IsEdge, IsPath, open_sites_after, value_across, value_after, IsWellFormed}
+use Rattle.flow_graph.specs.Paths.{Shape, Transfer, IsEdge, IsPath, open_sites_after, value_across, value_after}
+use Rattle.flow_graph.specs.WellFormed.{IsWellFormed}
 use Rattle.flow_graph.proofs.paths.PathLemmas.{open_sites_after-none, same_site}
 use Rattle.gk_solve.specs.Equations.{CallsAt, ReturnsTo, Reached, entry_is_reached, reached_by_step, reached_by_call, Kept, kept_at_entry, kept_by_step, kept_by_call, Made, made_by_step, made_before_step, made_by_callee, made_before_call, Entered, entered_by_call, Brought, brought_where_made, brought_where_kept}
 

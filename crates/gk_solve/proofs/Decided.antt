@@ -1,7 +1,9 @@
 -- The meets are decided, since the least solution is
 use Rattle.std.proofs.Common.{◌≡◌, ℕ, Bool, true, false, not, List, ◌⊎◌, ◌↔◌, inl, inr, refl, sym, ◌∙◌}
 use Rattle.flow_graph.specs.declared.edge.Edge.{Edge}
-use Rattle.flow_graph.specs.Paths.{Shape, Transfer, IsValidPath, IsBackwardValidPath, value_after, value_before, EveryPathHas, EveryBackwardPathHas, SomePathHas, SomeBackwardPathHas, IsWellFormed, complemented_transfer, reversed_shape, reversed_transfer}
+use Rattle.flow_graph.specs.Paths.{Shape, Transfer, IsValidPath, IsBackwardValidPath, value_after, value_before, EveryPathHas, EveryBackwardPathHas, SomePathHas, SomeBackwardPathHas}
+use Rattle.flow_graph.specs.Reversals.{complemented_transfer, reversed_shape, reversed_transfer}
+use Rattle.flow_graph.specs.WellFormed.{IsWellFormed}
 use Rattle.flow_graph.proofs.paths.Complement.{value_after-complemented, value_before-complemented, meets_complement}
 use Rattle.flow_graph.proofs.paths.Finishing.{has_backward_decided}
 use Rattle.gk_solve.specs.Laws.{SolutionIsDecided, MeetsAreDecided, BackwardMeetsAreDecided}

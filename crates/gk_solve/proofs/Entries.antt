@@ -2,7 +2,9 @@
 use Rattle.std.proofs.Common.{◌≡◌, ℕ, true, List, [], ◌∷◌, ◌<◌, sym, ap, ◌∙◌, inl, inr, ◌⊎◌}
 use Rattle.flow_graph.specs.declared.edge.Edge.{Edge}
 use Rattle.flow_graph.specs.declared.edge.Edge.TheVariants.{Call}
-use Rattle.flow_graph.specs.Paths.{Shape, Transfer, root, IsValidPath, EndsInCallOf, IsEnteringPath, value_after, IsWellFormed}
+use Rattle.flow_graph.specs.Paths.{Shape, Transfer, root, IsValidPath, value_after}
+use Rattle.flow_graph.specs.WellFormed.{IsWellFormed}
+use Rattle.flow_graph.specs.MatchedPaths.{EndsInCallOf, IsEnteringPath}
 use Rattle.flow_graph.proofs.paths.PathLemmas.{path_split, value_after-append, valid_front}
 use Rattle.gk_solve.specs.Equations.{Entered, root_is_entered, Brought, brought_by_boundary}
 use Rattle.gk_solve.specs.Laws.{EntriesArePaths}

@@ -1,6 +1,7 @@
 -- Anything closed under the clauses includes the least solution
 use Rattle.std.proofs.Common.{ℕ, Bool, sym, ◌∙◌, ◌⊎◌, inl, inr}
-use Rattle.flow_graph.specs.Paths.{Shape, Transfer, AgreesOnSteps}
+use Rattle.flow_graph.specs.Paths.{Shape, Transfer}
+use Rattle.flow_graph.specs.WellFormed.{AgreesOnSteps}
 use Rattle.gk_solve.specs.Equations.{Reached, entry_is_reached, reached_by_step, reached_by_call, Kept, kept_at_entry, kept_by_step, kept_by_call, Made, made_by_step, made_before_step, made_by_callee, made_before_call, Entered, root_is_entered, entered_by_call, Brought, brought_by_boundary, brought_where_made, brought_where_kept, IsInSolution, IsClosedReached, IsClosedKept, IsClosedMade, IsClosedEntered, IsClosedBrought}
 use Rattle.gk_solve.specs.Laws.{SolutionIsClosed, ReachedIsLeast, KeptIsLeast, MadeIsLeast, EnteredIsLeast, BroughtIsLeast, BitsAreApart}
 

@@ -1,7 +1,9 @@
 -- The least solution of a forward may problem is its meet
 use Rattle.std.proofs.Common.{◌≡◌, ℕ, Bool, true, false, List, [], ◌<◌, inl, inr, ◌⊎◌}
 use Rattle.flow_graph.specs.declared.edge.Edge.{Edge}
-use Rattle.flow_graph.specs.Paths.{Shape, Transfer, IsValidPath, IsPathFromEntry, value_after, is_kept_along, HasPath, SomePathHas, IsWellFormed}
+use Rattle.flow_graph.specs.Paths.{Shape, Transfer, IsValidPath, value_after, HasPath, SomePathHas}
+use Rattle.flow_graph.specs.WellFormed.{IsWellFormed}
+use Rattle.flow_graph.specs.MatchedPaths.{IsPathFromEntry, is_kept_along}
 use Rattle.flow_graph.proofs.paths.PathLemmas.{some_sites}
 use Rattle.gk_solve.specs.Equations.{Reached, Kept, Made, made_by_step, made_before_step, made_by_callee, made_before_call, root_is_entered, Brought, brought_by_boundary, HasFlag, IsInSolution}
 use Rattle.gk_solve.specs.Laws.{SummariesArePaths, SolutionIsMeet}

@@ -1,6 +1,7 @@
 -- The tables of a program's analyses are the least solutions of their may forms
 use Rattle.std.proofs.Common.{◌≡◌, Bool, true, false, inl, inr, ◌⊎◌, ◌↔◌, refl}
-use Rattle.flow_graph.specs.Analyses.{IsInTable, is_must, may_shape, may_transfer}
+use Rattle.flow_graph.specs.Analyses.{IsInTable, is_must}
+use Rattle.flow_graph.specs.Problems.{may_shape, may_transfer}
 use Rattle.flow_graph.proofs.graphs.GraphLaws.{may_forms_are_well_formed}
 use Rattle.flow_graph.proofs.graphs.MayForms.{flags_are_may_forms, may_tables_are_may_forms, must_tables_are_may_forms}
 use Rattle.gk_solve.specs.Equations.{IsInSolution}

@@ -8,10 +8,9 @@ use Rattle.bit_rows.proofs.SetLaws.{HasRange-with_words, contains-empty_set, con
 use Rattle.bit_rows.proofs.WordBits.{has_bit-zero}
 use Rattle.std.proofs.lemmas.List.{get_or_past}
 use Rattle.bit_rows.proofs.Tables.{IsUniform-replaced, set_at-with_set_same, set_at-with_set_other, set_at-blank_table}
-use Rattle.flow_graph.specs.Analyses.{may_shape, may_transfer}
-use Rattle.flow_graph.specs.Paths.{IsWellFormed}
+use Rattle.flow_graph.specs.Problems.{may_shape, may_transfer, MayForm}
+use Rattle.flow_graph.specs.WellFormed.{IsWellFormed}
 use Rattle.flow_graph.specs.Points.{point_count}
-use Rattle.flow_graph.specs.Problems.{MayForm}
 use Rattle.flow_links.specs.Shapes.{LinkedProgram, directed_shape}
 use Rattle.gk_solve.specs.Equations.{HasFlag, IsInSolution}
 use Rattle.gk_solve.specs.Solved.{AreSolved, IsLeastSolution, IsMeetOverPaths, SliceTable, direction_of, word_at}

@@ -3,9 +3,9 @@ use Rattle.std.proofs.Common.{◌≡◌, ◌<◌, ◌≤◌, ◌+◌, ◌-◌, �
 use Rattle.std.proofs.Math.ListN.{get_or-map}
 use Rattle.std.proofs.lemmas.Bool.{lt-ltb}
 use Rattle.bit_rows.specs.Words.{has_bit}
-use Rattle.flow_graph.specs.Analyses.{is_backward, may_shape, may_transfer}
-use Rattle.flow_graph.specs.Paths.{AgreesOnSteps, IsWellFormed}
-use Rattle.flow_graph.specs.Problems.{MayForm, may_gens, may_kills, may_boundary}
+use Rattle.flow_graph.specs.Analyses.{is_backward}
+use Rattle.flow_graph.specs.Problems.{may_shape, may_transfer, MayForm, may_gens, may_kills, may_boundary}
+use Rattle.flow_graph.specs.WellFormed.{AgreesOnSteps, IsWellFormed}
 use Rattle.flow_graph.specs.Universes.{bits as bits_of}
 use Rattle.flow_graph.proofs.graphs.MayForms.{steps_have_statements}
 use Rattle.flow_graph.specs.Points.{point_count}

@@ -2,7 +2,9 @@
 use Rattle.std.proofs.Common.{◌≡◌, ℕ, Bool, true, false, not, ◌&&◌, ◌||◌, List, [], ◌∷◌, ◌++◌, refl, ◌∙◌, arith, inl, inr, ◌⊎◌}
 use Rattle.flow_graph.specs.declared.edge.Edge.{Edge}
 use Rattle.flow_graph.specs.declared.edge.Edge.TheVariants.{Step, Call, Ret}
-use Rattle.flow_graph.specs.Paths.{Shape, Transfer, IsPathFromEntry, IsEnteringPath, value_across, value_after, is_kept_along, HasPath, SomePathHas, IsWellFormed}
+use Rattle.flow_graph.specs.Paths.{Shape, Transfer, value_across, value_after, HasPath, SomePathHas}
+use Rattle.flow_graph.specs.WellFormed.{IsWellFormed}
+use Rattle.flow_graph.specs.MatchedPaths.{IsPathFromEntry, IsEnteringPath, is_kept_along}
 use Rattle.flow_graph.proofs.paths.PathLemmas.{value_after-append}
 use Rattle.flow_graph.proofs.paths.Splitting.{at_entry, steps_join, callee_paths_join, calls_enter, valid_join}
 use Rattle.gk_solve.specs.Equations.{Reached, entry_is_reached, reached_by_step, reached_by_call, Kept, kept_at_entry, kept_by_step, kept_by_call, Made, made_by_step, made_before_step, made_by_callee, made_before_call, Entered, root_is_entered, entered_by_call, Brought, brought_by_boundary, brought_where_made, brought_where_kept, HasFlag, IsInSolution}

@@ -2,10 +2,14 @@
 use Rattle.std.specs.Prelude.{◌≡◌, ℕ, Bool, true, false, IsTrue, List, ◌<◌, ◌⊎◌, ◌↔◌}
 use Rattle.tac_reader.specs.Programs.{Program}
 use Rattle.tac_reader.specs.Sound.{IsSound}
-use Rattle.flow_graph.specs.Analyses.{HasPathAt, IsInTable, is_must, may_shape, may_transfer}
+use Rattle.flow_graph.specs.Analyses.{HasPathAt, IsInTable, is_must}
+use Rattle.flow_graph.specs.Problems.{may_shape, may_transfer}
 use Rattle.flow_graph.specs.declared.analysis.Analysis.{Analysis}
 use Rattle.flow_graph.specs.declared.edge.Edge.{Edge}
-use Rattle.flow_graph.specs.Paths.{Shape, Transfer, IsValidPath, IsBackwardValidPath, value_before, IsPathFromEntry, IsEnteringPath, value_after, is_kept_along, HasPath, SomePathHas, EveryPathHas, HasBackwardPath, SomeBackwardPathHas, EveryBackwardPathHas, IsWellFormed, AgreesOnSteps, reversed_shape, reversed_transfer, complemented_transfer}
+use Rattle.flow_graph.specs.Paths.{Shape, Transfer, IsValidPath, IsBackwardValidPath, value_before, value_after, HasPath, SomePathHas, EveryPathHas, HasBackwardPath, SomeBackwardPathHas, EveryBackwardPathHas}
+use Rattle.flow_graph.specs.Reversals.{reversed_shape, reversed_transfer, complemented_transfer}
+use Rattle.flow_graph.specs.WellFormed.{IsWellFormed, AgreesOnSteps}
+use Rattle.flow_graph.specs.MatchedPaths.{IsPathFromEntry, IsEnteringPath, is_kept_along}
 use Rattle.gk_solve.specs.Equations.{Reached, Kept, Made, Entered, Brought, HasFlag, IsInSolution, IsClosedReached, IsClosedKept, IsClosedMade, IsClosedEntered, IsClosedBrought}
 
 -- Reached, kept and made say that some matched path from the entry of the point's procedure exists, keeps the bit, makes

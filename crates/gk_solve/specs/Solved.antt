@@ -3,10 +3,10 @@ use Rattle.std.specs.Prelude.{◌≡◌, ◌↔◌, ℕ, ◌≤◌, ◌<◌, ◌
 use Rattle.bit_rows.specs.RowSet.{contains}
 use Rattle.bit_rows.specs.RowTable.{RowTable, flag_at, set_at}
 use Rattle.bit_rows.specs.Words.{has_bit}
-use Rattle.flow_graph.specs.Analyses.{is_backward, may_shape, may_transfer}
+use Rattle.flow_graph.specs.Analyses.{is_backward}
+use Rattle.flow_graph.specs.Problems.{may_shape, may_transfer, MayForm}
 use Rattle.flow_graph.specs.Paths.{HasPath, SomePathHas}
 use Rattle.flow_graph.specs.Points.{point_count}
-use Rattle.flow_graph.specs.Problems.{MayForm}
 use Rattle.flow_graph.specs.Universes.{bits as bits_of}
 use Rattle.flow_links.specs.Shapes.{LinkedProgram}
 use Rattle.gk_solve.specs.Equations.{HasFlag, IsInSolution}

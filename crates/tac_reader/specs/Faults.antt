@@ -4,7 +4,7 @@ use Rattle.tac_reader.specs.Text.{line_after, column_after}
 use Rattle.tac_reader.specs.Tokens.{name, number, fixed, Token, Row, rows, is_one_of}
 use Rattle.tac_reader.specs.Forms.{proc_form, end_form, has_form, labels_of, behind_labels, forms_for, some_form, first_wrong}
 use Rattle.tac_reader.specs.Sections.{Section, sections, titles, spelling_of, labels_in, statements_of, jumps_of, callees_of}
-use Rattle.tac_reader.specs.Programs.{names_in, stop_of}
+use Rattle.tac_reader.specs.Parses.{names_in, stop_of}
 use Rattle.tac_reader.specs.declared.fault.Fault.{Fault}
 use Rattle.tac_reader.specs.declared.refusal.Refusal.{Refusal}
 use Rattle.tac_reader.specs.declared.refusal.RefusalKind.{RefusalKind}

@@ -4,7 +4,8 @@ use Rattle.tac_reader.specs.Text.{lines}
 use Rattle.tac_reader.specs.Tokens.{word, fixed, Token, Row, piece_of, rows, row_from}
 use Rattle.tac_reader.specs.Forms.{Slot, has_form, statements}
 use Rattle.tac_reader.specs.Sections.{Section, sections, statements_of, titles}
-use Rattle.tac_reader.specs.Programs.{Names, Procedure, Program, names_for, names_in, operator_of, program_of, sign_of, start_of, statement_of, stop_of, variables_in}
+use Rattle.tac_reader.specs.Programs.{Procedure, Program}
+use Rattle.tac_reader.specs.Parses.{Names, names_for, names_in, operator_of, program_of, sign_of, start_of, statement_of, stop_of, variables_in}
 use Rattle.tac_reader.specs.Faults.{refusal_of, longest_text}
 use Rattle.tac_reader.specs.Listings.{listing_of, statement_text}
 use Rattle.tac_reader.specs.Sound.{IsSound}

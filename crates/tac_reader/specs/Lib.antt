@@ -3,6 +3,7 @@ pub mod Tokens
 pub mod Forms
 pub mod Sections
 pub mod Programs
+pub mod Parses
 pub mod Faults
 pub mod Listings
 pub mod Examples

@@ -2,7 +2,8 @@
 
 ghost use Rattle.std.specs.Prelude.{◌≡◌, ◌+◌, ◌*◌, ◌<◌, ◌≤◌, ◌^◌, ℕ, List, length, map, slice_get, slice_range, Some, IfOk, IfSome, take, count_by};
 ghost use Rattle.tac_reader.specs.code.Built.{names_view, word_nth, call_numbers};
-ghost use Rattle.tac_reader.specs.Programs.{number_of, operand_of, operator_of, kind_of, form_of as form_in, statement_of, start_of, stop_of as end_of};
+ghost use Rattle.tac_reader.specs.Programs.{number_of};
+ghost use Rattle.tac_reader.specs.Parses.{operand_of, operator_of, kind_of, form_of as form_in, statement_of, start_of, stop_of as end_of};
 ghost use Rattle.tac_reader.specs.Sections.{bytes_of, callees_of};
 ghost use Rattle.tac_reader.specs.Text.{line_after};
 ghost use Rattle.tac_reader.specs.code.Views.{token_view, tokens_view};

@@ -6,7 +6,7 @@
 ghost use Rattle.std.specs.Prelude.{◌≡◌, ◌++◌, ℕ, List, [], ◌∷◌, Some, map, flat_map, drop, codes, if◌then◌else◌, IfOk, IfErr, OnOk};
 ghost use Rattle.tac_reader.specs.Faults.{at, callees_in, head_of, jumps_in, most_procedures, repeated, unknown};
 ghost use Rattle.tac_reader.specs.code.Lexed.{IfFault};
-ghost use Rattle.tac_reader.specs.Programs.{names_in};
+ghost use Rattle.tac_reader.specs.Parses.{names_in};
 ghost use Rattle.tac_reader.specs.code.SectionViews.{section_view, sections_view};
 ghost use Rattle.tac_reader.specs.Sections.{callees_of, labels_in, statements_of, titles as titles_of};
 ghost use Rattle.tac_reader.specs.Tokens.{Token as Word, is_one_of};

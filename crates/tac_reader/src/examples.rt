@@ -5,7 +5,7 @@ ghost use Rattle.std.specs.Prelude.{◌≡◌, [], ◌∷◌, ◌++◌, codes, N
 ghost use Rattle.tac_reader.specs.Examples.{refused, procedures_before, word_from, numbered_example};
 ghost use Rattle.tac_reader.specs.Faults.{refusal_of};
 ghost use Rattle.tac_reader.specs.Listings.{listing_of};
-ghost use Rattle.tac_reader.specs.Programs.{program_of};
+ghost use Rattle.tac_reader.specs.Parses.{program_of};
 ghost use Rattle.tac_reader.specs.Sound.{IsSound, IsSoundStatement};
 ghost use Rattle.tac_reader.specs.Tokens.{row_from, name, number, fixed};
 ghost use Rattle.tac_reader.specs.declared.program.Op.TheVariants.{Less, Plus, Tilde};

@@ -3,7 +3,7 @@
 ghost use Rattle.std.specs.Prelude.{◌≡◌, ◌≢◌, ◌+◌, ◌<◌, ◌≤◌, ◌^◌, ◌↔◌, [], length, slice_get, Some, None, OnOk, OnErr, IfOk, IfSome, IfNone, not, position, bytes_eq, option_map};
 ghost use Rattle.tac_reader.specs.Tokens.{is_one_of};
 ghost use Rattle.tac_reader.specs.Listings.{name_at};
-ghost use Rattle.tac_reader.specs.Programs.{noted};
+ghost use Rattle.tac_reader.specs.Parses.{noted};
 
 use crate::name_hashers::{NameHashers, NameSeeds};
 use crate::name_keys::{NameKey, Spelling};

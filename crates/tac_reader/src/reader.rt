@@ -3,7 +3,7 @@
 ghost use Rattle.std.specs.Prelude.{◌≡◌, ◌+◌, ◌<◌, ◌≤◌, ◌^◌, Some, None, length, map, take, IfOk, IfErr, OnOk};
 ghost use Rattle.tac_reader.specs.Faults.{fault_of, head_of, longest_text, name_faults, refusal_of, refusal_at};
 ghost use Rattle.tac_reader.specs.code.Lexed.{IfFault};
-ghost use Rattle.tac_reader.specs.Programs.{names_in, program_of};
+ghost use Rattle.tac_reader.specs.Parses.{names_in, program_of};
 ghost use Rattle.tac_reader.specs.code.ReadFaults.{IfRefused};
 ghost use Rattle.tac_reader.specs.Sections.{labels_in, titles};
 ghost use Rattle.tac_reader.specs.code.SectionViews.{sections_view};

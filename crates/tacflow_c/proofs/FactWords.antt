@@ -5,9 +5,9 @@ use Rattle.bit_rows.specs.RowSet.{RowSet, contains, full_set}
 use Rattle.bit_rows.specs.Words.{has_bit}
 use Rattle.bit_rows.proofs.RowSets.{contains-above, contains-below}
 use Rattle.bit_rows.proofs.SetLaws.{contains-full_set, HasRange-full_set}
-use Rattle.flow_graph.specs.Analyses.{IsInTable, is_must, may_shape, may_transfer}
+use Rattle.flow_graph.specs.Analyses.{IsInTable, is_must}
+use Rattle.flow_graph.specs.Problems.{may_shape, may_transfer, MayForm}
 use Rattle.flow_graph.specs.Paths.{SomePathHas}
-use Rattle.flow_graph.specs.Problems.{MayForm}
 use Rattle.flow_graph.proofs.graphs.MayForms.{may_tables_are_may_forms, must_tables_are_may_forms}
 use Rattle.gk_solve.specs.Solved.{AreMeetWords, IsSliceOf, SliceTable, word_at}
 use Rattle.tacflow_c.specs.Facts.{IsFactWord}

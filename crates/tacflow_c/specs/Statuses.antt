@@ -7,7 +7,8 @@ use Rattle.flow_graph.specs.Universes.{bits}
 use Rattle.flow_graph.specs.declared.analysis.Analysis.{Analysis}
 use Rattle.flow_graph.specs.declared.analysis.Analysis.TheVariants.{Reach, Live, Avail, Busy}
 use Rattle.tac_reader.specs.Faults.{number_of_kind, refusal_of}
-use Rattle.tac_reader.specs.Programs.{Program, program_of}
+use Rattle.tac_reader.specs.Programs.{Program}
+use Rattle.tac_reader.specs.Parses.{program_of}
 use Rattle.tac_reader.specs.declared.refusal.Refusal.{Refusal}
 use Rattle.tacflow_c.specs.declared.fault.Fault.{Fault}
 use Rattle.tacflow_c.specs.declared.fault.Fault.TheVariants as fault

@@ -3,7 +3,7 @@ use Rattle.std.specs.Prelude.{◌≡◌, ℕ, ◌<◌, None, List, ◌++◌, len
 use Rattle.flow_texts.specs.Reports.{ListsSafely}
 use Rattle.tac_reader.specs.Faults.{refusal_of}
 use Rattle.tac_reader.specs.Listings.{listing_of}
-use Rattle.tac_reader.specs.Programs.{program_of}
+use Rattle.tac_reader.specs.Parses.{program_of}
 use Rattle.tacflow_c.specs.Statuses.{HasGraph, IsFaultOf, IsUnread}
 use Rattle.tacflow_c.specs.declared.fault.Fault.{Fault}
 use Rattle.tacflow_c.specs.declared.fault.Fault.TheVariants as fault

@@ -3,7 +3,7 @@
 ghost use Rattle.std.specs.Prelude.{◌≡◌, ◌≤◌, None, length, IfErr, OnOk, OnErr};
 ghost use Rattle.flow_graph.specs.Points.{point_count};
 ghost use Rattle.flow_graph.specs.Universes.{bits as bits_of, definitions as definitions_in, expressions as expressions_in};
-ghost use Rattle.tac_reader.specs.Programs.{program_of as program_in};
+ghost use Rattle.tac_reader.specs.Parses.{program_of as program_in};
 ghost use Rattle.tacflow_c.specs.Facts.{AreFactsOfText, IsTableFault};
 ghost use Rattle.tac_reader.specs.Faults.{refusal_of};
 ghost use Rattle.tacflow_c.specs.Names.{AreNames, IsNamesFault, names_of as names_in};

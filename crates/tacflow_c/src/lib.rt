@@ -16,7 +16,7 @@ mod texts;
 ghost use Rattle.std.specs.Prelude.{◌≡◌, None, length};
 ghost use Rattle.flow_graph.specs.Points.{point_count};
 ghost use Rattle.flow_graph.specs.Universes.{definitions as definitions_in, expressions as expressions_in};
-ghost use Rattle.tac_reader.specs.Programs.{program_of};
+ghost use Rattle.tac_reader.specs.Parses.{program_of};
 ghost use Rattle.tacflow_c.specs.Facts.{AreFactsOfText, IsTableFault};
 ghost use Rattle.tac_reader.specs.Faults.{refusal_of};
 ghost use Rattle.tacflow_c.specs.Names.{AreNames, IsNamesFault};

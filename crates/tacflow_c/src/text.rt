@@ -3,7 +3,7 @@
 ghost use Rattle.std.specs.Prelude.{◌≡◌, IfOk, IfErr, OnOk, None};
 ghost use Rattle.flow_graph.specs.Limits.{HasFewBits, HasFewPoints};
 ghost use Rattle.tac_reader.specs.Faults.{refusal_of};
-ghost use Rattle.tac_reader.specs.Programs.{program_of as program_in};
+ghost use Rattle.tac_reader.specs.Parses.{program_of as program_in};
 ghost use Rattle.tacflow_c.specs.Statuses.{IsOverLimit, IsUnread};
 
 use crate::fault::Fault;

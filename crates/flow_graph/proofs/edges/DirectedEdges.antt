@@ -1,9 +1,11 @@
 -- The edges of a may form that goes backwards
 use Rattle.std.proofs.Common.{◌≡◌, List, true, map, sym, ap, ◌∙◌}
 use Rattle.tac_reader.specs.Programs.{Program}
-use Rattle.flow_graph.specs.Analyses.{is_backward, may_shape}
+use Rattle.flow_graph.specs.Analyses.{is_backward}
+use Rattle.flow_graph.specs.Problems.{may_shape}
 use Rattle.flow_graph.specs.Edges.{edges}
-use Rattle.flow_graph.specs.Paths.{Edge, reversed_edge}
+use Rattle.flow_graph.specs.Paths.{Edge}
+use Rattle.flow_graph.specs.Reversals.{reversed_edge}
 use Rattle.flow_graph.specs.Universes.{Analysis, Reach, Live, Avail, Busy}
 use Rattle.flow_graph.proofs.paths.Reversal.{edges-twice}
 

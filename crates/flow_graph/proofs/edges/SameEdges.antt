@@ -1,6 +1,7 @@
 -- Problems that agree in their edges and transfers
 use Rattle.std.proofs.Common.{◌≡◌, ℕ, Bool, List, [], ◌∷◌, refl, sym, ap, ◌∙◌}
-use Rattle.flow_graph.specs.Paths.{Edge, Step, Call, Ret, target_of, Shape, Transfer, IsEdge, IsPath, IsValidPath, value_across, value_after, HasPath, SomePathHas, EveryPathHas, IsBackwardValidPath, value_before, HasBackwardPath, SomeBackwardPathHas, EveryBackwardPathHas, HasSameEdges, AgreesOnSteps}
+use Rattle.flow_graph.specs.Paths.{Edge, Step, Call, Ret, target_of, Shape, Transfer, IsEdge, IsPath, IsValidPath, value_across, value_after, HasPath, SomePathHas, EveryPathHas, IsBackwardValidPath, value_before, HasBackwardPath, SomeBackwardPathHas, EveryBackwardPathHas}
+use Rattle.flow_graph.specs.WellFormed.{HasSameEdges, AgreesOnSteps}
 use Rattle.flow_graph.specs.PathLaws.{SameEdgesSamePaths, SameEdgesSameBackwardPaths}
 
 same_edges-sym : {first second : Shape} → HasSameEdges first second → HasSameEdges second first

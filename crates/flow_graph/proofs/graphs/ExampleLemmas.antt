@@ -4,7 +4,8 @@ use Rattle.std.specs.List.{list_any, list_all}
 use Rattle.std.proofs.lemmas.Map.Views.{Contains-from_any}
 use Rattle.std.proofs.lemmas.List.Sums.{AllPass-from_list_all}
 use Rattle.std.proofs.lemmas.List.Elements.{All-contains}
-use Rattle.flow_graph.specs.Paths.{Edge, Step, Call, Ret, source_of, target_of, Shape, Transfer, IsEdge, final, IsPath, value_across, value_before, HasBackwardPath, SomeBackwardPathHas, IsWellFormed}
+use Rattle.flow_graph.specs.Paths.{Edge, Step, Call, Ret, source_of, target_of, Shape, Transfer, IsEdge, final, IsPath, value_across, value_before, HasBackwardPath, SomeBackwardPathHas}
+use Rattle.flow_graph.specs.WellFormed.{IsWellFormed}
 use Rattle.flow_graph.specs.Runs.{IsDoubtful, CallsReturn}
 use Rattle.flow_graph.proofs.paths.PathLemmas.{nat_eq_same}
 

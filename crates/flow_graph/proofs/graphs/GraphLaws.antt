@@ -9,7 +9,8 @@ use Rattle.tac_reader.specs.Sound.{IsSound}
 use Rattle.tac_reader.specs.declared.program.Stmt.{Stmt}
 use Rattle.tac_reader.specs.declared.program.StmtKind.{StmtKind}
 use Rattle.tac_reader.specs.declared.program.StmtKind.TheVariants as kind
-use Rattle.flow_graph.specs.Analyses.{main_procedure, shape_of, transfer_of, accesses_of}
+use Rattle.flow_graph.specs.Analyses.{main_procedure, shape_of, transfer_of}
+use Rattle.flow_graph.specs.Runs.{accesses_of}
 use Rattle.flow_graph.specs.Edges.{callees_named, callees_at, calls, edges_of, edges_from, edges, return_to, returns_of}
 use Rattle.flow_graph.specs.Paths.{Edge, Step, Call, Ret, source_of, target_of, IsEdge}
 use Rattle.flow_graph.specs.Points.{Place, points, procedure_at, kind_at, statements_of, end_place, end_point, entry_point, point_count}

@@ -1,9 +1,9 @@
 -- The tables of the four analyses are those of their may forms
 use Rattle.std.proofs.Common.{◌≡◌, if◌then◌else◌, refl}
-use Rattle.flow_graph.specs.Analyses.{is_backward, may_transfer, shape_of, transfer_of}
-use Rattle.flow_graph.specs.Paths.{reversed_shape, reversed_transfer}
+use Rattle.flow_graph.specs.Analyses.{is_backward, shape_of, transfer_of}
+use Rattle.flow_graph.specs.Problems.{may_transfer, may_gens, may_kills, may_boundary}
+use Rattle.flow_graph.specs.Reversals.{reversed_shape, reversed_transfer}
 use Rattle.flow_graph.specs.ProgramLaws.{FlagsAreMayForms, MayTablesAreMayForms, MustTablesAreMayForms, StepsHaveStatements}
-use Rattle.flow_graph.specs.Problems.{may_gens, may_kills, may_boundary}
 use Rattle.flow_graph.specs.Universes.{Analysis, Reach, Live, Avail, Busy}
 use Rattle.flow_graph.proofs.paths.Reversal.{meets_reverse}
 use Rattle.flow_graph.proofs.paths.Complement.{meets_complement}

@@ -1,6 +1,7 @@
 -- Complement
 use Rattle.std.proofs.Common.{◌≡◌, Bool, true, false, not, List, [], ◌∷◌, ◌↔◌, ap, ◌∙◌, refl}
-use Rattle.flow_graph.specs.Paths.{Edge, Step, Call, Ret, Transfer, IsValidPath, IsBackwardValidPath, value_across, value_after, value_before, complemented_transfer}
+use Rattle.flow_graph.specs.Paths.{Edge, Step, Call, Ret, Transfer, IsValidPath, IsBackwardValidPath, value_across, value_after, value_before}
+use Rattle.flow_graph.specs.Reversals.{complemented_transfer}
 use Rattle.flow_graph.specs.PathLaws.{TransferComplement, ValuesComplement, MeetsComplement, ComplementOfReversed}
 
 pub transfer_complement : TransferComplement

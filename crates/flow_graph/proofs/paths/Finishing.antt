@@ -1,7 +1,10 @@
 -- Which points have a path is decided, since a shape has finitely many edges; so a point that is not doubtful can finish
 use Rattle.std.proofs.Common.{◌≡◌, ℕ, Bool, true, false, ◌&&◌, ◌||◌, nat_eq, List, [], ◌∷◌, ◌++◌, map, Some, ◌⊎◌, inl, inr, refl, sym, ap, ◌∙◌, subst}
 use Rattle.std.specs.List.{list_any}
-use Rattle.flow_graph.specs.Paths.{Edge, Step, Call, Ret, target_of, Shape, root, IsEdge, IsPath, open_sites_after, IsPathFromEntry, IsEnteringPath, HasPath, HasBackwardPath, IsWellFormed, reversed_shape, reversed_path}
+use Rattle.flow_graph.specs.Paths.{Edge, Step, Call, Ret, target_of, Shape, root, IsEdge, IsPath, open_sites_after, HasPath, HasBackwardPath}
+use Rattle.flow_graph.specs.Reversals.{reversed_shape, reversed_path}
+use Rattle.flow_graph.specs.WellFormed.{IsWellFormed}
+use Rattle.flow_graph.specs.MatchedPaths.{IsPathFromEntry, IsEnteringPath}
 use Rattle.flow_graph.specs.RunLaws.{UndoubtedFinishes, UndoubtedRunsExtend}
 use Rattle.flow_graph.proofs.FiniteSearch.{nat_eq_is, or_left, or_right, or_either, and_parts, and_both, contains_any, any_contains, decided, least_test}
 use Rattle.flow_graph.proofs.graphs.ExampleLemmas.{is_one_of}

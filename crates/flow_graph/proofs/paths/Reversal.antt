@@ -1,7 +1,8 @@
 -- Reversal
 use Rattle.std.proofs.Common.{◌≡◌, ℕ, Bool, List, [], ◌∷◌, ◌++◌, map, length, Option, Some, None, option_and_then, Contains, ◌<◌, refl, sym, ap, ap₂, append-nil, append_assoc, ◌∙◌, subst}
 use Rattle.std.proofs.lemmas.List.{length-map, get_or-map}
-use Rattle.flow_graph.specs.Paths.{Edge, Step, Call, Ret, source_of, target_of, Shape, Transfer, IsEdge, IsPath, sites_after_edge, open_sites_after, IsValidPath, value_across, value_after, sites_before_edge, open_sites_before, HasPath, SomePathHas, EveryPathHas, HasBackwardPath, SomeBackwardPathHas, EveryBackwardPathHas, IsBackwardValidPath, value_before, reversed_edge, reversed_path, reversed_shape, reversed_transfer}
+use Rattle.flow_graph.specs.Paths.{Edge, Step, Call, Ret, source_of, target_of, Shape, Transfer, IsEdge, IsPath, sites_after_edge, open_sites_after, IsValidPath, value_across, value_after, sites_before_edge, open_sites_before, HasPath, SomePathHas, EveryPathHas, HasBackwardPath, SomeBackwardPathHas, EveryBackwardPathHas, IsBackwardValidPath, value_before}
+use Rattle.flow_graph.specs.Reversals.{reversed_edge, reversed_path, reversed_shape, reversed_transfer}
 use Rattle.flow_graph.specs.PathLaws.{ValidPathsReverse, ValuesReverse, MeetsReverse, ReversalUndoesItself, ReversedIsWellFormed}
 use Rattle.flow_graph.proofs.paths.PathLemmas.{IsPath-append, open_sites_after-append, value_after-append}
 

@@ -1,6 +1,8 @@
 -- A run is extended to a backward valid path
 use Rattle.std.proofs.Common.{◌≡◌, ℕ, Bool, true, false, not, ◌&&◌, ◌||◌, List, [], ◌∷◌, ◌++◌, Option, Some, None, option_and_then, nat_eq, if◌then◌else◌, IsSome, refl, sym, ap, ◌∙◌, arith}
-use Rattle.flow_graph.specs.Paths.{Edge, Step, Call, Ret, source_of, Shape, Transfer, IsEdge, final, IsPath, open_sites_after, value_across, HasBackwardPath, IsBackwardValidPath, sites_before_edge, open_sites_before, value_before, IsWellFormed, reversed_path, reversed_shape}
+use Rattle.flow_graph.specs.Paths.{Edge, Step, Call, Ret, source_of, Shape, Transfer, IsEdge, final, IsPath, open_sites_after, value_across, HasBackwardPath, IsBackwardValidPath, sites_before_edge, open_sites_before, value_before}
+use Rattle.flow_graph.specs.Reversals.{reversed_path, reversed_shape}
+use Rattle.flow_graph.specs.WellFormed.{IsWellFormed}
 use Rattle.flow_graph.specs.Runs.{run_sites_after, IsRun, Accesses, is_unwritten_along, CallsReturn, IsLiveness}
 use Rattle.flow_graph.specs.RunLaws.{ContinuationsAreRuns, FrontsOfRunsAreRuns, WhatFinishesIsNotDoubtful, RunsExtend, DeadIsSafe}
 use Rattle.flow_graph.proofs.paths.PathLemmas.{IsPath-append, path_split, valid_front, open_sites_after-append, open_sites_after-none, some_sites, nat_eq_same, same_site}

@@ -1,6 +1,8 @@
 -- Joining and splitting of paths
 use Rattle.std.proofs.Common.{◌≡◌, ℕ, List, [], ◌∷◌, ◌++◌, Option, Some, None, ◌<◌, inl, inr, refl, sym, ap, ◌∙◌, subst, append_assoc, append-nil}
-use Rattle.flow_graph.specs.Paths.{Edge, Step, Call, Ret, Shape, IsEdge, root, IsPath, open_sites_after, IsValidPath, IsPathFromEntry, IsEnteringPath, IsWellFormed}
+use Rattle.flow_graph.specs.Paths.{Edge, Step, Call, Ret, Shape, IsEdge, root, IsPath, open_sites_after, IsValidPath}
+use Rattle.flow_graph.specs.WellFormed.{IsWellFormed}
+use Rattle.flow_graph.specs.MatchedPaths.{IsPathFromEntry, IsEnteringPath}
 use Rattle.flow_graph.specs.PathLaws.{MatchedReturnsLeaveTheirCallee, StepsJoin, CalleePathsJoin, CallsEnter, ValidPathsSplit, PathsCompose, FrontsAreValid}
 use Rattle.flow_graph.proofs.paths.PathLemmas.{IsPath-append, path_split, open_sites_after-append, open_sites_after-none, open_sites_after-below, some_sites, nat_eq_same, same_site, valid_front}
 

@@ -1,10 +1,10 @@
 -- The tables of links.
 use Rattle.std.specs.Prelude.{◌≡◌, ℕ, ◌<◌, ◌≤◌, Bool, List, length, slice_index}
-use Rattle.flow_graph.specs.Analyses.{is_backward, may_shape}
+use Rattle.flow_graph.specs.Analyses.{is_backward}
+use Rattle.flow_graph.specs.Problems.{may_shape, MayForm}
 use Rattle.flow_graph.specs.Limits.{HasFewPoints}
 use Rattle.flow_graph.specs.Paths.{Shape}
 use Rattle.flow_graph.specs.Points.{point_count}
-use Rattle.flow_graph.specs.Problems.{MayForm}
 use Rattle.flow_links.specs.Shapes.{IsNumbered}
 use Rattle.flow_links.specs.Tables.EdgeLists.{AreListed, key_of, step_target, call_source, call_link, site_link}
 use Rattle.flow_links.specs.declared.link.CallLink.{CallLink}

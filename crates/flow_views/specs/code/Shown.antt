@@ -6,7 +6,6 @@ use Rattle.flow_graph.specs.Edges.{edges_from}
 use Rattle.flow_graph.specs.Points.{point_count, points}
 use Rattle.flow_graph.specs.declared.edge.Edge.{Edge}
 use Rattle.flow_graph.specs.declared.edge.Edge.TheVariants.{Step, Call, Ret}
-use Rattle.flow_team.specs.Tables.{facts_of}
 use Rattle.flow_texts.specs.Reports.{AreTablesOf, Knowledge}
 use Rattle.flow_texts.specs.code.Findings.{AreFindings, TellDoubtful}
 use Rattle.tac_reader.specs.Programs.{Program}
@@ -25,10 +24,10 @@ numbers_of numbers = range_with_len numbers.first (numbers.end - numbers.first)
 -- what is known of a program by its tables and its doubtful points
 abbrev pub known_of : Shown → Knowledge
 known_of shown = record {
-  reach = facts_of shown.tables.now.reach;
-  live = facts_of shown.tables.now.live;
-  avail = facts_of shown.tables.now.avail;
-  busy = facts_of shown.tables.now.busy;
+  reach = shown.tables.now.reach.facts;
+  live = shown.tables.now.live.facts;
+  avail = shown.tables.now.avail.facts;
+  busy = shown.tables.now.busy.facts;
   doubtful = λ point. get_or shown.found.doubtful.items point false;
 }
 

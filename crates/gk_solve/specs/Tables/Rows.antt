@@ -3,9 +3,8 @@ use Rattle.std.specs.Prelude.{◌≡◌, ◌↔◌, ◌⊎◌, ℕ, ◌+◌, ◌
 use Rattle.bit_rows.specs.RowSet.{contains}
 use Rattle.bit_rows.specs.RowTable.{RowTable, IsUniform, set_at}
 use Rattle.bit_rows.specs.Words.{has_bit}
-use Rattle.flow_graph.specs.Analyses.{may_shape, may_transfer}
+use Rattle.flow_graph.specs.Problems.{may_shape, may_transfer, MayForm}
 use Rattle.flow_graph.specs.Points.{point_count}
-use Rattle.flow_graph.specs.Problems.{MayForm}
 use Rattle.gk_solve.specs.Equations.{HasFlag, IsInSolution}
 use Rattle.gk_solve.specs.Solved.{SliceTable, TellsSlice, word_at}
 

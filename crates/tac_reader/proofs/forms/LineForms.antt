@@ -4,7 +4,7 @@ use Rattle.std.proofs.lemmas.Bool.{lt-ltb, le-ltb}
 use Rattle.tac_reader.specs.Tokens.{Token}
 use Rattle.tac_reader.specs.Forms.{Slot, fills, key, label, label_form, proc_form, end_form, statement_forms, some_form, first_wrong, has_form, labels_of, behind_labels, forms_for}
 use Rattle.tac_reader.specs.code.Views.{GoesAsFar, token_view, tokens_view, word_at, fills_at, line_forms, starts_label, wrong_of, is_whole, verdict, others_of, prefix_of, merged}
-use Rattle.tac_reader.specs.Programs.{stop_of}
+use Rattle.tac_reader.specs.Parses.{stop_of}
 use Rattle.tac_reader.specs.Faults.{at, form_fault, word_fault, row_faults, first_by_place}
 use Rattle.tac_reader.specs.declared.fault.Fault.{Fault}
 use Rattle.tac_reader.specs.declared.refusal.RefusalKind.TheVariants.{BadByte, Syntax}

@@ -4,7 +4,7 @@ use Rattle.std.proofs.lemmas.Grind.{common_steps}
 use Rattle.std.proofs.lemmas.List.Elements.{All-weaker, All-push}
 use Rattle.std.proofs.lemmas.Slice.Eq.{bytes_eq-Decides}
 use Rattle.std.specs.List.{list_any, prefix_len}
-use Rattle.tac_reader.specs.Programs.{noted}
+use Rattle.tac_reader.specs.Parses.{noted}
 use Rattle.tac_reader.specs.Tokens.{is_one_of}
 use Rattle.tac_reader.specs.code.Occurrences.{IsNumberedIn}
 use Rattle.tac_reader.specs.declared.occurrences.Occurrence.{Occurrence}

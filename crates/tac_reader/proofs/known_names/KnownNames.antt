@@ -6,7 +6,8 @@ use Rattle.std.proofs.lemmas.Option.{unwrap_or-slice_get}
 use Rattle.std.specs.List.{AllByRecursion as Each, position_or_len}
 use Rattle.tac_reader.specs.Tokens.{Token, is_one_of}
 use Rattle.tac_reader.specs.Sections.{spelling_of}
-use Rattle.tac_reader.specs.Programs.{names_in, noted, number_of}
+use Rattle.tac_reader.specs.Programs.{number_of}
+use Rattle.tac_reader.specs.Parses.{names_in, noted}
 use Rattle.tac_reader.specs.Faults.{at, repeated}
 use Rattle.tac_reader.specs.Listings.{name_at}
 use Rattle.tac_reader.specs.declared.fault.Fault.{Fault}

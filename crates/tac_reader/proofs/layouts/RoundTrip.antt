@@ -4,7 +4,7 @@ use Rattle.std.specs.List.{AllByRecursion as Each}
 use Rattle.tac_reader.specs.Tokens.{Word, fixed, Token, Row, rows}
 use Rattle.tac_reader.specs.Forms.{labels_of, behind_labels}
 use Rattle.tac_reader.specs.Sections.{Section, sections, sections_in, titles, token_lines, unless_empty}
-use Rattle.tac_reader.specs.Programs.{names_in, variables_in, each_once, program_of}
+use Rattle.tac_reader.specs.Parses.{names_in, variables_in, each_once, program_of}
 use Rattle.tac_reader.specs.Faults.{line_faults, name_faults, first_by_place, head_of, refusal_of, refusal_at, longest_text}
 use Rattle.tac_reader.specs.Listings.{listing_of}
 use Rattle.tac_reader.specs.Laws.{SameButSpans, ListingsReadBack}

@@ -4,7 +4,7 @@ use Rattle.std.specs.List.{AllByRecursion as Each, list_any}
 use Rattle.std.proofs.lemmas.Bool.{le-ltb, or_right}
 use Rattle.tac_reader.specs.Tokens.{Word, name, number, fixed, Token, Row}
 use Rattle.tac_reader.specs.Forms.{Slot, statements, statement_forms, statement_row, fills, begins, has_form, proc_form, end_form, labels_of, behind_labels, forms_for, some_begins, some_form, first_wrong}
-use Rattle.tac_reader.specs.Programs.{stop_of}
+use Rattle.tac_reader.specs.Parses.{stop_of}
 use Rattle.tac_reader.specs.Faults.{at, word_fault, bad_fault, row_faults, line_faults, first_by_place, longest_name, largest_number}
 use Rattle.tac_reader.specs.code.Views.{prefix_of, others_of}
 use Rattle.tac_reader.specs.declared.fault.Fault.{Fault}

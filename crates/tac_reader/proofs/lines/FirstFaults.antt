@@ -5,7 +5,7 @@ use Rattle.tac_reader.specs.Tokens.{Token, is_one_of}
 use Rattle.tac_reader.specs.Forms.{behind_labels, cells_of, in_slot}
 use Rattle.tac_reader.specs.Sections.{callees_of, is_callee, spelling_of, statements_of, titles, unless_empty}
 use Rattle.tac_reader.specs.code.SectionViews.{sections_view}
-use Rattle.tac_reader.specs.Programs.{names_in}
+use Rattle.tac_reader.specs.Parses.{names_in}
 use Rattle.tac_reader.specs.Faults.{at, head_of}
 use Rattle.tac_reader.specs.code.Views.{token_view, tokens_view}
 use Rattle.tac_reader.specs.declared.fault.Fault.{Fault}

@@ -6,7 +6,8 @@ use Rattle.tac_reader.specs.Tokens.{Token}
 use Rattle.tac_reader.specs.Forms.{labels_of, behind_labels, label, fills, key}
 use Rattle.tac_reader.specs.Sections.{unless_empty}
 use Rattle.tac_reader.specs.code.Procedures.{labels_at}
-use Rattle.tac_reader.specs.Programs.{label_places, labels_from, LabelsRise}
+use Rattle.tac_reader.specs.Programs.{LabelsRise}
+use Rattle.tac_reader.specs.Parses.{label_places, labels_from}
 use Rattle.tac_reader.specs.code.Ranges.{range_view}
 use Rattle.tac_reader.specs.code.Views.{token_view, tokens_view, starts_label}
 use Rattle.tac_reader.specs.declared.program.Label.{Label}

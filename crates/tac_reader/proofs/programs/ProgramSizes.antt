@@ -7,7 +7,7 @@ use Rattle.tac_reader.specs.Text.{lines}
 use Rattle.tac_reader.specs.Tokens.{Token, Piece, word, gap, Row, longest, before_row, row_from, rows_from, rows, is_one_of}
 use Rattle.tac_reader.specs.Forms.{Slot, has_form, proc_form, end_form, label_form, labels_of, behind_labels, paired, cells_of, in_slot, is_name_word, statement_row}
 use Rattle.tac_reader.specs.Sections.{Section, sections, sections_in, opened_by, is_inner, token_lines, unless_empty, statements_of, labels_in, is_variable, only_name, spelling_of, variables_of}
-use Rattle.tac_reader.specs.Programs.{names_in, noted, variables_in}
+use Rattle.tac_reader.specs.Parses.{names_in, noted, variables_in}
 use Rattle.tac_reader.specs.declared.form.Form.{Form}
 use Rattle.tac_reader.proofs.lines.Lines.{lines_join}
 

@@ -2,7 +2,8 @@
 use Rattle.std.proofs.Common.{◌≡◌, ℕ, List, [], ◌∷◌, map, refl, sym, ap, ◌∙◌, Some, None, false, length, ◌≤◌}
 use Rattle.tac_reader.specs.Tokens.{rows}
 use Rattle.tac_reader.specs.Sections.{Section, sections, sections_in, token_lines, titles}
-use Rattle.tac_reader.specs.Programs.{Program, program_of, procedures_from, names_in, variables_in}
+use Rattle.tac_reader.specs.Programs.{Program}
+use Rattle.tac_reader.specs.Parses.{program_of, procedures_from, names_in, variables_in}
 use Rattle.tac_reader.specs.code.Lexed.{text_lines, IfFault}
 use Rattle.tac_reader.specs.code.Ranges.{range_view, range_views}
 use Rattle.tac_reader.specs.code.Views.{tokens_view}

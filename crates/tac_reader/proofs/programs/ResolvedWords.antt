@@ -5,7 +5,8 @@ use Rattle.std.specs.Cmp.Lexicographic.{same_text}
 use Rattle.tac_reader.specs.Tokens.{Word, name, number, fixed, Token, is_one_of, binary_signs, unary_signs, comparison_signs}
 use Rattle.tac_reader.specs.Forms.{Slot, exactly, procedure, variable, operand, label, callee, binary, unary, comparison, fills, has_form, is_name_word, some_form, statements, statement_row, paired, in_slot}
 use Rattle.tac_reader.specs.Sections.{bytes_of, spelling_of, is_label, is_callee, is_variable, only_name, callees_of}
-use Rattle.tac_reader.specs.Programs.{Names, operator_of, operators, sign_of, kind_of, number_of}
+use Rattle.tac_reader.specs.Programs.{number_of}
+use Rattle.tac_reader.specs.Parses.{Names, operator_of, operators, sign_of, kind_of}
 use Rattle.tac_reader.specs.Listings.{statement_text}
 use Rattle.tac_reader.specs.declared.form.Form.{Form}
 use Rattle.tac_reader.specs.declared.program.Op.{Op}

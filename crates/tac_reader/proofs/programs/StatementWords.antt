@@ -2,7 +2,7 @@
 use Rattle.std.proofs.Common.{◌≡◌, ℕ, suc, Bool, true, false, List, [], ◌∷◌, length, map, refl, sym, ap, ◌∙◌, arith, Option, Some, None, true≢false, find, cond, option_map}
 use Rattle.tac_reader.specs.Tokens.{Token}
 use Rattle.tac_reader.specs.Forms.{Slot, fills, has_form, statements, statement_row}
-use Rattle.tac_reader.specs.Programs.{Names, kind_of, form_of, variable_of, operand_of, operator_of, label_of}
+use Rattle.tac_reader.specs.Parses.{Names, kind_of, form_of, variable_of, operand_of, operator_of, label_of}
 use Rattle.tac_reader.specs.code.Views.{form_slots}
 use Rattle.tac_reader.specs.code.Built.{word_nth}
 use Rattle.tac_reader.specs.declared.form.Form.{Form}

@@ -4,7 +4,7 @@ use Rattle.std.proofs.lemmas.List.{at_drop_more, map-append}
 use Rattle.std.proofs.lemmas.List.Sums.{fold-append}
 use Rattle.tac_reader.specs.Tokens.{Token}
 use Rattle.tac_reader.specs.Forms.{behind_labels}
-use Rattle.tac_reader.specs.Programs.{names_in, noted}
+use Rattle.tac_reader.specs.Parses.{names_in, noted}
 use Rattle.tac_reader.specs.Sections.{Section, spelling_of, statements_of, variables_of}
 use Rattle.tac_reader.specs.code.Ranges.{range_view}
 use Rattle.tac_reader.specs.code.SectionViews.{section_view, sections_view}

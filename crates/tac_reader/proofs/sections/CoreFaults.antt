@@ -3,7 +3,7 @@ use Rattle.std.proofs.Common.{◌≡◌, ℕ, Bool, true, false, List, [], ◌�
 use Rattle.std.proofs.lemmas.List.{map-append, drop-map}
 use Rattle.tac_reader.specs.Tokens.{Token, is_one_of}
 use Rattle.tac_reader.specs.Sections.{Section, statements_of, labels_in, callees_of, jumps_of, spelling_of, titles}
-use Rattle.tac_reader.specs.Programs.{names_in}
+use Rattle.tac_reader.specs.Parses.{names_in}
 use Rattle.tac_reader.specs.Faults.{at, repeated, unknown, jumps_in, callees_in, name_faults, most_procedures}
 use Rattle.tac_reader.specs.declared.fault.Fault.{Fault}
 use Rattle.tac_reader.specs.declared.refusal.RefusalKind.{RefusalKind}

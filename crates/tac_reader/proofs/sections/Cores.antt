@@ -3,7 +3,8 @@ use Rattle.std.proofs.Common.{◌≡◌, ℕ, suc, List, [], ◌∷◌, ◌++◌
 use Rattle.std.proofs.lemmas.List.{map-append}
 use Rattle.tac_reader.specs.Tokens.{Token}
 use Rattle.tac_reader.specs.Sections.{Section, sections_in, statements_of, labels_in, callees_of, variables_of, spelling_of, titles}
-use Rattle.tac_reader.specs.Programs.{Names, names_in, number_of, kind_of, form_of, statement_of, label_places, labels_from, procedure_of, procedures_from, variables_in, each_once}
+use Rattle.tac_reader.specs.Programs.{number_of}
+use Rattle.tac_reader.specs.Parses.{Names, names_in, kind_of, form_of, statement_of, label_places, labels_from, procedure_of, procedures_from, variables_in, each_once}
 use Rattle.tac_reader.specs.Laws.{without_spans}
 use Rattle.tac_reader.specs.declared.program.Label.{Label}
 use Rattle.tac_reader.specs.declared.program.StmtKind.{StmtKind}

@@ -1,7 +1,8 @@
 -- What the code's tables of names stand for.
 use Rattle.std.specs.Prelude.{ℕ, List, [], map, Option, Some, None, slice_get}
 use Rattle.tac_reader.specs.Tokens.{Word, fixed, Token}
-use Rattle.tac_reader.specs.Programs.{Names, number_of}
+use Rattle.tac_reader.specs.Programs.{number_of}
+use Rattle.tac_reader.specs.Parses.{Names}
 use Rattle.tac_reader.specs.Sections.{spelling_of, callees_of}
 use Rattle.tac_reader.specs.declared.build.Names.{Names as Tables}
 

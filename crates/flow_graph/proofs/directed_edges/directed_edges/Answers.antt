@@ -1,6 +1,6 @@
 use Rattle.std.proofs.Common.{map, ap, ◌∙◌, sym, ◌++◌}
 use Rattle.flow_graph.specs.Edges.{edges}
-use Rattle.flow_graph.specs.Paths.{reversed_edge}
+use Rattle.flow_graph.specs.Reversals.{reversed_edge}
 use Rattle.flow_graph.proofs.edges.DirectedEdges.{turned_are_directed}
 use Rattle.flow_graph.proofs.directed_edges.directed_edges.Goals as goal
 

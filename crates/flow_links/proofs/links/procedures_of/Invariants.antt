@@ -1,4 +1,4 @@
-use Rattle.flow_graph.specs.Analyses.{may_shape}
+use Rattle.flow_graph.specs.Problems.{may_shape}
 use Rattle.flow_links.specs.Tables.LinkTables.{AreEach}
 use Rattle.flow_links.proofs.links.procedures_of.Given as goal
 

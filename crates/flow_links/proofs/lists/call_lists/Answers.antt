@@ -1,5 +1,6 @@
 use Rattle.std.proofs.Common.{ℕ, List, get_or, arith}
-use Rattle.flow_graph.specs.Analyses.{is_backward, may_shape}
+use Rattle.flow_graph.specs.Analyses.{is_backward}
+use Rattle.flow_graph.specs.Problems.{may_shape}
 use Rattle.flow_graph.specs.Points.{point_count}
 use Rattle.flow_links.specs.Tables.EdgeLists.{edge_at, key_of, call_link}
 use Rattle.flow_links.specs.declared.list_kind.ListKind.TheVariants.{Calls}

@@ -1,5 +1,5 @@
 use Rattle.std.proofs.Common.{ℕ, List, get_or, subst, arith}
-use Rattle.flow_graph.specs.Analyses.{may_shape}
+use Rattle.flow_graph.specs.Problems.{may_shape}
 use Rattle.flow_graph.specs.Points.{point_count}
 use Rattle.flow_graph.specs.declared.edge.Edge.{Edge}
 use Rattle.flow_links.specs.Tables.EdgeLists.{AreListed, edge_at, key_of, step_target}

@@ -1,5 +1,6 @@
 use Rattle.std.proofs.Common.{◌≡◌, ◌<◌, ◌+◌, true, false, arith, subst, sym, ap, ◌∙◌}
-use Rattle.flow_graph.specs.Analyses.{is_backward, may_shape}
+use Rattle.flow_graph.specs.Analyses.{is_backward}
+use Rattle.flow_graph.specs.Problems.{may_shape}
 use Rattle.flow_graph.specs.Points.{point_count}
 use Rattle.flow_links.specs.Shapes.{after_site}
 use Rattle.flow_links.proofs.ListLemmas.{after_low, exit_low}

@@ -1,5 +1,6 @@
 use Rattle.std.proofs.Common.{◌≡◌, map, take}
-use Rattle.flow_graph.specs.Analyses.{is_backward, may_shape}
+use Rattle.flow_graph.specs.Analyses.{is_backward}
+use Rattle.flow_graph.specs.Problems.{may_shape}
 use Rattle.flow_links.specs.Tables.EdgeLists.{call_link, edge_at}
 use Rattle.flow_links.proofs.values.links.Given as goal
 

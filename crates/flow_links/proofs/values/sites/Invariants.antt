@@ -1,5 +1,5 @@
 use Rattle.std.proofs.Common.{◌≡◌, map, take}
-use Rattle.flow_graph.specs.Analyses.{may_shape}
+use Rattle.flow_graph.specs.Problems.{may_shape}
 use Rattle.flow_links.specs.Tables.EdgeLists.{site_link, edge_at}
 use Rattle.flow_links.proofs.values.sites.Given as goal
 

@@ -1,6 +1,6 @@
 use Rattle.std.proofs.Common.{true, [], ◌∷◌, refl}
 use Rattle.flow_graph.specs.declared.edge.Edge.TheVariants.{Call}
-use Rattle.flow_graph.specs.Paths.{reversed_shape, reversed_transfer}
+use Rattle.flow_graph.specs.Reversals.{reversed_shape, reversed_transfer}
 use Rattle.flow_graph.specs.Examples.{two_prints, live_first, out_of_first_call}
 use Rattle.flow_graph.proofs.graphs.ExampleLemmas.{is_one_of, path_is, well_formed_is}
 use Rattle.gk_solve.proofs.Backward.{backward_may_is_reversed}

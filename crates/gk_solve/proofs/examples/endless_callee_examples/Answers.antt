@@ -1,6 +1,6 @@
 use Rattle.std.proofs.Common.{true, false, ◌<◌, [], ◌∷◌, refl, arith, inr}
 use Rattle.flow_graph.specs.declared.edge.Edge.TheVariants.{Step, Call}
-use Rattle.flow_graph.specs.Paths.{reversed_shape, reversed_transfer, complemented_transfer}
+use Rattle.flow_graph.specs.Reversals.{reversed_shape, reversed_transfer, complemented_transfer}
 use Rattle.flow_graph.specs.Examples.{endless_callee, sum_expression}
 use Rattle.flow_graph.proofs.graphs.ExampleLemmas.{edge_is, is_one_of}
 use Rattle.gk_solve.specs.Equations.{Reached, entry_is_reached, kept_at_entry, reached_by_step, root_is_entered, entered_by_call, brought_by_boundary}

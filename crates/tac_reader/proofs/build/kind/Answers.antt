@@ -1,6 +1,6 @@
 use Rattle.std.proofs.Common.{◌∙◌, ℕ, List, sym, ap, length, map}
 use Rattle.tac_reader.specs.code.Built.{call_numbers, names_view}
-use Rattle.tac_reader.specs.Programs.{kind_of}
+use Rattle.tac_reader.specs.Parses.{kind_of}
 use Rattle.tac_reader.specs.code.Views.{tokens_view}
 use Rattle.tac_reader.specs.declared.build.Names.{Names as Tables}
 use Rattle.tac_reader.specs.declared.form.Form.TheVariants as form

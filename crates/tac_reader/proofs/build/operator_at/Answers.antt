@@ -1,5 +1,5 @@
 use Rattle.std.proofs.Common.{◌≡◌, ◌∙◌, ap, Some, None, slice_get, slice_range}
-use Rattle.tac_reader.specs.Programs.{operator_of}
+use Rattle.tac_reader.specs.Parses.{operator_of}
 use Rattle.tac_reader.proofs.programs.BuiltWords.{word-some, word-none, get_some, get_none, no_operator}
 use Rattle.tac_reader.proofs.build.operator_at.Goals as goal
 

@@ -1,6 +1,6 @@
 use Rattle.std.proofs.Common.{◌∙◌, ap, sym, ℕ, List, slice_index_or}
 use Rattle.tac_reader.specs.Faults.{head_of, jumps_in, unknown}
-use Rattle.tac_reader.specs.Programs.{names_in}
+use Rattle.tac_reader.specs.Parses.{names_in}
 use Rattle.tac_reader.specs.Sections.{Section, labels_in}
 use Rattle.tac_reader.specs.code.SectionViews.{section_view}
 use Rattle.tac_reader.specs.declared.fault.Fault.{Fault}

@@ -1,6 +1,6 @@
 use Rattle.std.proofs.Common.{◌≡◌, ◌++◌, [], drop, map, flat_map}
 use Rattle.tac_reader.specs.Faults.{repeated}
-use Rattle.tac_reader.specs.Programs.{names_in}
+use Rattle.tac_reader.specs.Parses.{names_in}
 use Rattle.tac_reader.specs.Sections.{labels_in}
 use Rattle.tac_reader.specs.code.SectionViews.{sections_view}
 use Rattle.tac_reader.specs.declared.refusal.RefusalKind.TheVariants.{DuplicateLabel}

@@ -1,4 +1,4 @@
-use Rattle.tac_reader.specs.Programs.{procedure_of}
+use Rattle.tac_reader.specs.Parses.{procedure_of}
 use Rattle.tac_reader.specs.code.SectionViews.{section_view}
 use Rattle.std.proofs.Common.{◌∙◌, ap, arith}
 use Rattle.std.specs.Vec.Iter.{into_iter_items}

@@ -1,6 +1,6 @@
 use Rattle.std.proofs.Common.{◌≡◌, ◌++◌, drop, map, length}
 use Rattle.std.specs.Vec.Iter.{into_iter_items}
-use Rattle.tac_reader.specs.Programs.{names_in, procedures_from}
+use Rattle.tac_reader.specs.Parses.{names_in, procedures_from}
 use Rattle.tac_reader.specs.code.SectionViews.{sections_view}
 use Rattle.tac_reader.specs.Sections.{labels_in}
 use Rattle.tac_reader.proofs.procedure.procedures.Given as goal

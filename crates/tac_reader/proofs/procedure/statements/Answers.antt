@@ -1,7 +1,7 @@
 use Rattle.tac_reader.specs.Forms.{behind_labels}
 use Rattle.std.proofs.Common.{◌<◌, ◌∙◌, ap, arith, length, sym}
 use Rattle.tac_reader.specs.code.Built.{names_view}
-use Rattle.tac_reader.specs.Programs.{statement_of}
+use Rattle.tac_reader.specs.Parses.{statement_of}
 use Rattle.tac_reader.specs.code.Views.{tokens_view}
 use Rattle.tac_reader.proofs.lines.RangeLemmas.{no_line}
 use Rattle.tac_reader.proofs.programs.StatementRuns.{made_one, made_none}

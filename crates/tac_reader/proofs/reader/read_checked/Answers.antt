@@ -1,6 +1,6 @@
 use Rattle.std.proofs.Common.{◌∙◌, sym, ap}
 use Rattle.std.proofs.lemmas.Result.{err_from_is_err_and}
-use Rattle.tac_reader.specs.Programs.{names_in, variables_in}
+use Rattle.tac_reader.specs.Parses.{names_in, variables_in}
 use Rattle.tac_reader.specs.Sections.{titles}
 use Rattle.tac_reader.specs.code.SectionViews.{sections_view}
 use Rattle.tac_reader.proofs.programs.ReadSteps.{sections_are, text_fault, no_fault, program_is}

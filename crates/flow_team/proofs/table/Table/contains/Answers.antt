@@ -1,7 +1,5 @@
 use Rattle.std.proofs.Common.{◌≡◌, ◌/◌, ◌+◌, ◌*◌, ◌%◌, eqb, ap, ◌∙◌, arith}
 use Rattle.std.proofs.lemmas.Nat.Bits.{shr_and_one}
-use Rattle.bit_rows.specs.RowSet.{contains}
-use Rattle.bit_rows.specs.RowTable.{set_at}
 use Rattle.bit_rows.specs.Words.{has_bit}
 use Rattle.flow_team.proofs.table.Table.contains.Goals as goal
 
@@ -11,4 +9,4 @@ returns c =
     let back : 64 * (c.args.bit / 64) + c.args.bit % 64 ≡ c.args.bit = omega arith in
     ap (λ x. eqb x 1) (shr_and_one c.word.result (c.args.bit % 64))
     ∙ c.word.ensures.set (c.args.bit % 64) (omega arith)
-    ∙ ap (contains (set_at c.args.self.now.rows c.args.point)) back
+    ∙ ap (c.args.self.now.facts.contains c.args.point) back

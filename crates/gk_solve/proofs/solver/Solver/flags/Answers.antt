@@ -1,9 +1,8 @@
 use Rattle.std.proofs.lemmas.Result.{IfOk-weaker}
 use Rattle.std.proofs.Common.{Bool, List, subst, sym, ◌≡◌}
-use Rattle.flow_graph.specs.Analyses.{may_shape}
-use Rattle.flow_graph.specs.Paths.{IsWellFormed}
+use Rattle.flow_graph.specs.Problems.{may_shape, MayForm}
+use Rattle.flow_graph.specs.WellFormed.{IsWellFormed}
 use Rattle.flow_graph.specs.Points.{point_count}
-use Rattle.flow_graph.specs.Problems.{MayForm}
 use Rattle.flow_links.specs.Shapes.{directed_shape}
 use Rattle.gk_solve.specs.Solved.{HasPathFlags}
 use Rattle.gk_solve.specs.Tables.Flags.{ArePathFlags}

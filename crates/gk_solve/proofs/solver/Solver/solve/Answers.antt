@@ -1,8 +1,7 @@
 use Rattle.std.proofs.lemmas.Result.{IfOk-weaker}
 use Rattle.std.proofs.Common.{IfOk, subst}
-use Rattle.flow_graph.specs.Analyses.{may_shape}
-use Rattle.flow_graph.specs.Paths.{IsWellFormed}
-use Rattle.flow_graph.specs.Problems.{MayForm}
+use Rattle.flow_graph.specs.Problems.{may_shape, MayForm}
+use Rattle.flow_graph.specs.WellFormed.{IsWellFormed}
 use Rattle.gk_solve.specs.Solved.{IsLeastSolution, IsMeetOverPaths}
 use Rattle.gk_solve.proofs.RowWords.{solution_to_meet}
 use Rattle.gk_solve.proofs.solver.Solver.solve.Goals as goal

@@ -1,7 +1,6 @@
 use Rattle.std.proofs.Common.{subst}
-use Rattle.flow_graph.specs.Analyses.{may_shape}
-use Rattle.flow_graph.specs.Paths.{IsWellFormed}
-use Rattle.flow_graph.specs.Problems.{MayForm}
+use Rattle.flow_graph.specs.Problems.{may_shape, MayForm}
+use Rattle.flow_graph.specs.WellFormed.{IsWellFormed}
 use Rattle.gk_solve.specs.Solved.{AreSolved}
 use Rattle.gk_solve.proofs.SolvedWords.{meet_words}
 use Rattle.gk_solve.proofs.solver.Solver.solve_from.Goals as goal

@@ -1,7 +1,7 @@
 use Rattle.std.proofs.Common.{◌≡◌, ◌∙◌, refl, length, Some, None, sym, ap, true, false, not, Bool, List, ℕ, Option, position, bytes_eq, is_some, ◌++◌, ◌∷◌, [], if◌then◌else◌}
 use Rattle.tac_reader.proofs.known_names.NameTexts.{texts-insert, numbered}
 use Rattle.tac_reader.specs.Tokens.{is_one_of}
-use Rattle.tac_reader.specs.Programs.{noted}
+use Rattle.tac_reader.specs.Parses.{noted}
 use Rattle.tac_reader.specs.code.Names.{texts}
 use Rattle.tac_reader.proofs.names.NameTable.insert_full.Goals as goal
 use Rattle.tac_reader.proofs.known_names.KeptNumbers.{last_number}
