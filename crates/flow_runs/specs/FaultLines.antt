@@ -2,7 +2,7 @@
 use Rattle.std.specs.Prelude.{ℕ, List, ◌++◌, codes, decimal}
 use Rattle.flow_graph.specs.declared.fault.GraphFault.{GraphFault}
 use Rattle.flow_graph.specs.declared.fault.GraphFault.TheVariants as graph_fault
-use Rattle.tac_reader.specs.Faults.{number_of_kind}
+use Rattle.tac_reader.specs.LineFaults.{number_of_kind}
 use Rattle.tac_reader.specs.declared.refusal.Refusal.{Refusal}
 use Rattle.tac_reader.specs.declared.refusal.RefusalKind.{RefusalKind}
 use Rattle.tac_reader.specs.declared.refusal.RefusalKind.TheVariants as kind

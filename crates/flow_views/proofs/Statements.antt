@@ -4,7 +4,7 @@ use Rattle.std.proofs.lemmas.Bool.{lt-ltb}
 use Rattle.std.proofs.lemmas.List.{take_more}
 use Rattle.tac_reader.specs.Listings.{callees_text, name_at}
 use Rattle.tac_reader.specs.Programs.{Procedure, Program}
-use Rattle.tac_reader.specs.Parses.{Names}
+use Rattle.tac_reader.specs.Names.{Names}
 use Rattle.tac_reader.specs.Sound.{IsSound, IsSoundStatement}
 use Rattle.tac_reader.specs.declared.program.StmtKind.{StmtKind}
 use Rattle.flow_graph.specs.Points.{kind_at, point_count}

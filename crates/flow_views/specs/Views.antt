@@ -8,7 +8,7 @@ use Rattle.flow_team.specs.Tables.{Facts}
 use Rattle.flow_texts.specs.Reports.{Knowledge}
 use Rattle.tac_reader.specs.Listings.{name_at}
 use Rattle.tac_reader.specs.Programs.{Program}
-use Rattle.tac_reader.specs.Parses.{Names}
+use Rattle.tac_reader.specs.Names.{Names}
 use Rattle.flow_views.specs.declared.view.Chosen.{Chosen}
 use Rattle.flow_views.specs.declared.view.View.{View}
 

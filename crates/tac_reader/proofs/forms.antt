@@ -8,3 +8,5 @@ pub mod Shapes
 pub mod Table
 pub mod VariableForms
 pub mod Walks
+pub mod RowLengths
+pub mod LabelCounts

@@ -3,3 +3,4 @@ pub mod KeptNumbers
 pub mod KnownNames
 pub mod NameFaults
 pub mod NameTexts
+pub mod LastNumbers

@@ -9,3 +9,4 @@ pub mod LexSteps
 pub mod LineSteps
 pub mod Lines
 pub mod RangeLemmas
+pub mod FineStatements

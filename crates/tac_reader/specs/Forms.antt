@@ -1,7 +1,9 @@
 -- The forms of lines, as one table of what stands in each place.
-use Rattle.std.specs.Prelude.{ℕ, zero, suc, Bool, true, false, ◌&&◌, ◌||◌, List, [], ◌∷◌, ◌++◌, map, Option, Some, None, find, if◌then◌else◌, codes}
+use Rattle.std.specs.Prelude.{ℕ, zero, suc, Bool, true, false, ◌&&◌, ◌||◌, List, [], ◌∷◌, ◌++◌, map, Option, Some, None, find, if◌then◌else◌, codes, not}
 use Rattle.std.specs.List.{list_any}
-use Rattle.tac_reader.specs.Tokens.{Word, name, number, fixed, Token, is_one_of, binary_signs, unary_signs, comparison_signs}
+use Rattle.tac_reader.specs.Tokens.{Word, name, number, fixed, Token}
+use Rattle.tac_reader.specs.Spelling.{binary_signs, unary_signs, comparison_signs}
+use Rattle.tac_reader.specs.Names.{is_one_of}
 use Rattle.tac_reader.specs.declared.form.Form.{Form}
 use Rattle.tac_reader.specs.declared.form.Form.TheVariants as form
 
@@ -134,3 +136,25 @@ cells_of ts = elim (statement_row ts) [ None ↦ [] | Some row ↦ paired row.1 
 abbrev pub in_slot : (Slot → Bool) → List (Slot × Token) → List Token
 in_slot test [] = []
 in_slot test (c ∷ cs) = if test c.0 then c.1 ∷ in_slot test cs else in_slot test cs
+
+abbrev pub is_inner : List Token → Bool
+is_inner line = not (has_form proc_form line || has_form end_form line)
+
+abbrev pub is_label : Slot → Bool
+is_label label = true
+is_label _ = false
+
+abbrev pub is_callee : Slot → Bool
+is_callee callee = true
+is_callee _ = false
+
+abbrev pub is_variable : Slot → Bool
+is_variable variable = true
+is_variable operand = true
+is_variable _ = false
+
+abbrev pub callees_of : List Token → List Token
+callees_of statement = in_slot is_callee (cells_of statement)
+
+abbrev pub jumps_of : List Token → List Token
+jumps_of statement = in_slot is_label (cells_of statement)

@@ -1,36 +1,19 @@
 -- What one wants to know of the definitions.
-use Rattle.std.specs.Prelude.{◌≡◌, ◌≢◌, ℕ, ◌<◌, ◌≤◌, true, List, ◌++◌, flat_map, map, length, All, AllPairs, Some, None, slice_range, codes}
-use Rattle.tac_reader.specs.Text.{lines}
-use Rattle.tac_reader.specs.Tokens.{word, fixed, Token, Row, piece_of, rows, row_from}
-use Rattle.tac_reader.specs.Forms.{Slot, has_form, statements}
+use Rattle.std.specs.Prelude.{◌≡◌, ℕ, ◌≤◌, List, ◌++◌, map, length, All, None, slice_range, codes}
+use Rattle.tac_reader.specs.Tokens.{word, fixed, Token, Row, row_from, stop_of}
+use Rattle.tac_reader.specs.Forms.{statements}
 use Rattle.tac_reader.specs.Sections.{Section, sections, statements_of, titles}
 use Rattle.tac_reader.specs.Programs.{Procedure, Program}
-use Rattle.tac_reader.specs.Parses.{Names, names_for, names_in, operator_of, program_of, sign_of, start_of, statement_of, stop_of, variables_in}
-use Rattle.tac_reader.specs.Faults.{refusal_of, longest_text}
+use Rattle.tac_reader.specs.Parses.{names_for, names_in, operator_of, program_of, start_of, statement_of, variables_in}
+use Rattle.tac_reader.specs.Spelling.{sign_of}
+use Rattle.tac_reader.specs.Names.{Names}
+use Rattle.tac_reader.specs.Faults.{refusal_of}
+use Rattle.tac_reader.specs.Limits.{longest_text}
 use Rattle.tac_reader.specs.Listings.{listing_of, statement_text}
 use Rattle.tac_reader.specs.Sound.{IsSound}
-use Rattle.tac_reader.specs.declared.form.Form.{Form}
 use Rattle.tac_reader.specs.declared.program.Label.{Label}
 use Rattle.tac_reader.specs.declared.program.Op.{Op}
 use Rattle.tac_reader.specs.declared.program.StmtKind.{StmtKind}
-
--- The lines, one after another, are the text.
-abbrev pub LinesJoin : Type 0
-LinesJoin = (text : List ℕ) → flat_map (λ line. line) (lines text) ≡ text
-
--- No words have two rows of the table of statements.
-abbrev pub NoWordsInBoth : Form × List Slot → Form × List Slot → Type 0
-NoWordsInBoth f g = (ts : List Token) → has_form f.1 ts ≡ true → has_form g.1 ts ≢ true
-
-abbrev pub StatementsAreApart : Type 0
-StatementsAreApart = AllPairs NoWordsInBoth statements
-
--- The bytes from a token's start to its stop spell it, and are some.
-abbrev pub IsSpelled : List ℕ → Token → Type 0
-IsSpelled text t = (t.start < t.stop) × (t.stop ≤ length text) × (piece_of (slice_range text t.start t.stop) ≡ Some (word t.word))
-
-abbrev pub TokensAreSpelled : Type 0
-TokensAreSpelled = (text : List ℕ) → All (λ row. All (IsSpelled text) row.tokens) (rows text)
 
 -- The bytes of a statement's span have its tokens and nothing else.
 abbrev pub StatementsAreSpelled : Type 0

@@ -2,7 +2,12 @@ pub mod Text
 pub mod Tokens
 pub mod Forms
 pub mod Sections
+pub mod Limits
+pub mod LineFaults
+pub mod LineLaws
+pub mod Names
 pub mod Programs
+pub mod Spelling
 pub mod Parses
 pub mod Faults
 pub mod Listings

@@ -1,7 +1,8 @@
 -- The listing of a program: its text in one fixed layout.
 use Rattle.std.specs.Prelude.{ℕ, suc, List, [], ◌∷◌, ◌++◌, flat_map, unwrap_or, slice_get, ◌==◌, if◌then◌else◌, codes, decimal}
 use Rattle.tac_reader.specs.Programs.{Procedure, Program}
-use Rattle.tac_reader.specs.Parses.{Names, sign_of}
+use Rattle.tac_reader.specs.Spelling.{sign_of}
+use Rattle.tac_reader.specs.Names.{Names}
 use Rattle.tac_reader.specs.declared.program.Op.{Op}
 use Rattle.tac_reader.specs.declared.program.Operand.{Operand}
 use Rattle.tac_reader.specs.declared.program.Operand.TheVariants.{Variable, Number}

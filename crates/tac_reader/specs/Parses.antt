@@ -1,10 +1,10 @@
 -- The program of a text without faults. Words that make no statement are taken for `skip`, and a sign that is no operator for `+`: no such
 -- text comes to either of these (Laws.antt: StatementsKeepTheirWords, SignsTellOperators).
-use Rattle.std.specs.Prelude.{ℕ, suc, ◌+◌, List, [], ◌∷◌, ◌++◌, map, flat_map, fold, length, take, Some, None, unwrap_or, find, bytes_eq, if◌then◌else◌, codes}
+use Rattle.std.specs.Prelude.{ℕ, suc, ◌+◌, List, [], ◌∷◌, ◌++◌, map, flat_map, fold, length, take, Some, None, unwrap_or, find, bytes_eq}
 use Rattle.tac_reader.specs.Text.{line_after}
-use Rattle.tac_reader.specs.Tokens.{Word, name, number, fixed, Token, is_one_of}
-use Rattle.tac_reader.specs.Forms.{labels_of, behind_labels, statement_row}
-use Rattle.tac_reader.specs.Sections.{Section, sections, titles, bytes_of, spelling_of, statements_of, unless_empty, labels_in, callees_of, variables_of}
+use Rattle.tac_reader.specs.Tokens.{Word, name, number, fixed, Token, bytes_of, spelling_of, unless_empty, stop_of}
+use Rattle.tac_reader.specs.Forms.{labels_of, behind_labels, statement_row, callees_of}
+use Rattle.tac_reader.specs.Sections.{Section, sections, titles, statements_of, labels_in, variables_of}
 use Rattle.tac_reader.specs.declared.form.Form.{Form}
 use Rattle.tac_reader.specs.declared.form.Form.TheVariants as form
 use Rattle.tac_reader.specs.declared.program.Op.{Op}
@@ -16,40 +16,11 @@ use Rattle.tac_reader.specs.declared.program.StmtKind.{StmtKind}
 use Rattle.tac_reader.specs.declared.program.StmtKind.TheVariants as kind
 use Rattle.tac_reader.specs.declared.program.Stmt.{Stmt}
 use Rattle.tac_reader.specs.Programs.{Procedure, Program, number_of}
-
--- Each name once, in the order of first occurrence.
-abbrev pub noted : List (List ℕ) → List ℕ → List (List ℕ)
-noted known x = if is_one_of x known then known else known ++ x ∷ []
+use Rattle.tac_reader.specs.Names.{Names, noted}
+use Rattle.tac_reader.specs.Spelling.{sign_of}
 
 abbrev pub each_once : List (List ℕ) → List (List ℕ)
 each_once names = fold noted [] names
-
--- The names that the numbers in a statement are places among.
-pub record Names : Type 0 where
-  pub procedures : List (List ℕ)
-  pub variables : List (List ℕ)
-  pub labels : List (List ℕ)
-
--- The sign of an operator, and the operator of a sign.
-abbrev pub sign_of : Op → List ℕ
-sign_of op.Plus = codes "+"
-sign_of op.Minus = codes "-"
-sign_of op.Star = codes "*"
-sign_of op.Slash = codes "/"
-sign_of op.Percent = codes "%"
-sign_of op.And = codes "&"
-sign_of op.Or = codes "|"
-sign_of op.Caret = codes "^"
-sign_of op.ShiftLeft = codes "<<"
-sign_of op.ShiftRight = codes ">>"
-sign_of op.Less = codes "<"
-sign_of op.LessEqual = codes "<="
-sign_of op.Greater = codes ">"
-sign_of op.GreaterEqual = codes ">="
-sign_of op.Equal = codes "=="
-sign_of op.NotEqual = codes "!="
-sign_of op.Tilde = codes "~"
-sign_of op.Bang = codes "!"
 
 abbrev pub operators : List Op
 operators =
@@ -90,11 +61,6 @@ kind_of names callees _ _ = kind.Skip
 abbrev pub start_of : List Token → ℕ
 start_of [] = 0
 start_of (t ∷ ts) = t.start
-
-abbrev pub stop_of : List Token → ℕ
-stop_of [] = 0
-stop_of (t ∷ []) = t.stop
-stop_of (t ∷ u ∷ ts) = stop_of (u ∷ ts)
 
 abbrev pub form_of : List Token → Form
 form_of ts = elim (statement_row ts) [ None ↦ form.Skip | Some row ↦ row.0 ]

@@ -1,10 +1,10 @@
 -- What holds of every program that is read: each number in it leads to what is there.
 use Rattle.std.specs.Prelude.{◌≡◌, ◌≢◌, ℕ, ◌<◌, ◌≤◌, true, false, List, length, All, AllPairs, Contains, slice_get, sum_by, codes}
 use Rattle.std.specs.Option.{ForSome}
-use Rattle.tac_reader.specs.Tokens.{is_name, is_one_of, keywords, unary_signs, binary_signs, comparison_signs}
+use Rattle.tac_reader.specs.Spelling.{is_name, keywords, unary_signs, binary_signs, comparison_signs, sign_of}
+use Rattle.tac_reader.specs.Names.{is_one_of}
 use Rattle.tac_reader.specs.Programs.{Procedure, Program, LabelsRise}
-use Rattle.tac_reader.specs.Parses.{sign_of}
-use Rattle.tac_reader.specs.Faults.{largest_number, longest_name, longest_text, most_procedures}
+use Rattle.tac_reader.specs.Limits.{largest_number, longest_name, longest_text, most_procedures}
 use Rattle.tac_reader.specs.declared.program.Op.{Op}
 use Rattle.tac_reader.specs.declared.program.Operand.{Operand}
 use Rattle.tac_reader.specs.declared.program.Operand.TheVariants.{Variable, Number}

@@ -1,7 +1,9 @@
 -- The tokens of a line, and its first byte that begins none.
-use Rattle.std.specs.Prelude.{ℕ, zero, suc, ◌+◌, ◌-◌, ◌*◌, Bool, false, ◌&&◌, ◌||◌, List, [], ◌∷◌, ◌++◌, length, take, Option, Some, None, nat_le, ◌==◌, if◌then◌else◌, codes, bytes_eq, min}
-use Rattle.std.specs.List.{list_all, list_any}
+use Rattle.std.specs.Prelude.{ℕ, zero, suc, ◌+◌, ◌-◌, ◌*◌, Bool, false, ◌&&◌, ◌||◌, List, [], ◌∷◌, ◌++◌, length, take, Option, Some, None, ◌==◌, if◌then◌else◌, codes, min, flat_map}
+use Rattle.std.specs.List.{list_all}
 use Rattle.tac_reader.specs.Text.{lines, no_line_end}
+use Rattle.tac_reader.specs.Names.{is_one_of}
+use Rattle.tac_reader.specs.Spelling.{binary_signs, is_digit, is_name, keywords, unary_signs}
 
 -- What a token is: a name, a number by its value, or one of the fixed words, which are the keywords and the signs.
 pub data Word : Type 0 where
@@ -20,25 +22,9 @@ pub data Piece : Type 0 where
   word : Word → Piece
   gap : Piece
 
-abbrev pub is_one_of : List ℕ → List (List ℕ) → Bool
-is_one_of s those = list_any (bytes_eq s) those
-
-abbrev pub is_digit : ℕ → Bool
-is_digit b = nat_le 48 b && nat_le b 57
-
-abbrev pub is_letter : ℕ → Bool
-is_letter b = (nat_le 65 b && nat_le b 90) || ((nat_le 97 b && nat_le b 122) || b == 95)
-
-abbrev pub is_name_byte : ℕ → Bool
-is_name_byte b = is_letter b || is_digit b
-
 abbrev pub is_number : List ℕ → Bool
 is_number [] = false
 is_number (b ∷ bs) = is_digit b && list_all is_digit bs
-
-abbrev pub is_name : List ℕ → Bool
-is_name [] = false
-is_name (b ∷ bs) = is_letter b && list_all is_name_byte bs
 
 abbrev pub is_comment : List ℕ → Bool
 is_comment [] = false
@@ -47,18 +33,6 @@ is_comment (b ∷ bs) = b == 35 && list_all no_line_end bs
 -- A space, a tab, a line's end; a carriage return only directly before a line feed.
 abbrev pub is_blank : List ℕ → Bool
 is_blank s = is_one_of s (codes " " ∷ codes "\t" ∷ codes "\n" ∷ codes "\r\n" ∷ [])
-
-abbrev pub keywords : List (List ℕ)
-keywords = codes "proc" ∷ codes "end" ∷ codes "goto" ∷ codes "if" ∷ codes "ifFalse" ∷ codes "call" ∷ codes "return" ∷ codes "read" ∷ codes "print" ∷ codes "skip" ∷ []
-
-abbrev pub comparison_signs : List (List ℕ)
-comparison_signs = codes "<" ∷ codes "<=" ∷ codes ">" ∷ codes ">=" ∷ codes "==" ∷ codes "!=" ∷ []
-
-abbrev pub binary_signs : List (List ℕ)
-binary_signs = codes "+" ∷ codes "-" ∷ codes "*" ∷ codes "/" ∷ codes "%" ∷ codes "&" ∷ codes "|" ∷ codes "^" ∷ codes "<<" ∷ codes ">>" ∷ comparison_signs
-
-abbrev pub unary_signs : List (List ℕ)
-unary_signs = codes "-" ∷ codes "~" ∷ codes "!" ∷ []
 
 abbrev pub signs : List (List ℕ)
 signs = codes ":" ∷ codes "=" ∷ binary_signs ++ unary_signs
@@ -119,3 +93,25 @@ rows_from place (line ∷ others) = row_from place zero line ∷ rows_from (plac
 
 abbrev pub rows : List ℕ → List Row
 rows text = rows_from 0 (lines text)
+
+abbrev pub stop_of : List Token → ℕ
+stop_of [] = 0
+stop_of (t ∷ []) = t.stop
+stop_of (t ∷ u ∷ ts) = stop_of (u ∷ ts)
+
+-- The bytes of a name or of a fixed word.
+abbrev pub bytes_of : Word → List ℕ
+bytes_of (name s) = s
+bytes_of (number n) = []
+bytes_of (fixed s) = s
+
+abbrev pub spelling_of : Token → List ℕ
+spelling_of t = bytes_of t.word
+
+-- The tokens of each line that has some.
+abbrev pub unless_empty : List Token → List (List Token)
+unless_empty [] = []
+unless_empty (t ∷ ts) = (t ∷ ts) ∷ []
+
+abbrev pub token_lines : List Row → List (List Token)
+token_lines rs = flat_map (λ row. unless_empty row.tokens) rs

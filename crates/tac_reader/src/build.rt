@@ -3,8 +3,9 @@
 ghost use Rattle.std.specs.Prelude.{◌≡◌, ◌+◌, ◌*◌, ◌<◌, ◌≤◌, ◌^◌, ℕ, List, length, map, slice_get, slice_range, Some, IfOk, IfSome, take, count_by};
 ghost use Rattle.tac_reader.specs.code.Built.{names_view, word_nth, call_numbers};
 ghost use Rattle.tac_reader.specs.Programs.{number_of};
-ghost use Rattle.tac_reader.specs.Parses.{operand_of, operator_of, kind_of, form_of as form_in, statement_of, start_of, stop_of as end_of};
-ghost use Rattle.tac_reader.specs.Sections.{bytes_of, callees_of};
+ghost use Rattle.tac_reader.specs.Parses.{operand_of, operator_of, kind_of, form_of as form_in, statement_of, start_of};
+ghost use Rattle.tac_reader.specs.Tokens.{stop_of as end_of, bytes_of};
+ghost use Rattle.tac_reader.specs.Forms.{callees_of};
 ghost use Rattle.tac_reader.specs.Text.{line_after};
 ghost use Rattle.tac_reader.specs.code.Views.{token_view, tokens_view};
 ghost use Rattle.tac_reader.specs.declared.program.StmtKind.TheVariants.{Binary, Copy, IfCompare, Unary};

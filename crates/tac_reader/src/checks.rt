@@ -4,12 +4,16 @@
 // `Stop::OutOfMemory`.
 
 ghost use Rattle.std.specs.Prelude.{◌≡◌, ◌++◌, ℕ, List, [], ◌∷◌, Some, map, flat_map, drop, codes, if◌then◌else◌, IfOk, IfErr, OnOk};
-ghost use Rattle.tac_reader.specs.Faults.{at, callees_in, head_of, jumps_in, most_procedures, repeated, unknown};
+ghost use Rattle.tac_reader.specs.Faults.{callees_in, head_of, jumps_in, repeated, unknown};
+ghost use Rattle.tac_reader.specs.LineFaults.{at};
+ghost use Rattle.tac_reader.specs.Limits.{most_procedures};
 ghost use Rattle.tac_reader.specs.code.Lexed.{IfFault};
 ghost use Rattle.tac_reader.specs.Parses.{names_in};
 ghost use Rattle.tac_reader.specs.code.SectionViews.{section_view, sections_view};
-ghost use Rattle.tac_reader.specs.Sections.{callees_of, labels_in, statements_of, titles as titles_of};
-ghost use Rattle.tac_reader.specs.Tokens.{Token as Word, is_one_of};
+ghost use Rattle.tac_reader.specs.Sections.{labels_in, statements_of, titles as titles_of};
+ghost use Rattle.tac_reader.specs.Forms.{callees_of};
+ghost use Rattle.tac_reader.specs.Tokens.{Token as Word};
+ghost use Rattle.tac_reader.specs.Names.{is_one_of};
 ghost use Rattle.tac_reader.specs.code.Views.{tokens_view};
 ghost use Rattle.tac_reader.specs.declared.refusal.RefusalKind.TheVariants.{DuplicateCallee, DuplicateLabel, DuplicateProcedure, NoMain, TooManyProcedures, UnknownLabel, UnknownProcedure};
 

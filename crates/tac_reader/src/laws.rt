@@ -1,6 +1,7 @@
 //! Laws of the definitions: each is the clause of a function without a body.
 
-ghost use Rattle.tac_reader.specs.Laws.{LinesJoin, ListingsReadBack, ProgramsAreSound, SignsDiffer, SignsTellOperators, StatementsAreApart, StatementsAreSpelled, StatementsKeepTheirWords, TokensAreSpelled};
+ghost use Rattle.tac_reader.specs.Laws.{ListingsReadBack, ProgramsAreSound, SignsDiffer, SignsTellOperators, StatementsAreSpelled, StatementsKeepTheirWords};
+ghost use Rattle.tac_reader.specs.LineLaws.{LinesJoin, StatementsAreApart, TokensAreSpelled};
 
 /// The lines of a text, one after another, are the text.
 pub fn lines_join()

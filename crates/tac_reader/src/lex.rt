@@ -1,11 +1,11 @@
 // The lines of a text by their tokens, or its first fault of a line.
 
 ghost use Rattle.std.specs.Prelude.{◌≡◌, ◌+◌, ◌<◌, ◌≤◌, ◌++◌, ℕ, List, Option, [], ◌∷◌, false, true, Some, None, length, drop, slice_range, IfOk, IfErr, OnOk, vec_len, map, IsTrue};
-ghost use Rattle.tac_reader.specs.Faults.{first_by_place, line_faults, inside_after as inside_behind, longest_text};
+ghost use Rattle.tac_reader.specs.LineFaults.{first_by_place, line_faults, inside_after as inside_behind};
+ghost use Rattle.tac_reader.specs.Limits.{longest_text};
 ghost use Rattle.tac_reader.specs.Forms.{has_form, proc_form, end_form};
-ghost use Rattle.tac_reader.specs.Sections.{token_lines};
+ghost use Rattle.tac_reader.specs.Tokens.{token_lines, rows};
 ghost use Rattle.tac_reader.specs.Text.{lines};
-ghost use Rattle.tac_reader.specs.Tokens.{rows};
 ghost use Rattle.tac_reader.specs.code.Formed.{AreLines};
 ghost use Rattle.tac_reader.specs.code.Lexed.{some_of, text_lines, IfFault};
 ghost use Rattle.tac_reader.specs.code.Ranges.{range_views};

@@ -1,9 +1,9 @@
 // The faults of a line: which stands first.
 
 ghost use Rattle.std.specs.Prelude.{◌≡◌, ℕ, ◌+◌, ◌*◌, ◌<◌, ◌≤◌, List, [], ◌∷◌, Option, length, is_some, drop, flat_map, nat_lt, false, true};
-ghost use Rattle.tac_reader.specs.Faults.{first_by_place, form_fault as form_faults, row_faults, word_fault as word_faults};
+ghost use Rattle.tac_reader.specs.LineFaults.{first_by_place, form_fault as form_faults, row_faults, word_fault as word_faults};
 ghost use Rattle.tac_reader.specs.Forms.{behind_labels as without_labels, forms_for, labels_of};
-ghost use Rattle.tac_reader.specs.Parses.{stop_of as end_of};
+ghost use Rattle.tac_reader.specs.Tokens.{stop_of as end_of};
 ghost use Rattle.tac_reader.specs.code.Views.{GoesAsFar, fault_list, line_forms, merged, others_of, prefix_of, verdict, slots_view, starts_label, token_view, tokens_view};
 
 use crate::fault::Fault;

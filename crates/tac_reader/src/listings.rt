@@ -19,7 +19,7 @@ struct Names<'a> {
 }
 
 impl<'a> Model for Names<'a> {
-    ghost use Rattle.tac_reader.specs.Parses.{Names};
+    ghost use Rattle.tac_reader.specs.Names.{Names};
 
     ghost Value = { Names };
 

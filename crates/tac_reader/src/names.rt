@@ -1,9 +1,8 @@
 // Names by number: a table in which each name stands once, in the order in which they came.
 
 ghost use Rattle.std.specs.Prelude.{◌≡◌, ◌≢◌, ◌+◌, ◌<◌, ◌≤◌, ◌^◌, ◌↔◌, [], length, slice_get, Some, None, OnOk, OnErr, IfOk, IfSome, IfNone, not, position, bytes_eq, option_map};
-ghost use Rattle.tac_reader.specs.Tokens.{is_one_of};
+ghost use Rattle.tac_reader.specs.Names.{is_one_of, noted};
 ghost use Rattle.tac_reader.specs.Listings.{name_at};
-ghost use Rattle.tac_reader.specs.Parses.{noted};
 
 use crate::name_hashers::{NameHashers, NameSeeds};
 use crate::name_keys::{NameKey, Spelling};

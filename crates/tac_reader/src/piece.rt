@@ -3,7 +3,9 @@
 ghost use Rattle.std.specs.Prelude.{◌≡◌, ℕ, List, ◌+◌, ◌<◌, ◌≤◌, [], ◌∷◌, length, true, false, slice_index, take, IsTrue, IfSome, Some, None, option_map};
 ghost use Rattle.std.specs.List.{prefix_len};
 ghost use Rattle.tac_reader.specs.Text.{no_line_end};
-ghost use Rattle.tac_reader.specs.Tokens.{longest, is_letter, is_digit, is_name_byte, is_one_of, signs, is_blank, picked, name_or_keyword, number_piece, value_of, word, gap, keywords};
+ghost use Rattle.tac_reader.specs.Tokens.{longest, signs, is_blank, picked, name_or_keyword, number_piece, value_of, word, gap};
+ghost use Rattle.tac_reader.specs.Spelling.{is_letter, is_digit, is_name_byte, keywords};
+ghost use Rattle.tac_reader.specs.Names.{is_one_of};
 ghost use Rattle.tac_reader.specs.code.Views.{piece_at, front_view, word_at};
 
 use crate::program::Op;

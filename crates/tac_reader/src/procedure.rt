@@ -4,7 +4,8 @@ ghost use Rattle.std.specs.Prelude.{All, ◌≡◌, ◌+◌, ◌*◌, ◌<◌, �
 ghost use Rattle.tac_reader.specs.code.Built.{names_view};
 ghost use Rattle.tac_reader.specs.code.Occurrences.{IsNumberedIn};
 ghost use Rattle.tac_reader.specs.code.Procedures.{labels_at};
-ghost use Rattle.tac_reader.specs.Parses.{label_places, labels_from, names_in, noted, procedure_of, procedures_from, start_of as start_in, statement_of, variables_in};
+ghost use Rattle.tac_reader.specs.Parses.{label_places, labels_from, names_in, procedure_of, procedures_from, start_of as start_in, statement_of, variables_in};
+ghost use Rattle.tac_reader.specs.Names.{noted};
 ghost use Rattle.tac_reader.specs.code.SectionViews.{lines_view, section_view, sections_view};
 ghost use Rattle.tac_reader.specs.Sections.{labels_in, only_name, statements_of, variables_of};
 ghost use Rattle.tac_reader.specs.Sound.{IsSound};

@@ -1,7 +1,7 @@
 // A program: procedures of statements, over names held by number.
 ghost use Rattle.std.specs.Prelude.{◌≡◌, ◌<◌, ◌≤◌, [], ◌∷◌, ◌++◌, codes, length, slice_get, Some, IfSome};
 ghost use Rattle.tac_reader.specs.Programs.{LabelsRise};
-ghost use Rattle.tac_reader.specs.Parses.{sign_of};
+ghost use Rattle.tac_reader.specs.Spelling.{sign_of};
 ghost use Rattle.tac_reader.specs.Sound.{IsSound};
 
 use crate::names::NameTable;

@@ -1,7 +1,8 @@
 // A text to its program, or to its refusal.
 
 ghost use Rattle.std.specs.Prelude.{◌≡◌, ◌+◌, ◌<◌, ◌≤◌, ◌^◌, Some, None, length, map, take, IfOk, IfErr, OnOk};
-ghost use Rattle.tac_reader.specs.Faults.{fault_of, head_of, longest_text, name_faults, refusal_of, refusal_at};
+ghost use Rattle.tac_reader.specs.Faults.{fault_of, head_of, name_faults, refusal_of, refusal_at};
+ghost use Rattle.tac_reader.specs.Limits.{longest_text};
 ghost use Rattle.tac_reader.specs.code.Lexed.{IfFault};
 ghost use Rattle.tac_reader.specs.Parses.{names_in, program_of};
 ghost use Rattle.tac_reader.specs.code.ReadFaults.{IfRefused};

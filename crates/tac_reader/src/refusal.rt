@@ -1,7 +1,7 @@
 // Why a text is no program, and where.
 
 ghost use Rattle.std.specs.Prelude.{◌≡◌};
-ghost use Rattle.tac_reader.specs.Faults.{number_of_kind};
+ghost use Rattle.tac_reader.specs.LineFaults.{number_of_kind};
 
 use std::fmt;
 use thiserror::Error;

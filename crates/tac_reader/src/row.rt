@@ -1,7 +1,7 @@
 // The tokens of a line.
 
 ghost use Rattle.std.specs.Prelude.{◌≡◌, ◌-◌, ◌^◌, ◌<◌, ◌≤◌, ◌++◌, ℕ, List, [], ◌∷◌, zero, Some, length, slice_range, IfErr, IfOk, IfSome, OnOk, vec_len};
-ghost use Rattle.tac_reader.specs.Faults.{first_by_place, row_faults};
+ghost use Rattle.tac_reader.specs.LineFaults.{first_by_place, row_faults};
 ghost use Rattle.tac_reader.specs.Tokens.{row_from};
 ghost use Rattle.tac_reader.specs.code.Lexed.{IfFault};
 ghost use Rattle.tac_reader.specs.code.Views.{tokens_view};

@@ -1,11 +1,11 @@
 // A text's procedures, by their lines.
 
 ghost use Rattle.std.specs.Prelude.{◌≡◌, ◌<◌, ◌≤◌, ◌++◌, ℕ, List, length, map, flat_map, drop, take_while, take, slice_index_or, vec_len, IfOk, OnOk};
-ghost use Rattle.tac_reader.specs.Forms.{behind_labels, cells_of, in_slot, labels_of};
+ghost use Rattle.tac_reader.specs.Forms.{behind_labels, cells_of, in_slot, labels_of, is_inner as is_inner_line};
 ghost use Rattle.tac_reader.specs.code.Ranges.{range_view};
 ghost use Rattle.tac_reader.specs.code.Roles.{role_test};
 ghost use Rattle.tac_reader.specs.code.SectionViews.{lines_view, sections_view};
-ghost use Rattle.tac_reader.specs.Sections.{is_inner as is_inner_line, sections_in, statements_of};
+ghost use Rattle.tac_reader.specs.Sections.{sections_in, statements_of};
 ghost use Rattle.tac_reader.specs.code.Views.{tokens_view};
 ghost use Rattle.tac_reader.specs.declared.lexed.LineRange.{LineRange};
 

@@ -1,7 +1,7 @@
 // Tokens: what they are, and where they stand.
 
 ghost use Rattle.std.specs.Prelude.{◌≡◌, slice_range};
-ghost use Rattle.tac_reader.specs.Sections.{spelling_of};
+ghost use Rattle.tac_reader.specs.Tokens.{spelling_of};
 ghost use Rattle.tac_reader.specs.code.Views.{keyword_text, token_view};
 
 use crate::program::Op;

@@ -6,7 +6,8 @@ use Rattle.flow_graph.specs.Points.{point_count}
 use Rattle.flow_graph.specs.Universes.{bits}
 use Rattle.flow_graph.specs.declared.analysis.Analysis.{Analysis}
 use Rattle.flow_graph.specs.declared.analysis.Analysis.TheVariants.{Reach, Live, Avail, Busy}
-use Rattle.tac_reader.specs.Faults.{number_of_kind, refusal_of}
+use Rattle.tac_reader.specs.Faults.{refusal_of}
+use Rattle.tac_reader.specs.LineFaults.{number_of_kind}
 use Rattle.tac_reader.specs.Programs.{Program}
 use Rattle.tac_reader.specs.Parses.{program_of}
 use Rattle.tac_reader.specs.declared.refusal.Refusal.{Refusal}

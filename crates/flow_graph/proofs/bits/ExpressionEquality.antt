@@ -2,7 +2,8 @@
 use Rattle.std.proofs.Common.{◌≡◌, Bool, true, false, ◌&&◌, nat_eq, refl, sym, ap, ap₂, ◌∙◌, subst, rules, arith}
 use denote.Enum.Bare.{sameb, same_true, same_false}
 use Rattle.std.proofs.lemmas.Slice.Eq.{bytes_eq-Decides}
-use Rattle.tac_reader.specs.Parses.{sign_of, operator_of}
+use Rattle.tac_reader.specs.Parses.{operator_of}
+use Rattle.tac_reader.specs.Spelling.{sign_of}
 use Rattle.tac_reader.specs.Tokens.{fixed}
 use Rattle.tac_reader.specs.contracts.program.Op.{the_type}
 use Rattle.tac_reader.specs.declared.program.Op.{Op}

@@ -6,7 +6,7 @@ use Rattle.std.proofs.lemmas.List.Kept.{AllPairs-cons}
 use Rattle.std.proofs.lemmas.Slice.Eq.{bytes_eq-Decides}
 use Rattle.tac_reader.specs.Tokens.{Word, name, number, fixed, Token}
 use Rattle.tac_reader.specs.Forms.{Slot, exactly, variable, fills, has_form, statements}
-use Rattle.tac_reader.specs.Laws.{StatementsAreApart, NoWordsInBoth}
+use Rattle.tac_reader.specs.LineLaws.{StatementsAreApart, NoWordsInBoth}
 use Rattle.tac_reader.specs.declared.form.Form.{Form}
 
 -- whether no word fills both: two fixed words, or a fixed word and a name

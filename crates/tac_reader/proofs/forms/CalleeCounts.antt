@@ -1,8 +1,7 @@
 -- No statement lists more than eight procedures.
 use Rattle.std.proofs.Common.{◌≡◌, ℕ, ◌+◌, ◌≤◌, Bool, true, false, cond, ◌&&◌, List, [], ◌∷◌, length, refl, arith, if◌then◌else◌, Option, Some, None, find, nat_le}
 use Rattle.tac_reader.specs.Tokens.{Token}
-use Rattle.tac_reader.specs.Forms.{Slot, statements, has_form, paired, in_slot}
-use Rattle.tac_reader.specs.Sections.{is_callee, callees_of}
+use Rattle.tac_reader.specs.Forms.{Slot, statements, has_form, paired, in_slot, is_callee, callees_of}
 use Rattle.tac_reader.specs.declared.form.Form.{Form}
 
 -- How many callees a form has.

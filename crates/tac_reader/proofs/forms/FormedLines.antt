@@ -2,7 +2,7 @@
 use Rattle.std.proofs.Common.{take, length-drop, ◌≡◌, ℕ, zero, suc, ◌-◌, ◌*◌, ◌<◌, ◌≤◌, All, slice_index_or, slice_range, Bool, true, false, not, ◌||◌, List, [], ◌∷◌, ◌++◌, length, drop, refl, sym, ap, ◌∙◌, arith, Option, Some, None, is_some, option_map, true≢false, if◌then◌else◌, append-nil, codes}
 use Rattle.std.specs.List.{list_any}
 use Rattle.tac_reader.specs.Tokens.{Token}
-use Rattle.tac_reader.specs.Forms.{Slot, key, callee, has_form, label_form, labels_of, behind_labels, statement_row, paired, cells_of, in_slot}
+use Rattle.tac_reader.specs.Forms.{Slot, key, callee, has_form, label_form, labels_of, behind_labels, statement_row, paired, cells_of, in_slot, statements}
 use Rattle.tac_reader.specs.code.Formed.{IsFormedIn, is_formed, has_role}
 use Rattle.tac_reader.specs.code.Ranges.{range_view}
 use Rattle.tac_reader.specs.code.Roles.{role_test}
@@ -17,8 +17,7 @@ use Rattle.tac_reader.specs.code.Views.{token_view, tokens_view}
 use Rattle.tac_reader.specs.declared.token.Token.{Token as Lexed}
 use Rattle.tac_reader.proofs.forms.LineForms.{all-left}
 use Rattle.tac_reader.proofs.forms.Rows.{row_some}
-use Rattle.tac_reader.proofs.programs.StatementWords.{found_row}
-use Rattle.tac_reader.specs.Forms.{statements}
+use Rattle.tac_reader.proofs.forms.RowLengths.{found_row}
 
 abbrev row_in : ℕ → Form → Form × List Slot
 row_in n f = (f, form_slots f n)

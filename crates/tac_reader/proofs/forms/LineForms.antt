@@ -1,11 +1,10 @@
 -- Which form of a line goes as far with its tokens as any.
 use Rattle.std.proofs.Common.{◌≡◌, ℕ, zero, suc, ◌+◌, ◌<◌, ◌≤◌, Bool, true, false, ◌&&◌, List, [], ◌∷◌, length, drop, refl, sym, ap, ◌∙◌, arith, Option, Some, None, codes, true≢false, if◌then◌else◌, slice_get, slice_range, nat_lt, take, take_all, ◌-◌, length-drop, ◌||◌, option_map, is_some, flat_map, ◌++◌}
 use Rattle.std.proofs.lemmas.Bool.{lt-ltb, le-ltb}
-use Rattle.tac_reader.specs.Tokens.{Token}
+use Rattle.tac_reader.specs.Tokens.{Token, stop_of}
 use Rattle.tac_reader.specs.Forms.{Slot, fills, key, label, label_form, proc_form, end_form, statement_forms, some_form, first_wrong, has_form, labels_of, behind_labels, forms_for}
 use Rattle.tac_reader.specs.code.Views.{GoesAsFar, token_view, tokens_view, word_at, fills_at, line_forms, starts_label, wrong_of, is_whole, verdict, others_of, prefix_of, merged}
-use Rattle.tac_reader.specs.Parses.{stop_of}
-use Rattle.tac_reader.specs.Faults.{at, form_fault, word_fault, row_faults, first_by_place}
+use Rattle.tac_reader.specs.LineFaults.{at, form_fault, word_fault, row_faults, first_by_place}
 use Rattle.tac_reader.specs.declared.fault.Fault.{Fault}
 use Rattle.tac_reader.specs.declared.refusal.RefusalKind.TheVariants.{BadByte, Syntax}
 use Rattle.tac_reader.specs.declared.form.Walk.{Walk}
@@ -194,3 +193,8 @@ row_some inside text ts None zero place first found h e g f = absurd (cc e)
 row_some inside text ts (Some b) zero place first found h e g f =
     g ∙ ap (λ p. merged (Some (record { kind = BadByte; place = p })) first) (some_same place b (sym e)) ∙ ap (merged (Some (record { kind = BadByte; place = b }))) f
 row_some inside text ts bad (suc n) place first found h e g f = absurd (let never : ⊥ = omega (arith, h) in never)
+
+-- Tokens whose first does not fit have no form that begins so.
+pub no_front : (text : List ℕ) (s : Slot) (slots : List Slot) (ts : List Lexed) → fills_at text s (slice_get ts 0) ≡ false → has_form (s ∷ slots) (tokens_view text ts) ≡ false
+no_front text s slots [] h = refl
+no_front text s slots (t ∷ ts) h = ap (λ b. b && has_form slots (tokens_view text ts)) h

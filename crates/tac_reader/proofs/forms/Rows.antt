@@ -4,7 +4,7 @@ use Rattle.std.specs.List.{list_any}
 use Rattle.tac_reader.specs.Tokens.{Token}
 use Rattle.tac_reader.specs.Forms.{Slot, key, callee, has_form, further_callees, statements, statement_forms, statement_row}
 use Rattle.tac_reader.specs.code.Views.{GoesAsFar, form_slots, further_slots, is_whole}
-use Rattle.tac_reader.specs.Laws.{NoWordsInBoth}
+use Rattle.tac_reader.specs.LineLaws.{NoWordsInBoth}
 use Rattle.tac_reader.specs.declared.form.Form.{Form}
 use Rattle.tac_reader.specs.declared.form.Form.TheVariants as form
 use Rattle.tac_reader.specs.declared.form.Walk.{Walk}

@@ -4,7 +4,7 @@ use Rattle.std.proofs.lemmas.Bool.{or_left, or_right}
 use Rattle.std.proofs.lemmas.List.Quantifiers.{position-Some}
 use Rattle.std.proofs.lemmas.Option.{slice_get-get_or}
 use Rattle.std.proofs.lemmas.Slice.Eq.{bytes_eq-Decides}
-use Rattle.tac_reader.specs.Tokens.{is_one_of}
+use Rattle.tac_reader.specs.Names.{is_one_of}
 use Rattle.tac_reader.proofs.known_names.NameTexts.{numbered}
 
 contained_known : (names : List (List ℕ)) (s : List ℕ) (k : ℕ) → k < length names → get_or names k s ≡ s → is_one_of s names ≡ true

@@ -4,11 +4,12 @@ use Rattle.std.proofs.lemmas.Bool.{lt-ltb, or_parts}
 use Rattle.std.proofs.lemmas.Slice.Eq.{bytes_eq-Decides}
 use Rattle.std.proofs.lemmas.Option.{unwrap_or-slice_get}
 use Rattle.std.specs.List.{AllByRecursion as Each, position_or_len}
-use Rattle.tac_reader.specs.Tokens.{Token, is_one_of}
-use Rattle.tac_reader.specs.Sections.{spelling_of}
+use Rattle.tac_reader.specs.Tokens.{Token, spelling_of}
+use Rattle.tac_reader.specs.Names.{is_one_of, noted}
 use Rattle.tac_reader.specs.Programs.{number_of}
-use Rattle.tac_reader.specs.Parses.{names_in, noted}
-use Rattle.tac_reader.specs.Faults.{at, repeated}
+use Rattle.tac_reader.specs.Parses.{names_in}
+use Rattle.tac_reader.specs.Faults.{repeated}
+use Rattle.tac_reader.specs.LineFaults.{at}
 use Rattle.tac_reader.specs.Listings.{name_at}
 use Rattle.tac_reader.specs.declared.fault.Fault.{Fault}
 use Rattle.tac_reader.specs.declared.refusal.RefusalKind.{RefusalKind}

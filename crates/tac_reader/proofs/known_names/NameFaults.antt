@@ -3,7 +3,9 @@ use Rattle.std.proofs.Common.{◌≡◌, ℕ, ◌<◌, ◌≤◌, Bool, true, fa
 use Rattle.std.proofs.lemmas.Bool.{lt-ltb, le-ltb}
 use Rattle.tac_reader.specs.Tokens.{rows}
 use Rattle.tac_reader.specs.Sections.{sections}
-use Rattle.tac_reader.specs.Faults.{head_of, fault_of, name_faults, first_by_place, line_faults, longest_text}
+use Rattle.tac_reader.specs.Faults.{head_of, fault_of, name_faults}
+use Rattle.tac_reader.specs.LineFaults.{first_by_place, line_faults}
+use Rattle.tac_reader.specs.Limits.{longest_text}
 use Rattle.tac_reader.specs.declared.fault.Fault.{Fault}
 use Rattle.tac_reader.specs.declared.refusal.RefusalKind.TheVariants as kind
 

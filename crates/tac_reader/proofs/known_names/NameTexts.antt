@@ -6,8 +6,7 @@ use Rattle.std.proofs.lemmas.Bool.{lt-ltb}
 use Rattle.std.proofs.lemmas.Map.Keys.{IsDistinct-head, IsDistinct-tail}
 use Rattle.std.specs.List.{AllByRecursion, IsDistinct, list_any, prefix_len}
 use Rattle.indexmap.specs.IndexSet.{insert_key}
-use Rattle.tac_reader.specs.Tokens.{is_one_of}
-use Rattle.tac_reader.specs.Parses.{noted}
+use Rattle.tac_reader.specs.Names.{is_one_of, noted}
 use Rattle.tac_reader.specs.code.Names.{texts}
 use Rattle.tac_reader.specs.declared.name_keys.NameKey.{NameKey}
 

@@ -2,7 +2,8 @@
 use Rattle.std.proofs.Common.{◌≡◌, ℕ, Bool, true, false, not, ◌&&◌, ◌||◌, List, [], ◌∷◌, ◌++◌, decimal, append-nil, refl, sym, ap, ◌∙◌, true≢false}
 use Rattle.std.specs.List.{AllByRecursion as Each, list_all}
 use Rattle.std.proofs.lemmas.Bool.{or_right}
-use Rattle.tac_reader.specs.Tokens.{Word, name, number, fixed, Token, is_letter, is_digit, is_name_byte, is_name, is_number}
+use Rattle.tac_reader.specs.Tokens.{Word, name, number, fixed, Token, is_number}
+use Rattle.tac_reader.specs.Spelling.{is_letter, is_digit, is_name_byte, is_name}
 use Rattle.tac_reader.specs.Forms.{Slot, operand, unary, fills, has_form, statements}
 use Rattle.tac_reader.proofs.tokens.Longest.{and_parts}
 use Rattle.tac_reader.proofs.tokens.Bare.{words_of}

@@ -4,10 +4,11 @@ use Rattle.std.specs.List.{AllByRecursion as Each, list_all, onto_first}
 use Rattle.std.proofs.lemmas.List.{map-append}
 use Rattle.std.proofs.lemmas.Bool.Decides.{nat_tests}
 use Rattle.tac_reader.specs.Text.{is_line_end, no_line_end, lines}
-use Rattle.tac_reader.specs.Tokens.{Word, name, number, fixed, Token, Row, rows_from}
+use Rattle.tac_reader.specs.Tokens.{Word, name, number, fixed, Token, Row, rows_from, bytes_of, spelling_of, unless_empty}
 use Rattle.tac_reader.specs.Forms.{labels_of, behind_labels, is_name_word}
-use Rattle.tac_reader.specs.Sections.{Section, titles, bytes_of, spelling_of, unless_empty, statements_of}
-use Rattle.tac_reader.specs.Parses.{Names, names_in, names_for, statement_of, label_places, labels_from, procedures_from}
+use Rattle.tac_reader.specs.Sections.{Section, titles, statements_of}
+use Rattle.tac_reader.specs.Parses.{names_in, names_for, statement_of, label_places, labels_from, procedures_from}
+use Rattle.tac_reader.specs.Names.{Names}
 use Rattle.tac_reader.specs.Listings.{name_at, statement_text, labels_text, places_text, procedure_text}
 use Rattle.tac_reader.specs.declared.program.Label.{Label}
 use Rattle.tac_reader.specs.declared.program.Stmt.{Stmt}

@@ -3,7 +3,7 @@ use Rattle.std.proofs.Common.{◌≡◌, ◌≢◌, ℕ, suc, ◌+◌, ◌-◌, 
 use Rattle.std.proofs.lemmas.Bool.Decides.{nat_tests}
 use Rattle.std.proofs.lemmas.List.{take_all, drop_all}
 use Rattle.std.proofs.lemmas.List.Elements.{All-head, All-tail}
-use Rattle.tac_reader.specs.Parses.{Names}
+use Rattle.tac_reader.specs.Names.{Names}
 use Rattle.tac_reader.specs.Listings.{name_at, labels_text, places_text, callees_text, statement_text}
 use Rattle.tac_reader.specs.declared.program.Label.{Label}
 use Rattle.tac_reader.specs.declared.program.Stmt.{Stmt}

@@ -1,11 +1,13 @@
 -- The listing of a text's program is a text of the same program but for spans.
 use Rattle.std.proofs.Common.{◌≡◌, ℕ, ◌≤◌, Bool, true, false, List, [], ◌∷◌, ◌++◌, length, map, refl, sym, ap, ◌∙◌, subst, None, option_map, true≢false, codes}
 use Rattle.std.specs.List.{AllByRecursion as Each}
-use Rattle.tac_reader.specs.Tokens.{Word, fixed, Token, Row, rows}
+use Rattle.tac_reader.specs.Tokens.{Word, fixed, Token, Row, rows, token_lines, unless_empty}
 use Rattle.tac_reader.specs.Forms.{labels_of, behind_labels}
-use Rattle.tac_reader.specs.Sections.{Section, sections, sections_in, titles, token_lines, unless_empty}
+use Rattle.tac_reader.specs.Sections.{Section, sections, sections_in, titles}
 use Rattle.tac_reader.specs.Parses.{names_in, variables_in, each_once, program_of}
-use Rattle.tac_reader.specs.Faults.{line_faults, name_faults, first_by_place, head_of, refusal_of, refusal_at, longest_text}
+use Rattle.tac_reader.specs.Faults.{name_faults, head_of, refusal_of, refusal_at}
+use Rattle.tac_reader.specs.LineFaults.{line_faults, first_by_place}
+use Rattle.tac_reader.specs.Limits.{longest_text}
 use Rattle.tac_reader.specs.Listings.{listing_of}
 use Rattle.tac_reader.specs.Laws.{SameButSpans, ListingsReadBack}
 use Rattle.tac_reader.proofs.lists.Elements.{each-append}

@@ -2,11 +2,12 @@
 use Rattle.std.proofs.Common.{◌≡◌, ℕ, Bool, true, false, ◌&&◌, List, [], ◌∷◌, ◌++◌, map, refl, sym, ap, ◌∙◌, bytes_eq, codes, append_assoc, true≢false, if◌then◌else◌}
 use Rattle.std.specs.List.{AllByRecursion as Each, list_all}
 use Rattle.std.specs.Cmp.Lexicographic.{same_text}
-use Rattle.tac_reader.specs.Tokens.{Word, Token}
-use Rattle.tac_reader.specs.Forms.{Slot, exactly, procedure, variable, operand, label, callee, binary, unary, comparison, key, statements, plain_statements, further_callees, paired, in_slot}
-use Rattle.tac_reader.specs.Sections.{bytes_of, spelling_of, is_callee}
+use Rattle.tac_reader.specs.Tokens.{Word, Token, bytes_of, spelling_of}
+use Rattle.tac_reader.specs.Forms.{Slot, exactly, procedure, variable, operand, label, callee, binary, unary, comparison, key, statements, plain_statements, further_callees, paired, in_slot, is_callee}
 use Rattle.tac_reader.specs.Programs.{number_of}
-use Rattle.tac_reader.specs.Parses.{Names, variable_of, label_of, operand_of, operator_of, sign_of, kind_of}
+use Rattle.tac_reader.specs.Parses.{variable_of, label_of, operand_of, operator_of, kind_of}
+use Rattle.tac_reader.specs.Spelling.{sign_of}
+use Rattle.tac_reader.specs.Names.{Names}
 use Rattle.tac_reader.specs.Listings.{name_at, operand_text, binary_text, goto_text, callees_text, statement_text}
 use Rattle.tac_reader.specs.declared.form.Form.{Form}
 use Rattle.tac_reader.specs.declared.form.Form.TheVariants as form

@@ -1,9 +1,8 @@
 -- The first fault of a line by its first tokens, where the rest cannot change it.
 use Rattle.std.proofs.Common.{◌≡◌, ℕ, zero, ◌+◌, ◌<◌, ◌≤◌, ◌⊎◌, inl, inr, Bool, true, false, ◌||◌, List, [], ◌∷◌, ◌++◌, length, refl, sym, ap, ◌∙◌, subst, arith, Option, Some, None, if◌then◌else◌, flat_map, is_some, append_assoc, append-nil}
-use Rattle.tac_reader.specs.Tokens.{Token, row_from}
+use Rattle.tac_reader.specs.Tokens.{Token, row_from, stop_of}
 use Rattle.tac_reader.specs.Forms.{Slot, label_form, has_form, labels_of, behind_labels, forms_for, some_begins, some_form, first_wrong}
-use Rattle.tac_reader.specs.Parses.{stop_of}
-use Rattle.tac_reader.specs.Faults.{at, word_fault, bad_fault, form_fault, row_faults, first_by_place, precedes, earlier}
+use Rattle.tac_reader.specs.LineFaults.{at, word_fault, bad_fault, form_fault, row_faults, first_by_place, precedes, earlier}
 use Rattle.tac_reader.specs.code.Views.{merged}
 use Rattle.tac_reader.specs.declared.fault.Fault.{Fault}
 use Rattle.tac_reader.specs.declared.refusal.RefusalKind.TheVariants as kind

@@ -2,10 +2,10 @@
 use Rattle.std.proofs.Common.{◌≡◌, ℕ, zero, ◌+◌, ◌-◌, ◌<◌, ◌≤◌, ◌⊎◌, inl, inr, Bool, true, false, ◌||◌, List, [], ◌∷◌, ◌++◌, length, drop, refl, sym, ap, ◌∙◌, subst, arith, Option, Some, None, if◌then◌else◌, true≢false, flat_map, nat_lt, is_some, length-append, length-drop, slice_range, eq-or-lt_of_le}
 use Rattle.std.specs.List.{onto_first}
 use Rattle.tac_reader.specs.Text.{lines, is_line_end}
-use Rattle.tac_reader.specs.Tokens.{Word, name, number, fixed, Token, Row, row_from, rows_from}
+use Rattle.tac_reader.specs.Tokens.{Word, name, number, fixed, Token, Row, row_from, rows_from, stop_of}
 use Rattle.tac_reader.specs.Forms.{Slot, label_form, has_form, labels_of, behind_labels, forms_for, some_begins, some_form, first_wrong}
-use Rattle.tac_reader.specs.Parses.{stop_of}
-use Rattle.tac_reader.specs.Faults.{number_of_kind, at, word_fault, bad_fault, form_fault, row_faults, line_faults, inside_after, first_by_place, longest_name, largest_number}
+use Rattle.tac_reader.specs.LineFaults.{number_of_kind, at, word_fault, bad_fault, form_fault, row_faults, line_faults, inside_after, first_by_place}
+use Rattle.tac_reader.specs.Limits.{longest_name, largest_number}
 use Rattle.tac_reader.specs.code.Lexed.{IfFault}
 use Rattle.tac_reader.specs.declared.fault.Fault.{Fault}
 use Rattle.tac_reader.specs.declared.fault.Stop.{Stop}

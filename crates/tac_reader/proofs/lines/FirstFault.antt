@@ -2,7 +2,7 @@
 use Rattle.std.proofs.Common.{◌≡◌, ◌≢◌, ℕ, ◌<◌, ◌≤◌, ◌⊎◌, inl, inr, Bool, true, false, ◌&&◌, ◌||◌, List, [], ◌∷◌, ◌++◌, refl, sym, ap, ◌∙◌, subst, arith, Option, Some, None, nat_le, ◌==◌, eq-eqb, if◌then◌else◌}
 use Rattle.std.proofs.lemmas.Bool.{lt-ltb, le-ltb, eqb-true, cases_order}
 use Rattle.std.proofs.lemmas.Bool.Decides.{leb_tells}
-use Rattle.tac_reader.specs.Faults.{number_of_kind, precedes, earlier, first_by_place}
+use Rattle.tac_reader.specs.LineFaults.{number_of_kind, precedes, earlier, first_by_place}
 use Rattle.tac_reader.specs.code.Views.{merged}
 use Rattle.tac_reader.specs.declared.fault.Fault.{Fault}
 

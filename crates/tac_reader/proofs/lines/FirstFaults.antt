@@ -1,12 +1,14 @@
 -- The first fault of a list of parts, one part after another.
 use Rattle.std.proofs.Common.{◌≡◌, ℕ, zero, suc, ◌+◌, ◌<◌, true, false, List, [], ◌∷◌, ◌++◌, length, map, flat_map, drop, refl, sym, ap, ◌∙◌, arith, Option, Some, None, is_some, position, bytes_eq, if◌then◌else◌, slice_index_or, slice_get, append-nil}
 use Rattle.std.proofs.lemmas.Grind.{flat_map-append}
-use Rattle.tac_reader.specs.Tokens.{Token, is_one_of}
-use Rattle.tac_reader.specs.Forms.{behind_labels, cells_of, in_slot}
-use Rattle.tac_reader.specs.Sections.{callees_of, is_callee, spelling_of, statements_of, titles, unless_empty}
+use Rattle.tac_reader.specs.Tokens.{Token, spelling_of, unless_empty}
+use Rattle.tac_reader.specs.Names.{is_one_of}
+use Rattle.tac_reader.specs.Forms.{behind_labels, cells_of, in_slot, callees_of, is_callee}
+use Rattle.tac_reader.specs.Sections.{statements_of, titles}
 use Rattle.tac_reader.specs.code.SectionViews.{sections_view}
 use Rattle.tac_reader.specs.Parses.{names_in}
-use Rattle.tac_reader.specs.Faults.{at, head_of}
+use Rattle.tac_reader.specs.Faults.{head_of}
+use Rattle.tac_reader.specs.LineFaults.{at}
 use Rattle.tac_reader.specs.code.Views.{token_view, tokens_view}
 use Rattle.tac_reader.specs.declared.fault.Fault.{Fault}
 use Rattle.tac_reader.specs.code.Lexed.{IfFault}

@@ -1,7 +1,6 @@
 -- One line more.
 use Rattle.std.proofs.Common.{◌≡◌, ℕ, zero, List, [], ◌∷◌, ◌++◌, map, refl, sym, ap, ◌∙◌, append_assoc, Option, Some, None, slice_range}
-use Rattle.tac_reader.specs.Tokens.{Token, Row, row_from}
-use Rattle.tac_reader.specs.Sections.{token_lines, unless_empty}
+use Rattle.tac_reader.specs.Tokens.{Token, Row, row_from, token_lines, unless_empty}
 use Rattle.tac_reader.specs.code.Lexed.{some_of}
 use Rattle.tac_reader.specs.code.Views.{tokens_view}
 use Rattle.tac_reader.specs.declared.fault.Fault.{Fault}

@@ -2,7 +2,7 @@
 use Rattle.std.proofs.Common.{◌≡◌, ℕ, Bool, true, false, List, [], ◌∷◌, flat_map, refl, ap, ◌∙◌, ◌==◌, if◌then◌else◌}
 use Rattle.std.specs.List.{onto_first}
 use Rattle.tac_reader.specs.Text.{lines}
-use Rattle.tac_reader.specs.Laws.{LinesJoin}
+use Rattle.tac_reader.specs.LineLaws.{LinesJoin}
 
 joined : List (List ℕ) → List ℕ
 joined ls = flat_map (λ line. line) ls

@@ -2,7 +2,8 @@
 use Rattle.std.proofs.Common.{◌≡◌, ℕ, zero, suc, List, [], ◌∷◌, refl, sym, ap, ◌∙◌, Option, Some, None, slice_get, option_map, true, false, nat_lt, length, get_or, ◌<◌, ◌≤◌, arith}
 use Rattle.std.proofs.lemmas.Bool.{ltb-true, ltb-false}
 use Rattle.tac_reader.specs.Tokens.{fixed}
-use Rattle.tac_reader.specs.Parses.{operator_of, sign_of}
+use Rattle.tac_reader.specs.Parses.{operator_of}
+use Rattle.tac_reader.specs.Spelling.{sign_of}
 use Rattle.tac_reader.specs.code.Views.{token_view, tokens_view}
 use Rattle.tac_reader.specs.code.Built.{word_nth, word_or_none}
 use Rattle.tac_reader.specs.declared.program.Op.{Op}

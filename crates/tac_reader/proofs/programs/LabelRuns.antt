@@ -1,15 +1,14 @@
 -- Labels, one line after another.
-use Rattle.std.proofs.Common.{◌≡◌, ℕ, zero, suc, ◌+◌, ◌*◌, ◌<◌, ◌≤◌, Bool, true, false, List, [], ◌∷◌, ◌++◌, length, map, drop, refl, sym, ap, ◌∙◌, subst, arith, slice_index_or, length-append, append_assoc, drop-drop, true≢false, if◌then◌else◌, ◌&&◌}
+use Rattle.std.proofs.Common.{◌≡◌, ℕ, zero, suc, ◌+◌, ◌<◌, ◌≤◌, List, [], ◌∷◌, ◌++◌, length, map, drop, refl, sym, ap, ◌∙◌, subst, arith, slice_index_or, length-append, append_assoc}
 use Rattle.std.specs.List.Sorted.{IsNonDecreasing}
 use Rattle.std.proofs.lemmas.List.{at_drop_more}
-use Rattle.tac_reader.specs.Tokens.{Token}
-use Rattle.tac_reader.specs.Forms.{labels_of, behind_labels, label, fills, key}
-use Rattle.tac_reader.specs.Sections.{unless_empty}
+use Rattle.tac_reader.specs.Tokens.{Token, unless_empty}
+use Rattle.tac_reader.specs.Forms.{labels_of, behind_labels}
 use Rattle.tac_reader.specs.code.Procedures.{labels_at}
 use Rattle.tac_reader.specs.Programs.{LabelsRise}
 use Rattle.tac_reader.specs.Parses.{label_places, labels_from}
 use Rattle.tac_reader.specs.code.Ranges.{range_view}
-use Rattle.tac_reader.specs.code.Views.{token_view, tokens_view, starts_label}
+use Rattle.tac_reader.specs.code.Views.{tokens_view}
 use Rattle.tac_reader.specs.declared.program.Label.{Label}
 use Rattle.tac_reader.specs.declared.lexed.LineRange.{LineRange}
 use Rattle.tac_reader.specs.declared.token.Token.{Token as Lexed}
@@ -101,24 +100,3 @@ lines_on text all lines at d tokens labels pushed place named next count whole b
     counted
     (moved ∙ ap (λ ts. place + length (unless_empty ts)) behind)
     (sym (at_drop_more (λ rest. labels ++ labels_from (length labels) (label_places place (map (range_view text all) rest))) lines at d below) ∙ before)
-
-and_true : (a b : Bool) → (a && b) ≡ true → (a && (b && true)) ≡ true
-and_true true true h = refl
-and_true true false h = h
-and_true false b h = h
-
-not_single : (a : Bool) → (a && false) ≡ true → ⊥
-not_single true h = true≢false (sym h)
-not_single false h = true≢false (sym h)
-
--- A label at the front is one of a line's labels.
-labels_two : (text : List ℕ) (ts : List Lexed) → starts_label text ts ≡ true → length (labels_of (tokens_view text ts)) ≡ suc (length (labels_of (tokens_view text (drop 2 ts))))
-labels_two text [] h = absurd (true≢false (sym h))
-labels_two text (t ∷ []) h = absurd (not_single (fills label (token_view text t).word) h)
-labels_two text (t ∷ u ∷ ts) h = ap (λ b. length (if b then token_view text t ∷ labels_of (tokens_view text ts) else [])) (and_true (fills label (token_view text t).word) (fills (key (58 ∷ [])) (token_view text u).word) h)
-
-pub count_on : (text : List ℕ) (ts : List Lexed) (at all : ℕ) → starts_label text (drop at ts) ≡ true → at + 2 * length (labels_of (tokens_view text (drop at ts))) ≡ 2 * all → at + 2 + 2 * length (labels_of (tokens_view text (drop (at + 2) ts))) ≡ 2 * all
-count_on text ts at all h before =
-    let one : length (labels_of (tokens_view text (drop at ts))) ≡ suc (length (labels_of (tokens_view text (drop (at + 2) ts)))) =
-    labels_two text (drop at ts) h ∙ ap (λ r. suc (length (labels_of (tokens_view text r)))) (drop-drop 2 at ts) in
-    omega (arith, one, before)

@@ -5,12 +5,15 @@ use Rattle.std.proofs.lemmas.List.{length-map}
 use Rattle.std.proofs.lemmas.List.Elements.{All-from_recursion}
 use Rattle.std.specs.List.{AllByRecursion as Each}
 use Rattle.tac_reader.specs.Text.{lines}
-use Rattle.tac_reader.specs.Tokens.{Token, rows, is_one_of}
-use Rattle.tac_reader.specs.Forms.{labels_of, behind_labels, paired, in_slot, cells_of, is_name_word, Slot, statement_row}
-use Rattle.tac_reader.specs.Sections.{Section, sections, token_lines, titles, spelling_of, unless_empty, statements_of, labels_in, is_variable, callees_of, jumps_of, only_name, variables_of}
+use Rattle.tac_reader.specs.Tokens.{Token, rows, token_lines, spelling_of, unless_empty}
+use Rattle.tac_reader.specs.Names.{is_one_of, Names}
+use Rattle.tac_reader.specs.Forms.{labels_of, behind_labels, paired, in_slot, cells_of, is_name_word, Slot, statement_row, is_variable, callees_of, jumps_of}
+use Rattle.tac_reader.specs.Sections.{Section, sections, titles, statements_of, labels_in, only_name, variables_of}
 use Rattle.tac_reader.specs.Programs.{Procedure, Program}
-use Rattle.tac_reader.specs.Parses.{Names, names_in, statement_of, label_places, labels_from, procedure_of, procedures_from, variables_in, program_of}
-use Rattle.tac_reader.specs.Faults.{at, repeated, unknown, jumps_in, callees_in, name_faults, head_of, fault_of, refusal_of, refusal_at, first_by_place, line_faults, longest_text, most_procedures}
+use Rattle.tac_reader.specs.Parses.{names_in, statement_of, label_places, labels_from, procedure_of, procedures_from, variables_in, program_of}
+use Rattle.tac_reader.specs.Faults.{repeated, unknown, jumps_in, callees_in, name_faults, head_of, fault_of, refusal_of, refusal_at}
+use Rattle.tac_reader.specs.LineFaults.{at, first_by_place, line_faults}
+use Rattle.tac_reader.specs.Limits.{longest_text, most_procedures}
 use Rattle.tac_reader.specs.Laws.{ProgramsAreSound}
 use Rattle.tac_reader.specs.Sound.{IsLawfulName, IsSoundStatement, IsSoundProcedure, IsSound}
 use Rattle.tac_reader.specs.declared.fault.Fault.{Fault}

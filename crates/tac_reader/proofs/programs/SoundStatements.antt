@@ -3,11 +3,12 @@ use Rattle.std.proofs.Common.{◌≡◌, ℕ, ◌<◌, ◌≤◌, Bool, true, fa
 use Rattle.std.proofs.lemmas.List.{length-map}
 use Rattle.std.proofs.lemmas.List.Elements.{All-from_recursion}
 use Rattle.std.specs.List.{AllByRecursion as Each, list_any}
-use Rattle.tac_reader.specs.Tokens.{Word, Token}
-use Rattle.tac_reader.specs.Forms.{Slot, variable, operand, label, callee, binary, unary, comparison, key, has_form, further_callees, plain_statements, statements, statement_row, paired, cells_of, in_slot}
-use Rattle.tac_reader.specs.Sections.{spelling_of, is_label, is_callee, is_variable, callees_of, jumps_of, only_name, variables_of}
+use Rattle.tac_reader.specs.Tokens.{Word, Token, spelling_of}
+use Rattle.tac_reader.specs.Forms.{Slot, variable, operand, label, callee, binary, unary, comparison, key, has_form, further_callees, plain_statements, statements, statement_row, paired, cells_of, in_slot, is_label, is_callee, is_variable, callees_of, jumps_of}
+use Rattle.tac_reader.specs.Sections.{only_name, variables_of}
 use Rattle.tac_reader.specs.Programs.{number_of}
-use Rattle.tac_reader.specs.Parses.{Names, kind_of, statement_of, names_in}
+use Rattle.tac_reader.specs.Parses.{kind_of, statement_of, names_in}
+use Rattle.tac_reader.specs.Names.{Names}
 use Rattle.tac_reader.specs.Faults.{repeated}
 use Rattle.tac_reader.specs.Sound.{IsSoundStatement}
 use Rattle.tac_reader.specs.declared.form.Form.{Form}

@@ -4,10 +4,10 @@ use Rattle.std.specs.List.{AllByRecursion as Each, prefix_len}
 use Rattle.std.proofs.lemmas.List.{take-append-le}
 use Rattle.std.proofs.lemmas.List.Elements.{All-from_recursion}
 use Rattle.tac_reader.specs.Text.{lines}
-use Rattle.tac_reader.specs.Tokens.{Piece, word, gap, Token, Row, longest, before_row, row_from, rows_from, rows}
-use Rattle.tac_reader.specs.Forms.{has_form, proc_form, label_form, behind_labels}
-use Rattle.tac_reader.specs.Sections.{Section, unless_empty, token_lines, is_inner, opened_by, sections_in, sections, statements_of}
-use Rattle.tac_reader.specs.Parses.{start_of, stop_of}
+use Rattle.tac_reader.specs.Tokens.{Piece, word, gap, Token, Row, longest, before_row, row_from, rows_from, rows, stop_of, unless_empty, token_lines}
+use Rattle.tac_reader.specs.Forms.{has_form, proc_form, label_form, behind_labels, is_inner}
+use Rattle.tac_reader.specs.Sections.{Section, opened_by, sections_in, sections, statements_of}
+use Rattle.tac_reader.specs.Parses.{start_of}
 use Rattle.tac_reader.specs.Laws.{StatementsAreSpelled}
 use Rattle.tac_reader.proofs.tokens.Places.{EachToken, StandsIn, row_in, ends_line}
 use Rattle.tac_reader.proofs.lines.Lines.{lines_join}

@@ -2,10 +2,11 @@
 use Rattle.std.proofs.Common.{◌≡◌, ℕ, ◌+◌, ◌<◌, List, [], ◌++◌, length, drop, fold, flat_map, map, refl, sym, ap, ◌∙◌, slice_index_or}
 use Rattle.std.proofs.lemmas.List.{at_drop_more, map-append}
 use Rattle.std.proofs.lemmas.List.Sums.{fold-append}
-use Rattle.tac_reader.specs.Tokens.{Token}
+use Rattle.tac_reader.specs.Tokens.{Token, spelling_of}
 use Rattle.tac_reader.specs.Forms.{behind_labels}
-use Rattle.tac_reader.specs.Parses.{names_in, noted}
-use Rattle.tac_reader.specs.Sections.{Section, spelling_of, statements_of, variables_of}
+use Rattle.tac_reader.specs.Parses.{names_in}
+use Rattle.tac_reader.specs.Names.{noted}
+use Rattle.tac_reader.specs.Sections.{Section, statements_of, variables_of}
 use Rattle.tac_reader.specs.code.Ranges.{range_view}
 use Rattle.tac_reader.specs.code.SectionViews.{section_view, sections_view}
 use Rattle.tac_reader.specs.declared.lexed.LineRange.{LineRange}

@@ -1,10 +1,14 @@
 -- The faults of names go by the cores of sections, but for where they stand.
 use Rattle.std.proofs.Common.{◌≡◌, ℕ, Bool, true, false, List, [], ◌∷◌, ◌++◌, map, flat_map, drop, refl, sym, ap, ◌∙◌, codes, if◌then◌else◌}
 use Rattle.std.proofs.lemmas.List.{map-append, drop-map}
-use Rattle.tac_reader.specs.Tokens.{Token, is_one_of}
-use Rattle.tac_reader.specs.Sections.{Section, statements_of, labels_in, callees_of, jumps_of, spelling_of, titles}
+use Rattle.tac_reader.specs.Tokens.{Token, spelling_of}
+use Rattle.tac_reader.specs.Names.{is_one_of}
+use Rattle.tac_reader.specs.Sections.{Section, statements_of, labels_in, titles}
+use Rattle.tac_reader.specs.Forms.{callees_of, jumps_of}
 use Rattle.tac_reader.specs.Parses.{names_in}
-use Rattle.tac_reader.specs.Faults.{at, repeated, unknown, jumps_in, callees_in, name_faults, most_procedures}
+use Rattle.tac_reader.specs.Faults.{repeated, unknown, jumps_in, callees_in, name_faults}
+use Rattle.tac_reader.specs.LineFaults.{at}
+use Rattle.tac_reader.specs.Limits.{most_procedures}
 use Rattle.tac_reader.specs.declared.fault.Fault.{Fault}
 use Rattle.tac_reader.specs.declared.refusal.RefusalKind.{RefusalKind}
 use Rattle.tac_reader.specs.declared.refusal.RefusalKind.TheVariants as kind

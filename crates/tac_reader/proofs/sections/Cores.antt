@@ -1,10 +1,12 @@
 -- What a program has of a section: nothing of it goes by the places of tokens or by how lines part the labels.
 use Rattle.std.proofs.Common.{◌≡◌, ℕ, suc, List, [], ◌∷◌, ◌++◌, map, flat_map, refl, sym, ap, ◌∙◌}
 use Rattle.std.proofs.lemmas.List.{map-append}
-use Rattle.tac_reader.specs.Tokens.{Token}
-use Rattle.tac_reader.specs.Sections.{Section, sections_in, statements_of, labels_in, callees_of, variables_of, spelling_of, titles}
+use Rattle.tac_reader.specs.Tokens.{Token, spelling_of}
+use Rattle.tac_reader.specs.Sections.{Section, sections_in, statements_of, labels_in, variables_of, titles}
+use Rattle.tac_reader.specs.Forms.{callees_of}
 use Rattle.tac_reader.specs.Programs.{number_of}
-use Rattle.tac_reader.specs.Parses.{Names, names_in, kind_of, form_of, statement_of, label_places, labels_from, procedure_of, procedures_from, variables_in, each_once}
+use Rattle.tac_reader.specs.Parses.{names_in, kind_of, form_of, statement_of, label_places, labels_from, procedure_of, procedures_from, variables_in, each_once}
+use Rattle.tac_reader.specs.Names.{Names}
 use Rattle.tac_reader.specs.Laws.{without_spans}
 use Rattle.tac_reader.specs.declared.program.Label.{Label}
 use Rattle.tac_reader.specs.declared.program.StmtKind.{StmtKind}

@@ -1,14 +1,14 @@
 -- Procedures and labels, one line after another.
-use Rattle.std.proofs.Common.{◌≡◌, ℕ, zero, suc, ◌+◌, ◌-◌, ◌<◌, ◌≤◌, Bool, true, false, cond, ◌&&◌, List, [], ◌∷◌, ◌++◌, length, map, take, drop, refl, sym, ap, ◌∙◌, arith, true≢false, if◌then◌else◌, slice_index_or, take_while, take_all, length-drop, drop-drop, slice_range, append_assoc, append-nil, flat_map, slice_get}
+use Rattle.std.proofs.Common.{◌≡◌, ℕ, zero, suc, ◌+◌, ◌-◌, ◌<◌, ◌≤◌, Bool, true, false, cond, ◌&&◌, List, [], ◌∷◌, ◌++◌, length, map, take, drop, refl, sym, ap, ◌∙◌, arith, true≢false, if◌then◌else◌, slice_index_or, take_while, take_all, length-drop, drop-drop, slice_range, append_assoc, append-nil, flat_map}
 use Rattle.std.specs.List.{prefix_len}
 use Rattle.std.proofs.Math.Seq.{drop-cons}
 use Rattle.std.proofs.lemmas.Grind.{flat_map-append}
 use Rattle.std.proofs.lemmas.List.{map-append, take-map, get_or-drop}
-use Rattle.tac_reader.specs.Tokens.{Token}
-use Rattle.tac_reader.specs.Forms.{Slot, proc_form, behind_labels, has_form, labels_of, label, key, fills}
-use Rattle.tac_reader.specs.Sections.{Section, is_inner, opened_by, sections_in, statements_of, unless_empty}
+use Rattle.tac_reader.specs.Tokens.{Token, unless_empty}
+use Rattle.tac_reader.specs.Forms.{proc_form, behind_labels, has_form, labels_of, label, key, fills, is_inner}
+use Rattle.tac_reader.specs.Sections.{Section, opened_by, sections_in, statements_of}
 use Rattle.tac_reader.specs.code.Ranges.{range_view}
-use Rattle.tac_reader.specs.code.Views.{token_view, tokens_view, starts_label, fills_at}
+use Rattle.tac_reader.specs.code.Views.{token_view, tokens_view, starts_label}
 use Rattle.tac_reader.specs.code.SectionViews.{lines_view, section_view, sections_view}
 use Rattle.tac_reader.specs.declared.formed.Lines.{Lines}
 use Rattle.tac_reader.specs.declared.lexed.LineRange.{LineRange}
@@ -75,11 +75,6 @@ module _ (text : List ℕ) where
       ∙ append_assoc (tokens_view text found) (token_view text (slice_index_or line at d) ∷ []) rest
       ∙ ap (λ r. tokens_view text found ++ r) (sym step)
       ∙ before
-
-  -- Tokens whose first does not fit have no form that begins so.
-  pub no_front : (s : Slot) (slots : List Slot) (ts : List Lexed) → fills_at text s (slice_get ts 0) ≡ false → has_form (s ∷ slots) (tokens_view text ts) ≡ false
-  no_front s slots [] h = refl
-  no_front s slots (t ∷ ts) h = ap (λ b. b && has_form slots (tokens_view text ts)) h
 
   pub proc_two : (line : List Lexed) → has_form proc_form (tokens_view text line) ≡ true → 1 < length line
   proc_two [] h = absurd (true≢false (sym h))

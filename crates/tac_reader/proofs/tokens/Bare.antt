@@ -2,9 +2,9 @@
 use Rattle.std.proofs.Common.{◌≡◌, ℕ, ◌+◌, Bool, true, false, cond, not, ◌&&◌, ◌||◌, List, [], ◌∷◌, ◌++◌, length, take, map, flat_map, refl, sym, ap, ◌∙◌, Option, Some, None, find, if◌then◌else◌}
 use Rattle.std.specs.List.{prefix_len}
 use Rattle.std.proofs.lemmas.List.{map-append, take-map}
-use Rattle.tac_reader.specs.Tokens.{Word, Token}
-use Rattle.tac_reader.specs.Forms.{Slot, fills, has_form, proc_form, end_form, label_form, statements, statement_row, labels_of, behind_labels, paired, cells_of, in_slot, is_name_word}
-use Rattle.tac_reader.specs.Sections.{Section, unless_empty, is_inner, opened_by, sections_in, statements_of, is_variable, is_callee, is_label, only_name, callees_of, jumps_of, variables_of, spelling_of}
+use Rattle.tac_reader.specs.Tokens.{Word, Token, unless_empty, spelling_of}
+use Rattle.tac_reader.specs.Forms.{Slot, fills, has_form, proc_form, end_form, label_form, statements, statement_row, labels_of, behind_labels, paired, cells_of, in_slot, is_name_word, is_inner, is_variable, is_callee, is_label, callees_of, jumps_of}
+use Rattle.tac_reader.specs.Sections.{Section, opened_by, sections_in, statements_of, only_name, variables_of}
 use Rattle.tac_reader.specs.Parses.{form_of, label_places, names_in}
 use Rattle.tac_reader.specs.declared.form.Form.{Form}
 use Rattle.tac_reader.specs.declared.form.Form.TheVariants as form

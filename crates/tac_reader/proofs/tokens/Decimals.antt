@@ -5,8 +5,9 @@ use Rattle.std.specs.Int.Digits.{digits_of, number_from_digits_after}
 use Rattle.std.proofs.lemmas.Bool.Decides.{nat_tests}
 use Rattle.std.proofs.lemmas.Fmt.{decimal-digits_of, decimal_digit}
 use Rattle.std.proofs.lemmas.Int.Digits.{number_digits_of, all_below_base_digits_of}
-use Rattle.tac_reader.specs.Tokens.{is_digit, is_number, value_from, value_of}
-use Rattle.tac_reader.specs.Faults.{largest_number}
+use Rattle.tac_reader.specs.Tokens.{is_number, value_from, value_of}
+use Rattle.tac_reader.specs.Spelling.{is_digit}
+use Rattle.tac_reader.specs.Limits.{largest_number}
 
 is_digit_byte : (d : ℕ) → d < 10 → is_digit (48 + d) ≡ true
 is_digit_byte d h = grind (arith, nat_tests)

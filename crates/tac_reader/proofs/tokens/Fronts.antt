@@ -1,7 +1,9 @@
 -- The last arms of the search for a piece: two bytes, one, or none.
 use Rattle.std.proofs.Common.{◌≡◌, ◌≢◌, ℕ, ◌<◌, ◌≤◌, Bool, true, false, List, [], ◌∷◌, take, length, refl, sym, ◌∙◌, subst, arith, Option, Some, None, eqb, get_or, slice_get, option_map}
 use Rattle.std.proofs.lemmas.Bool.{eqb-true}
-use Rattle.tac_reader.specs.Tokens.{Piece, gap, picked, longest, is_letter, is_digit, is_one_of, signs, is_blank}
+use Rattle.tac_reader.specs.Tokens.{Piece, gap, picked, longest, signs, is_blank}
+use Rattle.tac_reader.specs.Spelling.{is_letter, is_digit}
+use Rattle.tac_reader.specs.Names.{is_one_of}
 use Rattle.tac_reader.specs.code.Views.{piece_at}
 use Rattle.tac_reader.specs.declared.token.TokenKind.{TokenKind}
 use Rattle.tac_reader.proofs.tokens.Pieces.{piece_of-other, two_longest, one_longest, none_longest}

@@ -3,7 +3,9 @@ use Rattle.std.proofs.Common.{◌≡◌, ℕ, zero, suc, ◌+◌, ◌<◌, ◌�
 use Rattle.std.proofs.lemmas.Bool.{eqb-true}
 use Rattle.std.proofs.lemmas.List.Sums.{prefix_len-le-length}
 use Rattle.std.specs.List.{list_all, list_any, prefix_len}
-use Rattle.tac_reader.specs.Tokens.{Piece, piece_of, picked, name_or_keyword, longest_of, longest, is_letter, is_digit, is_name_byte, is_name, is_number, is_one_of, signs, is_blank, is_comment}
+use Rattle.tac_reader.specs.Tokens.{Piece, piece_of, picked, name_or_keyword, longest_of, longest, is_number, signs, is_blank, is_comment}
+use Rattle.tac_reader.specs.Spelling.{is_letter, is_digit, is_name_byte, is_name}
+use Rattle.tac_reader.specs.Names.{is_one_of}
 
 -- The step of the search, in words.
 step_some : (n : ℕ) (s : List ℕ) (p : Piece) → piece_of (take (suc n) s) ≡ Some p → longest_of (suc n) s ≡ Some (suc n, p)

@@ -4,7 +4,9 @@ use Rattle.std.specs.Cmp.Lexicographic.{same_text}
 use Rattle.std.proofs.lemmas.Bool.{ltb-true}
 use Rattle.std.specs.List.{list_all, list_any, prefix_len}
 use Rattle.tac_reader.specs.Text.{no_line_end}
-use Rattle.tac_reader.specs.Tokens.{Piece, gap, piece_of, picked, number_piece, longest, is_letter, is_digit, is_name_byte, is_one_of, signs, is_blank, is_comment}
+use Rattle.tac_reader.specs.Tokens.{Piece, gap, piece_of, picked, number_piece, longest, signs, is_blank, is_comment}
+use Rattle.tac_reader.specs.Spelling.{is_letter, is_digit, is_name_byte}
+use Rattle.tac_reader.specs.Names.{is_one_of}
 use Rattle.tac_reader.proofs.tokens.Longest.{longest_is, longest_none, run_longest, piece_of-picked, not_in, and_parts, differs}
 
 digit_no_letter : (b : ℕ) → is_digit b ≡ true → is_letter b ≡ false

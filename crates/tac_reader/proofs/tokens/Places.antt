@@ -3,7 +3,9 @@ use Rattle.std.proofs.Common.{◌≡◌, ℕ, zero, suc, ◌+◌, ◌-◌, ◌<�
 use Rattle.std.specs.List.{list_all}
 use Rattle.std.specs.Cmp.Lexicographic.{same_text}
 use Rattle.tac_reader.specs.Text.{is_line_end, no_line_end}
-use Rattle.tac_reader.specs.Tokens.{Word, Piece, word, gap, Token, Row, is_one_of, is_digit, is_letter, is_name_byte, is_name, is_number, is_blank, is_comment, signs, piece_of, longest, longest_of, before_row, row_from}
+use Rattle.tac_reader.specs.Tokens.{Word, Piece, word, gap, Token, Row, is_number, is_blank, is_comment, signs, piece_of, longest, longest_of, before_row, row_from}
+use Rattle.tac_reader.specs.Spelling.{is_digit, is_letter, is_name_byte, is_name}
+use Rattle.tac_reader.specs.Names.{is_one_of}
 use Rattle.tac_reader.proofs.tokens.Longest.{and_parts, piece_of-picked}
 
 -- Whether the last byte is a line feed.

@@ -5,7 +5,7 @@ use Rattle.std.proofs.lemmas.List.{take-append-le}
 use Rattle.std.proofs.lemmas.List.Elements.{All-from_recursion}
 use Rattle.tac_reader.specs.Text.{lines}
 use Rattle.tac_reader.specs.Tokens.{Piece, word, gap, Row, piece_of, longest, before_row, row_from, rows_from, rows}
-use Rattle.tac_reader.specs.Laws.{IsSpelled, TokensAreSpelled}
+use Rattle.tac_reader.specs.LineLaws.{IsSpelled, TokensAreSpelled}
 use Rattle.tac_reader.proofs.tokens.Places.{longest_front}
 use Rattle.tac_reader.proofs.lines.Lines.{lines_join}
 

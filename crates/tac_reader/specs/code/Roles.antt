@@ -1,7 +1,6 @@
 -- What the names in a statement are read for.
 use Rattle.std.specs.Prelude.{Bool}
-use Rattle.tac_reader.specs.Forms.{Slot}
-use Rattle.tac_reader.specs.Sections.{is_label, is_callee, is_variable}
+use Rattle.tac_reader.specs.Forms.{Slot, is_label, is_callee, is_variable}
 use Rattle.tac_reader.specs.declared.statement.Role.{Role}
 use Rattle.tac_reader.specs.declared.statement.Role.TheVariants as role
 

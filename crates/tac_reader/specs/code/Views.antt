@@ -2,9 +2,9 @@
 use Rattle.std.specs.Prelude.{◌≡◌, ℕ, zero, suc, ◌-◌, Bool, true, false, List, [], ◌∷◌, map, take, codes, Option, Some, None, slice_range, slice_get, ◌&&◌, if◌then◌else◌}
 use Rattle.tac_reader.specs.Tokens.{Word, name, number, fixed, Piece, word, gap, Token, value_of}
 use Rattle.tac_reader.specs.Forms.{Slot, fills, key, procedure, variable, operand, label, callee, binary, unary, comparison, end_form, proc_form, statement_forms, labels_of, behind_labels, some_form, first_wrong}
-use Rattle.tac_reader.specs.Faults.{earlier, at}
+use Rattle.tac_reader.specs.LineFaults.{earlier, at}
 use Rattle.tac_reader.specs.declared.refusal.RefusalKind.TheVariants.{Syntax}
-use Rattle.tac_reader.specs.Parses.{sign_of}
+use Rattle.tac_reader.specs.Spelling.{sign_of}
 use Rattle.tac_reader.specs.declared.fault.Fault.{Fault}
 use Rattle.tac_reader.specs.declared.form.Form.{Form}
 use Rattle.tac_reader.specs.declared.form.Form.TheVariants as form

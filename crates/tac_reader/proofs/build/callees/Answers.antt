@@ -1,7 +1,8 @@
 use Rattle.std.proofs.Common.{◌≡◌, ◌≤◌, ◌∙◌, ◌++◌, length, map, ap, sym, arith}
 use Rattle.std.proofs.lemmas.List.{length-map}
 use Rattle.tac_reader.specs.Programs.{number_of}
-use Rattle.tac_reader.specs.Sections.{callees_of, spelling_of}
+use Rattle.tac_reader.specs.Forms.{callees_of}
+use Rattle.tac_reader.specs.Tokens.{spelling_of}
 use Rattle.tac_reader.specs.code.Views.{token_view, tokens_view}
 use Rattle.tac_reader.proofs.forms.CalleeCounts.{most_callees}
 use Rattle.tac_reader.proofs.build.callees.Goals as goal

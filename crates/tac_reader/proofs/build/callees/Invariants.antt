@@ -1,7 +1,7 @@
 use Rattle.std.proofs.Common.{◌≡◌, ◌≤◌, ◌++◌, map, drop, length}
 use Rattle.tac_reader.specs.code.Built.{call_numbers}
 use Rattle.tac_reader.specs.Programs.{number_of}
-use Rattle.tac_reader.specs.Sections.{spelling_of}
+use Rattle.tac_reader.specs.Tokens.{spelling_of}
 use Rattle.tac_reader.specs.code.Views.{tokens_view}
 use Rattle.tac_reader.proofs.build.callees.Given as goal
 

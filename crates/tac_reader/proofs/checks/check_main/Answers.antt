@@ -1,5 +1,6 @@
 use Rattle.std.proofs.Common.{◌∙◌, ap, [], is_some, codes, if◌then◌else◌}
-use Rattle.tac_reader.specs.Faults.{at, head_of}
+use Rattle.tac_reader.specs.Faults.{head_of}
+use Rattle.tac_reader.specs.LineFaults.{at}
 use Rattle.tac_reader.specs.declared.refusal.RefusalKind.TheVariants.{NoMain}
 use Rattle.tac_reader.proofs.known_names.NameTexts.{numbered}
 use Rattle.tac_reader.proofs.checks.check_main.Goals as goal

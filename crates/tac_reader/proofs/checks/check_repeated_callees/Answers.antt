@@ -1,6 +1,7 @@
 use Rattle.std.proofs.Common.{◌∙◌, ap, sym, [], List, flat_map}
 use Rattle.tac_reader.specs.Faults.{head_of, repeated}
-use Rattle.tac_reader.specs.Sections.{Section, callees_of, statements_of}
+use Rattle.tac_reader.specs.Sections.{Section, statements_of}
+use Rattle.tac_reader.specs.Forms.{callees_of}
 use Rattle.tac_reader.specs.code.SectionViews.{section_view}
 use Rattle.tac_reader.specs.declared.fault.Fault.{Fault}
 use Rattle.tac_reader.specs.declared.refusal.RefusalKind.TheVariants.{DuplicateCallee}

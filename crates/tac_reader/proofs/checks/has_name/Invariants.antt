@@ -1,5 +1,5 @@
 use Rattle.std.proofs.Common.{◌≡◌, drop}
-use Rattle.tac_reader.specs.Tokens.{is_one_of}
+use Rattle.tac_reader.specs.Names.{is_one_of}
 use Rattle.tac_reader.specs.Parses.{names_in}
 use Rattle.tac_reader.specs.code.Views.{tokens_view}
 use Rattle.tac_reader.proofs.checks.has_name.Given as goal

@@ -1,8 +1,7 @@
 use Rattle.std.proofs.Common.{◌+◌, ◌∙◌, ◌<◌, sym, ap, arith, refl, [], List, drop, length, map, slice_index_or}
 use Rattle.tac_reader.specs.Tokens.{Token}
 use Rattle.tac_reader.specs.Faults.{head_of, repeated}
-use Rattle.tac_reader.specs.Forms.{behind_labels}
-use Rattle.tac_reader.specs.Sections.{callees_of}
+use Rattle.tac_reader.specs.Forms.{behind_labels, callees_of}
 use Rattle.tac_reader.specs.code.Ranges.{range_view}
 use Rattle.tac_reader.specs.code.Views.{tokens_view}
 use Rattle.tac_reader.specs.declared.fault.Fault.{Fault}

@@ -1,6 +1,7 @@
 use Rattle.std.proofs.Common.{◌≡◌, [], drop, map, flat_map}
 use Rattle.tac_reader.specs.Faults.{repeated}
-use Rattle.tac_reader.specs.Sections.{callees_of, statements_of}
+use Rattle.tac_reader.specs.Sections.{statements_of}
+use Rattle.tac_reader.specs.Forms.{callees_of}
 use Rattle.tac_reader.specs.code.Ranges.{range_view}
 use Rattle.tac_reader.specs.code.SectionViews.{lines_view}
 use Rattle.tac_reader.specs.declared.refusal.RefusalKind.TheVariants.{DuplicateCallee}

@@ -1,6 +1,6 @@
 use Rattle.std.proofs.Common.{◌∙◌, [], codes}
 use Rattle.tac_reader.specs.Forms.{key}
-use Rattle.tac_reader.proofs.sections.SectionSteps.{no_front}
+use Rattle.tac_reader.proofs.forms.LineForms.{no_front}
 use Rattle.tac_reader.proofs.lex.is_end.Goals as goal
 
 pub returns-then-not-fits_at : goal.returns-then-not-fits_at

@@ -1,7 +1,7 @@
 use Rattle.std.proofs.Common.{◌∙◌, sym, ap, length, drop, ◌++◌, List}
 use Rattle.std.proofs.lemmas.Result.{err_from_is_err_and}
 use Rattle.tac_reader.specs.declared.token.Token.{Token}
-use Rattle.tac_reader.specs.Faults.{row_faults, line_faults, inside_after}
+use Rattle.tac_reader.specs.LineFaults.{row_faults, line_faults, inside_after}
 use Rattle.tac_reader.specs.code.Lexed.{some_of}
 use Rattle.tac_reader.specs.code.Ranges.{range_views}
 use Rattle.tac_reader.specs.Text.{lines}

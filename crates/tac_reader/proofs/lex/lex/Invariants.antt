@@ -1,11 +1,10 @@
 use Rattle.std.proofs.Common.{◌≡◌, ◌-◌, ◌≤◌, ◌++◌, false, length, drop, map}
-use Rattle.tac_reader.specs.Faults.{line_faults}
+use Rattle.tac_reader.specs.LineFaults.{line_faults}
 use Rattle.tac_reader.specs.code.Formed.{AreLines}
 use Rattle.tac_reader.specs.code.Ranges.{range_views}
 use Rattle.tac_reader.specs.code.Views.{tokens_view}
-use Rattle.tac_reader.specs.Sections.{token_lines}
+use Rattle.tac_reader.specs.Tokens.{token_lines, rows, rows_from}
 use Rattle.tac_reader.specs.Text.{lines}
-use Rattle.tac_reader.specs.Tokens.{rows, rows_from}
 use Rattle.tac_reader.proofs.lex.lex.Given as goal
 
 -- What is left of the text has the faults of the whole, and the lines so far before its own are the whole's.

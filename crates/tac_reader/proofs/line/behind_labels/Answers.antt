@@ -2,7 +2,7 @@ use Rattle.std.proofs.Common.{◌≡◌, ◌∙◌, ap, sym, ℕ, ◌-◌, [], a
 use Rattle.tac_reader.specs.Forms.{behind_labels, labels_of}
 use Rattle.tac_reader.specs.code.Views.{tokens_view, line_forms}
 use Rattle.tac_reader.proofs.forms.LineForms.{label_step, label_stop, label_end, labelled_on, all-left}
-use Rattle.tac_reader.proofs.programs.LabelRuns.{count_on}
+use Rattle.tac_reader.proofs.forms.LabelCounts.{count_on}
 use Rattle.tac_reader.proofs.line.behind_labels.Goals as goal
 
 pub loop-at-smaller : goal.loop-at-smaller

@@ -1,5 +1,5 @@
 use Rattle.std.proofs.Common.{◌≡◌, drop, flat_map}
-use Rattle.tac_reader.specs.Faults.{word_fault}
+use Rattle.tac_reader.specs.LineFaults.{word_fault}
 use Rattle.tac_reader.specs.code.Views.{tokens_view}
 use Rattle.tac_reader.proofs.line.has_word_fault.Given as goal
 

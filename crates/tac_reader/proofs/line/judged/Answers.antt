@@ -1,5 +1,5 @@
 use Rattle.std.proofs.Common.{◌∙◌, is_some, nat_lt, length}
-use Rattle.tac_reader.specs.Parses.{stop_of}
+use Rattle.tac_reader.specs.Tokens.{stop_of}
 use Rattle.tac_reader.specs.code.Views.{tokens_view, slots_view, line_forms}
 use Rattle.tac_reader.proofs.forms.LineForms.{judged, form_fault_is}
 use Rattle.tac_reader.proofs.line.judged.Goals as goal

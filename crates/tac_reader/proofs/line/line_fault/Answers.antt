@@ -1,6 +1,6 @@
 use Rattle.std.proofs.Common.{◌∙◌, ap, not, sym}
 use Rattle.tac_reader.specs.code.Views.{tokens_view}
-use Rattle.tac_reader.proofs.lines.FineRows.{fine_statement}
+use Rattle.tac_reader.proofs.lines.FineStatements.{fine_statement}
 use Rattle.tac_reader.proofs.line.line_fault.Goals as goal
 
 pub returns-then-not-has_word_fault : goal.returns-then-not-has_word_fault

@@ -1,5 +1,5 @@
 use Rattle.std.proofs.Common.{◌≡◌, ◌≤◌, ◌++◌, drop, length, flat_map}
-use Rattle.tac_reader.specs.Faults.{first_by_place, form_fault, word_fault}
+use Rattle.tac_reader.specs.LineFaults.{first_by_place, form_fault, word_fault}
 use Rattle.tac_reader.specs.code.Views.{tokens_view}
 use Rattle.tac_reader.proofs.line.row_fault.Given as goal
 

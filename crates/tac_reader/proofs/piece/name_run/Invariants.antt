@@ -1,6 +1,6 @@
 use Rattle.std.proofs.Common.{◌≡◌, ◌+◌, drop}
 use Rattle.std.specs.List.{prefix_len}
-use Rattle.tac_reader.specs.Tokens.{is_name_byte}
+use Rattle.tac_reader.specs.Spelling.{is_name_byte}
 use Rattle.tac_reader.proofs.piece.name_run.Given as goal
 
 -- The run is what has passed and the run of the rest.

@@ -1,6 +1,7 @@
 use Rattle.std.proofs.Common.{◌<◌, ◌∙◌, All, ap, arith, flat_map, fold, length, subst, sym}
 use Rattle.tac_reader.specs.Forms.{behind_labels}
-use Rattle.tac_reader.specs.Parses.{names_in, noted}
+use Rattle.tac_reader.specs.Parses.{names_in}
+use Rattle.tac_reader.specs.Names.{noted}
 use Rattle.tac_reader.specs.Sections.{only_name, variables_of}
 use Rattle.tac_reader.specs.code.Occurrences.{IsNumberedIn}
 use Rattle.tac_reader.specs.code.Views.{tokens_view}

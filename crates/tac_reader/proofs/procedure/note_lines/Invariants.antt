@@ -1,5 +1,6 @@
 use Rattle.std.proofs.Common.{◌≡◌, All, drop, flat_map, fold, map}
-use Rattle.tac_reader.specs.Parses.{names_in, noted}
+use Rattle.tac_reader.specs.Parses.{names_in}
+use Rattle.tac_reader.specs.Names.{noted}
 use Rattle.tac_reader.specs.Sections.{statements_of, variables_of}
 use Rattle.tac_reader.specs.code.Occurrences.{IsNumberedIn}
 use Rattle.tac_reader.specs.code.Ranges.{range_view}

@@ -1,5 +1,6 @@
 use Rattle.std.proofs.Common.{◌≡◌, All, drop, fold, flat_map}
-use Rattle.tac_reader.specs.Parses.{names_in, noted}
+use Rattle.tac_reader.specs.Parses.{names_in}
+use Rattle.tac_reader.specs.Names.{noted}
 use Rattle.tac_reader.specs.Sections.{only_name}
 use Rattle.tac_reader.specs.code.Occurrences.{IsNumberedIn}
 use Rattle.tac_reader.specs.code.Views.{tokens_view}

@@ -1,6 +1,6 @@
 use Rattle.tac_reader.specs.Forms.{behind_labels, labels_of}
 use Rattle.std.proofs.Common.{◌≡◌, ◌<◌, ◌+◌, ◌∙◌, ℕ, List, length, ap, sym, arith}
-use Rattle.tac_reader.specs.Sections.{unless_empty}
+use Rattle.tac_reader.specs.Tokens.{unless_empty}
 use Rattle.tac_reader.specs.code.Views.{tokens_view}
 use Rattle.tac_reader.proofs.lines.RangeLemmas.{no_line}
 use Rattle.tac_reader.proofs.programs.LabelRuns.{lines_on}

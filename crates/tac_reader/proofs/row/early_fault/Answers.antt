@@ -1,6 +1,6 @@
 use Rattle.std.proofs.Common.{◌≡◌, ◌∙◌, sym, ap, length, arith, ◌≤◌}
 use Rattle.std.proofs.lemmas.List.{length-map}
-use Rattle.tac_reader.specs.Parses.{stop_of}
+use Rattle.tac_reader.specs.Tokens.{stop_of}
 use Rattle.tac_reader.specs.code.Views.{token_view, tokens_view}
 use Rattle.tac_reader.proofs.lines.EarlyFaults.{early}
 use Rattle.tac_reader.proofs.row.early_fault.Goals as goal

@@ -1,6 +1,6 @@
 use Rattle.std.proofs.Common.{◌∙◌, arith, map, ap, sym}
 use Rattle.std.specs.List.{prefix_len}
-use Rattle.tac_reader.specs.Sections.{is_inner}
+use Rattle.tac_reader.specs.Forms.{is_inner}
 use Rattle.tac_reader.specs.code.Ranges.{range_view}
 use Rattle.tac_reader.specs.code.Views.{tokens_view}
 use Rattle.tac_reader.proofs.lines.RangeLemmas.{no_line}

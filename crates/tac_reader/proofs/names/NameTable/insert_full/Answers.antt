@@ -1,10 +1,9 @@
 use Rattle.std.proofs.Common.{◌≡◌, ◌∙◌, refl, length, Some, None, sym, ap, true, false, not, Bool, List, ℕ, Option, position, bytes_eq, is_some, ◌++◌, ◌∷◌, [], if◌then◌else◌}
 use Rattle.tac_reader.proofs.known_names.NameTexts.{texts-insert, numbered}
-use Rattle.tac_reader.specs.Tokens.{is_one_of}
-use Rattle.tac_reader.specs.Parses.{noted}
+use Rattle.tac_reader.specs.Names.{is_one_of, noted}
 use Rattle.tac_reader.specs.code.Names.{texts}
 use Rattle.tac_reader.proofs.names.NameTable.insert_full.Goals as goal
-use Rattle.tac_reader.proofs.known_names.KeptNumbers.{last_number}
+use Rattle.tac_reader.proofs.known_names.LastNumbers.{last_number}
 
 -- what the look-up answered tells whether the name is there
 there : (name : List ℕ) (names : List (List ℕ)) (found : Option ℕ) (t : Bool) → found ≡ position (bytes_eq name) names → is_some found ≡ t → is_one_of name names ≡ t
