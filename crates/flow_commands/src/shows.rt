@@ -18,7 +18,7 @@ use flow_team::Table;
 use flow_texts::{ReportAnswers, ReportText, TableText, table_of};
 use std::alloc::Global;
 use std::thread::Threads;
-use tac_reader::{Program, listing};
+use tac_program::{Program, listing};
 use text_pieces::{Bytes, Sink};
 
 // Writes a table of a graph. It is not owned here, so that no way out drops it.

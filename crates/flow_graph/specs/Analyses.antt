@@ -1,6 +1,6 @@
 -- The four analyses of a program, over its valid paths.
 use Rattle.std.specs.Prelude.{ℕ, Bool, true, false, length, codes}
-use Rattle.tac_reader.specs.Programs.{Program, number_of}
+use Rattle.tac_program.specs.Programs.{Program, number_of}
 use Rattle.flow_graph.specs.Paths.{Shape, Transfer, HasPath, SomePathHas, EveryPathHas, HasBackwardPath, SomeBackwardPathHas, EveryBackwardPathHas}
 use Rattle.flow_graph.specs.Points.{entry_point, end_point, procedure_at}
 use Rattle.flow_graph.specs.Edges.{edges}

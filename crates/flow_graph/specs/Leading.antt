@@ -1,6 +1,6 @@
 -- Which points lead to marked ones.
 use Rattle.std.specs.Prelude.{◌≡◌, ◌↔◌, ◌<◌, ℕ, Bool, true, false, List, length, get_or}
-use Rattle.tac_reader.specs.Programs.{Program}
+use Rattle.tac_program.specs.Programs.{Program}
 use Rattle.flow_graph.specs.Analyses.{shape_of}
 use Rattle.flow_graph.specs.Paths.{Edge, IsPath}
 use Rattle.flow_graph.specs.Points.{point_count}

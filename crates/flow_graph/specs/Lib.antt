@@ -8,7 +8,6 @@ pub mod PathLaws
 pub mod Paths
 pub mod Points
 pub mod Problems
-pub mod ProgramExamples
 pub mod ProgramLaws
 pub mod Reversals
 pub mod RunLaws

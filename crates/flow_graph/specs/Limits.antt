@@ -1,6 +1,6 @@
 -- How large a graph may be, and which refusal answers what is larger.
 use Rattle.std.specs.Prelude.{◌≤◌, ◌<◌, ℕ}
-use Rattle.tac_reader.specs.Programs.{Program}
+use Rattle.tac_program.specs.Programs.{Program}
 use Rattle.flow_graph.specs.Points.{point_count}
 use Rattle.flow_graph.specs.Universes.{Analysis, bits}
 

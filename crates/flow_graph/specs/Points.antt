@@ -2,9 +2,9 @@
 -- Ullman, 2nd edition, 9.2.1). They are numbered through: procedures in text order, in each the places upwards.
 use Rattle.std.specs.Prelude.{ℕ, suc, ◌+◌, ◌-◌, List, [], ◌∷◌, length, take, Option, option_map, slice_get, unwrap_or, nat_lt, if◌then◌else◌}
 use Rattle.std.specs.List.{sum_by, range_with_len}
-use Rattle.tac_reader.specs.Programs.{Procedure, Program}
-use Rattle.tac_reader.specs.declared.program.Stmt.{Stmt}
-use Rattle.tac_reader.specs.declared.program.StmtKind.{StmtKind}
+use Rattle.tac_program.specs.Programs.{Procedure, Program}
+use Rattle.tac_program.specs.declared.program.Stmt.{Stmt}
+use Rattle.tac_program.specs.declared.program.StmtKind.{StmtKind}
 pub use Rattle.flow_graph.specs.declared.place.Place.{Place}
 
 -- how many points a procedure has: one before each statement, and its end

@@ -1,7 +1,7 @@
 -- The forward may problem by which an analysis is solved, what stands for it, and its gen and kill by the points of statements.
 use Rattle.std.specs.Prelude.{◌≡◌, ◌<◌, ◌⊎◌, ℕ, true, ◌+◌, ◌*◌, Bool, not, ◌&&◌, nat_lt, if◌then◌else◌}
 use Rattle.bit_rows.specs.Words.{has_bit}
-use Rattle.tac_reader.specs.Programs.{Program}
+use Rattle.tac_program.specs.Programs.{Program}
 use Rattle.flow_graph.specs.Analyses.{is_backward, is_must, shape_of, transfer_of}
 use Rattle.flow_graph.specs.Paths.{Shape, Transfer}
 use Rattle.flow_graph.specs.Reversals.{reversed_shape, reversed_transfer, complemented_transfer}

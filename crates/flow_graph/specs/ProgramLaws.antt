@@ -1,8 +1,8 @@
 -- What is proved of the points, edges and problems of every program that can be read.
 use Rattle.std.specs.Prelude.{◌≡◌, ◌↔◌, ◌/◌, ◌%◌, ◌^◌, ◌<◌, ◌≤◌, ℕ, suc, Bool, if◌then◌else◌, true, false, length, Contains, Some, None, slice_get}
 use Rattle.bit_rows.specs.Words.{has_bit}
-use Rattle.tac_reader.specs.Programs.{Program}
-use Rattle.tac_reader.specs.Sound.{IsSound}
+use Rattle.tac_program.specs.Programs.{Program}
+use Rattle.tac_program.specs.Sound.{IsSound}
 use Rattle.flow_graph.specs.Analyses.{shape_of, transfer_of, HasPathAt, IsInTable, is_backward, is_must}
 use Rattle.flow_graph.specs.Runs.{accesses_of, IsDoubtful, ReadsBeforeWriting, CallsReturn, IsLiveness}
 use Rattle.flow_graph.specs.Problems.{may_shape, may_transfer, IsWordOf, MayForm, may_gens, may_kills, may_boundary}

@@ -1,7 +1,7 @@
 -- Doubtful points, runs, and what it is to read a variable before it is written.
 use Rattle.std.specs.Prelude.{◌≡◌, ℕ, Bool, true, false, not, List, [], ◌∷◌, Option, Some, None, option_and_then, IsSome, nat_eq, if◌then◌else◌}
 use Rattle.std.specs.List.{list_all}
-use Rattle.tac_reader.specs.Programs.{Program}
+use Rattle.tac_program.specs.Programs.{Program}
 use Rattle.flow_graph.specs.Transfers.{reads, writes}
 use Rattle.flow_graph.specs.Paths.{Edge, Step, Call, Ret, source_of, Shape, Transfer, IsEdge, final, IsPath, HasBackwardPath}
 

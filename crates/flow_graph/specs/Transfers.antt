@@ -2,11 +2,11 @@
 -- the value before it in a forward analysis and after it in a backward one (Aho, Lam, Sethi, Ullman, 2nd edition, 9.2 and 9.5).
 use Rattle.std.specs.Prelude.{ℕ, Bool, false, not, ◌&&◌, ◌||◌, List, [], ◌∷◌, option_map, slice_get, unwrap_or, nat_eq, is_some}
 use Rattle.std.specs.List.{list_any}
-use Rattle.tac_reader.specs.Programs.{Program}
-use Rattle.tac_reader.specs.declared.program.Operand.{Operand}
-use Rattle.tac_reader.specs.declared.program.Operand.TheVariants.{Variable, Number}
-use Rattle.tac_reader.specs.declared.program.StmtKind.{StmtKind}
-use Rattle.tac_reader.specs.declared.program.StmtKind.TheVariants as kind
+use Rattle.tac_program.specs.Programs.{Program}
+use Rattle.tac_program.specs.declared.program.Operand.{Operand}
+use Rattle.tac_program.specs.declared.program.Operand.TheVariants.{Variable, Number}
+use Rattle.tac_program.specs.declared.program.StmtKind.{StmtKind}
+use Rattle.tac_program.specs.declared.program.StmtKind.TheVariants as kind
 use Rattle.flow_graph.specs.Points.{kind_at}
 use Rattle.flow_graph.specs.Universes.{Expr, Unary, Binary, Analysis, Reach, Live, Avail, Busy, Definition, target_at, definitions, expression_at, expressions, same_expression}
 

@@ -2,13 +2,13 @@
 -- live variables, expressions for available and for very busy expressions (Aho, Lam, Sethi, Ullman, 2nd edition, 9.2 and 9.5).
 use Rattle.std.specs.Prelude.{ℕ, ◌<◌, Bool, IfSome, false, ◌&&◌, List, [], ◌∷◌, ◌++◌, map, flat_map, fold, length, Option, Some, None, option_and_then, position, nat_eq, if◌then◌else◌, bytes_eq}
 use Rattle.std.specs.List.{list_any, range_with_len}
-use Rattle.tac_reader.specs.Programs.{Program}
-use Rattle.tac_reader.specs.Spelling.{sign_of}
-use Rattle.tac_reader.specs.declared.program.Op.{Op}
-use Rattle.tac_reader.specs.declared.program.Operand.{Operand}
-use Rattle.tac_reader.specs.declared.program.Operand.TheVariants.{Variable, Number}
-use Rattle.tac_reader.specs.declared.program.StmtKind.{StmtKind}
-use Rattle.tac_reader.specs.declared.program.StmtKind.TheVariants as kind
+use Rattle.tac_program.specs.Programs.{Program}
+use Rattle.tac_program.specs.Spelling.{sign_of}
+use Rattle.tac_program.specs.declared.program.Op.{Op}
+use Rattle.tac_program.specs.declared.program.Operand.{Operand}
+use Rattle.tac_program.specs.declared.program.Operand.TheVariants.{Variable, Number}
+use Rattle.tac_program.specs.declared.program.StmtKind.{StmtKind}
+use Rattle.tac_program.specs.declared.program.StmtKind.TheVariants as kind
 pub use Rattle.flow_graph.specs.declared.expression.Expr.{Expr}
 pub use Rattle.flow_graph.specs.declared.expression.Expr.TheVariants.{Unary, Binary}
 pub use Rattle.flow_graph.specs.declared.analysis.Analysis.{Analysis}

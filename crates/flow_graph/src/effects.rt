@@ -7,7 +7,7 @@ ghost use Rattle.flow_graph.specs.code.Effects.{AreDependenceWords, AreEffects, 
 ghost use Rattle.flow_graph.specs.Points.{kind_at, point_count, statement_at};
 ghost use Rattle.flow_graph.specs.Transfers.{has_operand, names_variable, operands_of};
 ghost use Rattle.flow_graph.specs.Universes.{bits};
-ghost use Rattle.tac_reader.specs.Sound.{IsSound};
+ghost use Rattle.tac_program.specs.Sound.{IsSound};
 
 use crate::analysis::Analysis;
 use crate::bit_table::BitTable;
@@ -17,7 +17,7 @@ use crate::graph::Graph;
 use crate::universes::target;
 use crate::walk::Walk;
 use std::alloc::{AllocError, Global};
-use tac_reader::{Operand, Stmt, StmtKind};
+use tac_program::{Operand, Stmt, StmtKind};
 
 /// The variable that an operand is.
 fn variable(operand: Operand) -> Option<u32>

@@ -1,4 +1,4 @@
-use tac_reader::{Op, Operand};
+use tac_program::{Op, Operand};
 
 /// The right side of a unary or binary assignment. Two are the same expression where operator and operands are, in their
 /// order; numbers are compared by value.

@@ -2,9 +2,9 @@ ghost use Rattle.std.specs.Prelude.{◌≡◌, ◌+◌, ◌<◌, ◌≤◌, leng
 ghost use Rattle.flow_graph.specs.Limits.{HasFewBits, HasFewPoints, HasManyBits, HasManyPoints};
 ghost use Rattle.flow_graph.specs.Points.{end_place, place_of, point_count, point_of, statement_at};
 ghost use Rattle.flow_graph.specs.Universes.{IsDefinitionIn, bits, definitions as definitions_of, evaluated_at, expressions as expressions_of};
-ghost use Rattle.tac_reader.specs.Sound.{IsSound};
+ghost use Rattle.tac_program.specs.Sound.{IsSound};
 ghost use Rattle.flow_graph.specs.declared.fault.GraphFault.TheVariants.{TooManyBits, TooManyPoints};
-ghost use Rattle.tac_reader.specs.Sound.{IsSound};
+ghost use Rattle.tac_program.specs.Sound.{IsSound};
 
 use crate::analysis::Analysis;
 use crate::expression::Expr;
@@ -17,7 +17,7 @@ use crate::universes::{definitions, expressions};
 use indexmap::IndexSet;
 use std::alloc::Global;
 use std::marker::Model;
-use tac_reader::{Program, Stmt};
+use tac_program::{Program, Stmt};
 
 /// The most bits that an analysis may have.
 const MOST_BITS: usize = 4_096;
@@ -42,7 +42,7 @@ impl<'p> Model for Graph<'p> {
     ghost use Rattle.flow_graph.specs.code.NumberLists.{contents};
     ghost use Rattle.flow_graph.specs.code.Sites.{AreSites};
     ghost use Rattle.flow_graph.specs.Universes.{definitions as definitions_of, expressions as expressions_of};
-    ghost use Rattle.tac_reader.specs.Programs.{Program};
+    ghost use Rattle.tac_program.specs.Programs.{Program};
 
     ghost Value = { Program };
 

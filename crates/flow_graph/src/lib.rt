@@ -21,7 +21,6 @@ mod number_lists;
 mod place;
 mod points;
 mod problem;
-pub mod program_examples;
 pub mod program_laws;
 mod sites;
 mod succ;

@@ -4,14 +4,14 @@ ghost use Rattle.std.specs.Prelude.{◌≡◌, ◌≢◌, ◌+◌, ◌<◌, ◌�
 ghost use Rattle.flow_graph.specs.Limits.{HasFewPoints, HasManyPoints};
 ghost use Rattle.flow_graph.specs.code.PointTables.{AreFirstPoints, AreProcedures};
 ghost use Rattle.flow_graph.specs.Points.{end_place, place_of, point_count, point_of, statement_at};
-ghost use Rattle.tac_reader.specs.Sound.{IsSound};
+ghost use Rattle.tac_program.specs.Sound.{IsSound};
 ghost use Rattle.flow_graph.specs.declared.fault.GraphFault.TheVariants.{TooManyPoints, TooManyBits};
 
 use crate::fault::GraphFault;
 use crate::place::Place;
 use std::alloc::{AllocError, Global};
 use std::marker::Model;
-use tac_reader::{Program, Stmt};
+use tac_program::{Program, Stmt};
 
 /// The most points that a graph may have.
 const MOST_POINTS: usize = 16_384;
@@ -27,8 +27,8 @@ pub struct Points<'p> {
 impl<'p> Model for Points<'p> {
     ghost use Rattle.flow_graph.specs.Limits.{HasFewPoints};
     ghost use Rattle.flow_graph.specs.code.PointTables.{AreFirstPoints, AreProcedures};
-    ghost use Rattle.tac_reader.specs.Programs.{Program};
-    ghost use Rattle.tac_reader.specs.Sound.{IsSound};
+    ghost use Rattle.tac_program.specs.Programs.{Program};
+    ghost use Rattle.tac_program.specs.Sound.{IsSound};
 
     ghost Value = { Program };
 

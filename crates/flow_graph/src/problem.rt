@@ -7,7 +7,7 @@ ghost use Rattle.flow_graph.specs.Limits.{HasFewBits, HasFewPoints};
 ghost use Rattle.flow_graph.specs.WellFormed.{IsWellFormed};
 ghost use Rattle.flow_graph.specs.Points.{end_point, point_count, procedure_at};
 ghost use Rattle.flow_graph.specs.Universes.{bits as bits_of};
-ghost use Rattle.tac_reader.specs.Sound.{IsSound};
+ghost use Rattle.tac_program.specs.Sound.{IsSound};
 
 use crate::OutOfMemory;
 use crate::analysis::Analysis;

@@ -9,7 +9,7 @@ ghost use Rattle.flow_graph.specs.code.Sites.{AreSites};
 use crate::number_lists::{NumberList, empty_lists, put_last};
 use crate::points::Points;
 use std::alloc::{AllocError, Global};
-use tac_reader::StmtKind;
+use tac_program::StmtKind;
 
 /// The procedures that the statement at a point may call.
 fn callees<'p>(points: &Points<'p>, point: u32) -> &'p [u32]

@@ -6,7 +6,7 @@ ghost use Rattle.flow_graph.specs.code.Labels.{labels_at};
 ghost use Rattle.flow_graph.specs.Limits.{HasFewPoints, most_points};
 ghost use Rattle.flow_graph.specs.Points.{end_point, entry_point, kind_at, point_count, procedure_at, statement_at};
 ghost use Rattle.flow_graph.specs.declared.edge.Edge.TheVariants.{Step, Call, Ret};
-ghost use Rattle.tac_reader.specs.Sound.{IsSound};
+ghost use Rattle.tac_program.specs.Sound.{IsSound};
 
 use crate::OutOfMemory;
 use crate::edge::Edge;
@@ -15,7 +15,7 @@ use crate::graph::Graph;
 use crate::points::Points;
 use smallvec::SmallVec;
 use std::alloc::Global;
-use tac_reader::{Stmt, StmtKind};
+use tac_program::{Stmt, StmtKind};
 
 /// The point that a label of a point's procedure stands for.
 fn label_target(points: &Points<'_>, point: u32, label: u32) -> u32

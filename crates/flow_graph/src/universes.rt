@@ -10,7 +10,7 @@ use crate::expression::Expr;
 use crate::points::Points;
 use indexmap::IndexSet;
 use std::alloc::{AllocError, Global};
-use tac_reader::StmtKind;
+use tac_program::StmtKind;
 
 /// The variable that a statement defines.
 pub fn target(kind: &StmtKind) -> Option<u32>

@@ -5,7 +5,7 @@ ghost use Rattle.flow_graph.specs.Points.{point_count, statement_at, statements_
 ghost use Rattle.flow_graph.specs.code.Walks.{WalkAt};
 
 use std::marker::Model;
-use tac_reader::{Program, Stmt};
+use tac_program::{Program, Stmt};
 
 /// A walk over the points of a program. It keeps the statements of the procedure where it stands, so that no point has to
 /// be looked up.

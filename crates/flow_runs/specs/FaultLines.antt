@@ -2,10 +2,10 @@
 use Rattle.std.specs.Prelude.{ℕ, List, ◌++◌, codes, decimal}
 use Rattle.flow_graph.specs.declared.fault.GraphFault.{GraphFault}
 use Rattle.flow_graph.specs.declared.fault.GraphFault.TheVariants as graph_fault
-use Rattle.tac_reader.specs.LineFaults.{number_of_kind}
-use Rattle.tac_reader.specs.declared.refusal.Refusal.{Refusal}
-use Rattle.tac_reader.specs.declared.refusal.RefusalKind.{RefusalKind}
-use Rattle.tac_reader.specs.declared.refusal.RefusalKind.TheVariants as kind
+use Rattle.tac_lines.specs.LineFaults.{number_of_kind}
+use Rattle.tac_lines.specs.declared.refusal.Refusal.{Refusal}
+use Rattle.tac_lines.specs.declared.refusal.RefusalKind.{RefusalKind}
+use Rattle.tac_lines.specs.declared.refusal.RefusalKind.TheVariants as kind
 use Rattle.flow_runs.specs.declared.fault.Fault.{Fault}
 use Rattle.flow_runs.specs.declared.fault.Fault.TheVariants as fault
 

@@ -2,7 +2,7 @@
 use Rattle.std.specs.Prelude.{ℕ, List, Option, Result, Ok, Err}
 use Rattle.std.specs.Io.KnownBytes.{Appends, Keeps}
 use Rattle.flow_graph.specs.declared.fault.GraphFault.{GraphFault}
-use Rattle.tac_reader.specs.declared.refusal.Refusal.{Refusal}
+use Rattle.tac_lines.specs.declared.refusal.Refusal.{Refusal}
 use Rattle.text_pieces.specs.Devices.{AppendsBeginning}
 use Rattle.flow_runs.specs.declared.fault.Fault.{Fault}
 use Rattle.flow_runs.specs.declared.fault.Fault.TheVariants as fault

@@ -5,9 +5,9 @@ use Rattle.flow_graph.specs.Limits.{HasFewBits, HasFewPoints, HasManyBits, HasMa
 use Rattle.flow_graph.specs.declared.fault.GraphFault.{GraphFault}
 use Rattle.flow_graph.specs.declared.fault.GraphFault.TheVariants as graph_fault
 use Rattle.tac_reader.specs.Faults.{refusal_of}
-use Rattle.tac_reader.specs.Programs.{Program}
+use Rattle.tac_program.specs.Programs.{Program}
 use Rattle.tac_reader.specs.Parses.{program_of}
-use Rattle.tac_reader.specs.declared.refusal.Refusal.{Refusal}
+use Rattle.tac_lines.specs.declared.refusal.Refusal.{Refusal}
 use Rattle.text_pieces.specs.Devices.{AppendsBeginning}
 use Rattle.text_pieces.specs.Pulls.{PullsUpTo}
 

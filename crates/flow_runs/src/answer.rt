@@ -9,7 +9,8 @@ use crate::fault::Fault;
 use crate::showing::Shown;
 use std::alloc::Global;
 use std::thread::Threads;
-use tac_reader::{ReadFault, read};
+use tac_lines::ReadFault;
+use tac_reader::read;
 use text_pieces::Sink;
 
 /// Writes what is to be shown of a text. All that it needs memory for is made before the first push.

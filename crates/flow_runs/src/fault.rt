@@ -5,7 +5,7 @@ ghost use Rattle.flow_runs.specs.FaultLines.{fault_text, line_of_fault, name_of_
 
 use flow_graph::GraphFault;
 use std::alloc::{AllocError, Global};
-use tac_reader::{OutOfMemory, Refusal, RefusalKind};
+use tac_lines::{OutOfMemory, Refusal, RefusalKind};
 use thiserror::Error;
 
 /// Why a run did not write all of its text.

@@ -9,7 +9,7 @@ ghost use Rattle.flow_runs.specs.Runs.{IsOverLimit};
 use crate::fault::Fault;
 use flow_graph::{Graph, GraphFault};
 use std::alloc::Global;
-use tac_reader::Program;
+use tac_program::Program;
 use text_pieces::{Sink, Source, Text, TransferFault, deliver, pull_all};
 
 /// Pulls up to the source's end, or this many bytes.

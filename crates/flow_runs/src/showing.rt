@@ -2,14 +2,14 @@
 
 ghost use Rattle.std.specs.Prelude.{◌≡◌, ◌<◌, ◌+◌, ◌-◌, ◌^◌, ℕ, Bool, true, List, IfErr, OnOk};
 ghost use Rattle.std.specs.Thread.{IsSync};
-ghost use Rattle.tac_reader.specs.Programs.{Program as SourceProgram};
+ghost use Rattle.tac_program.specs.Programs.{Program as SourceProgram};
 ghost use Rattle.flow_runs.specs.Faults.{Delivers, OfProgram, WhereNoGraph, write_faults_in};
 ghost use Rattle.flow_runs.specs.Runs.{HasItsGraph, IsOverLimit};
 
 use crate::fault::Fault;
 use std::alloc::Global;
 use std::thread::Threads;
-use tac_reader::Program;
+use tac_program::Program;
 use text_pieces::Sink;
 
 /// What a run shows of a program, and how.

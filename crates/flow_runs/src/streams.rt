@@ -6,7 +6,7 @@ use clap::error::ErrorKind;
 use std::io;
 use std::io::Write;
 use std::process::ExitCode;
-use tac_reader::OutOfMemory;
+use tac_lines::OutOfMemory;
 
 /// Tells a line on standard error; where no memory was left to make it, fixed words. The status is 1.
 pub fn tell_line(rt: &HostRuntime, program: &str, line: Result<Vec<u8>, OutOfMemory>) -> ExitCode {

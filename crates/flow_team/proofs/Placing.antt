@@ -8,7 +8,7 @@ use Rattle.std.proofs.lemmas.Option.{slice_get_within}
 use Rattle.flow_team.specs.Asks.{AreAsksOf, IsAnswerTo}
 use Rattle.flow_team.specs.code.Boards.{AreAnswered, Arranges, Asked}
 use Rattle.flow_team.specs.declared.ask.Ask.{Ask}
-use Rattle.tac_reader.specs.Programs.{Program}
+use Rattle.tac_program.specs.Programs.{Program}
 use Rattle.work_list.specs.Groups.{AreGroups}
 
 -- asks at the places of their keys are arranged

@@ -2,7 +2,7 @@
 use denote.Ref.{NamedLft}
 use denote.Param.Send.{IsSend, IsSync, sendable}
 use Rattle.std.proofs.Crossing.{crosses}
-use Rattle.tac_reader.specs.contracts.program.Program as Program
+use Rattle.tac_program.specs.contracts.program.Program as Program
 use Rattle.flow_graph.specs.contracts.graph.Graph as Graph
 use Rattle.flow_graph.specs.contracts.problem.Problem as Problem
 use Rattle.flow_links.specs.contracts.links.Links as Links

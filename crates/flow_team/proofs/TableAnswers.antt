@@ -13,7 +13,7 @@ use Rattle.flow_graph.specs.Points.{point_count}
 use Rattle.flow_graph.specs.Universes.{bits}
 use Rattle.flow_graph.specs.declared.analysis.Analysis.{Analysis}
 use Rattle.flow_graph.specs.declared.analysis.Analysis.TheVariants.{Reach, Live, Avail, Busy}
-use Rattle.tac_reader.specs.Programs.{Program}
+use Rattle.tac_program.specs.Programs.{Program}
 use Rattle.flow_team.specs.Asks.{AreAnswers, IsAnswerTo, IsAskOf}
 use Rattle.flow_team.specs.Tables.{AreFacts, IsTableOf, TableFacts}
 use Rattle.flow_team.specs.declared.ask.Ask.{Ask}

@@ -13,7 +13,7 @@ use Rattle.flow_graph.specs.declared.analysis.Analysis.{Analysis}
 use Rattle.flow_graph.specs.declared.analysis.Analysis.TheVariants.{Reach, Live, Avail, Busy}
 use Rattle.flow_graph.proofs.graphs.MayForms.{flags_are_may_forms, may_tables_are_may_forms, must_tables_are_may_forms}
 use Rattle.gk_solve.specs.Solved.{HasPathFlags}
-use Rattle.tac_reader.specs.Programs.{Program}
+use Rattle.tac_program.specs.Programs.{Program}
 use Rattle.flow_team.specs.Asks.{AreAnswers, AreAsksOf, IsAnswerTo}
 use Rattle.flow_team.specs.Sets.{IsInMaySet}
 use Rattle.flow_team.specs.code.Boards.{Asked, IsWanted}

@@ -14,7 +14,7 @@ use Rattle.flow_graph.specs.Universes.{bits}
 use Rattle.flow_graph.specs.declared.analysis.Analysis.{Analysis}
 use Rattle.flow_graph.proofs.graphs.MayForms.{flags_are_may_forms, may_tables_are_may_forms, must_tables_are_may_forms}
 use Rattle.gk_solve.specs.Solved.{IsMeetOverPaths}
-use Rattle.tac_reader.specs.Programs.{Program}
+use Rattle.tac_program.specs.Programs.{Program}
 use Rattle.flow_team.specs.Tables.{IsTableOf}
 use Rattle.flow_team.specs.code.Turned.{table_facts, turned, turned_set, turned_table}
 use Rattle.flow_team.proofs.Turns.{has_bit-xor}

@@ -6,7 +6,7 @@ use Rattle.flow_graph.specs.Points.{point_count}
 use Rattle.flow_graph.specs.Universes.{bits}
 use Rattle.flow_graph.specs.declared.analysis.Analysis.{Analysis}
 use Rattle.flow_team.specs.declared.ask.Ask.{Ask}
-use Rattle.tac_reader.specs.Programs.{Program}
+use Rattle.tac_program.specs.Programs.{Program}
 
 -- The ask's point is one of the program's, and its word one of the analysis's sets.
 pub record IsAskOf (program : Program) (ask : Ask) : Type 0 where

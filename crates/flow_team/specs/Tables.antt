@@ -4,7 +4,7 @@ use Rattle.flow_graph.specs.Analyses.{HasPathAt, IsInTable}
 use Rattle.flow_graph.specs.Points.{point_count}
 use Rattle.flow_graph.specs.Universes.{bits as bits_of}
 use Rattle.flow_graph.specs.declared.analysis.Analysis.{Analysis}
-use Rattle.tac_reader.specs.Programs.{Program}
+use Rattle.tac_program.specs.Programs.{Program}
 
 -- whether each point has a valid path, and which bits are in its set
 pub record Facts : Type 0 where

@@ -4,7 +4,9 @@ use gk_solve::solve_counted;
 use std::alloc::Global;
 use std::process::Abort;
 use std::test::Fail;
-use tac_reader::{Program, ReadFault, read};
+use tac_lines::ReadFault;
+use tac_program::Program;
+use tac_reader::read;
 
 const ANALYSES: &[Analysis] = &[
     Analysis::Reach,

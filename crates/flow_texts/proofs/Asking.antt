@@ -4,9 +4,9 @@ use Rattle.std.specs.List.{list_any}
 use Rattle.std.proofs.lemmas.Bool.{cases_lt}
 use Rattle.flow_graph.specs.Points.{kind_at, point_count}
 use Rattle.flow_graph.specs.declared.analysis.Analysis.TheVariants.{Busy, Reach}
-use Rattle.tac_reader.specs.Programs.{Program}
-use Rattle.tac_reader.specs.Sound.{IsSound}
-use Rattle.tac_reader.specs.declared.program.StmtKind.{StmtKind}
+use Rattle.tac_program.specs.Programs.{Program}
+use Rattle.tac_program.specs.Sound.{IsSound}
+use Rattle.tac_program.specs.declared.program.StmtKind.{StmtKind}
 use Rattle.flow_team.specs.Asks.{AreAnswers, IsAskOf, Replies}
 use Rattle.flow_team.specs.declared.ask.Ask.{Ask}
 use Rattle.flow_texts.specs.code.Asking.{Asks, AsksReads}

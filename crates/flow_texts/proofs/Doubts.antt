@@ -1,8 +1,8 @@
 -- A point is doubtful where it leads to one that has no backward valid path
 use Rattle.std.proofs.Common.{◌≡◌, ◌↔◌, ℕ, ◌<◌, Bool, true, false, not, List, [], ◌∷◌, map, get_or, refl, sym, ap, ◌∙◌, arith}
 use Rattle.std.proofs.lemmas.List.FromFn.{get_or-map-range_with_len}
-use Rattle.tac_reader.specs.Programs.{Program}
-use Rattle.tac_reader.specs.Sound.{IsSound}
+use Rattle.tac_program.specs.Programs.{Program}
+use Rattle.tac_program.specs.Sound.{IsSound}
 use Rattle.flow_graph.specs.Analyses.{HasPathAt, shape_of}
 use Rattle.flow_graph.specs.Leading.{LeadsTo, TellLeading}
 use Rattle.flow_graph.specs.Paths.{IsPath, HasBackwardPath, target_of}

@@ -12,9 +12,9 @@ use Rattle.flow_graph.specs.declared.analysis.Analysis.TheVariants.{Reach, Live,
 use Rattle.flow_graph.specs.declared.expression.Expr.{Expr}
 use Rattle.flow_graph.proofs.places.Standing.{stands}
 use Rattle.gk_solve.proofs.ProgramTables.{tables_are_decided}
-use Rattle.tac_reader.specs.Programs.{Program}
-use Rattle.tac_reader.specs.Sound.{IsSound}
-use Rattle.tac_reader.specs.declared.program.StmtKind.{StmtKind}
+use Rattle.tac_program.specs.Programs.{Program}
+use Rattle.tac_program.specs.Sound.{IsSound}
+use Rattle.tac_program.specs.declared.program.StmtKind.{StmtKind}
 use Rattle.flow_team.specs.Tables.{AreFacts, Facts}
 use Rattle.flow_texts.specs.Reports.{IsKnowledge, Knowledge, assigned, busy_at, computed_at, count_line, dead_at, is_test, lines_at, remark_line, remarks_at, remarks_when_reached, report_of, unset_at}
 use Rattle.flow_texts.specs.Tables.{bits_at}

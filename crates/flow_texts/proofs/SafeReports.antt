@@ -1,9 +1,9 @@
 -- What is found of a program is knowledge of it, and what a report lists as dead is safe
 use Rattle.std.proofs.Common.{◌≡◌, ℕ, zero, suc, ◌<◌, Bool, true, false, not, ◌&&◌, List, [], ◌∷◌, ◌++◌, inl, inr, length, map, get_or, subst, Contains, Option, Some, None, option_and_then, if◌then◌else◌, refl, sym, ap, ◌∙◌, arith}
 use Rattle.std.proofs.lemmas.List.Elements.{All-map, All-contains, Contains-get_or, Contains-append_cases}
-use Rattle.tac_reader.specs.Programs.{Program}
-use Rattle.tac_reader.specs.Sound.{IsSound}
-use Rattle.tac_reader.specs.declared.program.StmtKind.{StmtKind}
+use Rattle.tac_program.specs.Programs.{Program}
+use Rattle.tac_program.specs.Sound.{IsSound}
+use Rattle.tac_program.specs.declared.program.StmtKind.{StmtKind}
 use Rattle.flow_graph.specs.Points.{kind_at, point_count}
 use Rattle.flow_graph.proofs.graphs.GraphLaws.{dead_variables_are_safe}
 use Rattle.flow_graph.proofs.places.Standing.{Stands, stands}

@@ -5,7 +5,7 @@ use Rattle.flow_graph.specs.Analyses.{IsInTable}
 use Rattle.flow_graph.specs.Universes.{bits}
 use Rattle.flow_graph.specs.declared.analysis.Analysis.{Analysis}
 use Rattle.flow_graph.specs.declared.analysis.Analysis.TheVariants.{Reach, Live, Avail, Busy}
-use Rattle.tac_reader.specs.Programs.{Program}
+use Rattle.tac_program.specs.Programs.{Program}
 use Rattle.flow_team.specs.Asks.{AreAnswers, IsAnswerTo, Replies}
 use Rattle.flow_team.specs.declared.ask.Ask.{Ask}
 use Rattle.flow_texts.specs.code.Told.{answer_in, ask_for, facts_in, is_analysis, is_ask}

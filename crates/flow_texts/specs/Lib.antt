@@ -1,5 +1,4 @@
 pub mod Ranges
 pub mod Tables
 pub mod Reports
-pub mod WorkedTexts
 pub mod code

@@ -7,9 +7,9 @@ use Rattle.flow_graph.specs.Points.{points, point_count, kind_at}
 use Rattle.flow_graph.specs.Transfers.{reads}
 use Rattle.flow_graph.specs.Universes.{definitions, expressions, evaluated_at}
 use Rattle.flow_graph.specs.declared.analysis.Analysis.TheVariants.{Reach, Live, Avail, Busy}
-use Rattle.tac_reader.specs.Programs.{Program}
-use Rattle.tac_reader.specs.declared.program.StmtKind.{StmtKind}
-use Rattle.tac_reader.specs.declared.program.StmtKind.TheVariants as kind
+use Rattle.tac_program.specs.Programs.{Program}
+use Rattle.tac_program.specs.declared.program.StmtKind.{StmtKind}
+use Rattle.tac_program.specs.declared.program.StmtKind.TheVariants as kind
 use Rattle.flow_team.specs.Tables.{Facts, AreFacts, IsTableOf}
 use Rattle.flow_texts.specs.Tables.{bit_text, bits_at, line_at, variable_text}
 use Rattle.flow_texts.specs.declared.remark.Remark.{Remark}

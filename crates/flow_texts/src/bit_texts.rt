@@ -10,7 +10,7 @@ ghost use Rattle.flow_texts.specs.Tables.{bit_text, definition_text, expression_
 use flow_graph::{Analysis, Expr, Graph, OutOfMemory};
 use itoa::Buffer;
 use std::alloc::Global;
-use tac_reader::{write_binary_expression, write_unary_expression};
+use tac_program::{write_binary_expression, write_unary_expression};
 use text_pieces::{Pieces, Separator, Sink, TextBlock};
 
 /// Writes a number in decimal.

@@ -4,7 +4,7 @@ ghost use Rattle.std.specs.Prelude.{◌≡◌, IfOk, length, map, not};
 ghost use Rattle.flow_graph.specs.Limits.{HasFewPoints};
 ghost use Rattle.flow_graph.specs.Points.{points, point_count};
 ghost use Rattle.flow_graph.specs.declared.analysis.Analysis.TheVariants.{Live};
-ghost use Rattle.tac_reader.specs.Sound.{IsSound};
+ghost use Rattle.tac_program.specs.Sound.{IsSound};
 ghost use Rattle.flow_team.specs.Asks.{flags_of};
 ghost use Rattle.flow_texts.specs.code.Findings.{TellDoubtful};
 ghost use Rattle.flow_texts.specs.code.Reported.{TellReport};

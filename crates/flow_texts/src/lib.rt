@@ -14,7 +14,6 @@ mod report_asks;
 mod reports;
 mod table_texts;
 mod tables;
-pub mod text_examples;
 
 pub use bit_texts::{line, texts_of_bits, write_number};
 pub use findings::Findings;

@@ -7,7 +7,7 @@ ghost use Rattle.flow_graph.specs.Transfers.{names_variable, operands_of};
 ghost use Rattle.flow_texts.specs.code.Operands.{numbers_of};
 ghost use Rattle.flow_texts.specs.Reports.{assigned as assigned_by, is_test as is_test_of};
 
-use tac_reader::{Operand, StmtKind};
+use tac_program::{Operand, StmtKind};
 
 /// The variables that a statement reads, each once, in the order of their numbers.
 #[derive(Clone, Copy)]

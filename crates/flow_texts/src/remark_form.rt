@@ -2,7 +2,7 @@
 
 ghost use Rattle.std.specs.Prelude.{◌≡◌, ◌<◌, ℕ, List};
 ghost use Rattle.flow_graph.specs.Points.{point_count};
-ghost use Rattle.tac_reader.specs.Programs.{Program};
+ghost use Rattle.tac_program.specs.Programs.{Program};
 ghost use Rattle.flow_texts.specs.code.Findings.{AreFindings, IsRemarkIn};
 ghost use Rattle.text_pieces.specs.Pieces.{IsOpen, Takes, outlet};
 ghost use Rattle.flow_texts.specs.declared.remark.Remark.{Remark as RemarkValue};

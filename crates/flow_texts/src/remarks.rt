@@ -20,7 +20,7 @@ use crate::remark::Remark;
 use crate::remark_form::RemarkForm;
 use flow_graph::Analysis;
 use flow_team::Ask;
-use tac_reader::StmtKind;
+use tac_program::StmtKind;
 use text_pieces::{Pieces, Sink};
 
 /// What a remark says before what it names.

@@ -2,9 +2,9 @@
 
 ghost use Rattle.std.specs.Prelude.{◌≡◌, ℕ, ◌+◌, ◌*◌, ◌/◌, ◌^◌, ◌<◌, ◌≤◌, [], ◌∷◌, ◌++◌, Some, length, IfOk};
 ghost use Rattle.flow_graph.specs.Points.{kind_at, point_count};
-ghost use Rattle.tac_reader.specs.Programs.{Program};
-ghost use Rattle.tac_reader.specs.Sound.{IsSound};
-ghost use Rattle.tac_reader.specs.declared.program.StmtKind.{StmtKind as KindValue};
+ghost use Rattle.tac_program.specs.Programs.{Program};
+ghost use Rattle.tac_program.specs.Sound.{IsSound};
+ghost use Rattle.tac_program.specs.declared.program.StmtKind.{StmtKind as KindValue};
 ghost use Rattle.flow_team.specs.Asks.{AreAsksOf, IsAskOf};
 ghost use Rattle.flow_texts.specs.code.Asking.{Asks, AsksAssigned, AsksBusy, AsksEvaluated, AsksReads};
 ghost use Rattle.flow_texts.specs.code.Reported.{AreAsked, AreAskedAt};
@@ -13,7 +13,7 @@ use crate::operands::{VariablesRead, assigned, is_test, variables_read};
 use flow_graph::{Analysis, Graph, OutOfMemory};
 use flow_team::Ask;
 use std::alloc::Global;
-use tac_reader::StmtKind;
+use tac_program::StmtKind;
 
 /// Which ask of a report is the first of each kind at a point.
 #[derive(Clone, Copy)]

@@ -4,7 +4,7 @@ use Rattle.flow_graph.specs.Points.{point_count}
 use Rattle.flow_graph.specs.declared.analysis.Analysis.TheVariants.{Reach, Live, Avail, Busy}
 use Rattle.flow_graph.specs.declared.analysis.Analysis.{Analysis}
 use Rattle.flow_team.specs.Tables.{AreFacts, IsTableOf, TableFacts}
-use Rattle.tac_reader.specs.Programs.{Program}
+use Rattle.tac_program.specs.Programs.{Program}
 use Rattle.flow_texts.specs.Reports.{IsKnowledge, dead_at, remarks_at, unset_at}
 use Rattle.flow_texts.specs.code.Findings.{knowledge_of}
 use Rattle.flow_texts.proofs.KnownReports.{agrees, same_dead, same_remarks, same_unset}

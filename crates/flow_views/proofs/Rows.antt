@@ -3,7 +3,7 @@ use Rattle.std.proofs.Common.{◌≡◌, ℕ, zero, suc, ◌+◌, ◌<◌, false
 use Rattle.std.proofs.lemmas.Grind.{flat_map-append}
 use Rattle.std.proofs.lemmas.List.{map-append, take_more}
 use Rattle.std.proofs.Math.Seq.{take-length}
-use Rattle.tac_reader.specs.Listings.{name_at}
+use Rattle.tac_program.specs.Listings.{name_at}
 use Rattle.flow_texts.specs.Tables.{listed}
 use Rattle.text_pieces.specs.code.Lists.{after, some_stand}
 use Rattle.flow_texts.proofs.ListTexts.{some_stand-map}

@@ -2,11 +2,11 @@
 use Rattle.std.proofs.Common.{◌≡◌, ℕ, zero, suc, ◌+◌, ◌<◌, List, [], ◌∷◌, ◌++◌, length, take, get_or, nat_lt, codes, if◌then◌else◌, append_assoc, Option, Some, None, option_map, slice_get, unwrap_or, IfSome, refl, sym, ap, subst, ◌∙◌, arith}
 use Rattle.std.proofs.lemmas.Bool.{lt-ltb}
 use Rattle.std.proofs.lemmas.List.{take_more}
-use Rattle.tac_reader.specs.Listings.{callees_text, name_at}
-use Rattle.tac_reader.specs.Programs.{Procedure, Program}
-use Rattle.tac_reader.specs.Names.{Names}
-use Rattle.tac_reader.specs.Sound.{IsSound, IsSoundStatement}
-use Rattle.tac_reader.specs.declared.program.StmtKind.{StmtKind}
+use Rattle.tac_program.specs.Listings.{callees_text, name_at}
+use Rattle.tac_program.specs.Programs.{Procedure, Program}
+use Rattle.tac_program.specs.Names.{Names}
+use Rattle.tac_program.specs.Sound.{IsSound, IsSoundStatement}
+use Rattle.tac_program.specs.declared.program.StmtKind.{StmtKind}
 use Rattle.flow_graph.specs.Points.{kind_at, point_count}
 use Rattle.flow_graph.proofs.places.Standing.{Stands, stands}
 use Rattle.text_pieces.specs.code.Lists.{some_stand}

@@ -8,10 +8,10 @@ use Rattle.flow_graph.specs.declared.edge.Edge.{Edge}
 use Rattle.flow_graph.specs.declared.edge.Edge.TheVariants.{Step, Call, Ret}
 use Rattle.flow_texts.specs.Reports.{IsKnowledge, Knowledge, dead_at, remark_text, remarks_at, unset_at}
 use Rattle.flow_texts.specs.Tables.{bit_text, bits_at, line_at, listed}
-use Rattle.tac_reader.specs.Listings.{statement_text}
-use Rattle.tac_reader.specs.Programs.{Program}
-use Rattle.tac_reader.specs.declared.program.StmtKind.{StmtKind}
-use Rattle.tac_reader.specs.declared.program.StmtKind.TheVariants as kind
+use Rattle.tac_program.specs.Listings.{statement_text}
+use Rattle.tac_program.specs.Programs.{Program}
+use Rattle.tac_program.specs.declared.program.StmtKind.{StmtKind}
+use Rattle.tac_program.specs.declared.program.StmtKind.TheVariants as kind
 use Rattle.flow_views.specs.Strings.{escaped, quoted}
 use Rattle.flow_views.specs.Views.{analysis_name, chosen_analyses, names_at, points_in, procedure_name, shown_points, shown_procedures, told_by}
 use Rattle.flow_views.specs.declared.view.Chosen.{Chosen}

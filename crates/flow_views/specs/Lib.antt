@@ -2,5 +2,4 @@ pub mod Strings
 pub mod Views
 pub mod Dots
 pub mod Json
-pub mod WorkedViews
 pub mod code

@@ -6,9 +6,9 @@ use Rattle.flow_graph.specs.declared.analysis.Analysis.{Analysis}
 use Rattle.flow_graph.specs.declared.analysis.Analysis.TheVariants.{Reach, Live, Avail, Busy}
 use Rattle.flow_team.specs.Tables.{Facts}
 use Rattle.flow_texts.specs.Reports.{Knowledge}
-use Rattle.tac_reader.specs.Listings.{name_at}
-use Rattle.tac_reader.specs.Programs.{Program}
-use Rattle.tac_reader.specs.Names.{Names}
+use Rattle.tac_program.specs.Listings.{name_at}
+use Rattle.tac_program.specs.Programs.{Program}
+use Rattle.tac_program.specs.Names.{Names}
 use Rattle.flow_views.specs.declared.view.Chosen.{Chosen}
 use Rattle.flow_views.specs.declared.view.View.{View}
 

@@ -7,7 +7,7 @@ ghost use Rattle.text_pieces.specs.Pieces.{IsOpen, Takes, outlet};
 ghost use Rattle.flow_texts.specs.Reports.{AreTablesOf, dead_at, remark_text, unset_at};
 ghost use Rattle.flow_texts.specs.code.Reported.{TellReport};
 ghost use Rattle.flow_texts.specs.Tables.{line_at};
-ghost use Rattle.tac_reader.specs.Listings.{statement_text};
+ghost use Rattle.tac_program.specs.Listings.{statement_text};
 ghost use Rattle.flow_views.specs.code.Shown.{AreShown, IsSiteIn, known_of, numbers_of};
 ghost use Rattle.flow_views.specs.declared.names.NameForm.TheVariants.{Escaped};
 ghost use Rattle.flow_views.specs.Dots.{IsDot, arrow, calls_at, cluster, dot_of, edge_line, edge_lines, fact_line, head, is_edge_shown, label_line, label_lines, marks, node, passed_call, path_marks, shown_edge, text_if_some, title};
@@ -26,7 +26,7 @@ use flow_texts::{
 };
 use std::alloc::Global;
 use std::marker::Model;
-use tac_reader::{Stmt, StmtKind};
+use tac_program::{Stmt, StmtKind};
 use text_pieces::{Pieces, Sink, Text};
 
 // A remark as a line of a label.

@@ -8,7 +8,7 @@ ghost use Rattle.text_pieces.specs.code.Lists.{text_at};
 ghost use Rattle.text_pieces.specs.Pieces.{IsOpen, Takes, outlet};
 ghost use Rattle.flow_texts.specs.Reports.{AreTablesOf};
 ghost use Rattle.flow_texts.specs.code.Reported.{TellReport};
-ghost use Rattle.tac_reader.specs.Listings.{statement_text};
+ghost use Rattle.tac_program.specs.Listings.{statement_text};
 ghost use Rattle.flow_views.specs.code.Shown.{AreShown, known_of, numbers_of};
 ghost use Rattle.flow_views.specs.declared.names.NameForm.TheVariants.{Quoted};
 ghost use Rattle.flow_views.specs.Json.{IsJson, array, boolean, edge_object, facts_field, json_of, point_line, program_line, remark_fields, remark_lines, remark_object, span_fields, statement_field};
@@ -28,7 +28,7 @@ use flow_texts::{
 use itoa::Buffer;
 use std::alloc::Global;
 use std::marker::Model;
-use tac_reader::{Span, Stmt};
+use tac_program::{Span, Stmt};
 use text_pieces::{Pieces, Sink, Text, TextBlock};
 
 // Writes a kind with the field of what is named, and the name.

@@ -9,7 +9,6 @@ mod scope;
 mod shown;
 mod strings;
 mod view;
-pub mod view_examples;
 
 pub use dots::DotText;
 pub use json::JsonText;

@@ -2,15 +2,15 @@
 
 ghost use Rattle.std.specs.Prelude.{◌≡◌, ◌++◌, ◌<◌, All, codes, length};
 ghost use Rattle.text_pieces.specs.Pieces.{IsOpen, Takes, outlet};
-ghost use Rattle.tac_reader.specs.Listings.{binary_text, callees_text, goto_text, name_at, operand_text, statement_text, unary_text};
-ghost use Rattle.tac_reader.specs.Sound.{IsSoundOperand, IsSoundStatement};
-ghost use Rattle.tac_reader.specs.declared.program.StmtKind.TheVariants as kind_of;
+ghost use Rattle.tac_program.specs.Listings.{binary_text, callees_text, goto_text, name_at, operand_text, statement_text, unary_text};
+ghost use Rattle.tac_program.specs.Sound.{IsSoundOperand, IsSoundStatement};
+ghost use Rattle.tac_program.specs.declared.program.StmtKind.TheVariants as kind_of;
 ghost use Rattle.flow_views.specs.Strings.{escaped};
 ghost use Rattle.flow_views.specs.Views.{names_in};
 
 use crate::optional::write_if;
 use crate::strings::{write_escaped, write_escaped_number};
-use tac_reader::{Op, Operand, Program, StmtKind};
+use tac_program::{Op, Operand, Program, StmtKind};
 use text_pieces::{Pieces, Sink};
 
 /// A procedure of a program, whose names the numbers in a statement stand for.

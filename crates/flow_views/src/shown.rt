@@ -8,7 +8,7 @@ ghost use Rattle.text_pieces.specs.Pieces.{IsOpen, Takes, outlet};
 ghost use Rattle.flow_texts.specs.Reports.{AreTablesOf, IsKnowledge, dead_at, remarks_at, unset_at};
 ghost use Rattle.flow_texts.specs.code.Reported.{TellReport};
 ghost use Rattle.text_pieces.specs.code.Lists.{some_stand};
-ghost use Rattle.tac_reader.specs.Listings.{statement_text};
+ghost use Rattle.tac_program.specs.Listings.{statement_text};
 ghost use Rattle.flow_views.specs.code.Names.{AreNamesOf};
 ghost use Rattle.flow_views.specs.code.Shown.{AreShown, contents, known_of, numbers_of};
 ghost use Rattle.flow_views.specs.Strings.{escaped};
@@ -22,7 +22,7 @@ use flow_team::Table;
 use flow_texts::{Findings, RemarkForm, ReportAnswers, Tables};
 use smallvec::SmallVec;
 use std::alloc::Global;
-use tac_reader::{Stmt, StmtKind};
+use tac_program::{Stmt, StmtKind};
 use text_pieces::{Pieces, Sink, TextBlock};
 
 /// Numbers from the first on and before the end.

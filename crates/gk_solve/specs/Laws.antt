@@ -1,7 +1,7 @@
 -- What joins the least solution of the equations to the paths.
 use Rattle.std.specs.Prelude.{◌≡◌, ℕ, Bool, true, false, IsTrue, List, ◌<◌, ◌⊎◌, ◌↔◌}
-use Rattle.tac_reader.specs.Programs.{Program}
-use Rattle.tac_reader.specs.Sound.{IsSound}
+use Rattle.tac_program.specs.Programs.{Program}
+use Rattle.tac_program.specs.Sound.{IsSound}
 use Rattle.flow_graph.specs.Analyses.{HasPathAt, IsInTable, is_must}
 use Rattle.flow_graph.specs.Problems.{may_shape, may_transfer}
 use Rattle.flow_graph.specs.declared.analysis.Analysis.{Analysis}

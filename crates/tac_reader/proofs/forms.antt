@@ -1,12 +1,1 @@
-pub mod Apart
-pub mod CalleeCounts
-pub mod Calls
-pub mod FormedLines
-pub mod LineForms
-pub mod Rows
-pub mod Shapes
-pub mod Table
 pub mod VariableForms
-pub mod Walks
-pub mod RowLengths
-pub mod LabelCounts

@@ -2,6 +2,5 @@ pub mod KeptWords
 pub mod Layouts
 pub mod ListingLines
 pub mod ListingSections
-pub mod ListingTexts
 pub mod RoundTrip
 pub mod StatementTexts

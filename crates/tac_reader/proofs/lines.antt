@@ -1,12 +1,3 @@
-pub mod CursorLines
-pub mod EarlyFaults
-pub mod FaultPlaces
 pub mod FaultlessLines
 pub mod FineRows
-pub mod FirstFault
 pub mod FirstFaults
-pub mod LexSteps
-pub mod LineSteps
-pub mod Lines
-pub mod RangeLemmas
-pub mod FineStatements

@@ -1,6 +1,5 @@
 pub mod BuiltWords
 pub mod FaultlessStatements
-pub mod LabelPlaces
 pub mod LabelRuns
 pub mod ProcedureRuns
 pub mod ProgramSizes

@@ -1,11 +1,2 @@
 pub mod Bare
-pub mod CutRows
-pub mod Decimals
-pub mod Fronts
-pub mod Longest
-pub mod Pieces
-pub mod Places
 pub mod ReadWords
-pub mod RowSteps
-pub mod SpelledTokens
-pub mod Values

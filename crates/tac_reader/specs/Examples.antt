@@ -1,12 +1,12 @@
 -- Words for the worked examples.
 use Rattle.std.specs.Prelude.{ℕ, zero, suc, ◌+◌, ◌/◌, ◌%◌, List, [], ◌∷◌, ◌++◌, Option, Some, codes}
-use Rattle.tac_reader.specs.Programs.{Program}
-use Rattle.tac_reader.specs.Tokens.{Word, Token}
-use Rattle.tac_reader.specs.declared.program.Op.TheVariants.{Minus, Greater}
-use Rattle.tac_reader.specs.declared.program.Operand.TheVariants.{Variable, Number}
-use Rattle.tac_reader.specs.declared.program.StmtKind.TheVariants as kind
-use Rattle.tac_reader.specs.declared.refusal.Refusal.{Refusal}
-use Rattle.tac_reader.specs.declared.refusal.RefusalKind.{RefusalKind}
+use Rattle.tac_program.specs.Programs.{Program}
+use Rattle.tac_lines.specs.Tokens.{Word, Token}
+use Rattle.tac_program.specs.declared.program.Op.TheVariants.{Minus, Greater}
+use Rattle.tac_program.specs.declared.program.Operand.TheVariants.{Variable, Number}
+use Rattle.tac_program.specs.declared.program.StmtKind.TheVariants as kind
+use Rattle.tac_lines.specs.declared.refusal.Refusal.{Refusal}
+use Rattle.tac_lines.specs.declared.refusal.RefusalKind.{RefusalKind}
 
 abbrev pub refused : RefusalKind → ℕ → ℕ → Option Refusal
 refused kind line column = Some (record { kind = kind; line = line; column = column })

@@ -1,17 +1,17 @@
 -- Why a text is no program, and where its first fault stands.
 use Rattle.std.specs.Prelude.{ℕ, true, false, List, [], ◌∷◌, ◌++◌, flat_map, length, drop, take, Option, Some, None, option_map, nat_lt, if◌then◌else◌, codes}
-use Rattle.tac_reader.specs.Text.{line_after, column_after}
-use Rattle.tac_reader.specs.Tokens.{Token, rows, spelling_of}
-use Rattle.tac_reader.specs.Names.{is_one_of}
-use Rattle.tac_reader.specs.Forms.{jumps_of, callees_of}
+use Rattle.tac_lines.specs.Text.{line_after, column_after}
+use Rattle.tac_lines.specs.Tokens.{Token, rows, spelling_of}
+use Rattle.tac_program.specs.Names.{is_one_of}
+use Rattle.tac_lines.specs.Forms.{jumps_of, callees_of}
 use Rattle.tac_reader.specs.Sections.{Section, sections, titles, labels_in, statements_of}
 use Rattle.tac_reader.specs.Parses.{names_in}
-use Rattle.tac_reader.specs.declared.fault.Fault.{Fault}
-use Rattle.tac_reader.specs.declared.refusal.Refusal.{Refusal}
-use Rattle.tac_reader.specs.declared.refusal.RefusalKind.{RefusalKind}
-use Rattle.tac_reader.specs.declared.refusal.RefusalKind.TheVariants as kind
-use Rattle.tac_reader.specs.Limits.{longest_text, most_procedures}
-use Rattle.tac_reader.specs.LineFaults.{at, first_by_place, line_faults}
+use Rattle.tac_lines.specs.declared.fault.Fault.{Fault}
+use Rattle.tac_lines.specs.declared.refusal.Refusal.{Refusal}
+use Rattle.tac_lines.specs.declared.refusal.RefusalKind.{RefusalKind}
+use Rattle.tac_lines.specs.declared.refusal.RefusalKind.TheVariants as kind
+use Rattle.tac_program.specs.Limits.{longest_text, most_procedures}
+use Rattle.tac_lines.specs.LineFaults.{at, first_by_place, line_faults}
 
 -- The tokens whose names stand earlier among them, and the tokens whose names are not among the known ones.
 abbrev pub repeated : RefusalKind → List (List ℕ) → List Token → List Fault

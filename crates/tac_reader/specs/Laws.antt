@@ -1,19 +1,19 @@
 -- What one wants to know of the definitions.
 use Rattle.std.specs.Prelude.{◌≡◌, ℕ, ◌≤◌, List, ◌++◌, map, length, All, None, slice_range, codes}
-use Rattle.tac_reader.specs.Tokens.{word, fixed, Token, Row, row_from, stop_of}
-use Rattle.tac_reader.specs.Forms.{statements}
+use Rattle.tac_lines.specs.Tokens.{word, fixed, Token, Row, row_from, stop_of}
+use Rattle.tac_lines.specs.Forms.{statements}
 use Rattle.tac_reader.specs.Sections.{Section, sections, statements_of, titles}
-use Rattle.tac_reader.specs.Programs.{Procedure, Program}
+use Rattle.tac_program.specs.Programs.{Procedure, Program}
 use Rattle.tac_reader.specs.Parses.{names_for, names_in, operator_of, program_of, start_of, statement_of, variables_in}
-use Rattle.tac_reader.specs.Spelling.{sign_of}
-use Rattle.tac_reader.specs.Names.{Names}
+use Rattle.tac_program.specs.Spelling.{sign_of}
+use Rattle.tac_program.specs.Names.{Names}
 use Rattle.tac_reader.specs.Faults.{refusal_of}
-use Rattle.tac_reader.specs.Limits.{longest_text}
-use Rattle.tac_reader.specs.Listings.{listing_of, statement_text}
-use Rattle.tac_reader.specs.Sound.{IsSound}
-use Rattle.tac_reader.specs.declared.program.Label.{Label}
-use Rattle.tac_reader.specs.declared.program.Op.{Op}
-use Rattle.tac_reader.specs.declared.program.StmtKind.{StmtKind}
+use Rattle.tac_program.specs.Limits.{longest_text}
+use Rattle.tac_program.specs.Listings.{listing_of, statement_text}
+use Rattle.tac_program.specs.Sound.{IsSound}
+use Rattle.tac_program.specs.declared.program.Label.{Label}
+use Rattle.tac_program.specs.declared.program.Op.{Op}
+use Rattle.tac_program.specs.declared.program.StmtKind.{StmtKind}
 
 -- The bytes of a statement's span have its tokens and nothing else.
 abbrev pub StatementsAreSpelled : Type 0

@@ -1,31 +1,26 @@
 -- The program of a text without faults. Words that make no statement are taken for `skip`, and a sign that is no operator for `+`: no such
 -- text comes to either of these (Laws.antt: StatementsKeepTheirWords, SignsTellOperators).
 use Rattle.std.specs.Prelude.{ℕ, suc, ◌+◌, List, [], ◌∷◌, ◌++◌, map, flat_map, fold, length, take, Some, None, unwrap_or, find, bytes_eq}
-use Rattle.tac_reader.specs.Text.{line_after}
-use Rattle.tac_reader.specs.Tokens.{Word, name, number, fixed, Token, bytes_of, spelling_of, unless_empty, stop_of}
-use Rattle.tac_reader.specs.Forms.{labels_of, behind_labels, statement_row, callees_of}
+use Rattle.tac_lines.specs.Text.{line_after}
+use Rattle.tac_lines.specs.Tokens.{Word, name, number, fixed, Token, bytes_of, spelling_of, unless_empty, stop_of}
+use Rattle.tac_lines.specs.Forms.{labels_of, behind_labels, statement_row, callees_of}
 use Rattle.tac_reader.specs.Sections.{Section, sections, titles, statements_of, labels_in, variables_of}
-use Rattle.tac_reader.specs.declared.form.Form.{Form}
-use Rattle.tac_reader.specs.declared.form.Form.TheVariants as form
-use Rattle.tac_reader.specs.declared.program.Op.{Op}
-use Rattle.tac_reader.specs.declared.program.Op.TheVariants as op
-use Rattle.tac_reader.specs.declared.program.Operand.{Operand}
-use Rattle.tac_reader.specs.declared.program.Operand.TheVariants.{Variable, Number}
-use Rattle.tac_reader.specs.declared.program.Label.{Label}
-use Rattle.tac_reader.specs.declared.program.StmtKind.{StmtKind}
-use Rattle.tac_reader.specs.declared.program.StmtKind.TheVariants as kind
-use Rattle.tac_reader.specs.declared.program.Stmt.{Stmt}
-use Rattle.tac_reader.specs.Programs.{Procedure, Program, number_of}
-use Rattle.tac_reader.specs.Names.{Names, noted}
-use Rattle.tac_reader.specs.Spelling.{sign_of}
+use Rattle.tac_lines.specs.declared.form.Form.{Form}
+use Rattle.tac_lines.specs.declared.form.Form.TheVariants as form
+use Rattle.tac_program.specs.declared.program.Op.{Op}
+use Rattle.tac_program.specs.declared.program.Op.TheVariants as op
+use Rattle.tac_program.specs.declared.program.Operand.{Operand}
+use Rattle.tac_program.specs.declared.program.Operand.TheVariants.{Variable, Number}
+use Rattle.tac_program.specs.declared.program.Label.{Label}
+use Rattle.tac_program.specs.declared.program.StmtKind.{StmtKind}
+use Rattle.tac_program.specs.declared.program.StmtKind.TheVariants as kind
+use Rattle.tac_program.specs.declared.program.Stmt.{Stmt}
+use Rattle.tac_program.specs.Programs.{Procedure, Program, number_of}
+use Rattle.tac_program.specs.Names.{Names, noted}
+use Rattle.tac_program.specs.Spelling.{operators, sign_of}
 
 abbrev pub each_once : List (List ℕ) → List (List ℕ)
 each_once names = fold noted [] names
-
-abbrev pub operators : List Op
-operators =
-    op.Plus ∷ op.Minus ∷ op.Star ∷ op.Slash ∷ op.Percent ∷ op.And ∷ op.Or ∷ op.Caret ∷ op.ShiftLeft ∷ op.ShiftRight
-    ∷ op.Less ∷ op.LessEqual ∷ op.Greater ∷ op.GreaterEqual ∷ op.Equal ∷ op.NotEqual ∷ op.Tilde ∷ op.Bang ∷ []
 
 abbrev pub operator_of : Word → Op
 operator_of (fixed s) = unwrap_or (find (λ o. bytes_eq s (sign_of o)) operators) op.Plus

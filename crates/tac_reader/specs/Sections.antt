@@ -1,7 +1,7 @@
 -- A text's procedures by their tokens: what the names in it are compared on.
 use Rattle.std.specs.Prelude.{ℕ, take_while, List, [], ◌∷◌, ◌++◌, map, flat_map, if◌then◌else◌}
-use Rattle.tac_reader.specs.Tokens.{Token, rows, token_lines, unless_empty}
-use Rattle.tac_reader.specs.Forms.{has_form, proc_form, labels_of, behind_labels, cells_of, in_slot, is_name_word, is_inner, is_variable}
+use Rattle.tac_lines.specs.Tokens.{Token, rows, token_lines, unless_empty}
+use Rattle.tac_lines.specs.Forms.{has_form, proc_form, labels_of, behind_labels, cells_of, in_slot, is_name_word, is_inner, is_variable}
 
 -- A procedure's name, and its lines, each by its tokens.
 pub record Section : Type 0 where

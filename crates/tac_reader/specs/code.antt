@@ -1,11 +1,5 @@
 pub mod Built
-pub mod Formed
-pub mod Lexed
-pub mod Names
 pub mod Occurrences
 pub mod Procedures
-pub mod Ranges
 pub mod ReadFaults
-pub mod Roles
 pub mod SectionViews
-pub mod Views

@@ -2,22 +2,22 @@
 
 ghost use Rattle.std.specs.Prelude.{◌≡◌, ◌+◌, ◌*◌, ◌<◌, ◌≤◌, ◌^◌, ℕ, List, length, map, slice_get, slice_range, Some, IfOk, IfSome, take, count_by};
 ghost use Rattle.tac_reader.specs.code.Built.{names_view, word_nth, call_numbers};
-ghost use Rattle.tac_reader.specs.Programs.{number_of};
+ghost use Rattle.tac_program.specs.Programs.{number_of};
 ghost use Rattle.tac_reader.specs.Parses.{operand_of, operator_of, kind_of, form_of as form_in, statement_of, start_of};
-ghost use Rattle.tac_reader.specs.Tokens.{stop_of as end_of, bytes_of};
-ghost use Rattle.tac_reader.specs.Forms.{callees_of};
-ghost use Rattle.tac_reader.specs.Text.{line_after};
-ghost use Rattle.tac_reader.specs.code.Views.{token_view, tokens_view};
-ghost use Rattle.tac_reader.specs.declared.program.StmtKind.TheVariants.{Binary, Copy, IfCompare, Unary};
+ghost use Rattle.tac_lines.specs.Tokens.{stop_of as end_of, bytes_of};
+ghost use Rattle.tac_lines.specs.Forms.{callees_of};
+ghost use Rattle.tac_lines.specs.Text.{line_after};
+ghost use Rattle.tac_lines.specs.code.Views.{token_view, tokens_view};
+ghost use Rattle.tac_program.specs.declared.program.StmtKind.TheVariants.{Binary, Copy, IfCompare, Unary};
 
-use crate::form::Form;
-use crate::formed::Statement;
-use crate::names::NameTable;
+use tac_lines::Form;
+use tac_lines::Statement;
+use tac_program::NameTable;
 use crate::occurrences::Variables;
-use crate::piece::number_value;
-use crate::program::{Callees, Op, Operand, StmtKind};
-use crate::statement::{Role, cells};
-use crate::token::{Token, TokenKind};
+use tac_lines::number_value;
+use tac_program::{Callees, Op, Operand, StmtKind};
+use tac_lines::{Role, cells};
+use tac_lines::{Token, TokenKind};
 use std::alloc::AllocError;
 
 /// The tables that the numbers in a procedure's statements are places in.

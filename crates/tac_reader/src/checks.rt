@@ -5,25 +5,25 @@
 
 ghost use Rattle.std.specs.Prelude.{◌≡◌, ◌++◌, ℕ, List, [], ◌∷◌, Some, map, flat_map, drop, codes, if◌then◌else◌, IfOk, IfErr, OnOk};
 ghost use Rattle.tac_reader.specs.Faults.{callees_in, head_of, jumps_in, repeated, unknown};
-ghost use Rattle.tac_reader.specs.LineFaults.{at};
-ghost use Rattle.tac_reader.specs.Limits.{most_procedures};
-ghost use Rattle.tac_reader.specs.code.Lexed.{IfFault};
+ghost use Rattle.tac_lines.specs.LineFaults.{at};
+ghost use Rattle.tac_program.specs.Limits.{most_procedures};
+ghost use Rattle.tac_lines.specs.code.Lexed.{IfFault};
 ghost use Rattle.tac_reader.specs.Parses.{names_in};
 ghost use Rattle.tac_reader.specs.code.SectionViews.{section_view, sections_view};
 ghost use Rattle.tac_reader.specs.Sections.{labels_in, statements_of, titles as titles_of};
-ghost use Rattle.tac_reader.specs.Forms.{callees_of};
-ghost use Rattle.tac_reader.specs.Tokens.{Token as Word};
-ghost use Rattle.tac_reader.specs.Names.{is_one_of};
-ghost use Rattle.tac_reader.specs.code.Views.{tokens_view};
-ghost use Rattle.tac_reader.specs.declared.refusal.RefusalKind.TheVariants.{DuplicateCallee, DuplicateLabel, DuplicateProcedure, NoMain, TooManyProcedures, UnknownLabel, UnknownProcedure};
+ghost use Rattle.tac_lines.specs.Forms.{callees_of};
+ghost use Rattle.tac_lines.specs.Tokens.{Token as Word};
+ghost use Rattle.tac_program.specs.Names.{is_one_of};
+ghost use Rattle.tac_lines.specs.code.Views.{tokens_view};
+ghost use Rattle.tac_lines.specs.declared.refusal.RefusalKind.TheVariants.{DuplicateCallee, DuplicateLabel, DuplicateProcedure, NoMain, TooManyProcedures, UnknownLabel, UnknownProcedure};
 
-use crate::fault::{Fault, Stop};
-use crate::name_hashers::NameSeeds;
-use crate::names::NameTable;
-use crate::refusal::RefusalKind;
+use tac_lines::{Fault, Stop};
+use tac_program::NameSeeds;
+use tac_program::NameTable;
+use tac_lines::RefusalKind;
 use crate::section::{Section, labels, line_cells, section_cells};
-use crate::statement::Role;
-use crate::token::Token;
+use tac_lines::Role;
+use tac_lines::Token;
 use std::alloc::{AllocError, Global};
 
 /// The most procedures that a program may have.

@@ -1,7 +1,7 @@
 // Lines of places in a text, for places that mostly rise.
 
 ghost use Rattle.std.specs.Prelude.{◌≡◌, ◌+◌, ◌<◌, ◌≤◌, ◌^◌, length, take, count_by};
-ghost use Rattle.tac_reader.specs.Text.{is_line_end, line_after};
+ghost use Rattle.tac_lines.specs.Text.{is_line_end, line_after};
 
 use std::marker::Model;
 
@@ -15,7 +15,7 @@ pub struct LineCursor<'a> {
 
 impl<'a> Model for LineCursor<'a> {
     ghost use Rattle.std.specs.Prelude.{◌≡◌, ◌+◌, ◌<◌, ◌≤◌, ◌^◌, ℕ, List, length, take};
-    ghost use Rattle.tac_reader.specs.Text.{line_after};
+    ghost use Rattle.tac_lines.specs.Text.{line_after};
 
     ghost Value = { List ℕ };
 

@@ -4,14 +4,14 @@
 ghost use Rattle.std.specs.Prelude.{◌≡◌, [], ◌∷◌, ◌++◌, codes, None};
 ghost use Rattle.tac_reader.specs.Examples.{refused, procedures_before, word_from, numbered_example};
 ghost use Rattle.tac_reader.specs.Faults.{refusal_of};
-ghost use Rattle.tac_reader.specs.Listings.{listing_of};
+ghost use Rattle.tac_program.specs.Listings.{listing_of};
 ghost use Rattle.tac_reader.specs.Parses.{program_of};
-ghost use Rattle.tac_reader.specs.Sound.{IsSound, IsSoundStatement};
-ghost use Rattle.tac_reader.specs.Tokens.{row_from, name, number, fixed};
-ghost use Rattle.tac_reader.specs.declared.program.Op.TheVariants.{Less, Plus, Tilde};
-ghost use Rattle.tac_reader.specs.declared.program.Operand.TheVariants.{Variable, Number};
-ghost use Rattle.tac_reader.specs.declared.program.StmtKind.TheVariants.{Copy, Unary, Binary, Goto, IfCompare, Call};
-ghost use Rattle.tac_reader.specs.declared.refusal.RefusalKind.TheVariants.{BadByte, NumberTooLarge, NameTooLong, Syntax, Unclosed, NoMain, DuplicateProcedure, DuplicateLabel, UnknownLabel, UnknownProcedure, TooManyProcedures, DuplicateCallee};
+ghost use Rattle.tac_program.specs.Sound.{IsSound, IsSoundStatement};
+ghost use Rattle.tac_lines.specs.Tokens.{row_from, name, number, fixed};
+ghost use Rattle.tac_program.specs.declared.program.Op.TheVariants.{Less, Plus, Tilde};
+ghost use Rattle.tac_program.specs.declared.program.Operand.TheVariants.{Variable, Number};
+ghost use Rattle.tac_program.specs.declared.program.StmtKind.TheVariants.{Copy, Unary, Binary, Goto, IfCompare, Call};
+ghost use Rattle.tac_lines.specs.declared.refusal.RefusalKind.TheVariants.{BadByte, NumberTooLarge, NameTooLong, Syntax, Unclosed, NoMain, DuplicateProcedure, DuplicateLabel, UnknownLabel, UnknownProcedure, TooManyProcedures, DuplicateCallee};
 
 /// Every beginning of the smallest program is refused at its place, until it is whole.
 pub fn beginnings()

@@ -1,17 +1,6 @@
 //! Laws of the definitions: each is the clause of a function without a body.
 
 ghost use Rattle.tac_reader.specs.Laws.{ListingsReadBack, ProgramsAreSound, SignsDiffer, SignsTellOperators, StatementsAreSpelled, StatementsKeepTheirWords};
-ghost use Rattle.tac_reader.specs.LineLaws.{LinesJoin, StatementsAreApart, TokensAreSpelled};
-
-/// The lines of a text, one after another, are the text.
-pub fn lines_join()
-    ensures { LinesJoin }
-{}
-
-/// No words have two rows of the table of statements.
-pub fn statements_are_apart()
-    ensures { StatementsAreApart }
-{}
 
 /// Each of the operators is told by its sign, and no two have one sign.
 pub fn signs_tell_operators()
@@ -28,11 +17,6 @@ pub fn statements_keep_their_words()
 /// The program of a text that is not refused is sound: each number in it leads to what is there.
 pub fn programs_are_sound()
     ensures { ProgramsAreSound }
-{}
-
-/// The bytes from a token's start to its stop spell it.
-pub fn tokens_are_spelled()
-    ensures { TokensAreSpelled }
 {}
 
 /// The bytes of a statement's span have its tokens and nothing else.

@@ -1,11 +1,11 @@
 // Where variables stand in a text, with their numbers, so that a name is looked up once for each place.
 
 ghost use Rattle.std.specs.Prelude.{◌≡◌, All, slice_range};
-ghost use Rattle.tac_reader.specs.Programs.{number_of};
+ghost use Rattle.tac_program.specs.Programs.{number_of};
 ghost use Rattle.tac_reader.specs.code.Occurrences.{IsNumberedIn};
 
-use crate::names::NameTable;
-use crate::token::Token;
+use tac_program::NameTable;
+use tac_lines::Token;
 
 /// The bytes `start..stop` of a text, which are the name of the variable of this number.
 #[derive(Clone, Copy)]

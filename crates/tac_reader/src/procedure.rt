@@ -5,23 +5,23 @@ ghost use Rattle.tac_reader.specs.code.Built.{names_view};
 ghost use Rattle.tac_reader.specs.code.Occurrences.{IsNumberedIn};
 ghost use Rattle.tac_reader.specs.code.Procedures.{labels_at};
 ghost use Rattle.tac_reader.specs.Parses.{label_places, labels_from, names_in, procedure_of, procedures_from, start_of as start_in, statement_of, variables_in};
-ghost use Rattle.tac_reader.specs.Names.{noted};
+ghost use Rattle.tac_program.specs.Names.{noted};
 ghost use Rattle.tac_reader.specs.code.SectionViews.{lines_view, section_view, sections_view};
 ghost use Rattle.tac_reader.specs.Sections.{labels_in, only_name, statements_of, variables_of};
-ghost use Rattle.tac_reader.specs.Sound.{IsSound};
-ghost use Rattle.tac_reader.specs.code.Views.{tokens_view};
+ghost use Rattle.tac_program.specs.Sound.{IsSound};
+ghost use Rattle.tac_lines.specs.code.Views.{tokens_view};
 
 use crate::build::{Names, Progress, kind};
 use crate::cursor::LineCursor;
-use crate::formed::{Lines, Statement, counted};
-use crate::line::stop_of;
-use crate::name_hashers::NameSeeds;
-use crate::names::NameTable;
+use tac_lines::{Lines, Statement, counted};
+use tac_lines::stop_of;
+use tac_program::NameSeeds;
+use tac_program::NameTable;
 use crate::occurrences::{Occurrence, Variables};
-use crate::program::{Label, Proc, Program, Span, Stmt};
+use tac_program::{Label, Proc, Program, Span, Stmt};
 use crate::section::Section;
-use crate::statement::{Role, cells, has_only_variables};
-use crate::token::{Token, TokenKind};
+use tac_lines::{Role, cells, has_only_variables};
+use tac_lines::{Token, TokenKind};
 use std::alloc::{AllocError, Global};
 
 /// The names that the whole program shares.

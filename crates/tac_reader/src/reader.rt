@@ -2,26 +2,26 @@
 
 ghost use Rattle.std.specs.Prelude.{◌≡◌, ◌+◌, ◌<◌, ◌≤◌, ◌^◌, Some, None, length, map, take, IfOk, IfErr, OnOk};
 ghost use Rattle.tac_reader.specs.Faults.{fault_of, head_of, name_faults, refusal_of, refusal_at};
-ghost use Rattle.tac_reader.specs.Limits.{longest_text};
-ghost use Rattle.tac_reader.specs.code.Lexed.{IfFault};
+ghost use Rattle.tac_program.specs.Limits.{longest_text};
+ghost use Rattle.tac_lines.specs.code.Lexed.{IfFault};
 ghost use Rattle.tac_reader.specs.Parses.{names_in, program_of};
 ghost use Rattle.tac_reader.specs.code.ReadFaults.{IfRefused};
 ghost use Rattle.tac_reader.specs.Sections.{labels_in, titles};
 ghost use Rattle.tac_reader.specs.code.SectionViews.{sections_view};
-ghost use Rattle.tac_reader.specs.Text.{line_after, column_after};
+ghost use Rattle.tac_lines.specs.Text.{line_after, column_after};
 
 use crate::checks::{
     check_callees, check_count, check_jumps, check_labels, check_main, check_procedures,
     check_repeated_callees,
 };
-use crate::fault::{Fault, Stop};
-use crate::formed::Lines;
-use crate::lex::lex;
-use crate::name_hashers::NameSeeds;
-use crate::names::NameTable;
+use tac_lines::{Fault, Stop};
+use tac_lines::Lines;
+use tac_lines::lex;
+use tac_program::NameSeeds;
+use tac_program::NameTable;
 use crate::procedure::{program, variables};
-use crate::program::Program;
-use crate::refusal::{ReadFault, Refusal, RefusalKind};
+use tac_program::Program;
+use tac_lines::{ReadFault, Refusal, RefusalKind};
 use crate::section::{Section, sections};
 use std::alloc::Global;
 

@@ -1,19 +1,19 @@
 // A text's procedures, by their lines.
 
 ghost use Rattle.std.specs.Prelude.{◌≡◌, ◌<◌, ◌≤◌, ◌++◌, ℕ, List, length, map, flat_map, drop, take_while, take, slice_index_or, vec_len, IfOk, OnOk};
-ghost use Rattle.tac_reader.specs.Forms.{behind_labels, cells_of, in_slot, labels_of, is_inner as is_inner_line};
-ghost use Rattle.tac_reader.specs.code.Ranges.{range_view};
-ghost use Rattle.tac_reader.specs.code.Roles.{role_test};
+ghost use Rattle.tac_lines.specs.Forms.{behind_labels, cells_of, in_slot, labels_of, is_inner as is_inner_line};
+ghost use Rattle.tac_lines.specs.code.Ranges.{range_view};
+ghost use Rattle.tac_lines.specs.code.Roles.{role_test};
 ghost use Rattle.tac_reader.specs.code.SectionViews.{lines_view, sections_view};
 ghost use Rattle.tac_reader.specs.Sections.{sections_in, statements_of};
-ghost use Rattle.tac_reader.specs.code.Views.{tokens_view};
-ghost use Rattle.tac_reader.specs.declared.lexed.LineRange.{LineRange};
+ghost use Rattle.tac_lines.specs.code.Views.{tokens_view};
+ghost use Rattle.tac_lines.specs.declared.lexed.LineRange.{LineRange};
 
-use crate::formed::Lines;
-use crate::lex::{is_end, is_proc};
-use crate::line::label_at;
-use crate::statement::{Role, cells};
-use crate::token::Token;
+use tac_lines::Lines;
+use tac_lines::{is_end, is_proc};
+use tac_lines::label_at;
+use tac_lines::{Role, cells};
+use tac_lines::Token;
 use std::alloc::{AllocError, Global};
 
 /// A procedure: its name, and the lines between its `proc` line and its `end`.

@@ -3,7 +3,7 @@ use Rattle.std.proofs.Common.{◌≡◌, ℕ, List, None, subst, Some}
 use Rattle.flow_graph.specs.Limits.{HasFewBits, HasFewPoints}
 use Rattle.flow_graph.specs.declared.analysis.Analysis.{Analysis}
 use Rattle.tac_reader.specs.Faults.{refusal_of}
-use Rattle.tac_reader.specs.Programs.{Program}
+use Rattle.tac_program.specs.Programs.{Program}
 use Rattle.tac_reader.specs.Parses.{program_of}
 use Rattle.tacflow_c.specs.Facts.{AreFactsOf, AreFactsOfText, IsTableFault}
 use Rattle.tacflow_c.specs.Statuses.{HasGraph, IsBadTable, analysis_of}

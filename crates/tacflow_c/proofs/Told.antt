@@ -7,7 +7,7 @@ use Rattle.flow_graph.specs.Problems.{MayForm}
 use Rattle.flow_graph.specs.declared.analysis.Analysis.{Analysis}
 use Rattle.flow_graph.proofs.graphs.MayForms.{flags_are_may_forms}
 use Rattle.gk_solve.specs.Solved.{HasPathFlags}
-use Rattle.tac_reader.specs.Programs.{Program}
+use Rattle.tac_program.specs.Programs.{Program}
 use Rattle.tacflow_c.specs.Facts.{AreFactsOf, IsFactWord}
 use Rattle.tacflow_c.specs.code.Filled.{AreFilled}
 use Rattle.tacflow_c.specs.code.Flags.{AreNumbers}

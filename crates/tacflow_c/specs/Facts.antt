@@ -4,7 +4,7 @@ use Rattle.bit_rows.specs.Words.{has_bit, word_count}
 use Rattle.flow_graph.specs.Analyses.{HasPathAt, IsInTable}
 use Rattle.flow_graph.specs.Points.{point_count}
 use Rattle.flow_graph.specs.declared.analysis.Analysis.{Analysis}
-use Rattle.tac_reader.specs.Programs.{Program}
+use Rattle.tac_program.specs.Programs.{Program}
 use Rattle.tac_reader.specs.Parses.{program_of}
 use Rattle.tacflow_c.specs.Statuses.{HasGraph, HasRoom, IsBadRange, IsFaultOf, analysis_of}
 use Rattle.tacflow_c.specs.declared.fault.Fault.{Fault}

@@ -5,13 +5,13 @@ use Rattle.flow_graph.specs.Universes.{Definition, bits}
 use Rattle.flow_graph.specs.declared.analysis.Analysis.TheVariants.{Reach, Live, Avail}
 use Rattle.flow_graph.specs.declared.expression.Expr.{Expr}
 use Rattle.flow_graph.specs.declared.expression.Expr.TheVariants.{Unary, Binary}
-use Rattle.tac_reader.specs.Programs.{Program}
-use Rattle.tac_reader.specs.declared.program.Op.{Op}
-use Rattle.tac_reader.specs.declared.program.Op.TheVariants as op
-use Rattle.tac_reader.specs.declared.program.Operand.{Operand}
-use Rattle.tac_reader.specs.declared.program.Operand.TheVariants.{Variable, Number}
-use Rattle.tac_reader.specs.declared.program.Span.{Span}
-use Rattle.tac_reader.specs.declared.program.Stmt.{Stmt}
+use Rattle.tac_program.specs.Programs.{Program}
+use Rattle.tac_program.specs.declared.program.Op.{Op}
+use Rattle.tac_program.specs.declared.program.Op.TheVariants as op
+use Rattle.tac_program.specs.declared.program.Operand.{Operand}
+use Rattle.tac_program.specs.declared.program.Operand.TheVariants.{Variable, Number}
+use Rattle.tac_program.specs.declared.program.Span.{Span}
+use Rattle.tac_program.specs.declared.program.Stmt.{Stmt}
 use Rattle.tacflow_c.specs.declared.parts.Definition.{Definition as DefinitionPart}
 use Rattle.tacflow_c.specs.declared.parts.Expression.{Expression}
 use Rattle.tacflow_c.specs.declared.parts.Part.{Part}

@@ -7,10 +7,10 @@ use Rattle.flow_graph.specs.Universes.{bits}
 use Rattle.flow_graph.specs.declared.analysis.Analysis.{Analysis}
 use Rattle.flow_graph.specs.declared.analysis.Analysis.TheVariants.{Reach, Live, Avail, Busy}
 use Rattle.tac_reader.specs.Faults.{refusal_of}
-use Rattle.tac_reader.specs.LineFaults.{number_of_kind}
-use Rattle.tac_reader.specs.Programs.{Program}
+use Rattle.tac_lines.specs.LineFaults.{number_of_kind}
+use Rattle.tac_program.specs.Programs.{Program}
 use Rattle.tac_reader.specs.Parses.{program_of}
-use Rattle.tac_reader.specs.declared.refusal.Refusal.{Refusal}
+use Rattle.tac_lines.specs.declared.refusal.Refusal.{Refusal}
 use Rattle.tacflow_c.specs.declared.fault.Fault.{Fault}
 use Rattle.tacflow_c.specs.declared.fault.Fault.TheVariants as fault
 use Rattle.tacflow_c.specs.declared.fault.Place.{Place}

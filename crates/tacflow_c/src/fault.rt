@@ -3,7 +3,7 @@
 ghost use Rattle.std.specs.Prelude.{◌≡◌, Some};
 ghost use Rattle.tacflow_c.specs.Statuses.{fault_in, place_after, status_of};
 
-use tac_reader::Refusal;
+use tac_lines::Refusal;
 
 /// Why a call has no answer.
 #[derive(Clone, Copy)]

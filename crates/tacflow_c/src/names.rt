@@ -4,7 +4,7 @@ ghost use Rattle.std.specs.Prelude.{◌≡◌, ◌<◌, ◌≤◌, Some, length,
 ghost use Rattle.std.specs.List.{concat};
 ghost use Rattle.tacflow_c.specs.Names.{AreNames, names_of};
 
-use tac_reader::Program;
+use tac_program::Program;
 
 /// What is named.
 #[derive(Clone, Copy)]

@@ -6,7 +6,7 @@ ghost use Rattle.flow_graph.specs.Universes.{definitions as definitions_in, expr
 ghost use Rattle.tacflow_c.specs.Parts.{AreParts, ArePartsOf, definition_part, expression_part, operand_part, operator_number, point_part, sizes_of};
 
 use flow_graph::{Analysis, Expr, Graph};
-use tac_reader::{Op, Operand};
+use tac_program::{Op, Operand};
 
 /// How large a program is: its procedures, points, variables, definitions (one for each variable's value at the beginning, and one for
 /// each statement that sets a variable) and expressions.

@@ -9,7 +9,9 @@ ghost use Rattle.tacflow_c.specs.Statuses.{IsOverLimit, IsUnread};
 use crate::fault::Fault;
 use flow_graph::{Graph, GraphFault};
 use std::alloc::Global;
-use tac_reader::{Program, ReadFault, read};
+use tac_lines::ReadFault;
+use tac_program::Program;
+use tac_reader::read;
 
 /// The program of a text.
 pub(crate) fn program_of(alloc: Global, text: &[u8]) -> Result<Program, Fault>

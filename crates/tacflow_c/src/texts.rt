@@ -7,7 +7,7 @@ use crate::fault::Fault;
 use crate::text::{graph_of, program_of};
 use flow_texts::report_here;
 use std::alloc::Global;
-use tac_reader::listing;
+use tac_program::listing;
 
 // Puts a text where there is room for it, and tells how long it is.
 fn put_text(text: &[u8], bytes: &mut [u8], size: &mut usize) -> bool

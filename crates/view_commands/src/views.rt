@@ -19,7 +19,7 @@ use flow_texts::{ReportAnswers, Tables};
 use flow_views::{DotText, JsonText, View};
 use std::alloc::Global;
 use std::thread::Threads;
-use tac_reader::Program;
+use tac_program::Program;
 use text_pieces::Sink;
 
 // The number of the procedure of this name.

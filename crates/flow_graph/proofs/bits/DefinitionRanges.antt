@@ -1,10 +1,10 @@
 -- A definition is of a variable that is there, by a statement at a point that is there.
 use Rattle.std.proofs.Common.{◌≡◌, ℕ, zero, suc, ◌<◌, List, [], ◌∷◌, length, flat_map, Option, Some, None, option_and_then, slice_get, Contains, inl, inr, refl, sym, subst, arith}
 use Rattle.std.specs.List.{range_with_len}
-use Rattle.tac_reader.specs.Programs.{Program}
-use Rattle.tac_reader.specs.Sound.{IsSound, IsSoundStatement}
-use Rattle.tac_reader.specs.declared.program.StmtKind.{StmtKind}
-use Rattle.tac_reader.specs.declared.program.StmtKind.TheVariants as kind
+use Rattle.tac_program.specs.Programs.{Program}
+use Rattle.tac_program.specs.Sound.{IsSound, IsSoundStatement}
+use Rattle.tac_program.specs.declared.program.StmtKind.{StmtKind}
+use Rattle.tac_program.specs.declared.program.StmtKind.TheVariants as kind
 use Rattle.flow_graph.specs.Points.{points, point_count, kind_at}
 use Rattle.flow_graph.specs.Universes.{Definition, definition_at, definitions, dummies, target_at, defined_variable, IsDefinitionIn}
 use Rattle.std.proofs.lemmas.List.Elements.{Contains-append_cases}

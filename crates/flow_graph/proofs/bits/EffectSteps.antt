@@ -1,7 +1,7 @@
 -- What is kept of each statement, one point after the other
 use Rattle.std.proofs.Common.{◌≡◌, ℕ, ◌+◌, ◌<◌, length, flat_map, ap, ◌∙◌, length-append}
 use Rattle.std.specs.List.{range_with_len}
-use Rattle.tac_reader.specs.Programs.{Program}
+use Rattle.tac_program.specs.Programs.{Program}
 use Rattle.flow_graph.specs.code.Effects.{IsEffect, IsNumberedEffect}
 use Rattle.flow_graph.specs.Points.{point_count}
 use Rattle.flow_graph.specs.Universes.{Analysis, Reach, Live, Avail, Busy, definition_at}

@@ -2,7 +2,7 @@
 use Rattle.std.proofs.Common.{◌≡◌, ◌∙◌, ◌⊎◌, ℕ, ◌+◌, ◌*◌, ◌/◌, ◌<◌, Bool, true, false, ◌||◌, option_map, unwrap_or, List, length, inl, inr, refl, sym, ap, bit_or, arith}
 use Rattle.bit_rows.specs.Words.{has_bit}
 use Rattle.bit_rows.proofs.WordBits.{has_bit-or}
-use Rattle.tac_reader.specs.Programs.{Program}
+use Rattle.tac_program.specs.Programs.{Program}
 use Rattle.flow_graph.specs.code.BitTables.{table_has}
 use Rattle.flow_graph.specs.code.Effects.{AreDependenceWords, IsEffect, depends, gen_from, kill_from, marks, owns, touches}
 use Rattle.flow_graph.specs.Problems.{IsAffected}

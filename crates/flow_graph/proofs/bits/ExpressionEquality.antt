@@ -1,20 +1,23 @@
 -- What the derived equality of expressions says
 use Rattle.std.proofs.Common.{◌≡◌, Bool, true, false, ◌&&◌, nat_eq, refl, sym, ap, ap₂, ◌∙◌, subst, rules, arith}
+use Rattle.std.specs.Prelude.{ℕ, List, find, unwrap_or, bytes_eq}
 use denote.Enum.Bare.{sameb, same_true, same_false}
 use Rattle.std.proofs.lemmas.Slice.Eq.{bytes_eq-Decides}
-use Rattle.tac_reader.specs.Parses.{operator_of}
-use Rattle.tac_reader.specs.Spelling.{sign_of}
-use Rattle.tac_reader.specs.Tokens.{fixed}
-use Rattle.tac_reader.specs.contracts.program.Op.{the_type}
-use Rattle.tac_reader.specs.declared.program.Op.{Op}
-use Rattle.tac_reader.specs.declared.program.Op.TheVariants as op
-use Rattle.tac_reader.specs.declared.program.Operand.{Operand}
-use Rattle.tac_reader.specs.declared.program.Operand.TheVariants.{Variable, Number}
+use Rattle.tac_program.specs.Spelling.{operators, sign_of}
+use Rattle.tac_program.specs.contracts.program.Op.{the_type}
+use Rattle.tac_program.specs.declared.program.Op.{Op}
+use Rattle.tac_program.specs.declared.program.Op.TheVariants as op
+use Rattle.tac_program.specs.declared.program.Operand.{Operand}
+use Rattle.tac_program.specs.declared.program.Operand.TheVariants.{Variable, Number}
 use Rattle.flow_graph.specs.Universes.{Expr, Unary, Binary, same_expression, same_operand, same_operator}
 use Rattle.flow_graph.specs.contracts.expression.ExprPartialEq.TheImpl as derived
 
+-- the operator of a sign
+with_sign : List ℕ → Op
+with_sign s = unwrap_or (find (λ o. bytes_eq s (sign_of o)) operators) op.Plus
+
 -- the sign of an operator tells the operator
-sign_tells : (o : Op) → operator_of (fixed (sign_of o)) ≡ o
+sign_tells : (o : Op) → with_sign (sign_of o) ≡ o
 sign_tells op.Plus = refl
 sign_tells op.Minus = refl
 sign_tells op.Star = refl
@@ -41,7 +44,7 @@ equal_operators o p = by_test (sameb the_type o p) refl
     signs false is differ = sym is
     signs true is differ =
         let one_sign : sign_of o ≡ sign_of p = (bytes_eq-Decides (sign_of o) (sign_of p)).0 is in
-        let one : o ≡ p = sym (sign_tells o) ∙ ap (λ s. operator_of (fixed s)) one_sign ∙ sign_tells p in
+        let one : o ≡ p = sym (sign_tells o) ∙ ap with_sign one_sign ∙ sign_tells p in
         absurd (same_false the_type o p differ one)
 
     by_test : (t : Bool) → sameb the_type o p ≡ t → sameb the_type o p ≡ same_operator o p
@@ -81,7 +84,7 @@ equal_is_same (Unary o a) (Binary b p v) = refl
 equal_is_same (Binary a o u) (Unary p b) = refl
 
 same_operators : (o p : Op) → same_operator o p ≡ true → o ≡ p
-same_operators o p same = sym (sign_tells o) ∙ ap (λ s. operator_of (fixed s)) ((bytes_eq-Decides (sign_of o) (sign_of p)).0 same) ∙ sign_tells p
+same_operators o p same = sym (sign_tells o) ∙ ap with_sign ((bytes_eq-Decides (sign_of o) (sign_of p)).0 same) ∙ sign_tells p
 
 same_operands : (a b : Operand) → same_operand a b ≡ true → a ≡ b
 same_operands (Variable x) (Variable y) same = ap Variable (let e : x ≡ y = grind arith in e)

@@ -3,9 +3,9 @@ use Rattle.std.proofs.Common.{◌≡◌, ℕ, suc, ◌+◌, ◌<◌, ◌≤◌, 
 use Rattle.std.specs.List.{list_any, prefix_len, position_or_len}
 use Rattle.std.proofs.lemmas.Bool.{lt-ltb}
 use Rattle.std.proofs.lemmas.Slice.Eq.{bytes_eq-Decides}
-use Rattle.tac_reader.specs.Spelling.{sign_of}
-use Rattle.tac_reader.specs.declared.program.Operand.{Operand}
-use Rattle.tac_reader.specs.declared.program.Operand.TheVariants.{Variable, Number}
+use Rattle.tac_program.specs.Spelling.{sign_of}
+use Rattle.tac_program.specs.declared.program.Operand.{Operand}
+use Rattle.tac_program.specs.declared.program.Operand.TheVariants.{Variable, Number}
 use Rattle.flow_graph.specs.Universes.{Expr, Unary, Binary, same_expression, same_operand, noted, some_expression}
 use Rattle.flow_graph.specs.code.Evaluated.{IsNumberOf}
 use Rattle.flow_graph.proofs.bits.ExpressionEquality.{equal_is_same}

@@ -1,6 +1,6 @@
 -- The edges of a may form that goes backwards
 use Rattle.std.proofs.Common.{◌≡◌, List, true, map, sym, ap, ◌∙◌}
-use Rattle.tac_reader.specs.Programs.{Program}
+use Rattle.tac_program.specs.Programs.{Program}
 use Rattle.flow_graph.specs.Analyses.{is_backward}
 use Rattle.flow_graph.specs.Problems.{may_shape}
 use Rattle.flow_graph.specs.Edges.{edges}

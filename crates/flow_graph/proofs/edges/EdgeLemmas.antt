@@ -2,12 +2,12 @@
 use Rattle.std.proofs.Common.{◌≡◌, ℕ, zero, suc, ◌<◌, ◌≤◌, Bool, true, false, List, [], ◌∷◌, length, map, Option, Some, None, option_map, option_and_then, slice_get, unwrap_or, All, Contains, nat_eq, ◌||◌, if◌then◌else◌, inl, inr, refl, sym, ap, ◌∙◌, subst, arith}
 use Rattle.std.specs.List.{list_any}
 use Rattle.std.proofs.lemmas.List.Elements.{All-get_or}
-use Rattle.tac_reader.specs.Programs.{Procedure, Program}
-use Rattle.tac_reader.specs.Sound.{IsSound}
-use Rattle.tac_reader.specs.declared.program.Label.{Label}
-use Rattle.tac_reader.specs.declared.program.Stmt.{Stmt}
-use Rattle.tac_reader.specs.declared.program.StmtKind.{StmtKind}
-use Rattle.tac_reader.specs.declared.program.StmtKind.TheVariants as kind
+use Rattle.tac_program.specs.Programs.{Procedure, Program}
+use Rattle.tac_program.specs.Sound.{IsSound}
+use Rattle.tac_program.specs.declared.program.Label.{Label}
+use Rattle.tac_program.specs.declared.program.Stmt.{Stmt}
+use Rattle.tac_program.specs.declared.program.StmtKind.{StmtKind}
+use Rattle.tac_program.specs.declared.program.StmtKind.TheVariants as kind
 use Rattle.flow_graph.specs.Edges.{label_point, two_steps, edges_of, callees_named, callees_at, calls, return_to, returns_of, edges_from, edges}
 use Rattle.flow_graph.specs.Paths.{Edge, Step, Call, Ret}
 use Rattle.flow_graph.specs.Points.{Place, points, place_of, procedure_at, statements_of, statement_at, kind_at, end_place, end_point, entry_point, point_of, point_count}

@@ -6,8 +6,8 @@ use Rattle.std.proofs.lemmas.List.{get_or_past, get_or-map, length-map}
 use Rattle.std.proofs.lemmas.List.Elements.{Contains-append_left, Contains-append_right, Contains-append_cases}
 use Rattle.std.proofs.lemmas.List.Sums.{sum_by-set}
 use Rattle.smallvec.specs.SmallVec.{SmallVec}
-use Rattle.tac_reader.specs.Programs.{Program}
-use Rattle.tac_reader.specs.Sound.{IsSound}
+use Rattle.tac_program.specs.Programs.{Program}
+use Rattle.tac_program.specs.Sound.{IsSound}
 use Rattle.flow_graph.specs.Analyses.{shape_of}
 use Rattle.flow_graph.specs.Leading.{LeadsTo, TellLeading}
 use Rattle.flow_graph.specs.code.Searching.{AreSources, sources_of, Search, search_of, with_known}

@@ -1,10 +1,10 @@
 -- The call sites of procedures, point by point
 use Rattle.std.proofs.Common.{◌≡◌, ℕ, ◌+◌, ◌<◌, List, [], length, get_or, fold, All, Option, Some, None, option_map, unwrap_or, refl, sym, ap, ◌∙◌, arith}
 use Rattle.std.specs.List.{filter, range_with_len}
-use Rattle.tac_reader.specs.Programs.{Program}
-use Rattle.tac_reader.specs.Sound.{IsSound, AllDiffer}
-use Rattle.tac_reader.specs.declared.program.StmtKind.{StmtKind}
-use Rattle.tac_reader.specs.declared.program.StmtKind.TheVariants as kind
+use Rattle.tac_program.specs.Programs.{Program}
+use Rattle.tac_program.specs.Sound.{IsSound, AllDiffer}
+use Rattle.tac_program.specs.declared.program.StmtKind.{StmtKind}
+use Rattle.tac_program.specs.declared.program.StmtKind.TheVariants as kind
 use Rattle.flow_graph.specs.Edges.{callees_named, callees_at, calls}
 use Rattle.flow_graph.specs.code.NumberLists.{with_last, AreLists}
 use Rattle.flow_graph.specs.Points.{kind_at, point_count}

@@ -1,8 +1,8 @@
 -- The points from which an edge leads to a point
 use Rattle.std.proofs.Common.{◌≡◌, ℕ, zero, suc, ◌+◌, ◌<◌, Bool, true, false, List, [], ◌∷◌, ◌++◌, length, flat_map, get_or, fold, All, Contains, nat_eq, if◌then◌else◌, refl, sym, ap, ◌∙◌, subst, append_assoc, append-nil, arith, length-set}
 use Rattle.std.specs.List.{range_with_len}
-use Rattle.tac_reader.specs.Programs.{Program}
-use Rattle.tac_reader.specs.Sound.{IsSound}
+use Rattle.tac_program.specs.Programs.{Program}
+use Rattle.tac_program.specs.Sound.{IsSound}
 use Rattle.flow_graph.specs.Edges.{edges, edges_from}
 use Rattle.flow_graph.specs.code.Searching.{sources_among, sources_of}
 use Rattle.flow_graph.specs.code.NumberLists.{with_last, AreLists}

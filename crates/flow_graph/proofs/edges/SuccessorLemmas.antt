@@ -5,8 +5,8 @@ use Rattle.std.proofs.lemmas.List.{get_or-map, length-map}
 use Rattle.std.proofs.lemmas.List.FromFn.{get_or-range_with_len, length-range_with_len}
 use Rattle.std.proofs.lemmas.Option.{slice_get_read}
 use Rattle.smallvec.specs.SmallVec.{SmallVec}
-use Rattle.tac_reader.specs.Programs.{Procedure, Program}
-use Rattle.tac_reader.specs.declared.program.Stmt.{Stmt}
+use Rattle.tac_program.specs.Programs.{Procedure, Program}
+use Rattle.tac_program.specs.declared.program.Stmt.{Stmt}
 use Rattle.flow_graph.specs.Edges.{calls, returns_of, edges_from, edges_of}
 use Rattle.flow_graph.specs.code.Labels.{labels_at}
 use Rattle.flow_graph.specs.code.NumberLists.{contents}

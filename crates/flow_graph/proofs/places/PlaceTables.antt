@@ -3,7 +3,7 @@ use Rattle.std.proofs.Common.{◌≡◌, ℕ, zero, suc, ◌+◌, ◌-◌, ◌<�
 use Rattle.std.proofs.lemmas.List.Sums.{sum_by-cons, sum_by_more}
 use Rattle.std.proofs.lemmas.Bool.{cases_lt}
 use Rattle.std.proofs.lemmas.Option.{slice_get_past, slice_get-get_or, slice_get_read}
-use Rattle.tac_reader.specs.Programs.{Procedure, Program}
+use Rattle.tac_program.specs.Programs.{Procedure, Program}
 use Rattle.flow_graph.specs.Points.{Place, size_of, first_point, place_of, procedure_at, end_place, point_of, point_count}
 use Rattle.flow_graph.specs.code.PointTables.{AreFirstPoints, AreProcedures}
 use Rattle.flow_graph.specs.ProgramLaws.{IsPlaceOf}

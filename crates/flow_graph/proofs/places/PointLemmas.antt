@@ -1,8 +1,8 @@
 -- Points and places are one to one
 use Rattle.std.proofs.Common.{◌≡◌, ℕ, zero, suc, ◌+◌, ◌-◌, ◌<◌, ◌≤◌, Bool, true, false, List, [], ◌∷◌, length, take, option_map, slice_get, unwrap_or, nat_lt, sum_by, if◌then◌else◌, refl, ap, ap₂, ◌∙◌, subst, arith}
 use Rattle.std.proofs.lemmas.List.Sums.{sum_by-cons}
-use Rattle.tac_reader.specs.Programs.{Procedure}
-use Rattle.tac_reader.specs.declared.program.Stmt.{Stmt}
+use Rattle.tac_program.specs.Programs.{Procedure}
+use Rattle.tac_program.specs.declared.program.Stmt.{Stmt}
 use Rattle.flow_graph.specs.Points.{Place, size_of, place_among, place_of, end_place, point_of}
 use Rattle.flow_graph.specs.ProgramLaws.{PlacesHavePoints, PointsHavePlaces, IsPlaceOf}
 

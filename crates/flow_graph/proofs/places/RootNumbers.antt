@@ -3,8 +3,8 @@ use Rattle.std.proofs.Common.{◌≡◌, ℕ, ◌<◌, ◌≤◌, ◌⊎◌, tru
 use Rattle.std.proofs.lemmas.Bool.{cases_lt}
 use Rattle.std.proofs.lemmas.Option.{get_or_from_slice_get, slice_get_within}
 use Rattle.std.proofs.lemmas.Slice.Eq.{bytes_eq-Decides}
-use Rattle.tac_reader.specs.Programs.{number_of}
-use Rattle.tac_reader.specs.Sound.{AllDiffer}
+use Rattle.tac_program.specs.Programs.{number_of}
+use Rattle.tac_program.specs.Sound.{AllDiffer}
 use Rattle.flow_graph.specs.code.Effects.{marks}
 use Rattle.flow_graph.proofs.bits.OwnBits.{is_at, is_at-position, passing}
 

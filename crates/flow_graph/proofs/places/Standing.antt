@@ -2,10 +2,10 @@
 use Rattle.std.proofs.Common.{◌≡◌, ℕ, zero, suc, ◌<◌, List, [], ◌∷◌, length, Option, Some, None, option_map, slice_get, unwrap_or, All, refl, sym, ap, ◌∙◌, subst, arith}
 use Rattle.std.proofs.lemmas.Option.{slice_get_within, get_or_from_slice_get}
 use Rattle.std.proofs.lemmas.List.Elements.{All-get_or}
-use Rattle.tac_reader.specs.Programs.{Procedure, Program}
-use Rattle.tac_reader.specs.Sound.{IsSound, IsSoundProcedure, IsSoundStatement}
-use Rattle.tac_reader.specs.declared.program.Stmt.{Stmt}
-use Rattle.tac_reader.specs.declared.program.StmtKind.{StmtKind}
+use Rattle.tac_program.specs.Programs.{Procedure, Program}
+use Rattle.tac_program.specs.Sound.{IsSound, IsSoundProcedure, IsSoundStatement}
+use Rattle.tac_program.specs.declared.program.Stmt.{Stmt}
+use Rattle.tac_program.specs.declared.program.StmtKind.{StmtKind}
 use Rattle.flow_graph.specs.Points.{place_of, procedure_at, statements_of, statement_at, kind_at, end_place, point_of, point_count}
 use Rattle.flow_graph.specs.ProgramLaws.{IsPlaceOf}
 use Rattle.flow_graph.proofs.places.PointLemmas.{points_have_places}

@@ -3,7 +3,7 @@ use Rattle.std.proofs.Common.{◌≡◌, ℕ, ◌+◌, ◌<◌, ◌≤◌, ◌�
 use Rattle.std.proofs.lemmas.Bool.{cases_lt}
 use Rattle.std.proofs.lemmas.List.Sums.{sum_by_more}
 use Rattle.std.proofs.lemmas.Option.{get_or_from_slice_get}
-use Rattle.tac_reader.specs.Programs.{Procedure, Program}
+use Rattle.tac_program.specs.Programs.{Procedure, Program}
 use Rattle.flow_graph.specs.Points.{Place, size_of, first_point, point_of, point_count, end_place, statements_of, statement_at}
 use Rattle.flow_graph.proofs.places.PointLemmas.{places_have_points}
 use Rattle.flow_graph.proofs.places.Standing.{slice_get_some}

@@ -1,6 +1,6 @@
 -- How numbers of expressions stand for expressions.
 use Rattle.std.specs.Prelude.{◌≡◌, ℕ, List, Option, Some, None, position, length, get_or, ◌<◌}
-use Rattle.tac_reader.specs.Programs.{Program}
+use Rattle.tac_program.specs.Programs.{Program}
 use Rattle.flow_graph.specs.Points.{point_count}
 use Rattle.flow_graph.specs.Universes.{Expr, evaluated_at, same_expression}
 

@@ -1,7 +1,7 @@
 -- The labels that a jump at a point may name.
 use Rattle.std.specs.Prelude.{ℕ, List, [], option_map, slice_get, unwrap_or}
-use Rattle.tac_reader.specs.Programs.{Program}
-use Rattle.tac_reader.specs.declared.program.Label.{Label}
+use Rattle.tac_program.specs.Programs.{Program}
+use Rattle.tac_program.specs.declared.program.Label.{Label}
 use Rattle.flow_graph.specs.Points.{procedure_at}
 
 -- the labels of a point's procedure

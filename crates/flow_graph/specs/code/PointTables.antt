@@ -1,6 +1,6 @@
 -- How the tables of points stand for a program.
 use Rattle.std.specs.Prelude.{◌≡◌, ◌<◌, ℕ, List, length, get_or}
-use Rattle.tac_reader.specs.Programs.{Program}
+use Rattle.tac_program.specs.Programs.{Program}
 use Rattle.flow_graph.specs.Points.{first_point, point_count, procedure_at}
 
 -- the first point of each procedure

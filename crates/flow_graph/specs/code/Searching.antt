@@ -1,6 +1,6 @@
 -- How the search for points that lead to marked ones goes: backwards from these.
 use Rattle.std.specs.Prelude.{ℕ, Bool, true, false, List, [], ◌∷◌, ◌++◌, flat_map, get_or, slice_set, nat_eq, if◌then◌else◌}
-use Rattle.tac_reader.specs.Programs.{Program}
+use Rattle.tac_program.specs.Programs.{Program}
 use Rattle.flow_graph.specs.Edges.{edges_from}
 use Rattle.flow_graph.specs.Paths.{Edge, target_of}
 use Rattle.flow_graph.specs.Points.{points, point_count}

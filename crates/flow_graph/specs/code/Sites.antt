@@ -1,7 +1,7 @@
 -- The call sites of each procedure.
 use Rattle.std.specs.Prelude.{ℕ, List, length}
 use Rattle.std.specs.List.{filter}
-use Rattle.tac_reader.specs.Programs.{Program}
+use Rattle.tac_program.specs.Programs.{Program}
 use Rattle.flow_graph.specs.Edges.{calls}
 use Rattle.flow_graph.specs.code.NumberLists.{AreLists}
 use Rattle.flow_graph.specs.Points.{points}

@@ -13,7 +13,7 @@ use Rattle.gk_solve.specs.Solved.{HasPathFlags, IsSliceOf, SliceTable, TellWords
 use Rattle.slice_board.specs.Boards.{BoardState, point_count}
 use Rattle.slice_board.specs.Passes.{IsMarked}
 use Rattle.slice_board.specs.declared.view.Mark.{Mark}
-use Rattle.tac_reader.specs.Programs.{Program}
+use Rattle.tac_program.specs.Programs.{Program}
 
 -- a program, what is asked of it, the same asks in the order in which they are solved, and the number of each of these
 pub record Asked : Type 0 where

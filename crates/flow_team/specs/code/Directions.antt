@@ -4,7 +4,7 @@ use Rattle.flow_graph.specs.Problems.{MayForm}
 use Rattle.flow_graph.specs.declared.analysis.Analysis.{Analysis}
 use Rattle.flow_links.specs.Shapes.{LinkedProgram}
 use Rattle.gk_solve.specs.Solved.{HasPathFlags, direction_of}
-use Rattle.tac_reader.specs.Programs.{Program}
+use Rattle.tac_program.specs.Programs.{Program}
 
 -- the may form by which an analysis of a program is solved
 abbrev pub form_of : Program → Analysis → MayForm

@@ -9,8 +9,8 @@ use Rattle.flow_team.specs.declared.ask.Ask.{Ask}
 use Rattle.flow_texts.specs.Reports.{assigned, is_test}
 use Rattle.flow_texts.specs.code.Operands.{AreRead}
 use Rattle.flow_texts.specs.code.Told.{ask_for}
-use Rattle.tac_reader.specs.Programs.{Program}
-use Rattle.tac_reader.specs.declared.program.StmtKind.{StmtKind}
+use Rattle.tac_program.specs.Programs.{Program}
+use Rattle.tac_program.specs.declared.program.StmtKind.{StmtKind}
 
 -- At most so many asks came behind those that were there; each of them is of the program, if the others are.
 pub record Asks (program : Program) (old new : List Ask) (most : ℕ) : Type 0 where

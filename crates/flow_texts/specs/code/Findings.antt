@@ -6,8 +6,8 @@ use Rattle.flow_graph.specs.Points.{point_count}
 use Rattle.flow_graph.specs.Runs.{IsDoubtful}
 use Rattle.flow_graph.specs.Universes.{bits}
 use Rattle.flow_graph.specs.declared.analysis.Analysis.TheVariants.{Reach, Live, Avail, Busy}
-use Rattle.tac_reader.specs.Programs.{Program}
-use Rattle.tac_reader.specs.Sound.{IsSound}
+use Rattle.tac_program.specs.Programs.{Program}
+use Rattle.tac_program.specs.Sound.{IsSound}
 use Rattle.text_pieces.specs.code.Lists.{AreTexts}
 use Rattle.flow_texts.specs.Reports.{Knowledge, remark_text}
 use Rattle.flow_texts.specs.Tables.{bit_text, variable_text}

@@ -3,7 +3,7 @@ use Rattle.std.specs.Prelude.{◌≡◌, ℕ, List, [], ◌∷◌, nat_eq}
 use Rattle.std.specs.List.{list_any}
 use Rattle.std.specs.List.Sorted.{IsStrictlyIncreasing}
 use Rattle.flow_graph.specs.Transfers.{names_variable, operands_of}
-use Rattle.tac_reader.specs.declared.program.StmtKind.{StmtKind}
+use Rattle.tac_program.specs.declared.program.StmtKind.{StmtKind}
 use Rattle.flow_texts.specs.declared.operands.VariablesRead.{VariablesRead}
 use Rattle.flow_texts.specs.declared.operands.VariablesRead.TheVariants as read
 

@@ -5,8 +5,8 @@ use Rattle.flow_team.specs.Asks.{AreAnswers, Replies}
 use Rattle.flow_team.specs.declared.ask.Ask.{Ask}
 use Rattle.flow_texts.specs.code.Asking.{AsksAssigned, AsksBusy, AsksEvaluated, AsksReads}
 use Rattle.flow_texts.specs.declared.report_asks.PointAsks.{PointAsks}
-use Rattle.tac_reader.specs.Programs.{Program}
-use Rattle.tac_reader.specs.declared.program.StmtKind.{StmtKind}
+use Rattle.tac_program.specs.Programs.{Program}
+use Rattle.tac_program.specs.declared.program.StmtKind.{StmtKind}
 
 -- Of the statement at a point are asked the words of the variables that it reads, of the expression that it evaluates, of the variable
 -- that it assigns, and at a test all words of very busy expressions.

@@ -5,7 +5,7 @@ use Rattle.flow_graph.specs.declared.analysis.Analysis.{Analysis}
 use Rattle.flow_graph.specs.declared.analysis.Analysis.TheVariants.{Reach, Live, Avail}
 use Rattle.flow_texts.specs.Tables.{bit_text}
 use Rattle.text_pieces.specs.code.Blocks.{HoldsTexts, SeparatedTexts}
-use Rattle.tac_reader.specs.Programs.{Program}
+use Rattle.tac_program.specs.Programs.{Program}
 use Rattle.flow_views.specs.Strings.{escaped, quoted}
 use Rattle.flow_views.specs.declared.names.NameForm.{NameForm}
 use Rattle.flow_views.specs.declared.names.NameForm.TheVariants.{Escaped, Quoted}

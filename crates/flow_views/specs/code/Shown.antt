@@ -8,7 +8,7 @@ use Rattle.flow_graph.specs.declared.edge.Edge.{Edge}
 use Rattle.flow_graph.specs.declared.edge.Edge.TheVariants.{Step, Call, Ret}
 use Rattle.flow_texts.specs.Reports.{AreTablesOf, Knowledge}
 use Rattle.flow_texts.specs.code.Findings.{AreFindings, TellDoubtful}
-use Rattle.tac_reader.specs.Programs.{Program}
+use Rattle.tac_program.specs.Programs.{Program}
 use Rattle.flow_views.specs.code.Names.{AreNames}
 use Rattle.flow_views.specs.declared.shown.Numbers.{Numbers}
 use Rattle.flow_views.specs.declared.shown.Shown.{Shown}

@@ -1,15 +1,15 @@
 -- Forms in which all names are variables: their variables are their names.
 use Rattle.std.proofs.Common.{◌≡◌, ℕ, Bool, true, false, ◌&&◌, ◌||◌, List, [], ◌∷◌, ◌++◌, refl, sym, ap, ◌∙◌, Some, None, true≢false, flat_map, if◌then◌else◌}
 use Rattle.std.specs.List.{list_any}
-use Rattle.tac_reader.specs.Tokens.{Word, name, number, fixed, Token}
-use Rattle.tac_reader.specs.Spelling.{binary_signs, unary_signs, comparison_signs}
-use Rattle.tac_reader.specs.Forms.{Slot, exactly, procedure, variable, operand, label, callee, binary, unary, comparison, fills, has_form, is_fixed_in, is_name_word, statement_row, statements, paired, in_slot, is_variable}
+use Rattle.tac_lines.specs.Tokens.{Word, name, number, fixed, Token}
+use Rattle.tac_program.specs.Spelling.{binary_signs, unary_signs, comparison_signs}
+use Rattle.tac_lines.specs.Forms.{Slot, exactly, procedure, variable, operand, label, callee, binary, unary, comparison, fills, has_form, is_fixed_in, is_name_word, statement_row, statements, paired, in_slot, is_variable}
 use Rattle.tac_reader.specs.Sections.{only_name, variables_of}
-use Rattle.tac_reader.specs.code.Formed.{has_only_variables}
-use Rattle.tac_reader.specs.code.Views.{form_slots}
-use Rattle.tac_reader.specs.declared.form.Form.{Form}
-use Rattle.tac_reader.specs.declared.form.Form.TheVariants as form
-use Rattle.tac_reader.proofs.forms.RowLengths.{found_row}
+use Rattle.tac_lines.specs.code.Formed.{has_only_variables}
+use Rattle.tac_lines.specs.code.Views.{form_slots}
+use Rattle.tac_lines.specs.declared.form.Form.{Form}
+use Rattle.tac_lines.specs.declared.form.Form.TheVariants as form
+use Rattle.tac_lines.proofs.forms.RowLengths.{found_row}
 
 -- Whether a name there stands for something else.
 abbrev is_other : Slot → Bool

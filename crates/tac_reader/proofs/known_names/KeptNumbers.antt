@@ -2,7 +2,7 @@
 use Rattle.std.proofs.Common.{◌≡◌, subst, ℕ, ◌+◌, Bool, true, false, List, [], ◌∷◌, ◌++◌, sym, ap, ◌∙◌, arith, Some, bytes_eq, position, if◌then◌else◌, slice_range, All}
 use Rattle.std.proofs.lemmas.Grind.{common_steps}
 use Rattle.std.proofs.lemmas.List.Elements.{All-weaker, All-push}
-use Rattle.tac_reader.specs.Names.{noted, is_one_of}
+use Rattle.tac_program.specs.Names.{noted, is_one_of}
 use Rattle.tac_reader.specs.code.Occurrences.{IsNumberedIn}
 use Rattle.tac_reader.specs.declared.occurrences.Occurrence.{Occurrence}
 

@@ -4,16 +4,16 @@ use Rattle.std.proofs.lemmas.Bool.{lt-ltb, or_parts}
 use Rattle.std.proofs.lemmas.Slice.Eq.{bytes_eq-Decides}
 use Rattle.std.proofs.lemmas.Option.{unwrap_or-slice_get}
 use Rattle.std.specs.List.{AllByRecursion as Each, position_or_len}
-use Rattle.tac_reader.specs.Tokens.{Token, spelling_of}
-use Rattle.tac_reader.specs.Names.{is_one_of, noted}
-use Rattle.tac_reader.specs.Programs.{number_of}
+use Rattle.tac_lines.specs.Tokens.{Token, spelling_of}
+use Rattle.tac_program.specs.Names.{is_one_of, noted}
+use Rattle.tac_program.specs.Programs.{number_of}
 use Rattle.tac_reader.specs.Parses.{names_in}
 use Rattle.tac_reader.specs.Faults.{repeated}
-use Rattle.tac_reader.specs.LineFaults.{at}
-use Rattle.tac_reader.specs.Listings.{name_at}
-use Rattle.tac_reader.specs.declared.fault.Fault.{Fault}
-use Rattle.tac_reader.specs.declared.refusal.RefusalKind.{RefusalKind}
-use Rattle.tac_reader.proofs.lists.Elements.{each-append, each-weaker, no_left, no_right, Differ}
+use Rattle.tac_lines.specs.LineFaults.{at}
+use Rattle.tac_program.specs.Listings.{name_at}
+use Rattle.tac_lines.specs.declared.fault.Fault.{Fault}
+use Rattle.tac_lines.specs.declared.refusal.RefusalKind.{RefusalKind}
+use Rattle.tac_program.proofs.lists.Elements.{each-append, each-weaker, no_left, no_right, Differ}
 
 abbrev pub Known : List (List ℕ) → List ℕ → Type 0
 Known names s = is_one_of s names ≡ true

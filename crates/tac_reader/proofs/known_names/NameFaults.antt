@@ -1,13 +1,13 @@
 -- The faults of names, one kind after another: the first kind that has one tells it.
 use Rattle.std.proofs.Common.{◌≡◌, ℕ, ◌<◌, ◌≤◌, Bool, true, false, List, [], ◌∷◌, ◌++◌, length, refl, ap, ◌∙◌, Option, Some, None}
 use Rattle.std.proofs.lemmas.Bool.{lt-ltb, le-ltb}
-use Rattle.tac_reader.specs.Tokens.{rows}
+use Rattle.tac_lines.specs.Tokens.{rows}
 use Rattle.tac_reader.specs.Sections.{sections}
 use Rattle.tac_reader.specs.Faults.{head_of, fault_of, name_faults}
-use Rattle.tac_reader.specs.LineFaults.{first_by_place, line_faults}
-use Rattle.tac_reader.specs.Limits.{longest_text}
-use Rattle.tac_reader.specs.declared.fault.Fault.{Fault}
-use Rattle.tac_reader.specs.declared.refusal.RefusalKind.TheVariants as kind
+use Rattle.tac_lines.specs.LineFaults.{first_by_place, line_faults}
+use Rattle.tac_program.specs.Limits.{longest_text}
+use Rattle.tac_lines.specs.declared.fault.Fault.{Fault}
+use Rattle.tac_lines.specs.declared.refusal.RefusalKind.TheVariants as kind
 
 head-front : (xs ys : List Fault) (f : Fault) → head_of xs ≡ Some f → head_of (xs ++ ys) ≡ Some f
 head-front [] ys f h = absurd (cc h)

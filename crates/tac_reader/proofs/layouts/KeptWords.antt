@@ -2,14 +2,14 @@
 use Rattle.std.proofs.Common.{◌≡◌, ℕ, ◌⊎◌, inl, inr, List, [], ◌∷◌, All, sym, ap, ◌∙◌}
 use Rattle.std.specs.List.{AllByRecursion as Each}
 use Rattle.std.proofs.lemmas.List.Elements.{All-from_recursion}
-use Rattle.tac_reader.specs.Tokens.{fixed, Token, unless_empty}
-use Rattle.tac_reader.specs.Forms.{behind_labels}
+use Rattle.tac_lines.specs.Tokens.{fixed, Token, unless_empty}
+use Rattle.tac_lines.specs.Forms.{behind_labels}
 use Rattle.tac_reader.specs.Sections.{Section, sections, statements_of, titles}
 use Rattle.tac_reader.specs.Parses.{names_for, names_in, operator_of, variables_in}
-use Rattle.tac_reader.specs.Names.{Names}
+use Rattle.tac_program.specs.Names.{Names}
 use Rattle.tac_reader.specs.Laws.{KeepsItsWords, SignsDiffer, StatementsKeepTheirWords}
 use Rattle.tac_reader.proofs.layouts.ListingLines.{statement_reads}
-use Rattle.tac_reader.proofs.lists.Elements.{each-flat_map, each-weaker}
+use Rattle.tac_program.proofs.lists.Elements.{each-flat_map, each-weaker}
 use Rattle.tac_reader.proofs.programs.BuiltWords.{sign_operator}
 use Rattle.tac_reader.proofs.sections.GoodSections.{LineGood, SectionGood, StatementGood, sections_good}
 

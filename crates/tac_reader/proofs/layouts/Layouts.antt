@@ -2,13 +2,13 @@
 use Rattle.std.proofs.Common.{◌≡◌, ℕ, Bool, true, false, not, ◌&&◌, ◌||◌, List, [], ◌∷◌, ◌++◌, decimal, append-nil, refl, sym, ap, ◌∙◌, true≢false}
 use Rattle.std.specs.List.{AllByRecursion as Each, list_all}
 use Rattle.std.proofs.lemmas.Bool.{or_right}
-use Rattle.tac_reader.specs.Tokens.{Word, name, number, fixed, Token, is_number}
-use Rattle.tac_reader.specs.Spelling.{is_letter, is_digit, is_name_byte, is_name}
-use Rattle.tac_reader.specs.Forms.{Slot, operand, unary, fills, has_form, statements}
-use Rattle.tac_reader.proofs.tokens.Longest.{and_parts}
+use Rattle.tac_lines.specs.Tokens.{Word, name, number, fixed, Token, is_number}
+use Rattle.tac_program.specs.Spelling.{is_letter, is_digit, is_name_byte, is_name}
+use Rattle.tac_lines.specs.Forms.{Slot, operand, unary, fills, has_form, statements}
+use Rattle.tac_lines.proofs.tokens.Longest.{and_parts}
 use Rattle.tac_reader.proofs.tokens.Bare.{words_of}
 use Rattle.tac_reader.proofs.lines.FaultlessLines.{IsSoundWord}
-use Rattle.tac_reader.proofs.tokens.Decimals.{is_number_decimal}
+use Rattle.tac_lines.proofs.tokens.Decimals.{is_number_decimal}
 use Rattle.tac_reader.proofs.tokens.ReadWords.{spelled, ReadsLine, line_word, line_more, line_unary, line_none, starts_word}
 
 -- Words that fill the places of a form.

@@ -3,16 +3,16 @@ use Rattle.std.proofs.Common.{◌≡◌, ◌≢◌, ℕ, suc, ◌+◌, ◌<◌, 
 use Rattle.std.specs.List.{AllByRecursion as Each, list_all, onto_first}
 use Rattle.std.proofs.lemmas.List.{map-append}
 use Rattle.std.proofs.lemmas.Bool.Decides.{nat_tests}
-use Rattle.tac_reader.specs.Text.{is_line_end, no_line_end, lines}
-use Rattle.tac_reader.specs.Tokens.{Word, name, number, fixed, Token, Row, rows_from, bytes_of, spelling_of, unless_empty}
-use Rattle.tac_reader.specs.Forms.{labels_of, behind_labels, is_name_word}
+use Rattle.tac_lines.specs.Text.{is_line_end, no_line_end, lines}
+use Rattle.tac_lines.specs.Tokens.{Word, name, number, fixed, Token, Row, rows_from, bytes_of, spelling_of, unless_empty}
+use Rattle.tac_lines.specs.Forms.{labels_of, behind_labels, is_name_word}
 use Rattle.tac_reader.specs.Sections.{Section, titles, statements_of}
 use Rattle.tac_reader.specs.Parses.{names_in, names_for, statement_of, label_places, labels_from, procedures_from}
-use Rattle.tac_reader.specs.Names.{Names}
-use Rattle.tac_reader.specs.Listings.{name_at, statement_text, labels_text, places_text, procedure_text}
-use Rattle.tac_reader.specs.declared.program.Label.{Label}
-use Rattle.tac_reader.specs.declared.program.Stmt.{Stmt}
-use Rattle.tac_reader.proofs.tokens.Longest.{and_parts, not_true}
+use Rattle.tac_program.specs.Names.{Names}
+use Rattle.tac_program.specs.Listings.{name_at, statement_text, labels_text, places_text, procedure_text}
+use Rattle.tac_program.specs.declared.program.Label.{Label}
+use Rattle.tac_program.specs.declared.program.Stmt.{Stmt}
+use Rattle.tac_lines.proofs.tokens.Longest.{and_parts, not_true}
 use Rattle.tac_reader.proofs.tokens.Bare.{words_of}
 use Rattle.tac_reader.proofs.sections.Cores.{kind_in}
 use Rattle.tac_reader.proofs.tokens.ReadWords.{spelled, ReadsLine, line_word, line_blank, line_more, line_label}

@@ -3,15 +3,15 @@ use Rattle.std.proofs.Common.{◌≡◌, ℕ, ◌+◌, ◌⊎◌, inl, inr, Bool
 use Rattle.std.specs.List.{AllByRecursion as Each, list_all, prefix_len}
 use Rattle.std.proofs.lemmas.List.{map-append}
 use Rattle.std.proofs.lemmas.Bool.{or_right}
-use Rattle.tac_reader.specs.Tokens.{Word, name, number, fixed, Token, unless_empty}
-use Rattle.tac_reader.specs.Forms.{Slot, has_form, proc_form, end_form, label_form, statements, statement_forms, statement_row, labels_of, behind_labels, forms_for, some_form, is_name_word, is_inner}
+use Rattle.tac_lines.specs.Tokens.{Word, name, number, fixed, Token, unless_empty}
+use Rattle.tac_lines.specs.Forms.{Slot, has_form, proc_form, end_form, label_form, statements, statement_forms, statement_row, labels_of, behind_labels, forms_for, some_form, is_name_word, is_inner}
 use Rattle.tac_reader.specs.Sections.{Section, sections_in, statements_of, opened_by}
 use Rattle.tac_reader.specs.Parses.{names_for, label_places}
-use Rattle.tac_reader.specs.Names.{Names}
-use Rattle.tac_reader.specs.declared.form.Form.{Form}
-use Rattle.tac_reader.proofs.forms.Apart.{apart, not_both}
+use Rattle.tac_program.specs.Names.{Names}
+use Rattle.tac_lines.specs.declared.form.Form.{Form}
+use Rattle.tac_lines.proofs.forms.Apart.{apart, not_both}
 use Rattle.tac_reader.proofs.tokens.Bare.{bare, erased, all_erased, words_of, erased_words, has_form-erased, statement_row-erased, labels_of-erased, behind-erased}
-use Rattle.tac_reader.proofs.lists.Elements.{each-append}
+use Rattle.tac_program.proofs.lists.Elements.{each-append}
 use Rattle.tac_reader.proofs.sections.Cores.{core, erased_twice, each_twice}
 use Rattle.tac_reader.proofs.lines.FaultlessLines.{IsSoundWord, Sound, IsFaultless, after}
 use Rattle.tac_reader.proofs.programs.FaultlessStatements.{no_labels}

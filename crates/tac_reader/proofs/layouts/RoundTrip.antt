@@ -1,16 +1,16 @@
 -- The listing of a text's program is a text of the same program but for spans.
 use Rattle.std.proofs.Common.{◌≡◌, ℕ, ◌≤◌, Bool, true, false, List, [], ◌∷◌, ◌++◌, length, map, refl, sym, ap, ◌∙◌, subst, None, option_map, true≢false, codes}
 use Rattle.std.specs.List.{AllByRecursion as Each}
-use Rattle.tac_reader.specs.Tokens.{Word, fixed, Token, Row, rows, token_lines, unless_empty}
-use Rattle.tac_reader.specs.Forms.{labels_of, behind_labels}
+use Rattle.tac_lines.specs.Tokens.{Word, fixed, Token, Row, rows, token_lines, unless_empty}
+use Rattle.tac_lines.specs.Forms.{labels_of, behind_labels}
 use Rattle.tac_reader.specs.Sections.{Section, sections, sections_in, titles}
 use Rattle.tac_reader.specs.Parses.{names_in, variables_in, each_once, program_of}
 use Rattle.tac_reader.specs.Faults.{name_faults, head_of, refusal_of, refusal_at}
-use Rattle.tac_reader.specs.LineFaults.{line_faults, first_by_place}
-use Rattle.tac_reader.specs.Limits.{longest_text}
-use Rattle.tac_reader.specs.Listings.{listing_of}
+use Rattle.tac_lines.specs.LineFaults.{line_faults, first_by_place}
+use Rattle.tac_program.specs.Limits.{longest_text}
+use Rattle.tac_program.specs.Listings.{listing_of}
 use Rattle.tac_reader.specs.Laws.{SameButSpans, ListingsReadBack}
-use Rattle.tac_reader.proofs.lists.Elements.{each-append}
+use Rattle.tac_program.proofs.lists.Elements.{each-append}
 use Rattle.tac_reader.proofs.tokens.Bare.{bare, all_erased, words_of, erased_words}
 use Rattle.tac_reader.proofs.sections.Cores.{core, cores-erased, core_titles, core_variables, title_names, variable_names, outlines, outlines_are}
 use Rattle.tac_reader.proofs.sections.CoreFaults.{no_faults_by_core}

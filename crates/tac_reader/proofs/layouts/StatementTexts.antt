@@ -2,17 +2,17 @@
 use Rattle.std.proofs.Common.{◌≡◌, ℕ, Bool, true, false, ◌&&◌, List, [], ◌∷◌, ◌++◌, map, refl, sym, ap, ◌∙◌, bytes_eq, codes, append_assoc, true≢false, if◌then◌else◌}
 use Rattle.std.specs.List.{AllByRecursion as Each, list_all}
 use Rattle.std.specs.Cmp.Lexicographic.{same_text}
-use Rattle.tac_reader.specs.Tokens.{Word, Token, bytes_of, spelling_of}
-use Rattle.tac_reader.specs.Forms.{Slot, exactly, procedure, variable, operand, label, callee, binary, unary, comparison, key, statements, plain_statements, further_callees, paired, in_slot, is_callee}
-use Rattle.tac_reader.specs.Programs.{number_of}
+use Rattle.tac_lines.specs.Tokens.{Word, Token, bytes_of, spelling_of}
+use Rattle.tac_lines.specs.Forms.{Slot, exactly, procedure, variable, operand, label, callee, binary, unary, comparison, key, statements, plain_statements, further_callees, paired, in_slot, is_callee}
+use Rattle.tac_program.specs.Programs.{number_of}
 use Rattle.tac_reader.specs.Parses.{variable_of, label_of, operand_of, operator_of, kind_of}
-use Rattle.tac_reader.specs.Spelling.{sign_of}
-use Rattle.tac_reader.specs.Names.{Names}
-use Rattle.tac_reader.specs.Listings.{name_at, operand_text, binary_text, goto_text, callees_text, statement_text}
-use Rattle.tac_reader.specs.declared.form.Form.{Form}
-use Rattle.tac_reader.specs.declared.form.Form.TheVariants as form
-use Rattle.tac_reader.proofs.tokens.Longest.{and_parts}
-use Rattle.tac_reader.proofs.lists.Elements.{each-append}
+use Rattle.tac_program.specs.Spelling.{sign_of}
+use Rattle.tac_program.specs.Names.{Names}
+use Rattle.tac_program.specs.Listings.{name_at, operand_text, binary_text, goto_text, callees_text, statement_text}
+use Rattle.tac_lines.specs.declared.form.Form.{Form}
+use Rattle.tac_lines.specs.declared.form.Form.TheVariants as form
+use Rattle.tac_lines.proofs.tokens.Longest.{and_parts}
+use Rattle.tac_program.proofs.lists.Elements.{each-append}
 use Rattle.tac_reader.proofs.tokens.Bare.{words_of}
 use Rattle.tac_reader.proofs.tokens.ReadWords.{spelled}
 use Rattle.tac_reader.proofs.layouts.Layouts.{layout}

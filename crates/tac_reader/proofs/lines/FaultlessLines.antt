@@ -2,18 +2,18 @@
 use Rattle.std.proofs.Common.{◌≡◌, ℕ, zero, suc, ◌+◌, ◌-◌, Bool, true, false, not, cond, ◌&&◌, ◌||◌, List, [], ◌∷◌, ◌++◌, flat_map, length, take, refl, sym, subst, Option, Some, None, is_some, true≢false, one-add, if◌then◌else◌, nat_lt, ◌≤◌, ◌⊎◌, inl, inr, codes}
 use Rattle.std.proofs.lemmas.Bool.{and_parts, ltb-false}
 use Rattle.std.specs.List.{AllByRecursion as Each, prefix_len, take_while}
-use Rattle.tac_reader.specs.Tokens.{Word, name, number, fixed, Token, Piece, word, gap, Row, is_number, is_blank, is_comment, signs, piece_of, picked, name_or_keyword, number_piece, longest, longest_of, before_row, row_from, rows_from, stop_of, bytes_of, spelling_of, unless_empty, token_lines}
-use Rattle.tac_reader.specs.Spelling.{is_name, keywords}
-use Rattle.tac_reader.specs.Names.{is_one_of}
-use Rattle.tac_reader.specs.Forms.{key, fills, is_name_word, has_form, proc_form, end_form, forms_for, some_form, first_wrong, is_inner}
+use Rattle.tac_lines.specs.Tokens.{Word, name, number, fixed, Token, Piece, word, gap, Row, is_number, is_blank, is_comment, signs, piece_of, picked, name_or_keyword, number_piece, longest, longest_of, before_row, row_from, rows_from, stop_of, bytes_of, spelling_of, unless_empty, token_lines}
+use Rattle.tac_program.specs.Spelling.{is_name, keywords}
+use Rattle.tac_program.specs.Names.{is_one_of}
+use Rattle.tac_lines.specs.Forms.{key, fills, is_name_word, has_form, proc_form, end_form, forms_for, some_form, first_wrong, is_inner}
 use Rattle.tac_reader.specs.Sections.{Section, opened_by, sections_in}
-use Rattle.tac_reader.specs.LineFaults.{at, word_fault, bad_fault, form_fault, row_faults, inside_after, line_faults}
-use Rattle.tac_reader.specs.Limits.{largest_number, longest_name}
-use Rattle.tac_reader.specs.Sound.{IsLawfulName}
-use Rattle.tac_reader.specs.code.Views.{prefix_of, others_of}
-use Rattle.tac_reader.specs.declared.fault.Fault.{Fault}
-use Rattle.tac_reader.specs.declared.refusal.RefusalKind.TheVariants as kind
-use Rattle.tac_reader.proofs.lists.Elements.{each-append, no_left, no_right}
+use Rattle.tac_lines.specs.LineFaults.{at, word_fault, bad_fault, form_fault, row_faults, inside_after, line_faults}
+use Rattle.tac_program.specs.Limits.{largest_number, longest_name}
+use Rattle.tac_program.specs.Sound.{IsLawfulName}
+use Rattle.tac_lines.specs.code.Views.{prefix_of, others_of}
+use Rattle.tac_lines.specs.declared.fault.Fault.{Fault}
+use Rattle.tac_lines.specs.declared.refusal.RefusalKind.TheVariants as kind
+use Rattle.tac_program.proofs.lists.Elements.{each-append, no_left, no_right}
 
 -- What the spelling of a word says of it.
 abbrev IsSpelledWord : Word → Type 0

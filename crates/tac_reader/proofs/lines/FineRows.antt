@@ -2,16 +2,16 @@
 use Rattle.std.proofs.Common.{◌≡◌, ℕ, Bool, true, false, List, [], ◌∷◌, ◌++◌, length, map, flat_map, refl, sym, ap, ◌∙◌, subst, None, is_some, true≢false, if◌then◌else◌}
 use Rattle.std.specs.List.{AllByRecursion as Each, list_any}
 use Rattle.std.proofs.lemmas.Bool.{le-ltb}
-use Rattle.tac_reader.specs.Tokens.{Word, name, number, fixed, Token, Row, stop_of}
-use Rattle.tac_reader.specs.Forms.{Slot, proc_form, end_form, labels_of, behind_labels, forms_for, some_form}
-use Rattle.tac_reader.specs.LineFaults.{at, word_fault, bad_fault, row_faults, line_faults}
-use Rattle.tac_reader.specs.Limits.{longest_name, largest_number}
-use Rattle.tac_reader.specs.code.Views.{prefix_of, others_of}
-use Rattle.tac_reader.specs.declared.fault.Fault.{Fault}
-use Rattle.tac_reader.specs.declared.refusal.RefusalKind.TheVariants as kind
+use Rattle.tac_lines.specs.Tokens.{Word, name, number, fixed, Token, Row, stop_of}
+use Rattle.tac_lines.specs.Forms.{Slot, proc_form, end_form, labels_of, behind_labels, forms_for, some_form}
+use Rattle.tac_lines.specs.LineFaults.{at, word_fault, bad_fault, row_faults, line_faults}
+use Rattle.tac_program.specs.Limits.{longest_name, largest_number}
+use Rattle.tac_lines.specs.code.Views.{prefix_of, others_of}
+use Rattle.tac_lines.specs.declared.fault.Fault.{Fault}
+use Rattle.tac_lines.specs.declared.refusal.RefusalKind.TheVariants as kind
 use Rattle.tac_reader.proofs.lines.FaultlessLines.{IsSoundWord, Sound, IsFaultless, after}
 use Rattle.tac_reader.proofs.tokens.Bare.{bare, all_erased, words_of, erased_words, has_form-erased, labels_of-erased, behind-erased}
-use Rattle.tac_reader.proofs.lines.FineStatements.{fine_judge}
+use Rattle.tac_lines.proofs.lines.FineStatements.{fine_judge}
 
 -- Where each part has no fault, the whole has none.
 empty_each : {X : Type 0} (f : X → List Fault) (xs : List X) → Each (λ x. f x ≡ []) xs → flat_map f xs ≡ []

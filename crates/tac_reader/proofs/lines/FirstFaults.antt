@@ -1,23 +1,23 @@
 -- The first fault of a list of parts, one part after another.
 use Rattle.std.proofs.Common.{◌≡◌, ℕ, zero, suc, ◌+◌, ◌<◌, true, false, List, [], ◌∷◌, ◌++◌, length, map, flat_map, drop, refl, sym, ap, ◌∙◌, arith, Option, Some, None, is_some, position, bytes_eq, if◌then◌else◌, slice_index_or, slice_get, append-nil}
 use Rattle.std.proofs.lemmas.Grind.{flat_map-append}
-use Rattle.tac_reader.specs.Tokens.{Token, spelling_of, unless_empty}
-use Rattle.tac_reader.specs.Names.{is_one_of}
-use Rattle.tac_reader.specs.Forms.{behind_labels, cells_of, in_slot, callees_of, is_callee}
+use Rattle.tac_lines.specs.Tokens.{Token, spelling_of, unless_empty}
+use Rattle.tac_program.specs.Names.{is_one_of}
+use Rattle.tac_lines.specs.Forms.{behind_labels, cells_of, in_slot, callees_of, is_callee}
 use Rattle.tac_reader.specs.Sections.{statements_of, titles}
 use Rattle.tac_reader.specs.code.SectionViews.{sections_view}
 use Rattle.tac_reader.specs.Parses.{names_in}
 use Rattle.tac_reader.specs.Faults.{head_of}
-use Rattle.tac_reader.specs.LineFaults.{at}
-use Rattle.tac_reader.specs.code.Views.{token_view, tokens_view}
-use Rattle.tac_reader.specs.declared.fault.Fault.{Fault}
-use Rattle.tac_reader.specs.code.Lexed.{IfFault}
-use Rattle.tac_reader.specs.declared.fault.Stop.{Stop}
-use Rattle.tac_reader.specs.declared.fault.Stop.TheVariants as stop
-use Rattle.tac_reader.specs.declared.refusal.RefusalKind.{RefusalKind}
+use Rattle.tac_lines.specs.LineFaults.{at}
+use Rattle.tac_lines.specs.code.Views.{token_view, tokens_view}
+use Rattle.tac_lines.specs.declared.fault.Fault.{Fault}
+use Rattle.tac_lines.specs.code.Lexed.{IfFault}
+use Rattle.tac_lines.specs.declared.fault.Stop.{Stop}
+use Rattle.tac_lines.specs.declared.fault.Stop.TheVariants as stop
+use Rattle.tac_lines.specs.declared.refusal.RefusalKind.{RefusalKind}
 use Rattle.tac_reader.specs.declared.section.Section.{Section as Read}
-use Rattle.tac_reader.specs.declared.token.Token.{Token as Lexed}
-use Rattle.tac_reader.proofs.known_names.NameTexts.{numbered}
+use Rattle.tac_lines.specs.declared.token.Token.{Token as Lexed}
+use Rattle.tac_program.proofs.known_names.NameTexts.{numbered}
 use Rattle.tac_reader.proofs.sections.SectionSteps.{rest_at}
 
 none_is : (fs : List Fault) → None ≡ head_of fs → fs ≡ []

@@ -1,19 +1,19 @@
 -- The words at places of a statement.
 use Rattle.std.proofs.Common.{◌≡◌, ℕ, zero, suc, List, [], ◌∷◌, refl, sym, ap, ◌∙◌, Option, Some, None, slice_get, option_map, true, false, nat_lt, length, get_or, ◌<◌, ◌≤◌, arith}
 use Rattle.std.proofs.lemmas.Bool.{ltb-true, ltb-false}
-use Rattle.tac_reader.specs.Tokens.{fixed}
+use Rattle.tac_lines.specs.Tokens.{fixed}
 use Rattle.tac_reader.specs.Parses.{operator_of}
-use Rattle.tac_reader.specs.Spelling.{sign_of}
-use Rattle.tac_reader.specs.code.Views.{token_view, tokens_view}
+use Rattle.tac_program.specs.Spelling.{sign_of}
+use Rattle.tac_lines.specs.code.Views.{token_view, tokens_view}
 use Rattle.tac_reader.specs.code.Built.{word_nth, word_or_none}
-use Rattle.tac_reader.specs.declared.program.Op.{Op}
-use Rattle.tac_reader.specs.declared.program.Op.TheVariants as op
-use Rattle.tac_reader.specs.code.Views.{word_at, keyword_text}
-use Rattle.tac_reader.specs.declared.token.Keyword.{Keyword}
-use Rattle.tac_reader.specs.declared.token.Keyword.TheVariants as keyword
-use Rattle.tac_reader.specs.declared.token.TokenKind.{TokenKind}
-use Rattle.tac_reader.specs.declared.token.TokenKind.TheVariants as kind
-use Rattle.tac_reader.specs.declared.token.Token.{Token as Lexed}
+use Rattle.tac_program.specs.declared.program.Op.{Op}
+use Rattle.tac_program.specs.declared.program.Op.TheVariants as op
+use Rattle.tac_lines.specs.code.Views.{word_at, keyword_text}
+use Rattle.tac_lines.specs.declared.token.Keyword.{Keyword}
+use Rattle.tac_lines.specs.declared.token.Keyword.TheVariants as keyword
+use Rattle.tac_lines.specs.declared.token.TokenKind.{TokenKind}
+use Rattle.tac_lines.specs.declared.token.TokenKind.TheVariants as kind
+use Rattle.tac_lines.specs.declared.token.Token.{Token as Lexed}
 
 nth-view : (text : List ℕ) (ts : List Lexed) (at : ℕ) → slice_get (tokens_view text ts) at ≡ option_map (token_view text) (slice_get ts at)
 nth-view text [] at = refl

@@ -3,14 +3,14 @@ use Rattle.std.proofs.Common.{◌≡◌, ℕ, ◌<◌, Bool, true, false, not, �
 use Rattle.std.proofs.lemmas.Bool.{and_parts}
 use Rattle.std.proofs.lemmas.Slice.Eq.{bytes_eq-Decides}
 use Rattle.std.specs.List.{AllByRecursion as Each, list_all}
-use Rattle.tac_reader.specs.Tokens.{Word, name, number, fixed, Token, bytes_of, spelling_of, unless_empty}
-use Rattle.tac_reader.specs.Spelling.{unary_signs, binary_signs, comparison_signs, sign_of}
-use Rattle.tac_reader.specs.Names.{is_one_of, Names}
-use Rattle.tac_reader.specs.Forms.{Slot, exactly, procedure, variable, operand, label, callee, binary, unary, comparison, key, fills, is_name_word, is_fixed_in, has_form, end_form, label_form, labels_of, behind_labels, forms_for, some_form, statement_forms, paired, in_slot, is_inner, is_label, is_variable}
+use Rattle.tac_lines.specs.Tokens.{Word, name, number, fixed, Token, bytes_of, spelling_of, unless_empty}
+use Rattle.tac_program.specs.Spelling.{unary_signs, binary_signs, comparison_signs, sign_of}
+use Rattle.tac_program.specs.Names.{is_one_of, Names}
+use Rattle.tac_lines.specs.Forms.{Slot, exactly, procedure, variable, operand, label, callee, binary, unary, comparison, key, fills, is_name_word, is_fixed_in, has_form, end_form, label_form, labels_of, behind_labels, forms_for, some_form, statement_forms, paired, in_slot, is_inner, is_label, is_variable}
 use Rattle.tac_reader.specs.Sections.{statements_of, only_name}
 use Rattle.tac_reader.specs.Parses.{operator_of, variable_of, label_of, operand_of}
-use Rattle.tac_reader.specs.Sound.{IsLawfulName, IsSoundOperand, IsUnary, IsBinary, IsComparison}
-use Rattle.tac_reader.proofs.lists.Elements.{each-flat_map, each-weaker}
+use Rattle.tac_program.specs.Sound.{IsLawfulName, IsSoundOperand, IsUnary, IsBinary, IsComparison}
+use Rattle.tac_program.proofs.lists.Elements.{each-flat_map, each-weaker}
 use Rattle.tac_reader.proofs.known_names.KnownNames.{Known, number_below}
 use Rattle.tac_reader.proofs.lines.FaultlessLines.{IsSoundWord, Sound, Inner, name_lawful}
 

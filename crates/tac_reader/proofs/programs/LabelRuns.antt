@@ -2,16 +2,16 @@
 use Rattle.std.proofs.Common.{◌≡◌, ℕ, zero, suc, ◌+◌, ◌<◌, ◌≤◌, List, [], ◌∷◌, ◌++◌, length, map, drop, refl, sym, ap, ◌∙◌, subst, arith, slice_index_or, length-append, append_assoc}
 use Rattle.std.specs.List.Sorted.{IsNonDecreasing}
 use Rattle.std.proofs.lemmas.List.{at_drop_more}
-use Rattle.tac_reader.specs.Tokens.{Token, unless_empty}
-use Rattle.tac_reader.specs.Forms.{labels_of, behind_labels}
+use Rattle.tac_lines.specs.Tokens.{Token, unless_empty}
+use Rattle.tac_lines.specs.Forms.{labels_of, behind_labels}
 use Rattle.tac_reader.specs.code.Procedures.{labels_at}
-use Rattle.tac_reader.specs.Programs.{LabelsRise}
+use Rattle.tac_program.specs.Programs.{LabelsRise}
 use Rattle.tac_reader.specs.Parses.{label_places, labels_from}
-use Rattle.tac_reader.specs.code.Ranges.{range_view}
-use Rattle.tac_reader.specs.code.Views.{tokens_view}
-use Rattle.tac_reader.specs.declared.program.Label.{Label}
-use Rattle.tac_reader.specs.declared.lexed.LineRange.{LineRange}
-use Rattle.tac_reader.specs.declared.token.Token.{Token as Lexed}
+use Rattle.tac_lines.specs.code.Ranges.{range_view}
+use Rattle.tac_lines.specs.code.Views.{tokens_view}
+use Rattle.tac_program.specs.declared.program.Label.{Label}
+use Rattle.tac_lines.specs.declared.lexed.LineRange.{LineRange}
+use Rattle.tac_lines.specs.declared.token.Token.{Token as Lexed}
 
 length-snoc : (labels : List Label) (l : Label) → length (labels ++ l ∷ []) ≡ suc (length labels)
 length-snoc labels l = length-append labels (l ∷ []) ∙ omega arith

@@ -1,7 +1,7 @@
 -- Procedures, one section after another.
 use Rattle.std.proofs.Common.{◌≡◌, ℕ, zero, suc, ◌+◌, ◌<◌, List, [], ◌∷◌, ◌++◌, length, map, drop, refl, sym, ap, ◌∙◌, arith, slice_index_or, Option, Some, option_to_list, append_assoc, length-append}
 use Rattle.std.proofs.lemmas.List.{at_drop_more}
-use Rattle.tac_reader.specs.Programs.{Procedure}
+use Rattle.tac_program.specs.Programs.{Procedure}
 use Rattle.tac_reader.specs.Parses.{names_in, procedure_of, procedures_from}
 use Rattle.tac_reader.specs.Sections.{labels_in}
 use Rattle.tac_reader.specs.code.SectionViews.{section_view, sections_view}

@@ -3,14 +3,14 @@ use Rattle.std.proofs.Common.{◌≡◌, ℕ, zero, suc, ◌+◌, ◌-◌, ◌�
 use Rattle.std.proofs.lemmas.List.{length-map}
 use Rattle.std.proofs.lemmas.List.Sums.{sum_by-cons}
 use Rattle.std.specs.List.{prefix_len, take_while}
-use Rattle.tac_reader.specs.Text.{lines}
-use Rattle.tac_reader.specs.Tokens.{Token, Piece, word, gap, Row, longest, before_row, row_from, rows_from, rows, token_lines, unless_empty, spelling_of}
-use Rattle.tac_reader.specs.Names.{is_one_of, noted}
-use Rattle.tac_reader.specs.Forms.{Slot, has_form, proc_form, end_form, label_form, labels_of, behind_labels, paired, cells_of, in_slot, is_name_word, statement_row, is_inner, is_variable}
+use Rattle.tac_lines.specs.Text.{lines}
+use Rattle.tac_lines.specs.Tokens.{Token, Piece, word, gap, Row, longest, before_row, row_from, rows_from, rows, token_lines, unless_empty, spelling_of}
+use Rattle.tac_program.specs.Names.{is_one_of, noted}
+use Rattle.tac_lines.specs.Forms.{Slot, has_form, proc_form, end_form, label_form, labels_of, behind_labels, paired, cells_of, in_slot, is_name_word, statement_row, is_inner, is_variable}
 use Rattle.tac_reader.specs.Sections.{Section, sections, sections_in, opened_by, statements_of, labels_in, only_name, variables_of}
 use Rattle.tac_reader.specs.Parses.{names_in, variables_in}
-use Rattle.tac_reader.specs.declared.form.Form.{Form}
-use Rattle.tac_reader.proofs.lines.Lines.{lines_join}
+use Rattle.tac_lines.specs.declared.form.Form.{Form}
+use Rattle.tac_lines.proofs.lines.Lines.{lines_join}
 
 -- A sum, from the first element on.
 abbrev pub total : {A : Type 0} → (A → ℕ) → List A → ℕ

@@ -1,22 +1,22 @@
 -- From the steps of reading to the text's program.
 use Rattle.std.proofs.Common.{◌≡◌, ℕ, List, [], ◌∷◌, map, refl, sym, ap, ◌∙◌, Some, None, false, length, ◌≤◌}
-use Rattle.tac_reader.specs.Tokens.{rows, token_lines}
+use Rattle.tac_lines.specs.Tokens.{rows, token_lines}
 use Rattle.tac_reader.specs.Sections.{Section, sections, sections_in, titles}
-use Rattle.tac_reader.specs.Programs.{Program}
+use Rattle.tac_program.specs.Programs.{Program}
 use Rattle.tac_reader.specs.Parses.{program_of, procedures_from, names_in, variables_in}
-use Rattle.tac_reader.specs.code.Lexed.{text_lines, IfFault}
-use Rattle.tac_reader.specs.code.Ranges.{range_view, range_views}
-use Rattle.tac_reader.specs.code.Views.{tokens_view}
+use Rattle.tac_lines.specs.code.Lexed.{text_lines, IfFault}
+use Rattle.tac_lines.specs.code.Ranges.{range_view, range_views}
+use Rattle.tac_lines.specs.code.Views.{tokens_view}
 use Rattle.tac_reader.specs.Faults.{head_of, fault_of, repeated, name_faults}
-use Rattle.tac_reader.specs.LineFaults.{first_by_place, line_faults}
-use Rattle.tac_reader.specs.Limits.{longest_text}
-use Rattle.tac_reader.specs.declared.refusal.RefusalKind.TheVariants as kind
+use Rattle.tac_lines.specs.LineFaults.{first_by_place, line_faults}
+use Rattle.tac_program.specs.Limits.{longest_text}
+use Rattle.tac_lines.specs.declared.refusal.RefusalKind.TheVariants as kind
 use Rattle.tac_reader.proofs.known_names.NameFaults.{first_1, name_fault}
-use Rattle.tac_reader.specs.declared.fault.Stop.{Stop}
-use Rattle.tac_reader.specs.declared.fault.Stop.TheVariants as stop
-use Rattle.tac_reader.specs.declared.lexed.Lexed.{Lexed}
-use Rattle.tac_reader.specs.declared.lexed.LineRange.{LineRange}
-use Rattle.tac_reader.specs.declared.token.Token.{Token}
+use Rattle.tac_lines.specs.declared.fault.Stop.{Stop}
+use Rattle.tac_lines.specs.declared.fault.Stop.TheVariants as stop
+use Rattle.tac_lines.specs.declared.lexed.Lexed.{Lexed}
+use Rattle.tac_lines.specs.declared.lexed.LineRange.{LineRange}
+use Rattle.tac_lines.specs.declared.token.Token.{Token}
 
 views : (text : List ℕ) (tokens : List Token) (lines : List LineRange) → map (range_view text tokens) lines ≡ map (tokens_view text) (range_views tokens lines)
 views text tokens [] = refl

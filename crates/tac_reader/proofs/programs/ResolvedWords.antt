@@ -2,18 +2,19 @@
 use Rattle.std.proofs.Common.{◌≡◌, ℕ, Bool, true, false, cond, ◌||◌, List, [], ◌∷◌, ◌++◌, map, flat_map, find, refl, sym, ap, ◌∙◌, subst, Option, Some, bytes_eq, true≢false, if◌then◌else◌, unwrap_or}
 use Rattle.std.specs.List.{AllByRecursion as Each, list_all}
 use Rattle.std.specs.Cmp.Lexicographic.{same_text}
-use Rattle.tac_reader.specs.Tokens.{Word, name, number, fixed, Token, bytes_of, spelling_of}
-use Rattle.tac_reader.specs.Spelling.{binary_signs, unary_signs, comparison_signs, sign_of}
-use Rattle.tac_reader.specs.Names.{is_one_of, Names}
-use Rattle.tac_reader.specs.Forms.{Slot, exactly, procedure, variable, operand, label, callee, binary, unary, comparison, fills, has_form, is_name_word, some_form, statements, statement_row, paired, in_slot, is_label, is_callee, is_variable, callees_of}
+use Rattle.tac_lines.specs.Tokens.{Word, name, number, fixed, Token, bytes_of, spelling_of}
+use Rattle.tac_program.specs.Spelling.{binary_signs, unary_signs, comparison_signs, sign_of}
+use Rattle.tac_program.specs.Names.{is_one_of, Names}
+use Rattle.tac_lines.specs.Forms.{Slot, exactly, procedure, variable, operand, label, callee, binary, unary, comparison, fills, has_form, is_name_word, some_form, statements, statement_row, paired, in_slot, is_label, is_callee, is_variable, callees_of}
 use Rattle.tac_reader.specs.Sections.{only_name}
-use Rattle.tac_reader.specs.Programs.{number_of}
-use Rattle.tac_reader.specs.Parses.{operator_of, operators, kind_of}
-use Rattle.tac_reader.specs.Listings.{statement_text}
-use Rattle.tac_reader.specs.declared.form.Form.{Form}
-use Rattle.tac_reader.specs.declared.program.Op.{Op}
-use Rattle.tac_reader.specs.declared.program.Op.TheVariants as op
-use Rattle.tac_reader.proofs.tokens.Longest.{and_parts}
+use Rattle.tac_program.specs.Programs.{number_of}
+use Rattle.tac_reader.specs.Parses.{operator_of, kind_of}
+use Rattle.tac_program.specs.Spelling.{operators}
+use Rattle.tac_program.specs.Listings.{statement_text}
+use Rattle.tac_lines.specs.declared.form.Form.{Form}
+use Rattle.tac_program.specs.declared.program.Op.{Op}
+use Rattle.tac_program.specs.declared.program.Op.TheVariants as op
+use Rattle.tac_lines.proofs.tokens.Longest.{and_parts}
 use Rattle.tac_reader.proofs.tokens.Bare.{words_of}
 use Rattle.tac_reader.proofs.sections.Cores.{kind_in}
 use Rattle.tac_reader.proofs.known_names.KnownNames.{Known, name_of_number}

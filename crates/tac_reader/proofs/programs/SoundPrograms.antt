@@ -4,25 +4,25 @@ use Rattle.std.proofs.lemmas.Bool.{ltb-false}
 use Rattle.std.proofs.lemmas.List.{length-map}
 use Rattle.std.proofs.lemmas.List.Elements.{All-from_recursion}
 use Rattle.std.specs.List.{AllByRecursion as Each}
-use Rattle.tac_reader.specs.Text.{lines}
-use Rattle.tac_reader.specs.Tokens.{Token, rows, token_lines, spelling_of, unless_empty}
-use Rattle.tac_reader.specs.Names.{is_one_of, Names}
-use Rattle.tac_reader.specs.Forms.{labels_of, behind_labels, paired, in_slot, cells_of, is_name_word, Slot, statement_row, is_variable, callees_of, jumps_of}
+use Rattle.tac_lines.specs.Text.{lines}
+use Rattle.tac_lines.specs.Tokens.{Token, rows, token_lines, spelling_of, unless_empty}
+use Rattle.tac_program.specs.Names.{is_one_of, Names}
+use Rattle.tac_lines.specs.Forms.{labels_of, behind_labels, paired, in_slot, cells_of, is_name_word, Slot, statement_row, is_variable, callees_of, jumps_of}
 use Rattle.tac_reader.specs.Sections.{Section, sections, titles, statements_of, labels_in, only_name, variables_of}
-use Rattle.tac_reader.specs.Programs.{Procedure, Program}
+use Rattle.tac_program.specs.Programs.{Procedure, Program}
 use Rattle.tac_reader.specs.Parses.{names_in, statement_of, label_places, labels_from, procedure_of, procedures_from, variables_in, program_of}
 use Rattle.tac_reader.specs.Faults.{repeated, unknown, jumps_in, callees_in, name_faults, head_of, fault_of, refusal_of, refusal_at}
-use Rattle.tac_reader.specs.LineFaults.{at, first_by_place, line_faults}
-use Rattle.tac_reader.specs.Limits.{longest_text, most_procedures}
+use Rattle.tac_lines.specs.LineFaults.{at, first_by_place, line_faults}
+use Rattle.tac_program.specs.Limits.{longest_text, most_procedures}
 use Rattle.tac_reader.specs.Laws.{ProgramsAreSound}
-use Rattle.tac_reader.specs.Sound.{IsLawfulName, IsSoundStatement, IsSoundProcedure, IsSound}
-use Rattle.tac_reader.specs.declared.fault.Fault.{Fault}
-use Rattle.tac_reader.specs.declared.form.Form.{Form}
-use Rattle.tac_reader.specs.declared.program.Label.{Label}
-use Rattle.tac_reader.specs.declared.refusal.RefusalKind.{RefusalKind}
-use Rattle.tac_reader.specs.declared.refusal.RefusalKind.TheVariants as kind
-use Rattle.tac_reader.proofs.lists.Elements.{each-append, each-map, each-from_map, each-flat_map, each-from_flat_map, each-weaker, each-both, no_left, no_right, no_parts, all_differ}
-use Rattle.tac_reader.proofs.lines.FirstFault.{none_first}
+use Rattle.tac_program.specs.Sound.{IsLawfulName, IsSoundStatement, IsSoundProcedure, IsSound}
+use Rattle.tac_lines.specs.declared.fault.Fault.{Fault}
+use Rattle.tac_lines.specs.declared.form.Form.{Form}
+use Rattle.tac_program.specs.declared.program.Label.{Label}
+use Rattle.tac_lines.specs.declared.refusal.RefusalKind.{RefusalKind}
+use Rattle.tac_lines.specs.declared.refusal.RefusalKind.TheVariants as kind
+use Rattle.tac_program.proofs.lists.Elements.{each-append, each-map, each-from_map, each-flat_map, each-from_flat_map, each-weaker, each-both, no_left, no_right, no_parts, all_differ}
+use Rattle.tac_lines.proofs.lines.FirstFault.{none_first}
 use Rattle.tac_reader.proofs.programs.LabelRuns.{labels_rise}
 use Rattle.tac_reader.proofs.known_names.KnownNames.{Known, known_contained, none_repeated, each_once_known, each_once_differ, each_once_each}
 use Rattle.tac_reader.proofs.lines.FaultlessLines.{Sound, IsFaultlessSection, rows_spelled, lines_faultless, sections_faultless, name_lawful}

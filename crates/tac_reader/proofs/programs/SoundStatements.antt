@@ -3,19 +3,19 @@ use Rattle.std.proofs.Common.{◌≡◌, ℕ, ◌<◌, ◌≤◌, Bool, true, fa
 use Rattle.std.proofs.lemmas.List.{length-map}
 use Rattle.std.proofs.lemmas.List.Elements.{All-from_recursion}
 use Rattle.std.specs.List.{AllByRecursion as Each, list_any}
-use Rattle.tac_reader.specs.Tokens.{Word, Token, spelling_of}
-use Rattle.tac_reader.specs.Forms.{Slot, variable, operand, label, callee, binary, unary, comparison, key, has_form, further_callees, plain_statements, statements, statement_row, paired, cells_of, in_slot, is_label, is_callee, is_variable, callees_of, jumps_of}
+use Rattle.tac_lines.specs.Tokens.{Word, Token, spelling_of}
+use Rattle.tac_lines.specs.Forms.{Slot, variable, operand, label, callee, binary, unary, comparison, key, has_form, further_callees, plain_statements, statements, statement_row, paired, cells_of, in_slot, is_label, is_callee, is_variable, callees_of, jumps_of}
 use Rattle.tac_reader.specs.Sections.{only_name, variables_of}
-use Rattle.tac_reader.specs.Programs.{number_of}
+use Rattle.tac_program.specs.Programs.{number_of}
 use Rattle.tac_reader.specs.Parses.{kind_of, statement_of, names_in}
-use Rattle.tac_reader.specs.Names.{Names}
+use Rattle.tac_program.specs.Names.{Names}
 use Rattle.tac_reader.specs.Faults.{repeated}
-use Rattle.tac_reader.specs.Sound.{IsSoundStatement}
-use Rattle.tac_reader.specs.declared.form.Form.{Form}
-use Rattle.tac_reader.specs.declared.form.Form.TheVariants as form
-use Rattle.tac_reader.specs.declared.refusal.RefusalKind.TheVariants as kind
-use Rattle.tac_reader.proofs.forms.CalleeCounts.{most_callees}
-use Rattle.tac_reader.proofs.lists.Elements.{each-append, each-map, each-weaker, all_differ, Differ}
+use Rattle.tac_program.specs.Sound.{IsSoundStatement}
+use Rattle.tac_lines.specs.declared.form.Form.{Form}
+use Rattle.tac_lines.specs.declared.form.Form.TheVariants as form
+use Rattle.tac_lines.specs.declared.refusal.RefusalKind.TheVariants as kind
+use Rattle.tac_lines.proofs.forms.CalleeCounts.{most_callees}
+use Rattle.tac_program.proofs.lists.Elements.{each-append, each-map, each-weaker, all_differ, Differ}
 use Rattle.tac_reader.proofs.known_names.KnownNames.{Known, number_below, numbers_differ, none_repeated}
 use Rattle.tac_reader.proofs.programs.StatementWords.{row_form}
 use Rattle.tac_reader.proofs.programs.FaultlessStatements.{IsFaultlessStatement, variables, labels, procedures, AllSaySound, all_say_sound, KnownVariable, KnownLabel, KnownProcedure}

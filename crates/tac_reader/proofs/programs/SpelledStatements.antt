@@ -3,17 +3,17 @@ use Rattle.std.proofs.Common.{◌≡◌, ℕ, zero, suc, ◌+◌, ◌-◌, ◌�
 use Rattle.std.specs.List.{AllByRecursion as Each, prefix_len}
 use Rattle.std.proofs.lemmas.List.{take-append-le}
 use Rattle.std.proofs.lemmas.List.Elements.{All-from_recursion}
-use Rattle.tac_reader.specs.Text.{lines}
-use Rattle.tac_reader.specs.Tokens.{Piece, word, gap, Token, Row, longest, before_row, row_from, rows_from, rows, stop_of, unless_empty, token_lines}
-use Rattle.tac_reader.specs.Forms.{has_form, proc_form, label_form, behind_labels, is_inner}
+use Rattle.tac_lines.specs.Text.{lines}
+use Rattle.tac_lines.specs.Tokens.{Piece, word, gap, Token, Row, longest, before_row, row_from, rows_from, rows, stop_of, unless_empty, token_lines}
+use Rattle.tac_lines.specs.Forms.{has_form, proc_form, label_form, behind_labels, is_inner}
 use Rattle.tac_reader.specs.Sections.{Section, opened_by, sections_in, sections, statements_of}
 use Rattle.tac_reader.specs.Parses.{start_of}
 use Rattle.tac_reader.specs.Laws.{StatementsAreSpelled}
-use Rattle.tac_reader.proofs.tokens.Places.{EachToken, StandsIn, row_in, ends_line}
-use Rattle.tac_reader.proofs.lines.Lines.{lines_join}
-use Rattle.tac_reader.proofs.lists.Elements.{each-append, each-take, each-weaker, each-flat_map}
-use Rattle.tac_reader.proofs.tokens.SpelledTokens.{row_choice, drop_next, drop_past}
-use Rattle.tac_reader.proofs.tokens.CutRows.{end_of, IsCut, row_cut}
+use Rattle.tac_lines.proofs.tokens.Places.{EachToken, StandsIn, row_in, ends_line}
+use Rattle.tac_lines.proofs.lines.Lines.{lines_join}
+use Rattle.tac_program.proofs.lists.Elements.{each-append, each-take, each-weaker, each-flat_map}
+use Rattle.tac_lines.proofs.tokens.SpelledTokens.{row_choice, drop_next, drop_past}
+use Rattle.tac_lines.proofs.tokens.CutRows.{end_of, IsCut, row_cut}
 
 -- A fact of each end of a list of tokens that has some.
 abbrev EachTail : (List Token → Type 0) → List Token → Type 0

@@ -1,13 +1,13 @@
 -- The statements of lines, one line after another.
 use Rattle.std.proofs.Common.{◌≡◌, ℕ, ◌+◌, ◌<◌, ◌==◌, true, false, List, [], ◌∷◌, ◌++◌, length, map, drop, refl, sym, ap, ◌∙◌, arith, slice_index_or, append_assoc, true≢false}
 use Rattle.std.proofs.lemmas.List.{at_drop_more}
-use Rattle.tac_reader.specs.Tokens.{Token, unless_empty}
-use Rattle.tac_reader.specs.Forms.{behind_labels}
+use Rattle.tac_lines.specs.Tokens.{Token, unless_empty}
+use Rattle.tac_lines.specs.Forms.{behind_labels}
 use Rattle.tac_reader.specs.Sections.{statements_of}
-use Rattle.tac_reader.specs.code.Ranges.{range_view}
-use Rattle.tac_reader.specs.code.Views.{tokens_view}
-use Rattle.tac_reader.specs.declared.lexed.LineRange.{LineRange}
-use Rattle.tac_reader.specs.declared.token.Token.{Token as Lexed}
+use Rattle.tac_lines.specs.code.Ranges.{range_view}
+use Rattle.tac_lines.specs.code.Views.{tokens_view}
+use Rattle.tac_lines.specs.declared.lexed.LineRange.{LineRange}
+use Rattle.tac_lines.specs.declared.token.Token.{Token as Lexed}
 
 module _ (text : List ℕ) where
   pub unless_some : (tokens : List Lexed) → (length tokens == 0) ≡ false → unless_empty (tokens_view text tokens) ≡ tokens_view text tokens ∷ []

@@ -1,14 +1,14 @@
 -- What a statement's words say, by its form.
 use Rattle.std.proofs.Common.{◌≡◌, ℕ, List, [], ◌∷◌, length, map, refl, ap, ◌∙◌, arith, Option, Some, None, option_map}
-use Rattle.tac_reader.specs.Tokens.{Token}
-use Rattle.tac_reader.specs.Forms.{Slot, statement_row}
+use Rattle.tac_lines.specs.Tokens.{Token}
+use Rattle.tac_lines.specs.Forms.{Slot, statement_row}
 use Rattle.tac_reader.specs.Parses.{kind_of, form_of, variable_of, operand_of, operator_of, label_of}
-use Rattle.tac_reader.specs.Names.{Names}
-use Rattle.tac_reader.specs.code.Views.{form_slots}
+use Rattle.tac_program.specs.Names.{Names}
+use Rattle.tac_lines.specs.code.Views.{form_slots}
 use Rattle.tac_reader.specs.code.Built.{word_nth}
-use Rattle.tac_reader.specs.declared.form.Form.{Form}
-use Rattle.tac_reader.specs.declared.form.Form.TheVariants as form
-use Rattle.tac_reader.specs.declared.program.StmtKind.TheVariants as kind
+use Rattle.tac_lines.specs.declared.form.Form.{Form}
+use Rattle.tac_lines.specs.declared.form.Form.TheVariants as form
+use Rattle.tac_program.specs.declared.program.StmtKind.TheVariants as kind
 
 pub row_form : (ts : List Token) (row : Form × List Slot) → statement_row ts ≡ Some row → form_of ts ≡ row.0
 row_form ts row e = ap (λ o. elim o as (λ _. Form) [ None ↦ form.Skip | Some r ↦ r.0 ]) e

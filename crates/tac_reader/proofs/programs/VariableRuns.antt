@@ -2,16 +2,16 @@
 use Rattle.std.proofs.Common.{◌≡◌, ℕ, ◌+◌, ◌<◌, List, [], ◌++◌, length, drop, fold, flat_map, map, refl, sym, ap, ◌∙◌, slice_index_or}
 use Rattle.std.proofs.lemmas.List.{at_drop_more, map-append}
 use Rattle.std.proofs.lemmas.List.Sums.{fold-append}
-use Rattle.tac_reader.specs.Tokens.{Token, spelling_of}
-use Rattle.tac_reader.specs.Forms.{behind_labels}
+use Rattle.tac_lines.specs.Tokens.{Token, spelling_of}
+use Rattle.tac_lines.specs.Forms.{behind_labels}
 use Rattle.tac_reader.specs.Parses.{names_in}
-use Rattle.tac_reader.specs.Names.{noted}
+use Rattle.tac_program.specs.Names.{noted}
 use Rattle.tac_reader.specs.Sections.{Section, statements_of, variables_of}
-use Rattle.tac_reader.specs.code.Ranges.{range_view}
+use Rattle.tac_lines.specs.code.Ranges.{range_view}
 use Rattle.tac_reader.specs.code.SectionViews.{section_view, sections_view}
-use Rattle.tac_reader.specs.declared.lexed.LineRange.{LineRange}
+use Rattle.tac_lines.specs.declared.lexed.LineRange.{LineRange}
 use Rattle.tac_reader.specs.declared.section.Section.{Section as Read}
-use Rattle.tac_reader.specs.declared.token.Token.{Token as Lexed}
+use Rattle.tac_lines.specs.declared.token.Token.{Token as Lexed}
 use Rattle.tac_reader.proofs.sections.SectionSteps.{parts_on}
 
 -- Names that are noted, and then others, are noted together.

@@ -1,17 +1,17 @@
 -- The faults of names go by the cores of sections, but for where they stand.
 use Rattle.std.proofs.Common.{◌≡◌, ℕ, Bool, true, false, List, [], ◌∷◌, ◌++◌, map, flat_map, drop, refl, sym, ap, ◌∙◌, codes, if◌then◌else◌}
 use Rattle.std.proofs.lemmas.List.{map-append, drop-map}
-use Rattle.tac_reader.specs.Tokens.{Token, spelling_of}
-use Rattle.tac_reader.specs.Names.{is_one_of}
+use Rattle.tac_lines.specs.Tokens.{Token, spelling_of}
+use Rattle.tac_program.specs.Names.{is_one_of}
 use Rattle.tac_reader.specs.Sections.{Section, statements_of, labels_in, titles}
-use Rattle.tac_reader.specs.Forms.{callees_of, jumps_of}
+use Rattle.tac_lines.specs.Forms.{callees_of, jumps_of}
 use Rattle.tac_reader.specs.Parses.{names_in}
 use Rattle.tac_reader.specs.Faults.{repeated, unknown, jumps_in, callees_in, name_faults}
-use Rattle.tac_reader.specs.LineFaults.{at}
-use Rattle.tac_reader.specs.Limits.{most_procedures}
-use Rattle.tac_reader.specs.declared.fault.Fault.{Fault}
-use Rattle.tac_reader.specs.declared.refusal.RefusalKind.{RefusalKind}
-use Rattle.tac_reader.specs.declared.refusal.RefusalKind.TheVariants as kind
+use Rattle.tac_lines.specs.LineFaults.{at}
+use Rattle.tac_program.specs.Limits.{most_procedures}
+use Rattle.tac_lines.specs.declared.fault.Fault.{Fault}
+use Rattle.tac_lines.specs.declared.refusal.RefusalKind.{RefusalKind}
+use Rattle.tac_lines.specs.declared.refusal.RefusalKind.TheVariants as kind
 use Rattle.tac_reader.proofs.tokens.Bare.{erased, all_erased, names_erased, callees-erased, jumps-erased}
 use Rattle.tac_reader.proofs.sections.Cores.{Core, core, core_titles, titles-erased, flat_map-through}
 

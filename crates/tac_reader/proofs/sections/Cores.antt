@@ -1,15 +1,15 @@
 -- What a program has of a section: nothing of it goes by the places of tokens or by how lines part the labels.
 use Rattle.std.proofs.Common.{◌≡◌, ℕ, suc, List, [], ◌∷◌, ◌++◌, map, flat_map, refl, sym, ap, ◌∙◌}
 use Rattle.std.proofs.lemmas.List.{map-append}
-use Rattle.tac_reader.specs.Tokens.{Token, spelling_of}
+use Rattle.tac_lines.specs.Tokens.{Token, spelling_of}
 use Rattle.tac_reader.specs.Sections.{Section, sections_in, statements_of, labels_in, variables_of, titles}
-use Rattle.tac_reader.specs.Forms.{callees_of}
-use Rattle.tac_reader.specs.Programs.{number_of}
+use Rattle.tac_lines.specs.Forms.{callees_of}
+use Rattle.tac_program.specs.Programs.{number_of}
 use Rattle.tac_reader.specs.Parses.{names_in, kind_of, form_of, statement_of, label_places, labels_from, procedure_of, procedures_from, variables_in, each_once}
-use Rattle.tac_reader.specs.Names.{Names}
+use Rattle.tac_program.specs.Names.{Names}
 use Rattle.tac_reader.specs.Laws.{without_spans}
-use Rattle.tac_reader.specs.declared.program.Label.{Label}
-use Rattle.tac_reader.specs.declared.program.StmtKind.{StmtKind}
+use Rattle.tac_program.specs.declared.program.Label.{Label}
+use Rattle.tac_program.specs.declared.program.StmtKind.{StmtKind}
 use Rattle.tac_reader.proofs.tokens.Bare.{erased, all_erased, words_of, words_erased, names_erased, form_of-erased, callees-erased, variables-erased, statements_of-erased, labels_in-erased, label_places-erased, erased_section, sections_in-erased}
 
 -- A section's title and labels, the places of the labels, and the statements, all without places in the text.

@@ -1,15 +1,15 @@
 -- What the listing of a text without faults goes by: words that read back, and names that are known.
 use Rattle.std.proofs.Common.{◌≡◌, ℕ, ◌⊎◌, inl, inr, Bool, true, false, ◌&&◌, List, [], ◌∷◌, flat_map, refl, subst, None, Some, if◌then◌else◌, codes}
 use Rattle.std.specs.List.{AllByRecursion as Each}
-use Rattle.tac_reader.specs.Tokens.{Token, unless_empty}
-use Rattle.tac_reader.specs.Forms.{Slot, fills, label, key, has_form, label_form, statements, statement_row, labels_of, behind_labels, in_slot, is_name_word, is_label, is_callee, is_variable}
+use Rattle.tac_lines.specs.Tokens.{Token, unless_empty}
+use Rattle.tac_lines.specs.Forms.{Slot, fills, label, key, has_form, label_form, statements, statement_row, labels_of, behind_labels, in_slot, is_name_word, is_label, is_callee, is_variable}
 use Rattle.tac_reader.specs.Sections.{Section, sections, titles, only_name}
 use Rattle.tac_reader.specs.Parses.{names_in, names_for, variables_in}
-use Rattle.tac_reader.specs.Names.{Names}
+use Rattle.tac_program.specs.Names.{Names}
 use Rattle.tac_reader.specs.Faults.{refusal_of}
-use Rattle.tac_reader.specs.declared.form.Form.{Form}
-use Rattle.tac_reader.proofs.tokens.Longest.{and_parts}
-use Rattle.tac_reader.proofs.lists.Elements.{each-weaker, each-from_flat_map}
+use Rattle.tac_lines.specs.declared.form.Form.{Form}
+use Rattle.tac_lines.proofs.tokens.Longest.{and_parts}
+use Rattle.tac_program.proofs.lists.Elements.{each-weaker, each-from_flat_map}
 use Rattle.tac_reader.proofs.tokens.Bare.{words_of}
 use Rattle.tac_reader.proofs.layouts.StatementTexts.{Resolved}
 use Rattle.tac_reader.proofs.programs.ResolvedWords.{resolved, form_row, row_has_form}

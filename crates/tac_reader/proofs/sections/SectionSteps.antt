@@ -4,16 +4,16 @@ use Rattle.std.specs.List.{prefix_len}
 use Rattle.std.proofs.Math.Seq.{drop-cons}
 use Rattle.std.proofs.lemmas.Grind.{flat_map-append}
 use Rattle.std.proofs.lemmas.List.{map-append, take-map, get_or-drop}
-use Rattle.tac_reader.specs.Tokens.{Token, unless_empty}
-use Rattle.tac_reader.specs.Forms.{proc_form, behind_labels, has_form, labels_of, label, key, fills, is_inner}
+use Rattle.tac_lines.specs.Tokens.{Token, unless_empty}
+use Rattle.tac_lines.specs.Forms.{proc_form, behind_labels, has_form, labels_of, label, key, fills, is_inner}
 use Rattle.tac_reader.specs.Sections.{Section, opened_by, sections_in, statements_of}
-use Rattle.tac_reader.specs.code.Ranges.{range_view}
-use Rattle.tac_reader.specs.code.Views.{token_view, tokens_view, starts_label}
+use Rattle.tac_lines.specs.code.Ranges.{range_view}
+use Rattle.tac_lines.specs.code.Views.{token_view, tokens_view, starts_label}
 use Rattle.tac_reader.specs.code.SectionViews.{lines_view, section_view, sections_view}
-use Rattle.tac_reader.specs.declared.formed.Lines.{Lines}
-use Rattle.tac_reader.specs.declared.lexed.LineRange.{LineRange}
+use Rattle.tac_lines.specs.declared.formed.Lines.{Lines}
+use Rattle.tac_lines.specs.declared.lexed.LineRange.{LineRange}
 use Rattle.tac_reader.specs.declared.section.Section.{Section as Read}
-use Rattle.tac_reader.specs.declared.token.Token.{Token as Lexed}
+use Rattle.tac_lines.specs.declared.token.Token.{Token as Lexed}
 
 module _ {L : Type 0} where
   pub rest_at : (xs : List L) (i : ℕ) (d : L) → i < length xs → drop i xs ≡ slice_index_or xs i d ∷ drop (i + 1) xs

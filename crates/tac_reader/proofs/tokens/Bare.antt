@@ -2,12 +2,12 @@
 use Rattle.std.proofs.Common.{◌≡◌, ℕ, ◌+◌, Bool, true, false, cond, not, ◌&&◌, ◌||◌, List, [], ◌∷◌, ◌++◌, length, take, map, flat_map, refl, sym, ap, ◌∙◌, Option, Some, None, find, if◌then◌else◌}
 use Rattle.std.specs.List.{prefix_len}
 use Rattle.std.proofs.lemmas.List.{map-append, take-map}
-use Rattle.tac_reader.specs.Tokens.{Word, Token, unless_empty, spelling_of}
-use Rattle.tac_reader.specs.Forms.{Slot, fills, has_form, proc_form, end_form, label_form, statements, statement_row, labels_of, behind_labels, paired, cells_of, in_slot, is_name_word, is_inner, is_variable, is_callee, is_label, callees_of, jumps_of}
+use Rattle.tac_lines.specs.Tokens.{Word, Token, unless_empty, spelling_of}
+use Rattle.tac_lines.specs.Forms.{Slot, fills, has_form, proc_form, end_form, label_form, statements, statement_row, labels_of, behind_labels, paired, cells_of, in_slot, is_name_word, is_inner, is_variable, is_callee, is_label, callees_of, jumps_of}
 use Rattle.tac_reader.specs.Sections.{Section, opened_by, sections_in, statements_of, only_name, variables_of}
 use Rattle.tac_reader.specs.Parses.{form_of, label_places, names_in}
-use Rattle.tac_reader.specs.declared.form.Form.{Form}
-use Rattle.tac_reader.specs.declared.form.Form.TheVariants as form
+use Rattle.tac_lines.specs.declared.form.Form.{Form}
+use Rattle.tac_lines.specs.declared.form.Form.TheVariants as form
 
 -- A token without its places.
 abbrev pub bare : Word → Token

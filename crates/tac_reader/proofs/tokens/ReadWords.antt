@@ -3,18 +3,18 @@ use Rattle.std.proofs.Common.{◌≡◌, ℕ, zero, suc, ◌+◌, inl, inr, Bool
 use Rattle.std.specs.List.{list_all, prefix_len}
 use Rattle.std.proofs.Math.Seq.{drop-append_seam, take-append_seam}
 use Rattle.std.proofs.lemmas.List.Folds.{list_all-append}
-use Rattle.tac_reader.specs.Text.{no_line_end}
-use Rattle.tac_reader.specs.Tokens.{Word, name, number, fixed, Piece, word, gap, Row, piece_of, picked, longest, before_row, row_from, is_number, is_blank, signs, name_or_keyword, number_piece}
-use Rattle.tac_reader.specs.Spelling.{is_letter, is_digit, is_name_byte, is_name, keywords, unary_signs}
-use Rattle.tac_reader.specs.Names.{is_one_of}
-use Rattle.tac_reader.specs.Sound.{IsLawfulName}
-use Rattle.tac_reader.proofs.tokens.Longest.{first_fails, and_parts, not_true, differs, letter_longest}
-use Rattle.tac_reader.proofs.tokens.Pieces.{digit_longest, piece_of-other, one_longest, two_longest}
-use Rattle.tac_reader.proofs.tokens.Places.{longest_front, word_no_end}
-use Rattle.tac_reader.proofs.tokens.RowSteps.{row_some}
+use Rattle.tac_lines.specs.Text.{no_line_end}
+use Rattle.tac_lines.specs.Tokens.{Word, name, number, fixed, Piece, word, gap, Row, piece_of, picked, longest, before_row, row_from, is_number, is_blank, signs, name_or_keyword, number_piece}
+use Rattle.tac_program.specs.Spelling.{is_letter, is_digit, is_name_byte, is_name, keywords, unary_signs}
+use Rattle.tac_program.specs.Names.{is_one_of}
+use Rattle.tac_program.specs.Sound.{IsLawfulName}
+use Rattle.tac_lines.proofs.tokens.Longest.{first_fails, and_parts, not_true, differs, letter_longest}
+use Rattle.tac_lines.proofs.tokens.Pieces.{digit_longest, piece_of-other, one_longest, two_longest}
+use Rattle.tac_lines.proofs.tokens.Places.{longest_front, word_no_end}
+use Rattle.tac_lines.proofs.tokens.RowSteps.{row_some}
 use Rattle.tac_reader.proofs.lines.FaultlessLines.{IsSoundWord}
 use Rattle.tac_reader.proofs.programs.FaultlessStatements.{each_tested}
-use Rattle.tac_reader.proofs.tokens.Decimals.{is_number_decimal, value_of_decimal}
+use Rattle.tac_lines.proofs.tokens.Decimals.{is_number_decimal, value_of_decimal}
 
 -- What the bytes from a line's beginning on are read as, wherever the line stands.
 pub record ReadsAs (bytes : List ℕ) (ws : List Word) : Type 0 where

@@ -1,9 +1,9 @@
 -- What the code's tables of names stand for.
 use Rattle.std.specs.Prelude.{ℕ, List, [], map, Option, Some, None, slice_get}
-use Rattle.tac_reader.specs.Tokens.{Word, fixed, Token, spelling_of}
-use Rattle.tac_reader.specs.Programs.{number_of}
-use Rattle.tac_reader.specs.Names.{Names}
-use Rattle.tac_reader.specs.Forms.{callees_of}
+use Rattle.tac_lines.specs.Tokens.{Word, fixed, Token, spelling_of}
+use Rattle.tac_program.specs.Programs.{number_of}
+use Rattle.tac_program.specs.Names.{Names}
+use Rattle.tac_lines.specs.Forms.{callees_of}
 use Rattle.tac_reader.specs.declared.build.Names.{Names as Tables}
 
 abbrev pub names_view : Tables → Names

@@ -1,6 +1,6 @@
 -- Labels by the lines that they stand before.
 use Rattle.std.specs.Prelude.{ℕ, zero, suc, List, [], ◌∷◌}
-use Rattle.tac_reader.specs.declared.program.Label.{Label}
+use Rattle.tac_program.specs.declared.program.Label.{Label}
 
 -- So many labels for one place, numbered on from n.
 abbrev pub labels_at : ℕ → ℕ → ℕ → List Label

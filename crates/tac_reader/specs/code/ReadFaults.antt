@@ -1,7 +1,7 @@
 -- Why a text was not read.
-use Rattle.tac_reader.specs.declared.refusal.ReadFault.{ReadFault}
-use Rattle.tac_reader.specs.declared.refusal.ReadFault.TheVariants.{Refused, OutOfMemory}
-use Rattle.tac_reader.specs.declared.refusal.Refusal.{Refusal}
+use Rattle.tac_lines.specs.declared.refusal.ReadFault.{ReadFault}
+use Rattle.tac_lines.specs.declared.refusal.ReadFault.TheVariants.{Refused, OutOfMemory}
+use Rattle.tac_lines.specs.declared.refusal.Refusal.{Refusal}
 
 -- A fact of the refusal, where it is one; of want of memory nothing is told.
 abbrev pub IfRefused : (Refusal → Type 0) → ReadFault → Type 0

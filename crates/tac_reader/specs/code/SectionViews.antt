@@ -1,10 +1,10 @@
 -- What the code's sections stand for.
 use Rattle.std.specs.Prelude.{ℕ, List, map}
-use Rattle.tac_reader.specs.Tokens.{Token}
+use Rattle.tac_lines.specs.Tokens.{Token}
 use Rattle.tac_reader.specs.Sections.{Section}
-use Rattle.tac_reader.specs.code.Ranges.{range_view}
-use Rattle.tac_reader.specs.code.Views.{token_view}
-use Rattle.tac_reader.specs.declared.formed.Lines.{Lines}
+use Rattle.tac_lines.specs.code.Ranges.{range_view}
+use Rattle.tac_lines.specs.code.Views.{token_view}
+use Rattle.tac_lines.specs.declared.formed.Lines.{Lines}
 use Rattle.tac_reader.specs.declared.section.Section.{Section as Read}
 
 -- Lines, each by its tokens.

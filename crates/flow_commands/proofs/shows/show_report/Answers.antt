@@ -1,6 +1,6 @@
 use Rattle.std.proofs.Common.{subst}
 use Rattle.flow_texts.specs.Reports.{IsReport, ListsSafely}
-use Rattle.tac_reader.specs.Programs.{Program}
+use Rattle.tac_program.specs.Programs.{Program}
 use Rattle.flow_runs.specs.Runs.{IsOverLimit}
 use Rattle.flow_runs.proofs.Deliveries.{delivers_as, no_graph_fault}
 use Rattle.flow_commands.proofs.shows.show_report.Goals as goal

@@ -1,5 +1,5 @@
 use Rattle.std.proofs.Common.{rules, ◌≡◌, ◌+◌, ◌<◌, ◌≤◌, ℕ, length, take, get_or, sum_by, vec_len, ap, ◌∙◌, sym, subst, refl, arith}
-use Rattle.tac_reader.specs.Programs.{Program}
+use Rattle.tac_program.specs.Programs.{Program}
 use Rattle.flow_graph.specs.Points.{size_of}
 use Rattle.flow_graph.proofs.places.PlaceTables.{procedures_before, one_more}
 use Rattle.flow_graph.proofs.points.point_procedures.Goals as goal

@@ -1,5 +1,5 @@
 use Rattle.std.proofs.Common.{◌<◌, ◌∙◌, List, ℕ, length, fold, All, sym, ap, subst, arith}
-use Rattle.tac_reader.specs.Sound.{IsSound}
+use Rattle.tac_program.specs.Sound.{IsSound}
 use Rattle.flow_graph.specs.code.NumberLists.{contents, with_last}
 use Rattle.flow_graph.specs.Points.{point_count}
 use Rattle.flow_graph.proofs.edges.SiteLemmas.{callees_are, one_site_more}

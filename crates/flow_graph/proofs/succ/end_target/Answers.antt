@@ -1,5 +1,5 @@
 use Rattle.std.proofs.Common.{rules, ◌≡◌, ◌<◌, List, length, get_or, ap, ◌∙◌, arith}
-use Rattle.tac_reader.specs.Programs.{Program, Procedure}
+use Rattle.tac_program.specs.Programs.{Program, Procedure}
 use Rattle.flow_graph.specs.Points.{Place, procedure_at}
 use Rattle.flow_graph.proofs.places.PointLemmas.{points_have_places}
 use Rattle.flow_graph.proofs.edges.SuccessorLemmas.{reads_end}

@@ -2,9 +2,9 @@ use Rattle.std.proofs.Common.{rules, ◌≡◌, ◌+◌, ℕ, List, length, subs
 use Rattle.flow_graph.specs.declared.analysis.Analysis.TheVariants.{Avail, Live}
 use Rattle.flow_team.specs.declared.ask.Ask.{Ask}
 use Rattle.flow_texts.specs.code.Told.{ask_for}
-use Rattle.tac_reader.specs.declared.program.StmtKind.{StmtKind}
+use Rattle.tac_program.specs.declared.program.StmtKind.{StmtKind}
 use Rattle.flow_texts.specs.code.Asking.{Asks, AsksAssigned, AsksBusy, AsksEvaluated, AsksReads}
-use Rattle.tac_reader.specs.Programs.{Program}
+use Rattle.tac_program.specs.Programs.{Program}
 use Rattle.flow_texts.proofs.Asking.{asks_then, reads_still}
 use Rattle.flow_texts.proofs.report_asks.ask_kind.Goals as goal
 

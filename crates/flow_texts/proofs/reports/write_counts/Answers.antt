@@ -2,7 +2,7 @@
 use Rattle.std.proofs.Common.{◌≡◌, ◌++◌, List, ℕ, length, codes, decimal, ap, ◌∙◌, append_assoc}
 use Rattle.flow_graph.specs.Points.{point_count}
 use Rattle.flow_graph.specs.Universes.{definitions, expressions}
-use Rattle.tac_reader.specs.Programs.{Program}
+use Rattle.tac_program.specs.Programs.{Program}
 use Rattle.flow_texts.specs.Reports.{count_line}
 use Rattle.text_pieces.proofs.Taking.{takes_as, takes_then}
 use Rattle.flow_texts.proofs.reports.write_counts.Goals as goal

@@ -1,7 +1,7 @@
 use Rattle.std.proofs.Common.{◌++◌, codes, ap, sym, ◌∙◌}
 use Rattle.flow_texts.specs.code.Findings.{remark_name}
 use Rattle.text_pieces.proofs.Taking.{takes_as}
-use Rattle.tac_reader.specs.Programs.{Program}
+use Rattle.tac_program.specs.Programs.{Program}
 use Rattle.flow_views.specs.Json.{remark_fields}
 use Rattle.flow_views.specs.Strings.{quoted}
 use Rattle.flow_views.proofs.json.write_kind.Goals as goal

@@ -1,10 +1,10 @@
 use Rattle.std.proofs.Common.{◌≡◌, ◌≤◌, ◌∙◌, ◌++◌, length, map, ap, sym, arith}
 use Rattle.std.proofs.lemmas.List.{length-map}
-use Rattle.tac_reader.specs.Programs.{number_of}
-use Rattle.tac_reader.specs.Forms.{callees_of}
-use Rattle.tac_reader.specs.Tokens.{spelling_of}
-use Rattle.tac_reader.specs.code.Views.{token_view, tokens_view}
-use Rattle.tac_reader.proofs.forms.CalleeCounts.{most_callees}
+use Rattle.tac_program.specs.Programs.{number_of}
+use Rattle.tac_lines.specs.Forms.{callees_of}
+use Rattle.tac_lines.specs.Tokens.{spelling_of}
+use Rattle.tac_lines.specs.code.Views.{token_view, tokens_view}
+use Rattle.tac_lines.proofs.forms.CalleeCounts.{most_callees}
 use Rattle.tac_reader.proofs.build.callees.Goals as goal
 
 pub loop-token-init : goal.loop-token-init

@@ -1,8 +1,8 @@
 use Rattle.std.proofs.Common.{◌≡◌, ◌≤◌, ◌++◌, map, drop, length}
 use Rattle.tac_reader.specs.code.Built.{call_numbers}
-use Rattle.tac_reader.specs.Programs.{number_of}
-use Rattle.tac_reader.specs.Tokens.{spelling_of}
-use Rattle.tac_reader.specs.code.Views.{tokens_view}
+use Rattle.tac_program.specs.Programs.{number_of}
+use Rattle.tac_lines.specs.Tokens.{spelling_of}
+use Rattle.tac_lines.specs.code.Views.{tokens_view}
 use Rattle.tac_reader.proofs.build.callees.Given as goal
 
 -- The numbers so far and those of the other callees are all; there are at most eight.

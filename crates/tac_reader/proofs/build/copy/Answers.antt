@@ -1,4 +1,4 @@
-use Rattle.tac_reader.specs.declared.program.StmtKind.TheVariants as stmt
+use Rattle.tac_program.specs.declared.program.StmtKind.TheVariants as stmt
 use Rattle.tac_reader.proofs.build.copy.Goals as goal
 
 pub returns : goal.returns

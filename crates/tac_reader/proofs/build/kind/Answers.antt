@@ -1,13 +1,13 @@
 use Rattle.std.proofs.Common.{◌∙◌, ℕ, List, sym, ap, length, map}
 use Rattle.tac_reader.specs.code.Built.{call_numbers, names_view}
 use Rattle.tac_reader.specs.Parses.{kind_of}
-use Rattle.tac_reader.specs.code.Views.{tokens_view}
+use Rattle.tac_lines.specs.code.Views.{tokens_view}
 use Rattle.tac_reader.specs.declared.build.Names.{Names as Tables}
-use Rattle.tac_reader.specs.declared.form.Form.TheVariants as form
-use Rattle.tac_reader.specs.declared.program.StmtKind.TheVariants as stmt
-use Rattle.tac_reader.specs.declared.token.Token.{Token as Lexed}
+use Rattle.tac_lines.specs.declared.form.Form.TheVariants as form
+use Rattle.tac_program.specs.declared.program.StmtKind.TheVariants as stmt
+use Rattle.tac_lines.specs.declared.token.Token.{Token as Lexed}
 use Rattle.tac_reader.proofs.programs.StatementWords.{row_of, row_form, unary_words, binary_words, comparison_words, copy_words, jump_words, test_words, negated_words, read_words, print_words}
-use Rattle.tac_reader.proofs.forms.RowLengths.{row_length}
+use Rattle.tac_lines.proofs.forms.RowLengths.{row_length}
 use Rattle.tac_reader.proofs.build.kind.Goals as goal
 
 abbrev called : Tables → List ℕ → List Lexed → List ℕ

@@ -1,6 +1,6 @@
 use Rattle.std.proofs.Common.{◌≡◌, ◌∙◌, sym, ap, Some, None, slice_get}
-use Rattle.tac_reader.specs.Programs.{number_of}
-use Rattle.tac_reader.specs.Tokens.{bytes_of}
+use Rattle.tac_program.specs.Programs.{number_of}
+use Rattle.tac_lines.specs.Tokens.{bytes_of}
 use Rattle.tac_reader.proofs.programs.BuiltWords.{word-some, word-none, get_some, get_none}
 use Rattle.tac_reader.proofs.build.number_at.Goals as goal
 

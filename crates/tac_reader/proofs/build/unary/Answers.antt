@@ -1,5 +1,5 @@
 use Rattle.std.proofs.Common.{sym}
-use Rattle.tac_reader.specs.declared.program.StmtKind.TheVariants as stmt
+use Rattle.tac_program.specs.declared.program.StmtKind.TheVariants as stmt
 use Rattle.tac_reader.proofs.build.unary.Goals as goal
 
 pub returns : goal.returns

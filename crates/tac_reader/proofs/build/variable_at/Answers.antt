@@ -1,7 +1,7 @@
 use Rattle.std.proofs.Common.{◌≡◌, ◌∙◌, sym, ap, Some, slice_get, slice_range}
-use Rattle.tac_reader.specs.Programs.{number_of}
-use Rattle.tac_reader.specs.Tokens.{bytes_of}
-use Rattle.tac_reader.specs.code.Views.{word_at}
+use Rattle.tac_program.specs.Programs.{number_of}
+use Rattle.tac_lines.specs.Tokens.{bytes_of}
+use Rattle.tac_lines.specs.code.Views.{word_at}
 use Rattle.tac_reader.proofs.programs.BuiltWords.{word-some, get_some}
 use Rattle.tac_reader.proofs.build.variable_at.Goals as goal
 

@@ -1,10 +1,10 @@
 use Rattle.std.proofs.Common.{◌∙◌, ap, sym, List}
-use Rattle.tac_reader.specs.Tokens.{Token}
+use Rattle.tac_lines.specs.Tokens.{Token}
 use Rattle.tac_reader.specs.Faults.{callees_in, head_of, unknown}
 use Rattle.tac_reader.specs.Sections.{Section, titles}
 use Rattle.tac_reader.specs.code.SectionViews.{section_view, sections_view}
-use Rattle.tac_reader.specs.declared.fault.Fault.{Fault}
-use Rattle.tac_reader.specs.declared.refusal.RefusalKind.TheVariants.{UnknownProcedure}
+use Rattle.tac_lines.specs.declared.fault.Fault.{Fault}
+use Rattle.tac_lines.specs.declared.refusal.RefusalKind.TheVariants.{UnknownProcedure}
 use Rattle.tac_reader.proofs.lines.FirstFaults.{fault_past}
 use Rattle.tac_reader.proofs.checks.check_callees.Goals as goal
 

@@ -1,6 +1,6 @@
 use Rattle.std.proofs.Common.{refl, arith, ◌<◌, length}
 use Rattle.std.proofs.lemmas.Option.{slice_get_past, slice_get_read}
-use Rattle.tac_reader.specs.declared.refusal.RefusalKind.TheVariants.{TooManyProcedures}
+use Rattle.tac_lines.specs.declared.refusal.RefusalKind.TheVariants.{TooManyProcedures}
 use Rattle.tac_reader.proofs.lines.FirstFaults.{none_past, one_past}
 use Rattle.tac_reader.proofs.checks.check_count.Goals as goal
 

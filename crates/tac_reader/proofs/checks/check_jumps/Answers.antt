@@ -3,8 +3,8 @@ use Rattle.tac_reader.specs.Faults.{head_of, jumps_in, unknown}
 use Rattle.tac_reader.specs.Parses.{names_in}
 use Rattle.tac_reader.specs.Sections.{Section, labels_in}
 use Rattle.tac_reader.specs.code.SectionViews.{section_view}
-use Rattle.tac_reader.specs.declared.fault.Fault.{Fault}
-use Rattle.tac_reader.specs.declared.refusal.RefusalKind.TheVariants.{UnknownLabel}
+use Rattle.tac_lines.specs.declared.fault.Fault.{Fault}
+use Rattle.tac_lines.specs.declared.refusal.RefusalKind.TheVariants.{UnknownLabel}
 use Rattle.tac_reader.proofs.lines.FirstFaults.{at_images, fault_past, fault_here}
 use Rattle.tac_reader.proofs.checks.check_jumps.Goals as goal
 

@@ -2,8 +2,8 @@ use Rattle.std.proofs.Common.{◌≡◌, ◌∙◌, ap, sym, [], List, Some, fla
 use Rattle.tac_reader.specs.Faults.{head_of, repeated}
 use Rattle.tac_reader.specs.Sections.{Section, labels_in}
 use Rattle.tac_reader.specs.code.SectionViews.{section_view, sections_view}
-use Rattle.tac_reader.specs.declared.fault.Fault.{Fault}
-use Rattle.tac_reader.specs.declared.refusal.RefusalKind.TheVariants.{DuplicateLabel}
+use Rattle.tac_lines.specs.declared.fault.Fault.{Fault}
+use Rattle.tac_lines.specs.declared.refusal.RefusalKind.TheVariants.{DuplicateLabel}
 use Rattle.std.proofs.lemmas.Result.{err_from_is_err_and}
 use Rattle.tac_reader.proofs.lines.FirstFaults.{fault_here, if_fault_weaker}
 use Rattle.tac_reader.proofs.checks.check_labels.Goals as goal

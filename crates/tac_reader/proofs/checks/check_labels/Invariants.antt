@@ -3,7 +3,7 @@ use Rattle.tac_reader.specs.Faults.{repeated}
 use Rattle.tac_reader.specs.Parses.{names_in}
 use Rattle.tac_reader.specs.Sections.{labels_in}
 use Rattle.tac_reader.specs.code.SectionViews.{sections_view}
-use Rattle.tac_reader.specs.declared.refusal.RefusalKind.TheVariants.{DuplicateLabel}
+use Rattle.tac_lines.specs.declared.refusal.RefusalKind.TheVariants.{DuplicateLabel}
 use Rattle.tac_reader.proofs.checks.check_labels.Given as goal
 
 -- The names of the rest are to come, and the faults are the rest's.

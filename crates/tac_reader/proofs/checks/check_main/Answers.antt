@@ -1,8 +1,8 @@
 use Rattle.std.proofs.Common.{◌∙◌, ap, [], is_some, codes, if◌then◌else◌}
 use Rattle.tac_reader.specs.Faults.{head_of}
-use Rattle.tac_reader.specs.LineFaults.{at}
-use Rattle.tac_reader.specs.declared.refusal.RefusalKind.TheVariants.{NoMain}
-use Rattle.tac_reader.proofs.known_names.NameTexts.{numbered}
+use Rattle.tac_lines.specs.LineFaults.{at}
+use Rattle.tac_lines.specs.declared.refusal.RefusalKind.TheVariants.{NoMain}
+use Rattle.tac_program.proofs.known_names.NameTexts.{numbered}
 use Rattle.tac_reader.proofs.checks.check_main.Goals as goal
 
 pub returns-in-Some : goal.returns-in-Some

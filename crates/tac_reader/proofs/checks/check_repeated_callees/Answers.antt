@@ -1,10 +1,10 @@
 use Rattle.std.proofs.Common.{◌∙◌, ap, sym, [], List, flat_map}
 use Rattle.tac_reader.specs.Faults.{head_of, repeated}
 use Rattle.tac_reader.specs.Sections.{Section, statements_of}
-use Rattle.tac_reader.specs.Forms.{callees_of}
+use Rattle.tac_lines.specs.Forms.{callees_of}
 use Rattle.tac_reader.specs.code.SectionViews.{section_view}
-use Rattle.tac_reader.specs.declared.fault.Fault.{Fault}
-use Rattle.tac_reader.specs.declared.refusal.RefusalKind.TheVariants.{DuplicateCallee}
+use Rattle.tac_lines.specs.declared.fault.Fault.{Fault}
+use Rattle.tac_lines.specs.declared.refusal.RefusalKind.TheVariants.{DuplicateCallee}
 use Rattle.tac_reader.proofs.lines.FirstFaults.{fault_past, fault_here}
 use Rattle.tac_reader.proofs.checks.check_repeated_callees.Goals as goal
 

@@ -1,7 +1,7 @@
 use Rattle.std.proofs.Common.{◌≡◌, [], drop, take}
 use Rattle.tac_reader.specs.Faults.{repeated}
 use Rattle.tac_reader.specs.Parses.{names_in}
-use Rattle.tac_reader.specs.code.Views.{tokens_view}
+use Rattle.tac_lines.specs.code.Views.{tokens_view}
 use Rattle.tac_reader.proofs.checks.first_repeated.Given as goal
 
 -- The faults are the rest's, behind the names so far.

@@ -1,8 +1,8 @@
 use Rattle.std.proofs.Common.{◌≡◌, List, drop}
-use Rattle.tac_reader.specs.Tokens.{Token}
+use Rattle.tac_lines.specs.Tokens.{Token}
 use Rattle.tac_reader.specs.Faults.{unknown}
 use Rattle.tac_reader.specs.Parses.{names_in}
-use Rattle.tac_reader.specs.code.Views.{tokens_view}
+use Rattle.tac_lines.specs.code.Views.{tokens_view}
 use Rattle.tac_reader.proofs.checks.first_unknown.Given as goal
 
 -- The faults are the rest's.

@@ -1,7 +1,7 @@
 use Rattle.std.proofs.Common.{◌≡◌, drop}
-use Rattle.tac_reader.specs.Names.{is_one_of}
+use Rattle.tac_program.specs.Names.{is_one_of}
 use Rattle.tac_reader.specs.Parses.{names_in}
-use Rattle.tac_reader.specs.code.Views.{tokens_view}
+use Rattle.tac_lines.specs.code.Views.{tokens_view}
 use Rattle.tac_reader.proofs.checks.has_name.Given as goal
 
 -- The name is not among those so far.

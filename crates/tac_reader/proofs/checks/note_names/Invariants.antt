@@ -1,7 +1,7 @@
 use Rattle.std.proofs.Common.{◌≡◌, ◌++◌, drop}
 use Rattle.tac_reader.specs.Faults.{repeated}
 use Rattle.tac_reader.specs.Parses.{names_in}
-use Rattle.tac_reader.specs.code.Views.{tokens_view}
+use Rattle.tac_lines.specs.code.Views.{tokens_view}
 use Rattle.tac_reader.proofs.checks.note_names.Given as goal
 
 -- The names of the rest are to come, and the faults are the rest's.

@@ -1,13 +1,13 @@
 use Rattle.std.proofs.Common.{◌+◌, ◌∙◌, ◌<◌, sym, ap, arith, refl, [], List, drop, length, map, slice_index_or}
-use Rattle.tac_reader.specs.Tokens.{Token}
+use Rattle.tac_lines.specs.Tokens.{Token}
 use Rattle.tac_reader.specs.Faults.{head_of, repeated}
-use Rattle.tac_reader.specs.Forms.{behind_labels, callees_of}
-use Rattle.tac_reader.specs.code.Ranges.{range_view}
-use Rattle.tac_reader.specs.code.Views.{tokens_view}
-use Rattle.tac_reader.specs.declared.fault.Fault.{Fault}
-use Rattle.tac_reader.specs.declared.refusal.RefusalKind.TheVariants.{DuplicateCallee}
+use Rattle.tac_lines.specs.Forms.{behind_labels, callees_of}
+use Rattle.tac_lines.specs.code.Ranges.{range_view}
+use Rattle.tac_lines.specs.code.Views.{tokens_view}
+use Rattle.tac_lines.specs.declared.fault.Fault.{Fault}
+use Rattle.tac_lines.specs.declared.refusal.RefusalKind.TheVariants.{DuplicateCallee}
 use Rattle.tac_reader.proofs.lines.FirstFaults.{by_lines, callees_found, fault_past, fault_here}
-use Rattle.tac_reader.proofs.lines.RangeLemmas.{no_line}
+use Rattle.tac_lines.proofs.lines.RangeLemmas.{no_line}
 use Rattle.tac_reader.proofs.checks.repeated_callee.Goals as goal
 
 abbrev faults : List Token → List Fault

@@ -1,7 +1,7 @@
 use Rattle.std.proofs.Common.{◌≡◌, ◌++◌, ℕ, List, drop}
 use Rattle.tac_reader.specs.Sections.{titles}
 use Rattle.tac_reader.specs.code.SectionViews.{sections_view}
-use Rattle.tac_reader.specs.code.Views.{tokens_view}
+use Rattle.tac_lines.specs.code.Views.{tokens_view}
 use Rattle.tac_reader.proofs.checks.titles.Given as goal
 
 -- The names so far and those of the rest are all.

@@ -1,5 +1,5 @@
 use Rattle.std.proofs.Common.{◌≡◌, take, count_by}
-use Rattle.tac_reader.specs.Text.{is_line_end}
+use Rattle.tac_lines.specs.Text.{is_line_end}
 use Rattle.tac_reader.proofs.cursor.line_feeds.Given as goal
 
 -- The line feeds so far.

@@ -1,7 +1,7 @@
 use Rattle.std.proofs.Common.{◌<◌, arith, []}
-use Rattle.tac_reader.specs.Programs.{Procedure}
-use Rattle.tac_reader.specs.declared.program.Stmt.{Stmt}
-use Rattle.tac_reader.specs.declared.program.StmtKind.TheVariants.{Skip}
+use Rattle.tac_program.specs.Programs.{Procedure}
+use Rattle.tac_program.specs.declared.program.Stmt.{Stmt}
+use Rattle.tac_program.specs.declared.program.StmtKind.TheVariants.{Skip}
 use Rattle.tac_reader.proofs.examples.sound_programs.Goals as goal
 
 -- The comparison of the second procedure names the third variable.

@@ -1,11 +1,11 @@
 use Rattle.std.proofs.Common.{◌<◌, ◌∙◌, All, ap, arith, flat_map, fold, length, subst, sym}
-use Rattle.tac_reader.specs.Forms.{behind_labels}
+use Rattle.tac_lines.specs.Forms.{behind_labels}
 use Rattle.tac_reader.specs.Parses.{names_in}
-use Rattle.tac_reader.specs.Names.{noted}
+use Rattle.tac_program.specs.Names.{noted}
 use Rattle.tac_reader.specs.Sections.{only_name, variables_of}
 use Rattle.tac_reader.specs.code.Occurrences.{IsNumberedIn}
-use Rattle.tac_reader.specs.code.Views.{tokens_view}
-use Rattle.tac_reader.proofs.lines.RangeLemmas.{no_line}
+use Rattle.tac_lines.specs.code.Views.{tokens_view}
+use Rattle.tac_lines.proofs.lines.RangeLemmas.{no_line}
 use Rattle.tac_reader.proofs.programs.VariableRuns.{noted_line}
 use Rattle.tac_reader.proofs.procedure.note_lines.Goals as goal
 use Rattle.tac_reader.proofs.procedure.note_lines.Goals.{then-plays+in_ok-note_statement, else-plays}

@@ -1,9 +1,9 @@
 use Rattle.std.proofs.Common.{◌≡◌, All, drop, flat_map, fold, map}
 use Rattle.tac_reader.specs.Parses.{names_in}
-use Rattle.tac_reader.specs.Names.{noted}
+use Rattle.tac_program.specs.Names.{noted}
 use Rattle.tac_reader.specs.Sections.{statements_of, variables_of}
 use Rattle.tac_reader.specs.code.Occurrences.{IsNumberedIn}
-use Rattle.tac_reader.specs.code.Ranges.{range_view}
+use Rattle.tac_lines.specs.code.Ranges.{range_view}
 use Rattle.tac_reader.specs.code.SectionViews.{lines_view}
 use Rattle.tac_reader.proofs.procedure.note_lines.Given as goal
 

@@ -1,9 +1,9 @@
 use Rattle.std.proofs.Common.{◌≡◌, All, drop, fold, flat_map}
 use Rattle.tac_reader.specs.Parses.{names_in}
-use Rattle.tac_reader.specs.Names.{noted}
+use Rattle.tac_program.specs.Names.{noted}
 use Rattle.tac_reader.specs.Sections.{only_name}
 use Rattle.tac_reader.specs.code.Occurrences.{IsNumberedIn}
-use Rattle.tac_reader.specs.code.Views.{tokens_view}
+use Rattle.tac_lines.specs.code.Views.{tokens_view}
 use Rattle.tac_reader.proofs.procedure.note_names.Given as goal
 
 -- The names of the other tokens are still to be noted; where those so far stand is known.

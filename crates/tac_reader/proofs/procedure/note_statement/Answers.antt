@@ -1,9 +1,9 @@
 use Rattle.std.proofs.Common.{◌≡◌, ◌∙◌, OnOk, ap, flat_map, fold, length, option_map, subst, sym}
 use Rattle.tac_reader.specs.Parses.{names_in}
-use Rattle.tac_reader.specs.Names.{noted}
+use Rattle.tac_program.specs.Names.{noted}
 use Rattle.tac_reader.specs.Sections.{only_name, variables_of}
-use Rattle.tac_reader.specs.code.Views.{form_slots, tokens_view}
-use Rattle.tac_reader.specs.declared.form.Form.{Form}
+use Rattle.tac_lines.specs.code.Views.{form_slots, tokens_view}
+use Rattle.tac_lines.specs.declared.form.Form.{Form}
 use Rattle.tac_reader.proofs.forms.VariableForms.{variables_are}
 use Rattle.tac_reader.proofs.procedure.note_statement.Goals as goal
 

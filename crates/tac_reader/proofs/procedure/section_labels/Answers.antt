@@ -1,8 +1,8 @@
-use Rattle.tac_reader.specs.Forms.{behind_labels, labels_of}
+use Rattle.tac_lines.specs.Forms.{behind_labels, labels_of}
 use Rattle.std.proofs.Common.{◌≡◌, ◌<◌, ◌+◌, ◌∙◌, ℕ, List, length, ap, sym, arith}
-use Rattle.tac_reader.specs.Tokens.{unless_empty}
-use Rattle.tac_reader.specs.code.Views.{tokens_view}
-use Rattle.tac_reader.proofs.lines.RangeLemmas.{no_line}
+use Rattle.tac_lines.specs.Tokens.{unless_empty}
+use Rattle.tac_lines.specs.code.Views.{tokens_view}
+use Rattle.tac_lines.proofs.lines.RangeLemmas.{no_line}
 use Rattle.tac_reader.proofs.programs.LabelRuns.{lines_on}
 use Rattle.tac_reader.proofs.programs.StatementRuns.{unless_some, unless_none}
 use Rattle.tac_reader.proofs.procedure.section_labels.Goals as goal

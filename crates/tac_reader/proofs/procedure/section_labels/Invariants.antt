@@ -1,6 +1,6 @@
 use Rattle.std.proofs.Common.{◌≡◌, ◌≤◌, ◌++◌, ℕ, List, map, drop, length}
 use Rattle.tac_reader.specs.Parses.{label_places, labels_from}
-use Rattle.tac_reader.specs.code.Ranges.{range_view}
+use Rattle.tac_lines.specs.code.Ranges.{range_view}
 use Rattle.tac_reader.specs.code.SectionViews.{lines_view}
 use Rattle.tac_reader.proofs.procedure.section_labels.Given as goal
 

@@ -1,8 +1,8 @@
 use Rattle.std.proofs.Common.{◌∙◌, take, map, ap, sym}
 use Rattle.tac_reader.specs.code.Built.{names_view, call_numbers}
 use Rattle.tac_reader.specs.Parses.{form_of, kind_of}
-use Rattle.tac_reader.specs.Text.{line_after}
-use Rattle.tac_reader.specs.code.Views.{tokens_view}
+use Rattle.tac_lines.specs.Text.{line_after}
+use Rattle.tac_lines.specs.code.Views.{tokens_view}
 use Rattle.tac_reader.proofs.procedure.statement.Goals as goal
 
 pub returns-clause-statement : goal.returns-clause-statement

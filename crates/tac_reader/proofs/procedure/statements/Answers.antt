@@ -1,9 +1,9 @@
-use Rattle.tac_reader.specs.Forms.{behind_labels}
+use Rattle.tac_lines.specs.Forms.{behind_labels}
 use Rattle.std.proofs.Common.{◌<◌, ◌∙◌, ap, arith, length, sym}
 use Rattle.tac_reader.specs.code.Built.{names_view}
 use Rattle.tac_reader.specs.Parses.{statement_of}
-use Rattle.tac_reader.specs.code.Views.{tokens_view}
-use Rattle.tac_reader.proofs.lines.RangeLemmas.{no_line}
+use Rattle.tac_lines.specs.code.Views.{tokens_view}
+use Rattle.tac_lines.proofs.lines.RangeLemmas.{no_line}
 use Rattle.tac_reader.proofs.programs.StatementRuns.{made_one, made_none}
 use Rattle.tac_reader.proofs.procedure.statements.Goals as goal
 use Rattle.tac_reader.proofs.procedure.statements.Goals.{then-not-is_empty+in_ok-statement+in_ok-push, else-not-is_empty}

@@ -2,7 +2,7 @@ use Rattle.std.proofs.Common.{◌≡◌, ◌++◌, map, drop}
 use Rattle.tac_reader.specs.code.Built.{names_view}
 use Rattle.tac_reader.specs.Parses.{statement_of}
 use Rattle.tac_reader.specs.Sections.{statements_of}
-use Rattle.tac_reader.specs.code.Ranges.{range_view}
+use Rattle.tac_lines.specs.code.Ranges.{range_view}
 use Rattle.tac_reader.specs.code.SectionViews.{lines_view}
 use Rattle.tac_reader.proofs.procedure.statements.Given as goal
 

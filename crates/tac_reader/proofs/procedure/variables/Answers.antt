@@ -1,6 +1,6 @@
 use Rattle.std.proofs.Common.{◌∙◌, ap, flat_map, fold}
 use Rattle.tac_reader.specs.Parses.{names_in}
-use Rattle.tac_reader.specs.Names.{noted}
+use Rattle.tac_program.specs.Names.{noted}
 use Rattle.tac_reader.specs.Sections.{statements_of, variables_of}
 use Rattle.tac_reader.specs.code.SectionViews.{section_view}
 use Rattle.tac_reader.proofs.programs.VariableRuns.{noted_on}

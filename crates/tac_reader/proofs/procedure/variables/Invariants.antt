@@ -1,6 +1,6 @@
 use Rattle.std.proofs.Common.{◌≡◌, All, drop, fold, flat_map}
 use Rattle.tac_reader.specs.Parses.{names_in, variables_in}
-use Rattle.tac_reader.specs.Names.{noted}
+use Rattle.tac_program.specs.Names.{noted}
 use Rattle.tac_reader.specs.code.Occurrences.{IsNumberedIn}
 use Rattle.tac_reader.specs.code.SectionViews.{sections_view}
 use Rattle.tac_reader.specs.Sections.{statements_of, variables_of}

@@ -1,5 +1,5 @@
 use Rattle.std.proofs.Common.{◌≡◌, ◌+◌, ◌≤◌, take}
-use Rattle.tac_reader.specs.Text.{column_after}
+use Rattle.tac_lines.specs.Text.{column_after}
 use Rattle.tac_reader.proofs.reader.column_of.Given as goal
 
 -- The column behind the bytes so far.

@@ -1,9 +1,9 @@
 use Rattle.std.proofs.Common.{◌∙◌, arith, map, ap, sym}
 use Rattle.std.specs.List.{prefix_len}
-use Rattle.tac_reader.specs.Forms.{is_inner}
-use Rattle.tac_reader.specs.code.Ranges.{range_view}
-use Rattle.tac_reader.specs.code.Views.{tokens_view}
-use Rattle.tac_reader.proofs.lines.RangeLemmas.{no_line}
+use Rattle.tac_lines.specs.Forms.{is_inner}
+use Rattle.tac_lines.specs.code.Ranges.{range_view}
+use Rattle.tac_lines.specs.code.Views.{tokens_view}
+use Rattle.tac_lines.proofs.lines.RangeLemmas.{no_line}
 use Rattle.tac_reader.proofs.sections.SectionSteps.{rest_none, run_on, run_stops, run_is}
 use Rattle.tac_reader.proofs.section.inner_lines.Goals as goal
 use Rattle.tac_reader.proofs.section.inner_lines.Goals.{then-loop-at-test+else-is_inner, else-loop-at-test}

@@ -1,7 +1,7 @@
 use Rattle.std.proofs.Common.{◌≡◌, ◌≤◌, ◌+◌, ◌-◌, ℕ, List, drop, length, map}
 use Rattle.std.specs.List.{prefix_len}
-use Rattle.tac_reader.specs.Forms.{is_inner}
-use Rattle.tac_reader.specs.code.Ranges.{range_view}
+use Rattle.tac_lines.specs.Forms.{is_inner}
+use Rattle.tac_lines.specs.code.Ranges.{range_view}
 use Rattle.tac_reader.proofs.section.inner_lines.Given as goal
 
 -- All lines so far are inner ones.

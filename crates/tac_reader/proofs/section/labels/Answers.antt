@@ -1,8 +1,8 @@
 use Rattle.std.proofs.Common.{◌∙◌, ◌++◌, ap, arith}
 use Rattle.std.proofs.lemmas.Grind.{common_steps}
-use Rattle.tac_reader.specs.Forms.{labels_of}
-use Rattle.tac_reader.specs.code.Views.{tokens_view}
-use Rattle.tac_reader.proofs.lines.RangeLemmas.{no_line}
+use Rattle.tac_lines.specs.Forms.{labels_of}
+use Rattle.tac_lines.specs.code.Views.{tokens_view}
+use Rattle.tac_lines.proofs.lines.RangeLemmas.{no_line}
 use Rattle.tac_reader.proofs.sections.SectionSteps.{each_line_on}
 use Rattle.tac_reader.proofs.section.labels.Goals as goal
 

@@ -1,8 +1,8 @@
 use Rattle.std.proofs.Common.{◌≡◌, ◌++◌, ℕ, List, drop, map, flat_map, take, vec_len}
-use Rattle.tac_reader.specs.Forms.{labels_of}
-use Rattle.tac_reader.specs.code.Ranges.{range_view}
+use Rattle.tac_lines.specs.Forms.{labels_of}
+use Rattle.tac_lines.specs.code.Ranges.{range_view}
 use Rattle.tac_reader.specs.code.SectionViews.{lines_view}
-use Rattle.tac_reader.specs.code.Views.{tokens_view}
+use Rattle.tac_lines.specs.code.Views.{tokens_view}
 use Rattle.tac_reader.proofs.section.labels.Given as goal
 
 -- The labels so far and those of the other lines are all.

@@ -1,7 +1,7 @@
 use Rattle.std.proofs.Common.{◌∙◌, ◌++◌, ap, sym, append-nil}
-use Rattle.tac_reader.specs.Forms.{behind_labels, cells_of, in_slot}
-use Rattle.tac_reader.specs.code.Roles.{role_test}
-use Rattle.tac_reader.specs.code.Views.{tokens_view}
+use Rattle.tac_lines.specs.Forms.{behind_labels, cells_of, in_slot}
+use Rattle.tac_lines.specs.code.Roles.{role_test}
+use Rattle.tac_lines.specs.code.Views.{tokens_view}
 use Rattle.tac_reader.proofs.section.line_cells.Goals as goal
 
 pub returns-then-not-plays-clause-appended : goal.returns-then-not-plays-clause-appended

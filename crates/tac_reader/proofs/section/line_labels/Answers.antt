@@ -1,7 +1,7 @@
 use Rattle.std.proofs.Common.{◌≡◌, ◌∙◌, ◌-◌, ap, sym, arith, [], ◌++◌, drop, length, length-drop, append-nil}
 use Rattle.std.proofs.lemmas.Grind.{common_steps}
-use Rattle.tac_reader.specs.code.Views.{tokens_view}
-use Rattle.tac_reader.proofs.forms.LineForms.{label_step, label_stop}
+use Rattle.tac_lines.specs.code.Views.{tokens_view}
+use Rattle.tac_lines.proofs.forms.LineForms.{label_step, label_stop}
 use Rattle.tac_reader.proofs.sections.SectionSteps.{labels_on}
 use Rattle.tac_reader.proofs.section.line_labels.Goals as goal
 

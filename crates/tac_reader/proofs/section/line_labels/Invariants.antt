@@ -1,6 +1,6 @@
 use Rattle.std.proofs.Common.{◌≡◌, ◌≤◌, ◌++◌, ◌-◌, ℕ, List, drop, length, take, vec_len}
-use Rattle.tac_reader.specs.Forms.{labels_of}
-use Rattle.tac_reader.specs.code.Views.{tokens_view}
+use Rattle.tac_lines.specs.Forms.{labels_of}
+use Rattle.tac_lines.specs.code.Views.{tokens_view}
 use Rattle.tac_reader.proofs.section.line_labels.Given as goal
 
 -- The labels so far and those of the rest are all.

@@ -1,8 +1,8 @@
 use Rattle.std.proofs.Common.{arith, refl}
 use Rattle.std.proofs.lemmas.Grind.{common_steps}
-use Rattle.tac_reader.specs.Forms.{cells_of, in_slot}
-use Rattle.tac_reader.specs.code.Roles.{role_test}
-use Rattle.tac_reader.proofs.lines.RangeLemmas.{no_line}
+use Rattle.tac_lines.specs.Forms.{cells_of, in_slot}
+use Rattle.tac_lines.specs.code.Roles.{role_test}
+use Rattle.tac_lines.proofs.lines.RangeLemmas.{no_line}
 use Rattle.tac_reader.proofs.sections.SectionSteps.{parts_on}
 use Rattle.tac_reader.proofs.section.section_cells.Goals as goal
 

@@ -1,10 +1,10 @@
 use Rattle.std.proofs.Common.{◌≡◌, ◌++◌, ℕ, List, drop, map, flat_map, take, vec_len}
-use Rattle.tac_reader.specs.Forms.{cells_of, in_slot}
-use Rattle.tac_reader.specs.code.Roles.{role_test}
+use Rattle.tac_lines.specs.Forms.{cells_of, in_slot}
+use Rattle.tac_lines.specs.code.Roles.{role_test}
 use Rattle.tac_reader.specs.Sections.{statements_of}
-use Rattle.tac_reader.specs.code.Ranges.{range_view}
+use Rattle.tac_lines.specs.code.Ranges.{range_view}
 use Rattle.tac_reader.specs.code.SectionViews.{lines_view}
-use Rattle.tac_reader.specs.code.Views.{tokens_view}
+use Rattle.tac_lines.specs.code.Views.{tokens_view}
 use Rattle.tac_reader.proofs.section.section_cells.Given as goal
 
 -- The tokens so far and those of the other lines are all.

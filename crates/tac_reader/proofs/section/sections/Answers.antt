@@ -1,8 +1,8 @@
 use Rattle.std.proofs.Common.{◌∙◌, ap, arith, sym, []}
-use Rattle.tac_reader.specs.Forms.{has_form, proc_form}
+use Rattle.tac_lines.specs.Forms.{has_form, proc_form}
 use Rattle.tac_reader.specs.code.SectionViews.{sections_view}
-use Rattle.tac_reader.specs.code.Views.{tokens_view}
-use Rattle.tac_reader.proofs.lines.RangeLemmas.{no_line}
+use Rattle.tac_lines.specs.code.Views.{tokens_view}
+use Rattle.tac_lines.proofs.lines.RangeLemmas.{no_line}
 use Rattle.tac_reader.proofs.sections.SectionSteps.{proc_two, sections_here, sections_past}
 use Rattle.tac_reader.proofs.section.sections.Goals as goal
 

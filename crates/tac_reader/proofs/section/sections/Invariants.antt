@@ -1,6 +1,6 @@
 use Rattle.std.proofs.Common.{◌≡◌, ◌≤◌, ◌++◌, ◌-◌, ℕ, List, drop, length, map}
 use Rattle.tac_reader.specs.Sections.{sections_in}
-use Rattle.tac_reader.specs.code.Ranges.{range_view}
+use Rattle.tac_lines.specs.code.Ranges.{range_view}
 use Rattle.tac_reader.specs.code.SectionViews.{lines_view, sections_view}
 use Rattle.tac_reader.proofs.section.sections.Given as goal
 

@@ -1,7 +1,7 @@
 -- The report of a text's program, in room or for want of it.
 use Rattle.std.proofs.Common.{◌≡◌, ◌∙◌, ◌++◌, ap, subst, drop, length, arith}
 use Rattle.flow_texts.specs.Reports.{ListsSafely}
-use Rattle.tac_reader.specs.Programs.{Program}
+use Rattle.tac_program.specs.Programs.{Program}
 use Rattle.tac_reader.specs.Parses.{program_of}
 use Rattle.tacflow_c.proofs.Graphs.{has_graph}
 use Rattle.tacflow_c.proofs.texts.report_of_text.Goals as goal

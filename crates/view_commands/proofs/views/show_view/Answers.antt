@@ -1,5 +1,5 @@
 use Rattle.std.proofs.Common.{subst}
-use Rattle.tac_reader.specs.Programs.{Program}
+use Rattle.tac_program.specs.Programs.{Program}
 use Rattle.flow_runs.specs.Runs.{IsOverLimit}
 use Rattle.flow_runs.proofs.Deliveries.{delivers_as, no_graph_fault}
 use Rattle.view_commands.specs.Views.{IsText}

@@ -1,5 +1,5 @@
 use Rattle.std.proofs.Common.{rules, ◌≡◌, ◌≤◌, length, ap, subst, arith}
-use Rattle.tac_reader.specs.Programs.{Program}
+use Rattle.tac_program.specs.Programs.{Program}
 use Rattle.flow_graph.specs.Limits.{HasFewBits}
 use Rattle.flow_graph.specs.Universes.{definitions}
 use Rattle.flow_graph.proofs.lists.Counts.{few_bits}

@@ -2,7 +2,7 @@ use Rattle.std.proofs.Common.{◌≡◌, ◌<◌, length, slice_get, Some, refl,
 use Rattle.std.proofs.lemmas.Option.{slice_get_read}
 use Rattle.flow_graph.specs.Universes.{definitions as definitions_of}
 use Rattle.flow_graph.proofs.bits.DefinitionRanges.{definitions_there}
-use Rattle.tac_reader.specs.Sound.{IsSound}
+use Rattle.tac_program.specs.Sound.{IsSound}
 use Rattle.flow_graph.proofs.graph.Graph.definition.Goals as goal
 
 pub returns-clause-there : goal.returns-clause-there

@@ -1,5 +1,5 @@
 use Rattle.std.proofs.Common.{◌≡◌, ◌-◌, ◌<◌, vec_len, rules, length, sym, subst}
-use Rattle.tac_reader.specs.Programs.{Program}
+use Rattle.tac_program.specs.Programs.{Program}
 use Rattle.flow_graph.specs.Points.{point_count, place_of}
 use Rattle.flow_graph.proofs.places.PlaceTables.{found, procedure_found}
 use Rattle.flow_graph.proofs.points.Points.place.Goals as goal

@@ -1,5 +1,5 @@
 use Rattle.std.proofs.Common.{◌+◌, ◌<◌, ◌≤◌, rules, length, sym, subst, arith}
-use Rattle.tac_reader.specs.Programs.{Program}
+use Rattle.tac_program.specs.Programs.{Program}
 use Rattle.flow_graph.specs.Points.{point_count, end_place}
 use Rattle.flow_graph.proofs.places.PlaceTables.{point_fits}
 use Rattle.flow_graph.proofs.points.Points.point.Goals as goal

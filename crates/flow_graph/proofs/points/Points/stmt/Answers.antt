@@ -1,6 +1,6 @@
 use Rattle.std.proofs.Common.{◌≡◌, ◌<◌, length, slice_get, option_map, unwrap_or, Some, [], get_or, refl, ap, ap₂, ◌∙◌, sym}
 use Rattle.std.proofs.lemmas.Option.{slice_get_read}
-use Rattle.tac_reader.specs.Programs.{Program, Procedure}
+use Rattle.tac_program.specs.Programs.{Program, Procedure}
 use Rattle.flow_graph.specs.Points.{Place, place_of, statements_of}
 use Rattle.flow_graph.specs.ProgramLaws.{IsPlaceOf}
 use Rattle.flow_graph.proofs.places.PlaceTables.{copied_is_get}

@@ -1,6 +1,6 @@
 use Rattle.std.proofs.Common.{◌≡◌, ◌+◌, ◌*◌, length, nat_lt, ap, ◌∙◌, sym}
 use Rattle.bit_rows.proofs.WordBits.{has_bit-max, has_bit-zero}
-use Rattle.tac_reader.specs.Programs.{Program}
+use Rattle.tac_program.specs.Programs.{Program}
 use Rattle.flow_graph.specs.Problems.{MayForm, may_boundary}
 use Rattle.flow_graph.specs.Universes.{Reach, Live, Avail, Busy}
 use Rattle.flow_graph.proofs.bits.Boundaries.{dummies_come_first}

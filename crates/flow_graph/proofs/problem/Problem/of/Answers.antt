@@ -1,6 +1,6 @@
 use Rattle.std.proofs.Common.{subst}
-use Rattle.tac_reader.specs.Programs.{Program}
-use Rattle.tac_reader.specs.Sound.{IsSound}
+use Rattle.tac_program.specs.Programs.{Program}
+use Rattle.tac_program.specs.Sound.{IsSound}
 use Rattle.flow_graph.proofs.graphs.GraphLaws.{may_forms_are_well_formed}
 use Rattle.flow_graph.proofs.problem.Problem.of.Goals as goal
 

@@ -1,5 +1,5 @@
 use Rattle.std.proofs.Common.{codes, ap, ◌∙◌}
-use Rattle.tac_reader.specs.Programs.{Program, number_of}
+use Rattle.tac_program.specs.Programs.{Program, number_of}
 use Rattle.flow_graph.specs.Problems.{MayForm}
 use Rattle.flow_graph.proofs.places.RootNumbers.{number_found}
 use Rattle.flow_graph.proofs.problem.Problem.root.Goals as goal

@@ -1,6 +1,6 @@
 use Rattle.std.proofs.Common.{rules, ◌≡◌, ℕ, ◌+◌, ◌<◌, ◌≤◌, List, length, slice_get, sym, ap, ◌∙◌, subst, arith}
 use Rattle.std.proofs.lemmas.Option.{slice_get_past, slice_get-get_or}
-use Rattle.tac_reader.specs.declared.program.Stmt.{Stmt}
+use Rattle.tac_program.specs.declared.program.Stmt.{Stmt}
 use Rattle.flow_graph.specs.Points.{point_count, point_of, end_place, statement_at}
 use Rattle.flow_graph.specs.code.Walks.{WalkAt}
 use Rattle.flow_graph.proofs.places.Walking.{stands_in_procedure, statement_at_place, next_first_point}

@@ -1,6 +1,6 @@
 use Rattle.std.proofs.Common.{◌∙◌, ap, sym}
 use Rattle.flow_graph.proofs.places.Standing.{stands}
-use Rattle.tac_reader.specs.Programs.{Program}
+use Rattle.tac_program.specs.Programs.{Program}
 use Rattle.flow_texts.specs.code.Findings.{knowledge_of}
 use Rattle.text_pieces.specs.code.Lists.{some_stand}
 use Rattle.flow_texts.proofs.RemarkLines.{dead_is, next_below, none_dead, some_if}

@@ -1,7 +1,7 @@
 use Rattle.std.proofs.Common.{◌≡◌, List, ℕ, ◌+◌, ◌++◌, flat_map, ap, ◌∙◌, sym, append_assoc}
 use Rattle.std.specs.List.{range_with_len}
 use Rattle.flow_graph.proofs.lists.Ranges.{flat_map-range_more}
-use Rattle.tac_reader.specs.Programs.{Program}
+use Rattle.tac_program.specs.Programs.{Program}
 use Rattle.flow_texts.specs.code.Findings.{knowledge_of}
 use Rattle.flow_texts.specs.Reports.{count_line, lines_at}
 use Rattle.text_pieces.proofs.Taking.{takes_as, takes_then}

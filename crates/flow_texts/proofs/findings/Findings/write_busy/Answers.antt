@@ -1,5 +1,5 @@
 use Rattle.std.proofs.Common.{ℕ, List, true, false, flat_map, ap, sym, ◌∙◌}
-use Rattle.tac_reader.specs.Programs.{Program}
+use Rattle.tac_program.specs.Programs.{Program}
 use Rattle.flow_texts.specs.code.Findings.{knowledge_of}
 use Rattle.flow_texts.specs.declared.remark.Remark.TheVariants.{VeryBusy}
 use Rattle.flow_texts.proofs.RemarkLines.{busy_is}

@@ -1,6 +1,6 @@
 -- A word more, be it passed over or written.
 use Rattle.std.proofs.Common.{◌≡◌, ◌+◌, ◌-◌, ◌*◌, ◌<◌, ℕ, List, Bool, min, length, ap, ◌∙◌, sym, subst, arith}
-use Rattle.tac_reader.specs.Programs.{Program}
+use Rattle.tac_program.specs.Programs.{Program}
 use Rattle.flow_graph.specs.Universes.{expressions}
 use Rattle.flow_texts.specs.code.Findings.{knowledge_of}
 use Rattle.text_pieces.specs.Pieces.{Outlet, Takes, outlet}

@@ -1,7 +1,7 @@
 -- The assigned variable is there, and so is the point after the assignment.
 use Rattle.std.proofs.Common.{ℕ, List, true, flat_map, append-nil, ap, ◌∙◌, sym}
 use Rattle.flow_graph.proofs.places.Standing.{stands}
-use Rattle.tac_reader.specs.Programs.{Program}
+use Rattle.tac_program.specs.Programs.{Program}
 use Rattle.flow_texts.specs.code.Findings.{knowledge_of}
 use Rattle.flow_texts.specs.declared.remark.Remark.TheVariants.{Dead}
 use Rattle.flow_texts.proofs.RemarkLines.{assigned_there, dead_is, next_below}

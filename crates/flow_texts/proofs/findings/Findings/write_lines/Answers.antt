@@ -1,6 +1,6 @@
 -- What is made once is what each line begins with.
 use Rattle.std.proofs.Common.{flat_map, ap}
-use Rattle.tac_reader.specs.Programs.{Program}
+use Rattle.tac_program.specs.Programs.{Program}
 use Rattle.flow_texts.specs.code.Findings.{knowledge_of, line_behind}
 use Rattle.flow_texts.specs.Reports.{remarks_at}
 use Rattle.text_pieces.proofs.Taking.{takes_as}

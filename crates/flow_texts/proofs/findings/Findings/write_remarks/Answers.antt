@@ -1,5 +1,5 @@
 use Rattle.std.proofs.Common.{List, ℕ, true, false, flat_map, append-nil, ap, ◌∙◌, sym}
-use Rattle.tac_reader.specs.Programs.{Program}
+use Rattle.tac_program.specs.Programs.{Program}
 use Rattle.flow_texts.specs.code.Findings.{knowledge_of}
 use Rattle.flow_texts.specs.declared.remark.Remark.{Remark}
 use Rattle.flow_texts.specs.declared.remark.Remark.TheVariants.{NeverReached}

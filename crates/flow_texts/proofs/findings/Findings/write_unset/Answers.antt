@@ -3,7 +3,7 @@ use Rattle.std.proofs.lemmas.Option.{slice_get_within}
 use Rattle.flow_graph.specs.declared.analysis.Analysis.TheVariants.{Reach}
 use Rattle.flow_texts.specs.code.Told.{ask_for}
 use Rattle.flow_texts.proofs.Asking.{first_read, second_read}
-use Rattle.tac_reader.specs.Programs.{Program}
+use Rattle.tac_program.specs.Programs.{Program}
 use Rattle.flow_texts.specs.code.Findings.{knowledge_of}
 use Rattle.flow_texts.specs.code.Operands.{AreRead}
 use Rattle.flow_texts.specs.Reports.{Knowledge}

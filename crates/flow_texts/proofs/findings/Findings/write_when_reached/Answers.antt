@@ -1,4 +1,4 @@
-use Rattle.tac_reader.specs.Programs.{Program}
+use Rattle.tac_program.specs.Programs.{Program}
 use Rattle.flow_texts.specs.code.Findings.{knowledge_of}
 use Rattle.flow_texts.proofs.RemarkLines.{remarks_are}
 use Rattle.text_pieces.proofs.Taking.{takes_as, takes_then}

@@ -1,6 +1,6 @@
 -- The words of a remark and its name, behind what the line begins with.
 use Rattle.std.proofs.Common.{◌≡◌, ◌++◌, List, ℕ, codes, ap, ◌∙◌, append_assoc}
-use Rattle.tac_reader.specs.Programs.{Program}
+use Rattle.tac_program.specs.Programs.{Program}
 use Rattle.flow_texts.specs.code.Findings.{remark_name, words_before, words_behind}
 use Rattle.flow_texts.specs.Reports.{remark_text}
 use Rattle.flow_texts.specs.declared.remark.Remark.{Remark}

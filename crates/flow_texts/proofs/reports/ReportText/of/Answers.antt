@@ -1,6 +1,6 @@
 -- Both clauses are about one knowledge, all that is known where this was found.
 use Rattle.std.proofs.Common.{List, ℕ, refl, subst}
-use Rattle.tac_reader.specs.Programs.{Program}
+use Rattle.tac_program.specs.Programs.{Program}
 use Rattle.flow_texts.specs.code.Findings.{knowledge_of}
 use Rattle.flow_texts.specs.Reports.{IsReport, ListsSafely, report_of}
 use Rattle.flow_texts.specs.declared.findings.Findings.{Findings}

@@ -1,5 +1,5 @@
 use Rattle.std.proofs.Common.{◌++◌, ap}
-use Rattle.tac_reader.specs.Programs.{Program}
+use Rattle.tac_program.specs.Programs.{Program}
 use Rattle.flow_texts.specs.code.Findings.{remark_name, words_before, words_behind}
 use Rattle.flow_texts.proofs.RemarkLines.{text_is}
 use Rattle.text_pieces.proofs.Taking.{takes_as, takes_then}

@@ -1,5 +1,5 @@
 use Rattle.std.proofs.Common.{List, ℕ, refl, subst}
-use Rattle.tac_reader.specs.Programs.{Program}
+use Rattle.tac_program.specs.Programs.{Program}
 use Rattle.flow_views.specs.code.Shown.{known_of}
 use Rattle.flow_views.specs.Json.{IsJson, json_of}
 use Rattle.flow_views.specs.declared.shown.Shown.{Shown}

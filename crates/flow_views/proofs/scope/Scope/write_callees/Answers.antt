@@ -1,7 +1,7 @@
 use Rattle.std.proofs.Common.{ℕ, List, [], ◌++◌, take, get_or, nat_lt, codes, unwrap_or, if◌then◌else◌, ap, sym, ◌∙◌}
 use Rattle.text_pieces.proofs.Taking.{takes_as}
-use Rattle.tac_reader.specs.Listings.{callees_text, name_at}
-use Rattle.tac_reader.specs.Names.{Names}
+use Rattle.tac_program.specs.Listings.{callees_text, name_at}
+use Rattle.tac_program.specs.Names.{Names}
 use Rattle.flow_views.specs.Strings.{escaped}
 use Rattle.flow_views.specs.Views.{names_in}
 use Rattle.flow_views.proofs.Escapes.{escaped_if, shows_then}

@@ -1,6 +1,6 @@
 use Rattle.std.proofs.Common.{◌≡◌, take}
 use Rattle.text_pieces.specs.Pieces.{Takes, outlet}
-use Rattle.tac_reader.specs.Listings.{callees_text}
+use Rattle.tac_program.specs.Listings.{callees_text}
 use Rattle.flow_views.specs.Strings.{escaped}
 use Rattle.flow_views.specs.Views.{names_in}
 use Rattle.flow_views.proofs.scope.Scope.write_callees.Given as goal

@@ -1,7 +1,7 @@
 use Rattle.std.proofs.Common.{codes, slice_get, ap}
 use Rattle.text_pieces.proofs.Taking.{takes_as}
-use Rattle.tac_reader.specs.Listings.{name_at}
-use Rattle.tac_reader.specs.Names.{Names}
+use Rattle.tac_program.specs.Listings.{name_at}
+use Rattle.tac_program.specs.Names.{Names}
 use Rattle.flow_views.specs.Strings.{escaped}
 use Rattle.flow_views.specs.Views.{names_in}
 use Rattle.flow_views.proofs.Escapes.{shows_then}

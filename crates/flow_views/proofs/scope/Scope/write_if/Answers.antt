@@ -1,6 +1,6 @@
 use Rattle.std.proofs.Common.{List, ℕ, ◌++◌, codes}
-use Rattle.tac_reader.specs.Listings.{goto_text, operand_text}
-use Rattle.tac_reader.specs.Names.{Names}
+use Rattle.tac_program.specs.Listings.{goto_text, operand_text}
+use Rattle.tac_program.specs.Names.{Names}
 use Rattle.flow_views.specs.Views.{names_in}
 use Rattle.flow_views.proofs.Escapes.{shows_then}
 use Rattle.flow_views.proofs.scope.Scope.write_if.Goals as goal

@@ -1,6 +1,6 @@
 use Rattle.std.proofs.Common.{codes}
-use Rattle.tac_reader.specs.Listings.{operand_text}
-use Rattle.tac_reader.specs.Names.{Names}
+use Rattle.tac_program.specs.Listings.{operand_text}
+use Rattle.tac_program.specs.Names.{Names}
 use Rattle.flow_views.specs.Views.{names_in}
 use Rattle.flow_views.proofs.Escapes.{shows_then}
 use Rattle.flow_views.proofs.scope.Scope.write_print.Goals as goal

@@ -1,5 +1,5 @@
 use Rattle.std.proofs.Common.{codes}
-use Rattle.tac_reader.specs.Listings.{name_at}
+use Rattle.tac_program.specs.Listings.{name_at}
 use Rattle.flow_views.proofs.Escapes.{shows_then}
 use Rattle.flow_views.proofs.scope.Scope.write_target.Goals as goal
 

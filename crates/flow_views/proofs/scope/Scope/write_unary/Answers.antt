@@ -1,8 +1,8 @@
 use Rattle.std.proofs.Common.{ap}
 use Rattle.text_pieces.proofs.Taking.{takes_as}
-use Rattle.tac_reader.specs.Listings.{operand_text}
-use Rattle.tac_reader.specs.Spelling.{sign_of}
-use Rattle.tac_reader.specs.Names.{Names}
+use Rattle.tac_program.specs.Listings.{operand_text}
+use Rattle.tac_program.specs.Spelling.{sign_of}
+use Rattle.tac_program.specs.Names.{Names}
 use Rattle.flow_views.specs.Strings.{escaped}
 use Rattle.flow_views.specs.Views.{names_in}
 use Rattle.flow_views.proofs.Escapes.{shows_then}

@@ -1,7 +1,7 @@
 use Rattle.std.proofs.Common.{rules, ◌≡◌, suc, ◌+◌, ◌-◌, ◌<◌, List, length, get_or, ap, ap₂, ◌∙◌, arith}
 use Rattle.std.specs.List.{range_with_len}
 use Rattle.flow_graph.specs.Points.{end_place, entry_point}
-use Rattle.tac_reader.specs.Programs.{Procedure, Program}
+use Rattle.tac_program.specs.Programs.{Procedure, Program}
 use Rattle.flow_views.proofs.Tables.{ends_below, reads_statements}
 use Rattle.flow_views.proofs.shown.Shown.points_of.Goals as goal
 

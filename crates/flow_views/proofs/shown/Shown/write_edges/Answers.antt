@@ -3,7 +3,7 @@ use Rattle.std.proofs.lemmas.List.Elements.{All-contains_itself}
 use Rattle.flow_graph.specs.Edges.{edges_from}
 use Rattle.flow_graph.specs.declared.edge.Edge.{Edge}
 use Rattle.text_pieces.proofs.Taking.{takes_as, takes_then}
-use Rattle.tac_reader.specs.Programs.{Program}
+use Rattle.tac_program.specs.Programs.{Program}
 use Rattle.flow_views.specs.Dots.{shown_edge}
 use Rattle.flow_views.specs.code.Shown.{IsSiteIn}
 use Rattle.flow_views.proofs.Tables.{sites_in}

@@ -3,7 +3,7 @@ use Rattle.flow_graph.specs.Points.{procedure_at}
 use Rattle.text_pieces.proofs.Taking.{takes_as}
 use Rattle.flow_views.specs.Strings.{escaped}
 use Rattle.flow_views.specs.Views.{procedure_name}
-use Rattle.tac_reader.specs.Programs.{Program}
+use Rattle.tac_program.specs.Programs.{Program}
 use Rattle.flow_views.proofs.Escapes.{shows_then}
 use Rattle.flow_views.proofs.shown.Shown.write_end_title.Goals as goal
 

@@ -7,7 +7,7 @@ use Rattle.flow_views.specs.code.Shown.{known_of}
 use Rattle.text_pieces.specs.code.Lists.{text_at}
 use Rattle.flow_texts.specs.Reports.{Knowledge}
 use Rattle.text_pieces.proofs.Taking.{takes_as, takes_then}
-use Rattle.tac_reader.specs.Programs.{Program}
+use Rattle.tac_program.specs.Programs.{Program}
 use Rattle.flow_views.specs.Strings.{quoted}
 use Rattle.flow_views.specs.Views.{told_by}
 use Rattle.flow_views.specs.code.Names.{AreNamesOf, numbered}

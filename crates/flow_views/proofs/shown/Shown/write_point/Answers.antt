@@ -1,7 +1,7 @@
 use Rattle.std.proofs.Common.{List, ℕ, ◌++◌, codes, decimal, map, flat_map, ap}
 use Rattle.flow_graph.specs.Points.{place_of, procedure_at}
 use Rattle.text_pieces.proofs.Taking.{takes_as, takes_then}
-use Rattle.tac_reader.specs.Programs.{Program}
+use Rattle.tac_program.specs.Programs.{Program}
 use Rattle.flow_views.specs.code.Shown.{known_of}
 use Rattle.flow_texts.specs.Reports.{Knowledge}
 use Rattle.flow_views.specs.Json.{array, edge_object, facts_field, span_fields, statement_field}

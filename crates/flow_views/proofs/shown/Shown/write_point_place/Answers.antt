@@ -3,7 +3,7 @@ use Rattle.flow_graph.specs.Points.{procedure_at}
 use Rattle.flow_graph.specs.declared.place.Place.{Place}
 use Rattle.flow_graph.proofs.places.PointLemmas.{points_have_places}
 use Rattle.text_pieces.proofs.Taking.{takes_as, takes_then}
-use Rattle.tac_reader.specs.Programs.{Program}
+use Rattle.tac_program.specs.Programs.{Program}
 use Rattle.flow_views.specs.Strings.{quoted}
 use Rattle.flow_views.specs.Views.{procedure_name}
 use Rattle.flow_views.proofs.shown.Shown.write_point_place.Goals as goal

@@ -1,6 +1,6 @@
 use Rattle.std.proofs.Common.{◌≡◌, ℕ, List, ◌<◌, codes, length, ap, ◌∙◌, arith}
 use Rattle.text_pieces.proofs.Taking.{takes_as, takes_then}
-use Rattle.tac_reader.specs.Programs.{Program}
+use Rattle.tac_program.specs.Programs.{Program}
 use Rattle.flow_views.specs.Strings.{quoted}
 use Rattle.flow_views.proofs.Rows.{joined_all, joined_behind, name_read}
 use Rattle.flow_views.proofs.shown.Shown.write_procedures.Goals as goal

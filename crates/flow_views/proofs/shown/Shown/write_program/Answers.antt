@@ -1,6 +1,6 @@
 use Rattle.std.proofs.Common.{◌≡◌, List, ℕ, ◌++◌, codes, decimal, map, ap, ◌∙◌}
 use Rattle.text_pieces.proofs.Taking.{takes_as, takes_then}
-use Rattle.tac_reader.specs.Programs.{Program}
+use Rattle.tac_program.specs.Programs.{Program}
 use Rattle.flow_views.specs.Json.{array}
 use Rattle.flow_views.specs.Strings.{quoted}
 use Rattle.flow_views.proofs.shown.Shown.write_program.Goals as goal

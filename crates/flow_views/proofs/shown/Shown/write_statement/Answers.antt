@@ -1,9 +1,9 @@
 use Rattle.std.proofs.Common.{ℕ, length, option_map, sym, ap, subst, ◌∙◌}
 use Rattle.text_pieces.proofs.Taking.{takes_as}
-use Rattle.tac_reader.specs.Listings.{statement_text}
-use Rattle.tac_reader.specs.Programs.{Program}
-use Rattle.tac_reader.specs.Sound.{IsSoundStatement}
-use Rattle.tac_reader.specs.declared.program.Stmt.{Stmt}
+use Rattle.tac_program.specs.Listings.{statement_text}
+use Rattle.tac_program.specs.Programs.{Program}
+use Rattle.tac_program.specs.Sound.{IsSoundStatement}
+use Rattle.tac_program.specs.declared.program.Stmt.{Stmt}
 use Rattle.flow_views.specs.Strings.{escaped}
 use Rattle.flow_views.specs.Views.{names_in}
 use Rattle.flow_views.proofs.Statements.{sound_here}

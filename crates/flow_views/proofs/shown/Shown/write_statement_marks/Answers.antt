@@ -1,7 +1,7 @@
 use Rattle.std.proofs.Common.{List, ℕ, [], ◌++◌, codes, if◌then◌else◌, ap, ap₂, ◌∙◌}
 use Rattle.flow_texts.specs.Reports.{dead_at, unset_at}
 use Rattle.text_pieces.proofs.Taking.{takes_as, takes_then}
-use Rattle.tac_reader.specs.Programs.{Program}
+use Rattle.tac_program.specs.Programs.{Program}
 use Rattle.flow_views.specs.code.Shown.{known_of}
 use Rattle.flow_texts.specs.Reports.{Knowledge}
 use Rattle.flow_views.proofs.Tables.{mark_is}

@@ -1,5 +1,5 @@
 use Rattle.std.proofs.Common.{◌++◌, codes, decimal}
-use Rattle.tac_reader.specs.Listings.{statement_text}
+use Rattle.tac_program.specs.Listings.{statement_text}
 use Rattle.flow_views.specs.Views.{names_at}
 use Rattle.flow_views.proofs.Escapes.{shows_then}
 use Rattle.flow_views.proofs.shown.Shown.write_statement_title.Goals as goal

@@ -1,8 +1,8 @@
 use Rattle.std.proofs.Common.{◌≡◌, ◌≤◌, ◌∙◌, min, length, take, ap, sym, subst, refl, arith}
 use Rattle.std.proofs.lemmas.List.{take_min}
-use Rattle.tac_reader.specs.Text.{line_after}
+use Rattle.tac_lines.specs.Text.{line_after}
 use Rattle.tac_reader.specs.declared.cursor.LineCursor.TheInside.{Inside}
-use Rattle.tac_reader.proofs.lines.CursorLines.{lines_on}
+use Rattle.tac_lines.proofs.lines.CursorLines.{lines_on}
 use Rattle.tac_reader.proofs.cursor.LineCursor.line_at.Goals as goal
 use Rattle.tac_reader.proofs.cursor.LineCursor.line_at.Goals.{then-stop-self, else-stop-self}
 

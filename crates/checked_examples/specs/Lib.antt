@@ -1,0 +1,3 @@
+pub mod ProgramExamples
+pub mod WorkedTexts
+pub mod WorkedViews

@@ -1,0 +1,6 @@
+//! Worked programs by their texts: what the definitions say of them, checked by computing it. There is nothing in it to run.
+#![tactic(auto)]
+
+pub mod program_examples;
+pub mod text_examples;
+pub mod view_examples;

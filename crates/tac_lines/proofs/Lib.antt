@@ -1,0 +1,3 @@
+pub mod forms
+pub mod lines
+pub mod tokens

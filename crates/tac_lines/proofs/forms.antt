@@ -1,0 +1,11 @@
+pub mod Apart
+pub mod CalleeCounts
+pub mod Calls
+pub mod FormedLines
+pub mod LabelCounts
+pub mod LineForms
+pub mod RowLengths
+pub mod Rows
+pub mod Shapes
+pub mod Table
+pub mod Walks

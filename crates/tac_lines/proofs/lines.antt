@@ -1,0 +1,9 @@
+pub mod CursorLines
+pub mod EarlyFaults
+pub mod FaultPlaces
+pub mod FineStatements
+pub mod FirstFault
+pub mod LexSteps
+pub mod LineSteps
+pub mod Lines
+pub mod RangeLemmas

@@ -1,0 +1,9 @@
+pub mod CutRows
+pub mod Decimals
+pub mod Fronts
+pub mod Longest
+pub mod Pieces
+pub mod Places
+pub mod RowSteps
+pub mod SpelledTokens
+pub mod Values

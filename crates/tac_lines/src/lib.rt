@@ -1,0 +1,25 @@
+//! The lines of a text: their tokens, which forms they have, and the first fault that a line shows by itself.
+#![tactic(auto)]
+
+mod fault;
+mod form;
+mod formed;
+pub mod laws;
+mod lex;
+mod lexed;
+mod line;
+mod piece;
+mod refusal;
+mod row;
+mod statement;
+mod token;
+
+pub use fault::{Fault, Stop};
+pub use form::Form;
+pub use formed::{Lines, Statement, counted};
+pub use lex::{is_end, is_proc, lex};
+pub use line::{label_at, stop_of};
+pub use piece::number_value;
+pub use refusal::{OutOfMemory, ReadFault, Refusal, RefusalKind};
+pub use statement::{Role, cells, has_only_variables};
+pub use token::{Token, TokenKind};

@@ -1,0 +1,4 @@
+pub mod known_names
+pub mod layouts
+pub mod lists
+pub mod programs

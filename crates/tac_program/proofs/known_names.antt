@@ -1,0 +1,3 @@
+pub mod FoundNames
+pub mod LastNumbers
+pub mod NameTexts

@@ -1,0 +1,7 @@
+pub mod Limits
+pub mod Listings
+pub mod Names
+pub mod Programs
+pub mod Sound
+pub mod Spelling
+pub mod code

@@ -1,5 +1,0 @@
-use Rattle.tac_reader.proofs.forms.Apart.{statements_are_apart}
-use Rattle.tac_reader.proofs.laws.statements_are_apart.Goals as goal
-
-pub returns : goal.returns
-returns c = statements_are_apart

@@ -1,5 +1,0 @@
-use Rattle.tac_reader.proofs.tokens.SpelledTokens.{tokens_are_spelled}
-use Rattle.tac_reader.proofs.laws.tokens_are_spelled.Goals as goal
-
-pub returns : goal.returns
-returns c = tokens_are_spelled
