@@ -16,7 +16,7 @@ use crate::checks::{
 };
 use tac_lines::{Fault, Stop};
 use tac_lines::Lines;
-use tac_lines::lex;
+use tac_lines::lex::lex;
 use tac_program::NameSeeds;
 use tac_program::NameTable;
 use crate::procedure::{program, variables};

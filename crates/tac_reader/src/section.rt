@@ -10,7 +10,7 @@ ghost use Rattle.tac_lines.specs.code.Views.{tokens_view};
 ghost use Rattle.tac_lines.specs.declared.lexed.LineRange.{LineRange};
 
 use tac_lines::Lines;
-use tac_lines::{is_end, is_proc};
+use tac_lines::lex::{is_end, is_proc};
 use tac_lines::label_at;
 use tac_lines::{Role, cells};
 use tac_lines::Token;
