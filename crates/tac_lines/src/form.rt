@@ -214,17 +214,21 @@ pub fn fits_at(slot: Slot, tokens: &[Token], at: usize) -> bool
     }
 }
 
-/// The one form that begins with a keyword, but for `if` and `call`.
+/// The one form that begins with a keyword, but for `if` and `call`. No statement begins with `proc` or `end`.
 fn keyword_form(keyword: Keyword) -> Form
     ensures { result ≡ of_key keyword }
 {
     match keyword {
+        Keyword::Proc => Form::Skip,
+        Keyword::End => Form::Skip,
         Keyword::Goto => Form::Jump,
+        Keyword::If => Form::Skip,
         Keyword::IfFalse => Form::NegatedTest,
+        Keyword::Call => Form::Skip,
         Keyword::Return => Form::Return,
         Keyword::Read => Form::Read,
         Keyword::Print => Form::Print,
-        _ => Form::Skip,
+        Keyword::Skip => Form::Skip,
     }
 }
 

@@ -65,29 +65,74 @@ fn filled(
     }
 }
 
+/// Whether some place of the form is for a label.
+fn has_label(form: Form) -> bool
+    ensures { result ≡ has_role_in (Role.Label) form }
+{
+    match form {
+        Form::Copy => false,
+        Form::Unary => false,
+        Form::Binary => false,
+        Form::Jump => true,
+        Form::Test => true,
+        Form::NegatedTest => true,
+        Form::Comparison => true,
+        Form::Call => false,
+        Form::Return => false,
+        Form::Read => false,
+        Form::Print => false,
+        Form::Skip => false,
+    }
+}
+
+/// Whether some place of the form is for a callee.
+fn has_callee(form: Form) -> bool
+    ensures { result ≡ has_role_in (Role.Callee) form }
+{
+    match form {
+        Form::Copy => false,
+        Form::Unary => false,
+        Form::Binary => false,
+        Form::Jump => false,
+        Form::Test => false,
+        Form::NegatedTest => false,
+        Form::Comparison => false,
+        Form::Call => true,
+        Form::Return => false,
+        Form::Read => false,
+        Form::Print => false,
+        Form::Skip => false,
+    }
+}
+
+/// Whether some place of the form may have a variable.
+fn has_variable(form: Form) -> bool
+    ensures { result ≡ has_role_in (Role.Variable) form }
+{
+    match form {
+        Form::Copy => true,
+        Form::Unary => true,
+        Form::Binary => true,
+        Form::Jump => false,
+        Form::Test => true,
+        Form::NegatedTest => true,
+        Form::Comparison => true,
+        Form::Call => false,
+        Form::Return => false,
+        Form::Read => true,
+        Form::Print => true,
+        Form::Skip => false,
+    }
+}
+
 /// Whether some place of the form has that role.
 pub fn has_role(form: Form, role: Role) -> bool
     ensures { result ≡ has_role_in role form }
 {
     match role {
-        Role::Label => match form {
-            Form::Jump => true,
-            Form::Test => true,
-            Form::NegatedTest => true,
-            Form::Comparison => true,
-            _ => false,
-        },
-        Role::Callee => match form {
-            Form::Call => true,
-            _ => false,
-        },
-        Role::Variable => match form {
-            Form::Jump => false,
-            Form::Call => false,
-            Form::Return => false,
-            Form::Skip => false,
-            _ => true,
-        },
+        Role::Label => has_label(form),
+        Role::Callee => has_callee(form),
+        Role::Variable => has_variable(form),
     }
 }
 
@@ -96,12 +141,18 @@ pub fn has_only_variables(form: Form) -> bool
     ensures { result ≡ only_variables_in form }
 {
     match form {
+        Form::Copy => true,
+        Form::Unary => true,
+        Form::Binary => true,
         Form::Jump => false,
         Form::Test => false,
         Form::NegatedTest => false,
         Form::Comparison => false,
         Form::Call => false,
-        _ => true,
+        Form::Return => true,
+        Form::Read => true,
+        Form::Print => true,
+        Form::Skip => true,
     }
 }
 

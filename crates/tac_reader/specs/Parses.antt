@@ -40,18 +40,26 @@ operand_of names (fixed s) = Number 0
 -- The statement of a form that has these words; a call is told by its callees.
 abbrev pub kind_of : Names → List ℕ → Form → List Word → StmtKind
 kind_of names callees form.Copy (x ∷ _ ∷ y ∷ _) = kind.Copy (variable_of names x) (operand_of names y)
+kind_of names callees form.Copy _ = kind.Skip
 kind_of names callees form.Unary (x ∷ _ ∷ o ∷ y ∷ _) = kind.Unary (variable_of names x) (operator_of o) (operand_of names y)
+kind_of names callees form.Unary _ = kind.Skip
 kind_of names callees form.Binary (x ∷ _ ∷ y ∷ o ∷ z ∷ _) = kind.Binary (operator_of o) (variable_of names x) (operand_of names y) (operand_of names z)
+kind_of names callees form.Binary _ = kind.Skip
 kind_of names callees form.Jump (_ ∷ l ∷ _) = kind.Goto (label_of names l)
+kind_of names callees form.Jump _ = kind.Skip
 kind_of names callees form.Test (_ ∷ y ∷ _ ∷ l ∷ _) = kind.If (operand_of names y) (label_of names l)
+kind_of names callees form.Test _ = kind.Skip
 kind_of names callees form.NegatedTest (_ ∷ y ∷ _ ∷ l ∷ _) = kind.IfFalse (operand_of names y) (label_of names l)
+kind_of names callees form.NegatedTest _ = kind.Skip
 kind_of names callees form.Comparison (_ ∷ y ∷ o ∷ z ∷ _ ∷ l ∷ _) = kind.IfCompare (operator_of o) (label_of names l) (operand_of names y) (operand_of names z)
+kind_of names callees form.Comparison _ = kind.Skip
 kind_of names callees form.Call _ = kind.Call callees
 kind_of names callees form.Return _ = kind.Return
 kind_of names callees form.Read (_ ∷ x ∷ _) = kind.Read (variable_of names x)
+kind_of names callees form.Read _ = kind.Skip
 kind_of names callees form.Print (_ ∷ y ∷ _) = kind.Print (operand_of names y)
+kind_of names callees form.Print _ = kind.Skip
 kind_of names callees form.Skip _ = kind.Skip
-kind_of names callees _ _ = kind.Skip
 
 abbrev pub start_of : List Token → ℕ
 start_of [] = 0

@@ -119,14 +119,18 @@ fills_at text s (Some t) = fills s (token_view text t).word
 abbrev pub starts_label : List ℕ → List Lexed → Bool
 starts_label text ts = fills_at text label (slice_get ts 0) && fills_at text (key (codes ":")) (slice_get ts 1)
 
--- The one form of a keyword that has one.
+-- The one form of a keyword that has one. `if` and `call` are told apart before, and `proc` and `end` begin no statement.
 abbrev pub of_key : Keyword → Form
+of_key keyword.Proc = form.Skip
+of_key keyword.End = form.Skip
 of_key keyword.Goto = form.Jump
+of_key keyword.If = form.Skip
 of_key keyword.IfFalse = form.NegatedTest
+of_key keyword.Call = form.Skip
 of_key keyword.Return = form.Return
 of_key keyword.Read = form.Read
 of_key keyword.Print = form.Print
-of_key _ = form.Skip
+of_key keyword.Skip = form.Skip
 
 -- The forms of lines that may stand there: outside or inside a procedure, and there without labels or behind them.
 abbrev pub line_forms : Bool → Bool → List (List Slot)
