@@ -45,11 +45,13 @@ IsInTable program Avail point bit = EveryPathHas (shape_of program) (transfer_of
 IsInTable program Busy point bit = EveryBackwardPathHas (shape_of program) (transfer_of program Busy bit) point
 
 abbrev pub is_backward : Analysis → Bool
+is_backward Reach = false
 is_backward Live = true
+is_backward Avail = false
 is_backward Busy = true
-is_backward _ = false
 
 abbrev pub is_must : Analysis → Bool
+is_must Reach = false
+is_must Live = false
 is_must Avail = true
 is_must Busy = true
-is_must _ = false

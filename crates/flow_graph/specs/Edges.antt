@@ -27,18 +27,33 @@ two_steps point target = if nat_eq target (suc point) then next_step point else 
 
 -- the edges out of a statement, in their order
 abbrev pub edges_of : Program → ℕ → StmtKind → List Edge
+edges_of program point (kind.Copy x y) = next_step point
+edges_of program point (kind.Unary x op y) = next_step point
+edges_of program point (kind.Binary op x y z) = next_step point
 edges_of program point (kind.Goto label) = Step point (label_point program (procedure_at program point) label) ∷ []
 edges_of program point (kind.If y label) = two_steps point (label_point program (procedure_at program point) label)
 edges_of program point (kind.IfFalse y label) = two_steps point (label_point program (procedure_at program point) label)
 edges_of program point (kind.IfCompare op label y z) = two_steps point (label_point program (procedure_at program point) label)
 edges_of program point (kind.Call callees) = map (λ callee. Call point point (entry_point program callee)) callees
 edges_of program point kind.Return = Step point (end_point program (procedure_at program point)) ∷ []
-edges_of program point _ = next_step point
+edges_of program point (kind.Read x) = next_step point
+edges_of program point (kind.Print y) = next_step point
+edges_of program point kind.Skip = next_step point
 
 -- the procedures that the statement at a point may call
 abbrev pub callees_named : StmtKind → List ℕ
+callees_named (kind.Copy x y) = []
+callees_named (kind.Unary x op y) = []
+callees_named (kind.Binary op x y z) = []
+callees_named (kind.Goto label) = []
+callees_named (kind.If y label) = []
+callees_named (kind.IfFalse y label) = []
+callees_named (kind.IfCompare op label y z) = []
 callees_named (kind.Call callees) = callees
-callees_named _ = []
+callees_named kind.Return = []
+callees_named (kind.Read x) = []
+callees_named (kind.Print y) = []
+callees_named kind.Skip = []
 
 abbrev pub callees_at : Program → ℕ → List ℕ
 callees_at program point = unwrap_or (option_map callees_named (kind_at program point)) []

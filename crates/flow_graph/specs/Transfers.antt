@@ -19,11 +19,15 @@ abbrev pub operands_of : StmtKind → List Operand
 operands_of (kind.Copy x y) = y ∷ []
 operands_of (kind.Unary x op y) = y ∷ []
 operands_of (kind.Binary op x y z) = y ∷ z ∷ []
+operands_of (kind.Goto label) = []
 operands_of (kind.If y label) = y ∷ []
 operands_of (kind.IfFalse y label) = y ∷ []
 operands_of (kind.IfCompare op label y z) = y ∷ z ∷ []
+operands_of (kind.Call callees) = []
+operands_of kind.Return = []
+operands_of (kind.Read x) = []
 operands_of (kind.Print y) = y ∷ []
-operands_of _ = []
+operands_of kind.Skip = []
 
 -- whether the statement at a point reads the variable, and whether it writes it
 abbrev pub reads : Program → ℕ → ℕ → Bool
@@ -73,4 +77,6 @@ kills program Busy point bit = unwrap_or (option_map (λ e. changes program poin
 -- Whether the boundary has the bit: the dummy definitions for reaching definitions, nothing for the others.
 abbrev pub is_in_boundary : Program → Analysis → ℕ → Bool
 is_in_boundary program Reach bit = unwrap_or (option_map (λ d. not (is_some d.1)) (slice_get (definitions program) bit)) false
-is_in_boundary program _ bit = false
+is_in_boundary program Live bit = false
+is_in_boundary program Avail bit = false
+is_in_boundary program Busy bit = false

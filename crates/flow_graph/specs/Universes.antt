@@ -20,8 +20,15 @@ abbrev pub defined_variable : StmtKind → Option ℕ
 defined_variable (kind.Copy x y) = Some x
 defined_variable (kind.Unary x op y) = Some x
 defined_variable (kind.Binary op x y z) = Some x
+defined_variable (kind.Goto label) = None
+defined_variable (kind.If y label) = None
+defined_variable (kind.IfFalse y label) = None
+defined_variable (kind.IfCompare op label y z) = None
+defined_variable (kind.Call callees) = None
+defined_variable kind.Return = None
 defined_variable (kind.Read x) = Some x
-defined_variable _ = None
+defined_variable (kind.Print y) = None
+defined_variable kind.Skip = None
 
 abbrev pub target_at : Program → ℕ → Option ℕ
 target_at program point = option_and_then defined_variable (kind_at program point)
@@ -48,9 +55,18 @@ pub record IsDefinitionIn (program : Program) (definition : Definition) : Type 0
 
 -- the expression that a statement evaluates: the right side of a unary or binary assignment
 abbrev pub expression_of : StmtKind → Option Expr
+expression_of (kind.Copy x y) = None
 expression_of (kind.Unary x op y) = Some (Unary op y)
 expression_of (kind.Binary op x y z) = Some (Binary y op z)
-expression_of _ = None
+expression_of (kind.Goto label) = None
+expression_of (kind.If y label) = None
+expression_of (kind.IfFalse y label) = None
+expression_of (kind.IfCompare op label y z) = None
+expression_of (kind.Call callees) = None
+expression_of kind.Return = None
+expression_of (kind.Read x) = None
+expression_of (kind.Print y) = None
+expression_of kind.Skip = None
 
 abbrev pub expression_at : Program → ℕ → Option Expr
 expression_at program point = option_and_then expression_of (kind_at program point)

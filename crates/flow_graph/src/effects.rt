@@ -37,11 +37,15 @@ fn read_variables(kind: &StmtKind) -> (Option<u32>, Option<u32>)
         StmtKind::Copy { value, .. } => (variable(*value), None),
         StmtKind::Unary { operand, .. } => (variable(*operand), None),
         StmtKind::Binary { left, right, .. } => (variable(*left), variable(*right)),
+        StmtKind::Goto { .. } => (None, None),
         StmtKind::If { condition, .. } => (variable(*condition), None),
         StmtKind::IfFalse { condition, .. } => (variable(*condition), None),
         StmtKind::IfCompare { left, right, .. } => (variable(*left), variable(*right)),
+        StmtKind::Call { .. } => (None, None),
+        StmtKind::Return => (None, None),
+        StmtKind::Read { .. } => (None, None),
         StmtKind::Print { value } => (variable(*value), None),
-        _ => (None, None),
+        StmtKind::Skip => (None, None),
     }
 }
 

@@ -1,7 +1,7 @@
 // The call sites of each procedure.
 
 ghost use Rattle.std.specs.Prelude.{◌≡◌, ◌<◌, length, fold, All, IfOk, OnOk};
-ghost use Rattle.flow_graph.specs.Edges.{callees_at};
+ghost use Rattle.flow_graph.specs.Edges.{callees_at, callees_named};
 ghost use Rattle.flow_graph.specs.code.NumberLists.{contents, with_last};
 ghost use Rattle.flow_graph.specs.Points.{point_count};
 ghost use Rattle.flow_graph.specs.code.Sites.{AreSites};
@@ -11,6 +11,26 @@ use crate::points::Points;
 use std::alloc::{AllocError, Global};
 use tac_program::StmtKind;
 
+/// The procedures that a statement may call.
+fn callees_named(kind: &StmtKind) -> &[u32]
+    ensures { result.now ≡ callees_named kind.now }
+{
+    match kind {
+        StmtKind::Copy { .. } => &[],
+        StmtKind::Unary { .. } => &[],
+        StmtKind::Binary { .. } => &[],
+        StmtKind::Goto { .. } => &[],
+        StmtKind::If { .. } => &[],
+        StmtKind::IfFalse { .. } => &[],
+        StmtKind::IfCompare { .. } => &[],
+        StmtKind::Call { callees } => callees.as_slice(),
+        StmtKind::Return => &[],
+        StmtKind::Read { .. } => &[],
+        StmtKind::Print { .. } => &[],
+        StmtKind::Skip => &[],
+    }
+}
+
 /// The procedures that the statement at a point may call.
 fn callees<'p>(points: &Points<'p>, point: u32) -> &'p [u32]
     requires { point < point_count points.now }
@@ -18,10 +38,7 @@ fn callees<'p>(points: &Points<'p>, point: u32) -> &'p [u32]
 {
     match points.stmt(point) {
         None => &[],
-        Some(stmt) => match &stmt.kind {
-            StmtKind::Call { callees } => callees.as_slice(),
-            _ => &[],
-        },
+        Some(stmt) => callees_named(&stmt.kind),
     }
 }
 

@@ -125,7 +125,12 @@ fn put_statement<E: EdgeList>(
             from: point,
             to: end_target(points, point),
         }),
-        _ => edges.put(Edge::Step {
+        StmtKind::Copy { .. }
+        | StmtKind::Unary { .. }
+        | StmtKind::Binary { .. }
+        | StmtKind::Read { .. }
+        | StmtKind::Print { .. }
+        | StmtKind::Skip => edges.put(Edge::Step {
             from: point,
             to: point + 1,
         }),

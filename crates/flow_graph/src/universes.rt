@@ -20,8 +20,15 @@ pub fn target(kind: &StmtKind) -> Option<u32>
         StmtKind::Copy { target, .. } => Some(*target),
         StmtKind::Unary { target, .. } => Some(*target),
         StmtKind::Binary { target, .. } => Some(*target),
+        StmtKind::Goto { .. } => None,
+        StmtKind::If { .. } => None,
+        StmtKind::IfFalse { .. } => None,
+        StmtKind::IfCompare { .. } => None,
+        StmtKind::Call { .. } => None,
+        StmtKind::Return => None,
         StmtKind::Read { target } => Some(*target),
-        _ => None,
+        StmtKind::Print { .. } => None,
+        StmtKind::Skip => None,
     }
 }
 
@@ -30,6 +37,7 @@ pub fn expression(kind: &StmtKind) -> Option<Expr>
     ensures { result ≡ expression_of kind.now }
 {
     match kind {
+        StmtKind::Copy { .. } => None,
         StmtKind::Unary { op, operand, .. } => Some(Expr::Unary(*op, *operand)),
         StmtKind::Binary {
             left,
@@ -37,7 +45,15 @@ pub fn expression(kind: &StmtKind) -> Option<Expr>
             right,
             ..
         } => Some(Expr::Binary(*left, *op, *right)),
-        _ => None,
+        StmtKind::Goto { .. } => None,
+        StmtKind::If { .. } => None,
+        StmtKind::IfFalse { .. } => None,
+        StmtKind::IfCompare { .. } => None,
+        StmtKind::Call { .. } => None,
+        StmtKind::Return => None,
+        StmtKind::Read { .. } => None,
+        StmtKind::Print { .. } => None,
+        StmtKind::Skip => None,
     }
 }
 

@@ -61,7 +61,9 @@ numbered program number point = option_map (λ x. number) (target_at program poi
 -- the same, where a definition is told by its number
 abbrev pub owns_numbered : Program → Analysis → ℕ → ℕ → ℕ → Bool
 owns_numbered program Reach number point bit = marks (numbered program number point) bit
-owns_numbered program analysis number point bit = owns program analysis point bit
+owns_numbered program Live number point bit = owns program Live point bit
+owns_numbered program Avail number point bit = owns program Avail point bit
+owns_numbered program Busy number point bit = owns program Busy point bit
 
 pub record IsNumberedEffect (program : Program) (analysis : Analysis) (number point : ℕ) (e : Effect) : Type 0 where
   pub written : e.written ≡ target_at program point
