@@ -14,7 +14,7 @@ use flow_runs::{Fault, fault_line};
 use std::process::Abort;
 use std::test::Fail;
 use std::thread::Threads;
-use tac_lines::{Refusal, RefusalKind};
+use tac_reader::{Refusal, RefusalKind};
 
 // A procedure that calls itself.
 const RECURSION: &str =

@@ -12,7 +12,7 @@ use std::io::{ErrorKind, Read};
 use std::process::Abort;
 use std::test::Fail;
 use std::thread::Threads;
-use tac_lines::{Refusal, RefusalKind};
+use tac_reader::{Refusal, RefusalKind};
 use text_pieces::{FromRead, ToWrite};
 
 /// The program's name, which its lines begin with.

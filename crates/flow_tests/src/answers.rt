@@ -8,9 +8,7 @@ use flow_graph::{Analysis, Edge, Graph, GraphFault, OutOfMemory, Problem};
 use std::alloc::Global;
 use std::process::Abort;
 use std::test::Fail;
-use tac_lines::ReadFault;
-use tac_program::Program;
-use tac_reader::read;
+use tac_reader::{Program, ReadFault, read};
 
 /// What is asked of a text's program.
 #[derive(Clone, Copy)]

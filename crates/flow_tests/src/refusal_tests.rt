@@ -15,9 +15,9 @@ use gk_solve::{Routes, SliceWords, Solver, solve, solve_counted};
 use std::alloc::Global;
 use std::process::Abort;
 use std::test::Fail;
-use tac_lines::ReadFault;
-use tac_program::{Op, Operand, Program, listing, write_binary_expression, write_unary_expression};
-use tac_reader::read;
+use tac_reader::{
+    Op, Operand, Program, ReadFault, listing, read, write_binary_expression, write_unary_expression,
+};
 
 /// The calls.
 #[derive(Clone, Copy)]

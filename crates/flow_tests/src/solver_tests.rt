@@ -4,9 +4,7 @@ use gk_solve::solve_counted;
 use std::alloc::Global;
 use std::process::Abort;
 use std::test::Fail;
-use tac_lines::ReadFault;
-use tac_program::Program;
-use tac_reader::read;
+use tac_reader::{Program, ReadFault, read};
 
 const ANALYSES: &[Analysis] = &[
     Analysis::Reach,

@@ -9,7 +9,7 @@ use bit_rows::{Cut, Rows};
 use flow_graph::{Analysis, Expr, Graph, OutOfMemory, Problem};
 use gk_solve::{Routes, Solver, solve};
 use std::alloc::Global;
-use tac_program::{write_binary_expression, write_unary_expression};
+use tac_reader::{write_binary_expression, write_unary_expression};
 
 /// What is known of an analysis.
 #[derive(Drop)]

@@ -1,11 +1,9 @@
 ghost use Rattle.std.specs.Prelude.{◌≡◌};
-ghost use Rattle.tac_reader.specs.Parses.{program_of};
+ghost use Rattle.tac_reader.specs.Programs.{program_of};
 
 use std::alloc::{AllocError, Global};
 use std::process::Abort;
-use tac_lines::ReadFault;
-use tac_program::{Label, Program, Span, Stmt, listing};
-use tac_reader::read;
+use tac_reader::{Label, Program, ReadFault, Span, Stmt, listing, read};
 
 /// Every statement form.
 const FORMS: &[u8] =

@@ -12,8 +12,7 @@ use std::alloc::Global;
 use std::process::Abort;
 use std::test::Fail;
 use std::thread::Threads;
-use tac_program::Program;
-use tac_reader::read;
+use tac_reader::{Program, read};
 
 /// What a procedure that calls itself sets, reaches what stands behind its call. The definitions: x at the entry, x at line 2,
 /// x at line 9.

@@ -12,8 +12,7 @@ use std::io::{ErrorKind, Write};
 use std::process::Abort;
 use std::test::Fail;
 use std::thread::Threads;
-use tac_program::Program;
-use tac_reader::read;
+use tac_reader::{Program, read};
 use text_pieces::{Bytes, Pieces, Sink, ToWrite, TransferFault, deliver};
 
 // Takes so many bytes a call at most, and after so many in all it fails.

@@ -16,8 +16,7 @@ use std::alloc::Global;
 use std::process::Abort;
 use std::test::Fail;
 use std::thread::Threads;
-use tac_program::Program;
-use tac_reader::read;
+use tac_reader::{Program, read};
 use text_pieces::{FromRead, Source, TransferFault, pull_all, whole_text};
 
 // The calls.

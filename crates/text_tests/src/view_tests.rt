@@ -13,8 +13,7 @@ use std::io::Write;
 use std::process::Abort;
 use std::test::Fail;
 use std::thread::Threads;
-use tac_program::Program;
-use tac_reader::read;
+use tac_reader::{Program, read};
 use text_pieces::{ToWrite, deliver};
 
 // Keeps what is written.
