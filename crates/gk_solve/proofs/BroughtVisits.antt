@@ -16,7 +16,7 @@ use Rattle.gk_solve.specs.Tables.Visits.{IsSettled}
 use Rattle.gk_solve.specs.Tables.Words.{HasBit, IsBrought}
 use Rattle.flow_links.specs.declared.link.SiteLink.{SiteLink}
 use Rattle.gk_solve.specs.declared.summary.Summary.{Summary}
-use Rattle.gk_solve.proofs.FiniteSearch.{or_left, or_right, or_either}
+use Rattle.flow_graph.proofs.FiniteSearch.{or_left, or_right, or_either}
 use Rattle.gk_solve.proofs.FlagVisits.{flag_here, flags_stay}
 use Rattle.gk_solve.proofs.WordEdges.{new_bit}
 

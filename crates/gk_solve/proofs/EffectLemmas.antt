@@ -9,7 +9,7 @@ use Rattle.flow_graph.specs.Points.{point_count}
 use Rattle.gk_solve.specs.Tables.Groups.{IsGroupFrame, IsIdle}
 use Rattle.gk_solve.specs.declared.group_frame.GroupFrame.{GroupFrame}
 use Rattle.gk_solve.specs.Tables.Words.{place_gens, place_kills, place_boundary}
-use Rattle.gk_solve.proofs.FiniteSearch.{or_left, or_right}
+use Rattle.flow_graph.proofs.FiniteSearch.{or_left, or_right}
 
 -- a word of the form tells the places of its number
 pub gens_of_word : (form : MayForm) (point word value k : ℕ) → k < 64 → IsWordOf (may_gens form point) (bits_of form.program form.analysis) word value → has_bit value k ≡ place_gens form point (64 * word + k)

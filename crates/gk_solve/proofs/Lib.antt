@@ -7,7 +7,6 @@ pub mod Decided
 pub mod EffectLemmas
 pub mod Entries
 pub mod ExampleLemmas
-pub mod FiniteSearch
 pub mod FlagVisits
 pub mod GroupLemmas
 pub mod Least

@@ -16,7 +16,7 @@ use Rattle.gk_solve.specs.Equations.{HasFlag, IsInSolution}
 use Rattle.gk_solve.specs.Solved.{AreSolved, IsLeastSolution, IsMeetOverPaths, SliceTable, direction_of, word_at}
 use Rattle.gk_solve.specs.Tables.Flags.{ArePathFlags, IsFlagged}
 use Rattle.gk_solve.specs.Tables.Rows.{IsInWords, IsPut, TellsBelow}
-use Rattle.gk_solve.proofs.FiniteSearch.{and_both, and_parts, or_either, or_left, or_right}
+use Rattle.flow_graph.proofs.FiniteSearch.{and_both, and_parts, or_either, or_left, or_right}
 use Rattle.gk_solve.proofs.Meet.{solution_is_meet}
 
 -- the words of the next point, put into its row

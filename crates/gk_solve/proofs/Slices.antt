@@ -10,7 +10,7 @@ use Rattle.gk_solve.specs.Tables.Groups.{AreCompleteSummaries, AreSoundSummaries
 use Rattle.gk_solve.specs.Tables.Solutions.{AreInSlice, IsSolutionAt}
 use Rattle.gk_solve.specs.declared.group_frame.GroupFrame.{GroupFrame}
 use Rattle.gk_solve.specs.declared.summary.Summary.{Summary}
-use Rattle.gk_solve.proofs.FiniteSearch.{and_parts, and_both}
+use Rattle.flow_graph.proofs.FiniteSearch.{and_parts, and_both}
 
 -- a place that is not below the first limit, and below the second
 pub within_bit : (below above : Bool) (n lo hi : ℕ) → below ≡ nat_lt n lo → above ≡ nat_lt n hi → ((not below && above) ≡ true) ↔ ((lo ≤ n) × (n < hi))

@@ -10,7 +10,7 @@ use Rattle.flow_graph.proofs.paths.PathLemmas.{nat_eq_same}
 use Rattle.flow_graph.proofs.paths.Reversal.{Contains-map}
 use Rattle.gk_solve.specs.Equations.{CallsAt, ReturnsTo, Reached, entry_is_reached, reached_by_step, reached_by_call, Kept, kept_at_entry, kept_by_step, kept_by_call, Made, made_by_step, made_before_step, made_by_callee, made_before_call, Entered, root_is_entered, entered_by_call, Brought, brought_by_boundary, brought_where_made, brought_where_kept, HasFlag, IsInSolution, IsClosedReached, IsClosedKept, IsClosedMade, IsClosedEntered}
 use Rattle.gk_solve.specs.Laws.{Passes}
-use Rattle.gk_solve.proofs.FiniteSearch.{nat_eq_is, or_left, or_right, or_either, and_parts, and_both, contains_any, any_contains, any_below, some_below, below_some, Test, decided, least_test}
+use Rattle.flow_graph.proofs.FiniteSearch.{nat_eq_is, or_left, or_right, or_either, and_parts, and_both, contains_any, any_contains, any_below, some_below, below_some, Test, decided, least_test}
 use Rattle.gk_solve.proofs.Least.{reached_least, kept_least, made_least, entered_least, brought_least}
 
 -- whether a step, a call, or a call with its return, passes a test

@@ -16,7 +16,7 @@ use Rattle.gk_solve.specs.Tables.Visits.{IsSettled}
 use Rattle.gk_solve.specs.Tables.Words.{HasBit, AreSoundWords, IsKept, IsMade}
 use Rattle.flow_links.specs.declared.link.CallLink.{CallLink}
 use Rattle.gk_solve.specs.declared.summary.Summary.{Summary}
-use Rattle.gk_solve.proofs.FiniteSearch.{or_left, or_right, or_either, and_both}
+use Rattle.flow_graph.proofs.FiniteSearch.{or_left, or_right, or_either, and_both}
 use Rattle.gk_solve.proofs.WordEdges.{new_bit, not_false}
 
 -- ---- tables

@@ -8,7 +8,7 @@ use Rattle.gk_solve.specs.Equations.{Reached, Entered, HasFlag, entry_is_reached
 use Rattle.flow_links.specs.Shapes.{IsNumbered, after_site}
 use Rattle.gk_solve.specs.Tables.Flags.{IsFlagged}
 use Rattle.gk_solve.specs.Tables.Words.{HasBit, AreSoundWords, IsKeepClosedAt, IsMakeClosedAt, IsBringClosedAt, IsKept, IsMade, IsBrought}
-use Rattle.gk_solve.proofs.FiniteSearch.{or_left, or_right, or_either, and_parts, and_both}
+use Rattle.flow_graph.proofs.FiniteSearch.{or_left, or_right, or_either, and_parts, and_both}
 use Rattle.gk_solve.proofs.FlagVisits.{call_of, return_of}
 use Rattle.gk_solve.proofs.Least.{kept_least, made_least, brought_least}
 
