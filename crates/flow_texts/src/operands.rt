@@ -82,7 +82,15 @@ pub(crate) fn assigned(kind: &StmtKind) -> Option<u32>
         StmtKind::Copy { target, .. } => Some(*target),
         StmtKind::Unary { target, .. } => Some(*target),
         StmtKind::Binary { target, .. } => Some(*target),
-        _ => None,
+        StmtKind::Goto { .. } => None,
+        StmtKind::If { .. } => None,
+        StmtKind::IfFalse { .. } => None,
+        StmtKind::IfCompare { .. } => None,
+        StmtKind::Call { .. } => None,
+        StmtKind::Return => None,
+        StmtKind::Read { .. } => None,
+        StmtKind::Print { .. } => None,
+        StmtKind::Skip => None,
     }
 }
 
@@ -90,8 +98,18 @@ pub(crate) fn assigned(kind: &StmtKind) -> Option<u32>
 pub(crate) fn is_test(kind: &StmtKind) -> bool
     ensures { result ≡ is_test_of kind.now }
 {
-    matches!(
-        kind,
-        StmtKind::If { .. } | StmtKind::IfFalse { .. } | StmtKind::IfCompare { .. }
-    )
+    match kind {
+        StmtKind::Copy { .. } => false,
+        StmtKind::Unary { .. } => false,
+        StmtKind::Binary { .. } => false,
+        StmtKind::Goto { .. } => false,
+        StmtKind::If { .. } => true,
+        StmtKind::IfFalse { .. } => true,
+        StmtKind::IfCompare { .. } => true,
+        StmtKind::Call { .. } => false,
+        StmtKind::Return => false,
+        StmtKind::Read { .. } => false,
+        StmtKind::Print { .. } => false,
+        StmtKind::Skip => false,
+    }
 }
