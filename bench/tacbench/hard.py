@@ -395,6 +395,37 @@ def woven(points=16000, bits=4000, procedures=16, order=0, jump=3, stride=7, cal
     return filled(made, points)
 
 
+def waiting(points=16000, bits=4000, early=0, seed=1):
+    """each procedure may call the one before it; no way leads to calls of eight each that wait for all; early=1: these stand first"""
+    procedures = 255
+    uses = max(1, min(15, variables_for(bits) // procedures, points // (4 * procedures)))
+    count = uses * procedures
+    size = (points - count // 2 - 8) // procedures - uses - 6
+    need(size >= 1, "so few points are too few for this shape")
+    places = order_of(procedures, seed)
+    name = lambda number: name_of(1 + places[number % procedures])
+    main = Procedure("main")
+    main.add("call " + name(-1), "return")
+    main.add(*["if v%d < v%d goto stop" % (first, min(first + 1, count - 1)) for first in range(0, count, 2)])
+    main.label("stop")
+    main.add("goto stop")
+    made = [main]
+    for place, number in sorted((place, number) for number, place in enumerate(places)):
+        procedure = Procedure(name(number))
+        onward = ["if 0 goto last", "call " + name(number - 1), "goto last"]
+        waits = ["call " + " | ".join(name(8 * (size * place + at) + one) for one in range(8)) for at in range(size)]
+        if early:
+            procedure.add("goto first", *waits, "goto last")
+            procedure.label("first")
+            procedure.add(*onward)
+        else:
+            procedure.add(*onward, *waits)
+        procedure.label("last")
+        procedure.add(*["print v%d" % (use * procedures + place) for use in range(uses)])
+        made.append(procedure)
+    return filled(made, points)
+
+
 SHAPES = {"shuffled": shuffled, "upward": upward, "zigzag": zigzag, "nest": nest, "irreducible": irreducible, "feeders": feeders,
           "ladder": ladder, "ring": ring, "tower": tower, "neighbours": neighbours, "web": web, "drip": drip, "drip-back": drip_back,
-          "hops": hops, "woven": woven}
+          "hops": hops, "waiting": waiting, "woven": woven}

@@ -5,6 +5,8 @@ mod call_edges;
 mod call_walk;
 mod exits;
 mod keys;
+mod layout;
+mod leading;
 mod link;
 mod links;
 mod list_kind;

@@ -13,7 +13,7 @@ use Rattle.flow_graph.specs.Universes.{Expr, Unary, Binary, same_expression, sam
 use Rattle.flow_graph.specs.contracts.expression.ExprPartialEq.TheImpl as derived
 
 -- the operator of a sign
-with_sign : List ℕ → Op
+abbrev with_sign : List ℕ → Op
 with_sign s = unwrap_or (find (λ o. bytes_eq s (sign_of o)) operators) op.Plus
 
 -- the sign of an operator tells the operator
