@@ -98,8 +98,18 @@ shown_edge program view edge = if is_edge_shown program view edge then edge_line
 
 -- Of one procedure, a call has an edge to the point behind it, so that the picture hangs together.
 abbrev pub is_call : StmtKind → Bool
+is_call (kind.Copy x y) = false
+is_call (kind.Unary x op y) = false
+is_call (kind.Binary op x y z) = false
+is_call (kind.Goto label) = false
+is_call (kind.If y label) = false
+is_call (kind.IfFalse y label) = false
+is_call (kind.IfCompare op label y z) = false
 is_call (kind.Call callees) = true
-is_call _ = false
+is_call kind.Return = false
+is_call (kind.Read x) = false
+is_call (kind.Print y) = false
+is_call kind.Skip = false
 
 abbrev pub calls_at : Program → ℕ → Bool
 calls_at program point = unwrap_or (option_map is_call (kind_at program point)) false

@@ -10,7 +10,7 @@ ghost use Rattle.flow_texts.specs.Tables.{line_at};
 ghost use Rattle.tac_program.specs.Listings.{statement_text};
 ghost use Rattle.flow_views.specs.code.Shown.{AreShown, IsSiteIn, known_of, numbers_of};
 ghost use Rattle.flow_views.specs.declared.names.NameForm.TheVariants.{Escaped};
-ghost use Rattle.flow_views.specs.Dots.{IsDot, arrow, calls_at, cluster, dot_of, edge_line, edge_lines, fact_line, head, is_edge_shown, label_line, label_lines, marks, node, passed_call, path_marks, shown_edge, text_if_some, title};
+ghost use Rattle.flow_views.specs.Dots.{IsDot, arrow, calls_at, cluster, dot_of, edge_line, edge_lines, fact_line, head, is_call, is_edge_shown, label_line, label_lines, marks, node, passed_call, path_marks, shown_edge, text_if_some, title};
 ghost use Rattle.flow_views.specs.Strings.{escaped};
 ghost use Rattle.flow_views.specs.Views.{analysis_if, chosen_analyses, names_at, points_in, procedure_name};
 
@@ -82,6 +82,26 @@ fn target(edge: Edge) -> u32
         Edge::Step { to, .. } => to,
         Edge::Call { to, .. } => to,
         Edge::Ret { to, .. } => to,
+    }
+}
+
+// Whether a statement is a call.
+fn is_call(kind: &StmtKind) -> bool
+    ensures { result ≡ is_call kind.now }
+{
+    match kind {
+        StmtKind::Copy { .. } => false,
+        StmtKind::Unary { .. } => false,
+        StmtKind::Binary { .. } => false,
+        StmtKind::Goto { .. } => false,
+        StmtKind::If { .. } => false,
+        StmtKind::IfFalse { .. } => false,
+        StmtKind::IfCompare { .. } => false,
+        StmtKind::Call { .. } => true,
+        StmtKind::Return => false,
+        StmtKind::Read { .. } => false,
+        StmtKind::Print { .. } => false,
+        StmtKind::Skip => false,
     }
 }
 
@@ -397,12 +417,12 @@ impl Shown<'_> {
     }
 
     // Whether the statement at a point is a call.
-    fn is_call(&self, point: u32) -> bool
+    fn calls_at(&self, point: u32) -> bool
         requires { point < point_count self.now.found.graph.now }
         ensures { result ≡ calls_at self.now.found.graph.now point }
     {
         match self.found.graph.stmt(point) {
-            Some(stmt) => matches!(stmt.kind, StmtKind::Call { .. }),
+            Some(stmt) => is_call(&stmt.kind),
             None => false,
         }
     }
@@ -418,7 +438,7 @@ impl Shown<'_> {
         let Some(_) = self.view.procedure else {
             return;
         };
-        if !self.is_call(point) {
+        if !self.calls_at(point) {
             return;
         }
         write_arrow(out, point, point + 1);
