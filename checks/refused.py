@@ -42,7 +42,7 @@ WORKERS = (1, 3)
 
 # The calls that each crate's tests of refused memory make, as patterns: some run has to name each of them.
 CALLS = {
-    "board_tests": {"Board::open, its rows or its cut"},
+    "slice_board_tests": {"Board::open, its rows or its cut"},
     "command_tests": {"run of tacflow", "run of tacview", "fault_line", "Options::from_words"},
     "flow_tests": {
         *("read", "listing", "write_unary_expression", "write_binary_expression", "Graph::build", "Graph::succ", "Graph::leads_to"),
@@ -50,7 +50,7 @@ CALLS = {
         *("solve_counted", "Row::empty", "Row::full", "Row::cut", "Row::copy", "Rows::blank, or its flags", "Cut::even", "Cut::at"),
         *("Order::of, or its list", "Marks::none", "group"),
     },
-    "team_tests": {"Job::open", "analyse", "answer", "answer_here", "Answers::of_tables"},
+    "flow_team_tests": {"Job::open", "analyse", "answer", "answer_here", "Answers::of_tables"},
     "text_tests": {
         *("table_of", "TableText::of", "table_text", "Tables::of", "ReportAnswers::of", "ReportAnswers::here", "ReportAnswers::of_tables"),
         *("ReportText::of", "report", "report_here", "pull_all"),

@@ -1,5 +1,0 @@
-use Rattle.slice_board.specs.Boards.{IsOf}
-use Rattle.board_tests.proofs.many_tests.drain.Given as goal
-
-abbrev pub invariant-loop : goal.invariant-loop
-invariant-loop l = IsOf l.board l.pass

@@ -1,6 +1,0 @@
-use Rattle.std.specs.List.{All}
-use Rattle.slice_board.specs.Boards.{IsOf}
-use Rattle.board_tests.proofs.many_tests.rounds.Given as goal
-
-abbrev pub invariant-loop-from : goal.invariant-loop-from
-invariant-loop-from g l = All (IsOf l.board) l.passes.items

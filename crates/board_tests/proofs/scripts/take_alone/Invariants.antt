@@ -1,6 +1,0 @@
-use Rattle.slice_board.specs.Boards.{IsOf}
-use Rattle.board_tests.specs.Benches.{AreNoted}
-use Rattle.board_tests.proofs.scripts.take_alone.Given as goal
-
-abbrev pub invariant-loop-step : goal.invariant-loop-step
-invariant-loop-step l = record { of : IsOf l.board l.worker.pass; noted : AreNoted l.worker.mine l.worker.pass.posted }
