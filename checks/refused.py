@@ -42,19 +42,22 @@ WORKERS = (1, 3)
 
 # The calls that each crate's tests of refused memory make, as patterns: some run has to name each of them.
 CALLS = {
-    "slice_board_tests": {"Board::open, its rows or its cut"},
-    "command_tests": {"run of tacflow", "run of tacview", "fault_line", "Options::from_words"},
-    "flow_tests": {
-        *("read", "listing", "write_unary_expression", "write_binary_expression", "Graph::build", "Graph::succ", "Graph::leads_to"),
-        *("Problem::of", "Links::of", "Routes::of", "Solver::of", "Solver::flags", "Solver::solve", "Solver::slice", "solve"),
-        *("solve_counted", "Row::empty", "Row::full", "Row::cut", "Row::copy", "Rows::blank, or its flags", "Cut::even", "Cut::at"),
+    "bit_rows_tests": {"Row::empty", "Row::full", "Row::cut", "Row::copy", "Rows::blank, or its flags", "Cut::even", "Cut::at"},
+    "flow_commands_tests": {"run of tacflow", "fault_line", "Options::from_words"},
+    "flow_graph_tests": {"Graph::build", "Graph::succ", "Graph::leads_to", "Problem::of"},
+    "flow_team_tests": {"Job::open", "analyse", "answer", "answer_here", "Answers::of_tables"},
+    "flow_texts_tests": {
+        *("table_of", "TableText::of", "table_text", "Tables::of", "ReportAnswers::of", "ReportAnswers::here", "ReportAnswers::of_tables"),
+        *("ReportText::of", "report", "report_here"),
+    },
+    "gk_solve_tests": {
+        *("Links::of", "Routes::of", "Solver::of", "Solver::flags", "Solver::solve", "Solver::slice", "solve", "solve_counted"),
         *("Order::of, or its list", "Marks::none", "group"),
     },
-    "flow_team_tests": {"Job::open", "analyse", "answer", "answer_here", "Answers::of_tables"},
-    "text_tests": {
-        *("table_of", "TableText::of", "table_text", "Tables::of", "ReportAnswers::of", "ReportAnswers::here", "ReportAnswers::of_tables"),
-        *("ReportText::of", "report", "report_here", "pull_all"),
-    },
+    "slice_board_tests": {"Board::open, its rows or its cut"},
+    "tac_reader_tests": {"read", "listing", "write_unary_expression", "write_binary_expression"},
+    "text_pieces_tests": {"deliver", "pull_all"},
+    "view_commands_tests": {"run of tacview"},
 }
 # The same of single tests of a job of three slices: by one worker each slice is left in some run, by two some slice is.
 CALLS_OF_TESTS = {

@@ -7,13 +7,15 @@ ghost use Rattle.flow_team.specs.Tables.{IsTableOf};
 
 use crate::gates::Recorder;
 use crate::table_tests::{BITS_OF_TWO_GROUPS, Cutting, WORKERS, table_by};
-use crate::texts::{CALLEE_LOOPS, Question, check, prints, sums};
+use crate::texts::{Question, check, sums};
 use flow_graph::{Analysis, Graph, OutOfMemory};
 use flow_team::{Answers, Ask, Gate, OpenGate, Table, answer, answer_here};
 use std::alloc::Global;
 use std::process::Abort;
 use std::test::Fail;
 use std::thread::Threads;
+use worked_programs::callee_loops;
+use worked_programs::series::prints;
 
 /// An analysis, a point, a word of its set, and what the word is.
 pub type Asked = (Analysis, u32, u32, u64);
@@ -522,13 +524,13 @@ const TWO_SLICES: &[Slices] = &[(1, 2), (64, 2), (512, 2), (4_096, 2)];
 
 #[test]
 fn answers_of_all_analyses(rt: HostRuntime) -> Result<(), Fail> {
-    check_answers(&rt, CALLEE_LOOPS, CALLEE_LOOPS_ASKING, FOUR_SLICES)
+    check_answers(&rt, callee_loops::TEXT, CALLEE_LOOPS_ASKING, FOUR_SLICES)
 }
 
 #[test]
 fn answers_to_nothing(rt: HostRuntime) -> Result<(), Fail> {
     let cuts = &[(1, 0), (64, 0), (512, 0), (4_096, 0)];
-    check_answers(&rt, CALLEE_LOOPS, NOTHING, cuts)
+    check_answers(&rt, callee_loops::TEXT, NOTHING, cuts)
 }
 
 #[test]

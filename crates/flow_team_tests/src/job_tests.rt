@@ -8,7 +8,7 @@ ghost use Rattle.flow_team.specs.Tables.{IsTableOf};
 ghost use Rattle.slice_board.specs.Boards.{IsOf, point_count};
 
 use crate::gates::Recorder;
-use crate::texts::{Question, RECURSIVE, RECURSIVE_REACH, check, lines, printed, prints, slices};
+use crate::texts::{Question, RECURSIVE_REACH, check, lines, printed, slices};
 use flow_graph::{Analysis, Graph};
 use flow_team::{GraphSets, Job, OpenGate, OutOfMemory, Table};
 use slice_board::Pass;
@@ -16,6 +16,8 @@ use std::alloc::Global;
 use std::process::Abort;
 use std::test::Fail;
 use std::thread::{Threads, join};
+use worked_programs::recursion;
+use worked_programs::series::prints;
 
 // Two slices of the recursive program's reaching definitions are worked, a slice for each, with what is seen on the way: the definitions
 // at the beginning and at line 2, which are in the first two slices.
@@ -157,7 +159,7 @@ impl Question for BySlices {
 
 #[test]
 fn slices_one_after_the_other(rt: HostRuntime) -> Result<(), Fail> {
-    check(&rt, RECURSIVE, &BySlices, RECURSIVE_REACH, (0, 0))
+    check(&rt, recursion::TEXT, &BySlices, RECURSIVE_REACH, (0, 0))
 }
 
 // Works 70 slices by two passes in turn.

@@ -11,9 +11,9 @@ mod job_tests;
 #[cfg(test)]
 mod overlap_tests;
 #[cfg(test)]
-mod std_thread_tests;
-#[cfg(test)]
 mod refusal_tests;
+#[cfg(test)]
+mod std_thread_tests;
 #[cfg(test)]
 mod table_tests;
 #[cfg(test)]

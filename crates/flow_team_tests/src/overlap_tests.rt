@@ -1,7 +1,7 @@
 // That workers run at the same time, and that the standard helpers which may start them do.
 
 use crate::gates::Meeting;
-use crate::texts::{Question, RECURSIVE, RECURSIVE_REACH, check, lines, slices_at};
+use crate::texts::{Question, RECURSIVE_REACH, check, lines, slices_at};
 use flow_graph::{Analysis, Graph};
 use flow_team::analyse;
 use std::alloc::Global;
@@ -9,6 +9,7 @@ use std::process::Abort;
 use std::sync::atomic::Ordering;
 use std::test::Fail;
 use std::thread::Threads;
+use worked_programs::recursion;
 
 // The lines of reaching definitions, in two slices by two workers.
 #[derive(Clone, Copy)]
@@ -36,7 +37,7 @@ fn two_workers_overlap(rt: HostRuntime) -> Result<(), Fail> {
     let gate = Meeting::new();
     check(
         &rt,
-        RECURSIVE,
+        recursion::TEXT,
         &Overlapping { gate: &gate },
         RECURSIVE_REACH,
         (0, 2),

@@ -1,5 +1,4 @@
-// What is left where memory is refused on the way. With ample memory the tests end as all others. Where a request is refused
-// (`checks/refused`), they fail by what it met, once all that is asserted of it holds, or by want of memory where no call met it.
+// What is left where memory is refused on the way, as `refusal_probes` has it.
 
 ghost use Rattle.std.specs.Prelude.{IfOk};
 ghost use Rattle.flow_team.specs.Tables.{IsTableOf};
@@ -11,19 +10,16 @@ use crate::ask_tests::{
 };
 use crate::gates::Recorder;
 use crate::job_tests::{closed, opened};
-use crate::texts::{CALLEE_LOOPS, Question, RECURSIVE, RECURSIVE_REACH, check, lines, slices};
+use crate::texts::{Question, RECURSIVE_REACH, check, lines, slices};
 use flow_graph::{Analysis, Graph};
 use flow_team::{GraphSets, Job, OpenGate, OutOfMemory, Table, TeamFault, analyse};
+use refusal_probes::refusal_of;
 use slice_board::{Pass, Wanted};
 use std::alloc::Global;
 use std::process::Abort;
 use std::test::Fail;
 use std::thread::Threads;
-
-// What a call met that was refused.
-fn refused(call: &'static str) -> Fail {
-    Fail::new(format_args!("refused: {call}"))
-}
+use worked_programs::{callee_loops, recursion};
 
 // Where the last slice that was claimed is the one that was not finished, which of the three it is.
 fn left_slice(gate: &Recorder) -> &'static str {
@@ -67,7 +63,7 @@ impl<'a> Question for ByWorkers<'a> {
             self.gate,
         ) {
             Ok(table) => Ok(lines(alloc, graph, &table)?),
-            Err(TeamFault::OutOfMemory) => Err(refused(left_slice(self.gate))),
+            Err(TeamFault::OutOfMemory) => Err(refusal_of(left_slice(self.gate))),
             Err(TeamFault::BadWorkers) => Err(Fail::new("workers that are refused")),
         }
     }
@@ -317,7 +313,7 @@ fn told_again(lines: Option<String>, want: &str, call: &'static str) -> Result<S
     };
     let same = lines.as_str() == want;
     if same {
-        Err(refused(call))
+        Err(refusal_of(call))
     } else {
         Err(Fail::new("another answer the second time"))
     }
@@ -374,7 +370,7 @@ fn check_told<R: Threads + Sync + Abort + AllocGlobal, Q: Question>(
     rt: &R,
     question: &Q,
 ) -> Result<(), Fail> {
-    check(rt, RECURSIVE, question, RECURSIVE_REACH, (0, 0))
+    check(rt, recursion::TEXT, question, RECURSIVE_REACH, (0, 0))
 }
 
 // The same of a call.
@@ -387,7 +383,7 @@ fn check_call<R: Threads + Sync + Abort + AllocGlobal>(rt: &R, call: Call) -> Re
 fn check_answers<R: Threads + Sync + Abort + AllocGlobal>(rt: &R, call: Call) -> Result<(), Fail> {
     let text = wanted_lines(rt.alloc(), CALLEE_LOOPS_ASKING, Order::AsWritten)?;
     let want = text.as_str();
-    check(rt, CALLEE_LOOPS, &Twice { call, want }, want, (0, 0))
+    check(rt, callee_loops::TEXT, &Twice { call, want }, want, (0, 0))
 }
 
 #[test]

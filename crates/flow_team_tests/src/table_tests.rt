@@ -5,8 +5,7 @@ ghost use Rattle.flow_graph.specs.Universes.{bits as bits_of};
 ghost use Rattle.flow_team.specs.Tables.{IsTableOf};
 
 use crate::texts::{
-    CALLEE_LOOPS, Question, RECURSIVE, RECURSIVE_REACH, check, lines, printed, prints, slices,
-    slices_at, summed, sums, words,
+    Question, RECURSIVE_REACH, check, lines, printed, slices, slices_at, summed, sums, words,
 };
 use bit_rows::Cut;
 use flow_graph::{Analysis, Graph};
@@ -15,35 +14,16 @@ use std::alloc::Global;
 use std::process::Abort;
 use std::test::Fail;
 use std::thread::Threads;
+use worked_programs::series::prints;
+use worked_programs::{
+    adds_to_itself, both_branches, called_twice, callee_loops, calls_main, no_bits, no_end,
+    not_called, reads_behind_calls, recursion, smallest,
+};
 
 /// Numbers of workers.
 pub const WORKERS: &[u32] = &[1, 2, 3, 64];
 
 const WIDTHS: &[u32] = &[1, 2, 64];
-
-/// What a call site brings does not return to the other.
-const CALLED_TWICE: &str =
-    "proc main\na = 1\ncall p\nprint a\na = 2\ncall p\nprint a\nend\nproc p\nskip\nend\n";
-
-/// A variable that is read and written.
-const ADDS_TO_ITSELF: &str = "proc main\nx = x + y\nend\n";
-
-/// No path leads from the loop to the end.
-const NO_END: &str = "proc main\nx = 1\nif c goto L\nreturn\nL: print x\ngoto L\nend\n";
-
-/// The boundary stays at the outermost `main`.
-const CALLS_MAIN: &str = "proc main\nif a goto L\na = 1\ncall main\nL: print a\nend\n";
-
-/// One expression on both branches.
-const ON_BOTH_BRANCHES: &str =
-    "proc main\nread b\nread c\nif c goto L\nx = b + c\nprint x\nreturn\nL: y = b + c\nprint y\nend\n";
-
-/// A procedure that nothing calls.
-const NOT_CALLED: &str = "proc main\nx = 1\nend\nproc q\nx = 2\nend\n";
-
-/// What is read behind a call is live in the callee.
-const READS_BEHIND_CALLS: &str =
-    "proc main\ncall p\nprint a\ncall p\nprint b\nend\nproc p\nskip\nend\n";
 
 /// Three expressions on branches: `b + c` (bit 0) and `c - d` (2) on both, `d * 2` (1) on one and behind them.
 const THREE_ON_BRANCHES: &str =
@@ -68,60 +48,60 @@ const THREE_ACROSS_A_CALL_BUSY: &str =
 
 /// Programs, and their tables.
 const TABLES: &[(&str, Analysis, &str)] = &[
-    ("proc main\nend\n", Analysis::Reach, "0:\n"),
-    ("proc main\nprint 1\nend\n", Analysis::Avail, "0:\n1:\n"),
+    (smallest::TEXT, Analysis::Reach, "0:\n"),
+    (no_bits::TEXT, Analysis::Avail, "0:\n1:\n"),
     (
-        CALLED_TWICE,
+        called_twice::TEXT,
         Analysis::Reach,
         "0: 0\n1: 1\n2: 1\n3: 1\n4: 2\n5: 2\n6: 2\n7: 1 2\n8: 1 2\n",
     ),
-    (RECURSIVE, Analysis::Reach, RECURSIVE_REACH),
-    (ADDS_TO_ITSELF, Analysis::Reach, "0: 0 1\n1: 1 2\n"),
-    (ADDS_TO_ITSELF, Analysis::Live, "0: 0 1\n1:\n"),
-    (ADDS_TO_ITSELF, Analysis::Avail, "0:\n1:\n"),
-    (ADDS_TO_ITSELF, Analysis::Busy, "0: 0\n1:\n"),
+    (recursion::TEXT, Analysis::Reach, RECURSIVE_REACH),
+    (adds_to_itself::TEXT, Analysis::Reach, "0: 0 1\n1: 1 2\n"),
+    (adds_to_itself::TEXT, Analysis::Live, "0: 0 1\n1:\n"),
+    (adds_to_itself::TEXT, Analysis::Avail, "0:\n1:\n"),
+    (adds_to_itself::TEXT, Analysis::Busy, "0: 0\n1:\n"),
     (
-        CALLEE_LOOPS,
+        callee_loops::TEXT,
         Analysis::Reach,
         "0: 0 1 2\n1 (no path):\n2 (no path):\n3: 0 1 2\n4 (no path):\n",
     ),
     (
-        CALLEE_LOOPS,
+        callee_loops::TEXT,
         Analysis::Live,
         "0 (no path):\n1: 1 2\n2:\n3 (no path):\n4: 1 2\n",
     ),
     (
-        CALLEE_LOOPS,
+        callee_loops::TEXT,
         Analysis::Avail,
         "0:\n1 (no path): 0\n2 (no path): 0\n3:\n4 (no path): 0\n",
     ),
     (
-        CALLEE_LOOPS,
+        callee_loops::TEXT,
         Analysis::Busy,
         "0 (no path): 0\n1: 0\n2:\n3 (no path): 0\n4: 0\n",
     ),
     (
-        NO_END,
+        no_end::TEXT,
         Analysis::Live,
         "0: 1\n1: 1\n2:\n3 (no path):\n4 (no path):\n5:\n",
     ),
     (
-        CALLS_MAIN,
+        calls_main::TEXT,
         Analysis::Reach,
         "0: 0 1\n1: 0 1\n2: 1\n3: 0 1\n4: 0 1\n",
     ),
     (
-        ON_BOTH_BRANCHES,
+        both_branches::TEXT,
         Analysis::Busy,
         "0:\n1:\n2: 0\n3: 0\n4:\n5:\n6: 0\n7:\n8:\n",
     ),
     (
-        NOT_CALLED,
+        not_called::TEXT,
         Analysis::Live,
         "0:\n1:\n2 (no path):\n3 (no path):\n",
     ),
     (
-        READS_BEHIND_CALLS,
+        reads_behind_calls::TEXT,
         Analysis::Live,
         "0: 0 1\n1: 0 1\n2: 1\n3: 1\n4:\n5: 0 1\n6: 0 1\n",
     ),

@@ -6,8 +6,7 @@ ghost use Rattle.flow_team.specs.Tables.{IsTableOf};
 use crate::gates::{Crowd, Ledger, Recorder};
 use crate::table_tests::{Cutting, WORKERS, table_by};
 use crate::texts::{
-    Question, RECURSIVE, RECURSIVE_REACH, answered, check, check_text, lines, printed, prints,
-    slices,
+    Question, RECURSIVE_REACH, answered, check, check_text, lines, printed, slices,
 };
 use flow_graph::{Analysis, Graph};
 use flow_team::{OpenGate, OutOfMemory, TeamFault, analyse, answer};
@@ -15,6 +14,8 @@ use std::alloc::Global;
 use std::process::Abort;
 use std::test::Fail;
 use std::thread::Threads;
+use worked_programs::recursion;
+use worked_programs::series::prints;
 
 // The lines of live variables by 64 workers, each slice of which was claimed once and finished once, by the same worker.
 fn noted_lines<R: Threads + Sync>(
@@ -172,8 +173,8 @@ const BAD_WORKERS: &str = "33: the number of workers is not one of 1 to 64";
 fn numbers_of_workers(rt: HostRuntime) -> Result<(), Fail> {
     for workers in REFUSED_WORKERS {
         let (table, answers) = (Refused::Table(*workers), Refused::Answers(*workers));
-        check(&rt, RECURSIVE, &table, BAD_WORKERS, (1, *workers))?;
-        check(&rt, RECURSIVE, &answers, BAD_WORKERS, (2, *workers))?;
+        check(&rt, recursion::TEXT, &table, BAD_WORKERS, (1, *workers))?;
+        check(&rt, recursion::TEXT, &answers, BAD_WORKERS, (2, *workers))?;
     }
     let shown = format!(in rt.alloc(); "{}; {}", TeamFault::BadWorkers, TeamFault::OutOfMemory)?;
     check_text(
@@ -213,7 +214,7 @@ fn each_slice_is_told_once(rt: HostRuntime) -> Result<(), Fail> {
             workers: *workers,
             gate: &gate,
         };
-        check(&rt, RECURSIVE, &how, RECURSIVE_REACH, (1, *workers))?;
+        check(&rt, recursion::TEXT, &how, RECURSIVE_REACH, (1, *workers))?;
         assert_eq!(rt; gate.told(), (7, 7, 3, 3), "{workers} workers");
     }
     Ok(())

@@ -1,4 +1,4 @@
-// Programs, and tables as text: a line for each point with the numbers of its bits.
+// Tables as text: a line for each point with the numbers of its bits.
 
 ghost use Rattle.std.specs.Prelude.{◌≡◌, IfOk};
 ghost use Rattle.std.specs.Thread.{IsSync};
@@ -14,29 +14,10 @@ use std::test::Fail;
 use std::thread::Threads;
 use tac_reader::{Program, read};
 
-/// What a procedure that calls itself sets, reaches what stands behind its call. The definitions: x at the entry, x at line 2,
-/// x at line 9.
-pub const RECURSIVE: &str =
-    "proc main\nx = 1\ncall f\nprint x\nend\nproc f\nif x goto L\ncall f\nx = 2\nL:\nend\n";
-
-/// The definitions that reach each point of it.
+/// The definitions that reach each point of `recursion`: `x` at the entry, at line 2 and at line 9.
 pub const RECURSIVE_REACH: &str = "0: 0\n1: 1\n2: 1 2\n3: 1 2\n4: 1\n5: 1\n6: 1 2\n7: 1 2\n";
 
-/// No path leads behind the call.
-pub const CALLEE_LOOPS: &str = "proc main\ncall f\na = b + c\nend\nproc f\nL: goto L\nend\n";
-
-/// `main` that prints so many variables, one after the other.
-pub fn prints(alloc: Global, count: u32) -> Result<String, OutOfMemory> {
-    let mut text = String::new(alloc);
-    text.push_str("proc main\n")?;
-    for number in 0..count {
-        write!(text, "print v{number}\n")?;
-    }
-    text.push_str("end\n")?;
-    Ok(text)
-}
-
-/// What is live there: at each point the variables that are printed from there on.
+/// What is live where so many variables are printed (`prints`): at each point those that are printed from there on.
 pub fn printed(alloc: Global, count: u32) -> Result<String, OutOfMemory> {
     let mut text = String::new(alloc);
     for point in 0..=count {

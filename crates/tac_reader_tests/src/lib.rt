@@ -3,3 +3,5 @@
 
 #[cfg(test)]
 mod reader_tests;
+#[cfg(test)]
+mod refusal_tests;

@@ -4,6 +4,8 @@ ghost use Rattle.tac_reader.specs.Programs.{program_of};
 use std::alloc::{AllocError, Global};
 use std::process::Abort;
 use tac_reader::{Label, Program, ReadFault, Span, Stmt, listing, read};
+use worked_programs::spacing::TEXT as SPACING;
+use worked_programs::{listed, recursion, refused, smallest};
 
 /// Every statement form.
 const FORMS: &[u8] =
@@ -11,11 +13,6 @@ const FORMS: &[u8] =
 
 const FORMS_LISTING: &str =
     "proc main\nL:\nM:\n  x = y + 7\n  z = -x\n  x = ~x\n  x = !0\n  x = x\n  if x < 3 goto L\n  if x goto M\n  ifFalse 10 goto N\n  goto N\n  call f | main\nN:\n  read y\n  print 18\n  skip\n  return\nend\nproc f\n  x = 1 - 2\n  x = x * x\n  x = x / y\n  x = x % y\n  x = x & y\n  x = x | y\n  x = x ^ y\n  x = x << y\n  x = x >> y\n  x = x <= y\n  x = x >= y\n  x = x == y\n  x = x != y\n  x = x > y\nend\n";
-
-const RECURSION: &[u8] =
-    b"proc main\nx = 1\ncall f\nprint x\nend\nproc f\nif x goto L\ncall f\nx = 2\nL:\nend\n";
-
-const SPACING: &[u8] = b"proc main # start\nL:M: x=y+007\nz=- x\nif x<3 goto L\nend\n";
 
 const NAME_64: &str = "nnnnnnnnnnnnnnnnnnnnnnnnnnnnnnnnnnnnnnnnnnnnnnnnnnnnnnnnnnnnnnnn";
 
@@ -73,28 +70,9 @@ fn check_listing(rt: &impl Abort, alloc: Global, text: &str) -> Result<(), Alloc
     Ok(())
 }
 
-const BAD_LINES: [(&[u8], &str); 10] = [
-    (b"proc main\nx = 12ab\nend\n", "2:7: refusal 4: Syntax"),
-    (b"9223372036854775808\n", "1:1: refusal 2: NumberTooLarge"),
-    (b"proc proc\nend\n", "1:6: refusal 4: Syntax"),
-    (b"proc main\nx = 1\n", "3:1: refusal 5: Unclosed"),
-    (b"proc main\nx = 1", "2:6: refusal 5: Unclosed"),
-    (
-        b"proc main\nx = 9223372036854775808\nend\n",
-        "2:5: refusal 2: NumberTooLarge",
-    ),
-    (b"proc main\nx =\nend\n", "2:4: refusal 4: Syntax"),
-    (
-        b"proc main\ncall a|b|c|d|e|f|g|h|i\nend\n",
-        "2:21: refusal 4: Syntax",
-    ),
-    (b"proc main\ncall main |\nend\n", "2:12: refusal 4: Syntax"),
-    (b"proc main\nend\nx = 1\n", "3:1: refusal 4: Syntax"),
-];
-
 #[test]
 fn refuses_lines(rt: HostRuntime) -> Result<(), AllocError> {
-    check_answers(&rt, rt.alloc(), &BAD_LINES)
+    check_answers(&rt, rt.alloc(), refused::LINES)
 }
 
 /// Lines of more than 32 tokens, which are judged before they are read whole. The first 16 labels have 32 tokens and 32 bytes.
@@ -138,49 +116,14 @@ fn judges_long_lines(rt: HostRuntime) -> Result<(), AllocError> {
     check_answers(&rt, rt.alloc(), &LONG_LINES)
 }
 
-const BAD_NAMES: [(&[u8], &str); 8] = [
-    (b"", "1:1: refusal 6: NoMain"),
-    (
-        b"proc main\nA: A: skip\nend\n",
-        "2:4: refusal 8: DuplicateLabel",
-    ),
-    (
-        b"proc q\nend\nproc q\nend\n",
-        "3:6: refusal 7: DuplicateProcedure",
-    ),
-    (
-        b"proc main\ngoto A\ncall z\nA: A: skip\nend\n",
-        "4:4: refusal 8: DuplicateLabel",
-    ),
-    (b"proc main\ngoto M\nend\n", "2:6: refusal 9: UnknownLabel"),
-    (
-        b"proc main\ncall z\nend\n",
-        "2:6: refusal 10: UnknownProcedure",
-    ),
-    (
-        b"proc main\ncall main | main\nend\n",
-        "2:13: refusal 13: DuplicateCallee",
-    ),
-    (b"proc q\nend\n", "1:1: refusal 6: NoMain"),
-];
-
 #[test]
 fn refuses_names(rt: HostRuntime) -> Result<(), AllocError> {
-    check_answers(&rt, rt.alloc(), &BAD_NAMES)
+    check_answers(&rt, rt.alloc(), refused::NAMES)
 }
-
-const BAD_BYTES: [(&[u8], &str); 6] = [
-    (b"proc main\nx = \0", "2:5: refusal 1: BadByte"),
-    (b"proc main\nx = \0\nend\n", "2:5: refusal 1: BadByte"),
-    (b"\r", "1:1: refusal 1: BadByte"),
-    (b"proc main\nend\r", "2:4: refusal 1: BadByte"),
-    (b"proc main\nx =\r", "2:4: refusal 1: BadByte"),
-    (b"proc main\nx = 1\rend\n", "2:6: refusal 1: BadByte"),
-];
 
 #[test]
 fn refuses_bytes(rt: HostRuntime) -> Result<(), AllocError> {
-    check_answers(&rt, rt.alloc(), &BAD_BYTES)
+    check_answers(&rt, rt.alloc(), refused::BYTES)
 }
 
 /// The answer of a text in three parts.
@@ -240,28 +183,14 @@ fn bytes_in_and_out_of_comments(rt: HostRuntime) -> Result<(), AllocError> {
     check_around(&rt, rt.alloc(), &AROUND_A_BYTE, &BYTES)
 }
 
-/// The first bytes of `proc main\nend\n`, from none of them to all.
-const BEGINNINGS: [(&[u8], &str); 15] = [
-    (b"", "1:1: refusal 6: NoMain"),
-    (b"p", "1:1: refusal 4: Syntax"),
-    (b"pr", "1:1: refusal 4: Syntax"),
-    (b"pro", "1:1: refusal 4: Syntax"),
-    (b"proc", "1:5: refusal 4: Syntax"),
-    (b"proc ", "1:5: refusal 4: Syntax"),
-    (b"proc m", "1:7: refusal 5: Unclosed"),
-    (b"proc ma", "1:8: refusal 5: Unclosed"),
-    (b"proc mai", "1:9: refusal 5: Unclosed"),
-    (b"proc main", "1:10: refusal 5: Unclosed"),
-    (b"proc main\n", "2:1: refusal 5: Unclosed"),
-    (b"proc main\ne", "2:2: refusal 4: Syntax"),
-    (b"proc main\nen", "2:3: refusal 4: Syntax"),
-    (b"proc main\nend", "proc main\nend\n"),
-    (b"proc main\nend\n", "proc main\nend\n"),
-];
-
 #[test]
 fn refuses_every_beginning_of_the_smallest(rt: HostRuntime) -> Result<(), AllocError> {
-    check_answers(&rt, rt.alloc(), &BEGINNINGS)
+    check_answers(&rt, rt.alloc(), refused::BEGINNINGS)?;
+    let rows = [
+        (b"proc main\nend".as_slice(), smallest::TEXT),
+        (smallest::TEXT.as_bytes(), smallest::TEXT),
+    ];
+    check_answers(&rt, rt.alloc(), &rows)
 }
 
 /// What stands before a name of 65 bytes, the first of them, and behind it, and the answer.
@@ -352,16 +281,8 @@ fn counts_procedures_and_bytes(rt: HostRuntime) -> Result<(), AllocError> {
     check_lines(&rt, alloc, 1_048_563, "1:1: refusal 11: TextTooLong")
 }
 
-const LISTED: [(&[u8], &str); 7] = [
+const LISTED: &[(&[u8], &str)] = &[
     (FORMS, FORMS_LISTING),
-    (
-        b"proc main # start\nL:M: x=007\nend\n",
-        "proc main\nL:\nM:\n  x = 7\nend\n",
-    ),
-    (
-        SPACING,
-        "proc main\nL:\nM:\n  x = y + 7\n  z = -x\n  if x < 3 goto L\nend\n",
-    ),
     (
         b"proc main # \0 \r \xff\nend#\0\r\xff\n",
         "proc main\nend\n",
@@ -370,19 +291,12 @@ const LISTED: [(&[u8], &str); 7] = [
         b"proc main # \xc3\xa9\xff\x80\nx = 1 #\xe2\x82\xac\n#\xfe\nend\n",
         "proc main\n  x = 1\nend\n",
     ),
-    (
-        b"proc main\r\nx = 1\r\n\r\nend\r\n",
-        "proc main\n  x = 1\nend\n",
-    ),
-    (
-        b"proc main\nx = 9223372036854775807\nend\n",
-        "proc main\n  x = 9223372036854775807\nend\n",
-    ),
 ];
 
 #[test]
 fn lists(rt: HostRuntime) -> Result<(), AllocError> {
-    check_answers(&rt, rt.alloc(), &LISTED)
+    check_answers(&rt, rt.alloc(), LISTED)?;
+    check_answers(&rt, rt.alloc(), listed::LAYOUTS)
 }
 
 /// Whether the text is the listing of its own program.
@@ -406,7 +320,7 @@ fn lists_to_itself(alloc: Global, text: &[u8]) -> Result<bool, AllocError> {
 #[test]
 fn reads_its_own_listings(rt: HostRuntime) -> Result<(), AllocError> {
     let alloc = rt.alloc();
-    for text in [FORMS, RECURSION, SPACING] {
+    for text in [FORMS, recursion::TEXT.as_bytes(), SPACING] {
         for stop in 0..text.len() + 1 {
             assert!(rt;
                 lists_to_itself(alloc, &text[..stop.min(text.len())])?,

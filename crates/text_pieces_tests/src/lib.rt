@@ -1,0 +1,7 @@
+//! Tests of bytes on their way in pieces. They stand in a crate of their own, which is nothing else: a crate with tests is proved twice.
+#![tactic(auto)]
+
+#[cfg(test)]
+mod piece_tests;
+#[cfg(test)]
+mod refusal_tests;

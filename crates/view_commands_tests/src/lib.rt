@@ -1,0 +1,8 @@
+//! Tests of what `tacview` does with its words and its streams. They stand in a crate of their own, which is nothing else: a crate with
+//! tests is proved twice.
+#![tactic(auto)]
+
+#[cfg(test)]
+mod refusal_tests;
+#[cfg(test)]
+mod tacview_tests;

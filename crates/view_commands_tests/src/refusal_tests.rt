@@ -1,0 +1,51 @@
+// Runs of `tacview` where memory is refused, as `refusal_probes` has it.
+
+use crate::tacview_tests::{
+    Asked, F_GRAPH, GRAPH, GRAPH_OF_F, LINES, SMALL_GRAPH, SMALL_LINES, options, run_to_page,
+};
+use failing_streams::blank_page;
+use flow_runs::Fault;
+use refusal_probes::all_or_nothing;
+use std::process::Abort;
+use std::test::Fail;
+use std::thread::Threads;
+use view_commands::Options;
+use worked_programs::{TEAMS, recursion, small};
+
+// The answer to a text.
+fn check_view<R: Threads + Sync + Abort + AllocGlobal>(
+    rt: &R,
+    text: &str,
+    options: &Options,
+    answer: &str,
+) -> Result<(), Fail> {
+    let mut page = blank_page(rt.alloc());
+    page.taken = Vec::with_capacity(rt.alloc(), 2048)?;
+    let outcome = run_to_page(rt, text.as_bytes(), &mut page, options);
+    all_or_nothing!(
+        rt,
+        "run of tacview",
+        outcome,
+        Fault::OutOfMemory,
+        page.taken.as_slice(),
+        answer.as_bytes()
+    )
+}
+
+const VIEWS: &[(&str, Asked<'static>, &str)] = &[
+    (small::TEXT, GRAPH, SMALL_GRAPH),
+    (small::TEXT, LINES, SMALL_LINES),
+    (recursion::TEXT, GRAPH_OF_F, F_GRAPH),
+];
+
+#[test]
+fn run_is_refused(rt: HostRuntime) -> Result<(), Fail> {
+    for (text, asked, answer) in VIEWS {
+        for team in TEAMS {
+            if let Some(options) = options(rt.alloc(), *asked, *team) {
+                check_view(&rt, text, &options, answer)?;
+            }
+        }
+    }
+    Ok(())
+}

@@ -1,0 +1,471 @@
+// `tacview`'s values by hand: what small texts are told, what words name, and what faults of devices leave.
+
+use clap::error;
+use failing_streams::{Page, Pieces, blank_page};
+use flow_graph::GraphFault;
+use flow_runs::Fault;
+use flow_views::Chosen;
+use std::alloc::Global;
+use std::io::{ErrorKind, Read};
+use std::process::Abort;
+use std::test::Fail;
+use std::thread::Threads;
+use text_pieces::{FromRead, ToWrite};
+use view_commands::{Format, Options, line_of, run};
+use worked_programs::series::repeated;
+use worked_programs::{ALONE, TEAMS, recursion, small};
+
+const NONE: Chosen = Chosen {
+    reach: false,
+    live: false,
+    avail: false,
+    busy: false,
+};
+
+const ALL: Chosen = Chosen {
+    reach: true,
+    live: true,
+    avail: true,
+    busy: true,
+};
+
+const REACH: Chosen = Chosen {
+    reach: true,
+    live: false,
+    avail: false,
+    busy: false,
+};
+
+// What is asked of a program.
+#[derive(Clone, Copy)]
+pub(crate) struct Asked<'a> {
+    format: Format,
+    facts: Chosen,
+    procedure: Option<&'a str>,
+}
+
+pub(crate) const GRAPH: Asked<'static> = Asked {
+    format: Format::Dot,
+    facts: NONE,
+    procedure: None,
+};
+
+pub(crate) const LINES: Asked<'static> = Asked {
+    format: Format::Json,
+    facts: ALL,
+    procedure: None,
+};
+
+// None where memory is refused.
+pub(crate) fn options(alloc: Global, asked: Asked<'_>, team: (u32, u32)) -> Option<Options> {
+    let procedure = match asked.procedure {
+        Some(name) => Some(String::from_str(alloc, name).ok()?),
+        None => None,
+    };
+    Options::new(team.0, team.1, asked.format, asked.facts, procedure)
+}
+
+// What comes of a run from the reader to the page.
+pub(crate) fn run_to_page<R: Threads + Sync + AllocGlobal, D: Read + Drop>(
+    rt: &R,
+    reader: D,
+    page: &mut Page,
+    options: &Options,
+) -> Result<(), Fault> {
+    let mut source = FromRead::new(reader);
+    let mut sink = ToWrite::new(page);
+    run(rt, rt.alloc(), &mut source, &mut sink, options)
+}
+
+// The line of the fault, if there was one, and behind it what was written.
+fn line_and_text(
+    alloc: Global,
+    procedure: Option<&str>,
+    answered: Result<(), Fault>,
+    written: &[u8],
+) -> Result<Vec<u8>, Fail> {
+    let mut line = match answered {
+        Ok(()) => Vec::new(alloc),
+        Err(fault) => line_of(alloc, procedure, &fault)?,
+    };
+    line.extend_from_slice(written)?;
+    Ok(line)
+}
+
+// Both, by so many workers in slices of this width.
+fn told<R: Threads + Sync + AllocGlobal, D: Read + Drop>(
+    rt: &R,
+    reader: D,
+    page: &mut Page,
+    asked: Asked<'_>,
+    team: (u32, u32),
+) -> Result<Vec<u8>, Fail> {
+    let options = options(rt.alloc(), asked, team).ok_or("options")?;
+    let answered = run_to_page(rt, reader, &mut *page, &options);
+    line_and_text(rt.alloc(), asked.procedure, answered, &page.taken)
+}
+
+// What this team answered.
+fn check_team<R: Abort>(rt: &R, got: &[u8], wanted: &[u8], team: (u32, u32)) {
+    assert_eq!(rt; got, wanted, "{team:?}");
+}
+
+// The reader's text is answered so by this team, where a write takes so many bytes at most.
+fn check_by<R: Threads + Sync + Abort + AllocGlobal, D: Read + Drop>(
+    rt: &R,
+    reader: D,
+    piece: usize,
+    asked: Asked<'_>,
+    team: (u32, u32),
+    answer: &str,
+) -> Result<(), Fail> {
+    let mut page = blank_page(rt.alloc());
+    page.piece = piece;
+    let got = told(rt, reader, &mut page, asked, team)?;
+    check_team(rt, &got, answer.as_bytes(), team);
+    Ok(())
+}
+
+// The text is answered so, whole or byte by byte, and by each team.
+fn check<R: Threads + Sync + Abort + AllocGlobal>(
+    rt: &R,
+    text: &str,
+    asked: Asked<'_>,
+    answer: &str,
+) -> Result<(), Fail> {
+    for team in TEAMS {
+        check_by(rt, text.as_bytes(), usize::MAX, asked, *team, answer)?;
+    }
+    let slow = Pieces {
+        rest: text.as_bytes(),
+        piece: 1,
+        left: usize::MAX,
+        fault: ErrorKind::Other,
+    };
+    check_by(rt, slow, 1, asked, ALONE, answer)
+}
+
+pub(crate) const SMALL_GRAPH: &str =
+    "digraph \"tacflow\" {\n  graph [fontname=\"monospace\", labeljust=l];\n  node [shape=box, fontname=\"monospace\", fontsize=11];\n  edge [fontname=\"monospace\", fontsize=10];\n  subgraph \"cluster_0\" {\n    label=\"main\";\n    0 [label=\"2: x = 1\\lassignment to x is dead\\l\", style=filled, fillcolor=khaki];\n    1 [label=\"end of main\\l\"];\n  }\n  0 -> 1;\n}\n";
+
+pub(crate) const SMALL_LINES: &str =
+    "{\"type\":\"program\",\"points\":2,\"procedures\":[\"main\"],\"variables\":[\"x\"],\"definitions\":2,\"expressions\":0}\n{\"type\":\"point\",\"point\":0,\"procedure\":\"main\",\"place\":0,\"line\":2,\"first\":14,\"last\":18,\"statement\":\"x = 1\",\"edges\":[{\"kind\":\"step\",\"to\":1}],\"reach\":{\"path\":true,\"bits\":[0],\"names\":[\"x@entry\"]},\"live\":{\"path\":true,\"bits\":[],\"names\":[]},\"avail\":{\"path\":true,\"bits\":[],\"names\":[]},\"busy\":{\"path\":true,\"bits\":[],\"names\":[]}}\n{\"type\":\"point\",\"point\":1,\"procedure\":\"main\",\"place\":1,\"line\":null,\"first\":null,\"last\":null,\"statement\":null,\"edges\":[],\"reach\":{\"path\":true,\"bits\":[1],\"names\":[\"x@2\"]},\"live\":{\"path\":true,\"bits\":[],\"names\":[]},\"avail\":{\"path\":true,\"bits\":[],\"names\":[]},\"busy\":{\"path\":true,\"bits\":[],\"names\":[]}}\n{\"type\":\"remark\",\"point\":0,\"line\":2,\"first\":14,\"last\":18,\"kind\":\"dead\",\"variable\":\"x\"}\n";
+
+const RECURSION_GRAPH: &str =
+    "digraph \"tacflow\" {\n  graph [fontname=\"monospace\", labeljust=l];\n  node [shape=box, fontname=\"monospace\", fontsize=11];\n  edge [fontname=\"monospace\", fontsize=10];\n  subgraph \"cluster_0\" {\n    label=\"main\";\n    0 [label=\"2: x = 1\\l\"];\n    1 [label=\"3: call f\\l\"];\n    2 [label=\"4: print x\\l\"];\n    3 [label=\"end of main\\l\"];\n  }\n  subgraph \"cluster_1\" {\n    label=\"f\";\n    4 [label=\"7: if x goto L\\l\"];\n    5 [label=\"8: call f\\l\"];\n    6 [label=\"9: x = 2\\l\"];\n    7 [label=\"end of f\\l\"];\n  }\n  0 -> 1;\n  1 -> 4 [style=dashed, label=\"call 3\"];\n  2 -> 3;\n  4 -> 5;\n  4 -> 7;\n  5 -> 4 [style=dashed, label=\"call 8\"];\n  6 -> 7;\n  7 -> 2 [style=dashed, label=\"return 3\"];\n  7 -> 6 [style=dashed, label=\"return 8\"];\n}\n";
+
+pub(crate) const F_GRAPH: &str =
+    "digraph \"tacflow\" {\n  graph [fontname=\"monospace\", labeljust=l];\n  node [shape=box, fontname=\"monospace\", fontsize=11];\n  edge [fontname=\"monospace\", fontsize=10];\n  subgraph \"cluster_1\" {\n    label=\"f\";\n    4 [label=\"7: if x goto L\\lreach: x@2\\l\"];\n    5 [label=\"8: call f\\lreach: x@2\\l\"];\n    6 [label=\"9: x = 2\\lreach: x@2, x@9\\l\"];\n    7 [label=\"end of f\\lreach: x@2, x@9\\l\"];\n  }\n  4 -> 5;\n  4 -> 7;\n  5 -> 4 [style=dashed, label=\"call 8\"];\n  5 -> 6 [style=dashed, label=\"call\"];\n  6 -> 7;\n  7 -> 6 [style=dashed, label=\"return 8\"];\n}\n";
+
+const F_LINES: &str =
+    "{\"type\":\"program\",\"points\":8,\"procedures\":[\"main\",\"f\"],\"variables\":[\"x\"],\"definitions\":3,\"expressions\":0}\n{\"type\":\"point\",\"point\":4,\"procedure\":\"f\",\"place\":0,\"line\":7,\"first\":43,\"last\":53,\"statement\":\"if x goto L\",\"edges\":[{\"kind\":\"step\",\"to\":5},{\"kind\":\"step\",\"to\":7}]}\n{\"type\":\"point\",\"point\":5,\"procedure\":\"f\",\"place\":1,\"line\":8,\"first\":55,\"last\":60,\"statement\":\"call f\",\"edges\":[{\"kind\":\"call\",\"site\":5,\"to\":4}]}\n{\"type\":\"point\",\"point\":6,\"procedure\":\"f\",\"place\":2,\"line\":9,\"first\":62,\"last\":66,\"statement\":\"x = 2\",\"edges\":[{\"kind\":\"step\",\"to\":7}]}\n{\"type\":\"point\",\"point\":7,\"procedure\":\"f\",\"place\":3,\"line\":null,\"first\":null,\"last\":null,\"statement\":null,\"edges\":[{\"kind\":\"return\",\"site\":1,\"to\":2},{\"kind\":\"return\",\"site\":5,\"to\":6}]}\n";
+
+// Each text is answered so.
+fn check_all<R: Threads + Sync + Abort + AllocGlobal>(
+    rt: &R,
+    cases: &[(&str, Asked<'_>, &str)],
+) -> Result<(), Fail> {
+    for (text, asked, answer) in cases {
+        check(rt, text, *asked, answer)?;
+    }
+    Ok(())
+}
+
+const WHOLE_PROGRAMS: &[(&str, Asked<'static>, &str)] = &[
+    (small::TEXT, GRAPH, SMALL_GRAPH),
+    (small::TEXT, LINES, SMALL_LINES),
+    (recursion::TEXT, GRAPH, RECURSION_GRAPH),
+];
+
+#[test]
+fn whole_programs(rt: HostRuntime) -> Result<(), Fail> {
+    check_all(&rt, WHOLE_PROGRAMS)
+}
+
+// What is asked of `f` or of `main` alone.
+pub(crate) const GRAPH_OF_F: Asked<'static> = Asked {
+    format: Format::Dot,
+    facts: REACH,
+    procedure: Some("f"),
+};
+
+const LINES_OF_F: Asked<'static> = Asked {
+    format: Format::Json,
+    facts: NONE,
+    procedure: Some("f"),
+};
+
+const GRAPH_OF_MAIN: Asked<'static> = Asked {
+    format: Format::Dot,
+    facts: NONE,
+    procedure: Some("main"),
+};
+
+const ONE_PROCEDURE: &[(&str, Asked<'static>, &str)] = &[
+    (recursion::TEXT, GRAPH_OF_F, F_GRAPH),
+    (recursion::TEXT, LINES_OF_F, F_LINES),
+    (small::TEXT, GRAPH_OF_MAIN, SMALL_GRAPH),
+];
+
+#[test]
+fn one_procedure(rt: HostRuntime) -> Result<(), Fail> {
+    check_all(&rt, ONE_PROCEDURE)
+}
+
+// Names that no procedure has, and the line that says so.
+const NO_PROCEDURES: &[(&str, &str)] = &[
+    ("g", "tacview: the program has no procedure g\n"),
+    ("", "tacview: the program has no procedure \n"),
+    ("F", "tacview: the program has no procedure F\n"),
+    ("ff", "tacview: the program has no procedure ff\n"),
+    (
+        "f\n\\\u{e9}",
+        "tacview: the program has no procedure f\\x0a\\x5c\\xc3\\xa9\n",
+    ),
+];
+
+#[test]
+fn procedures_that_are_not_there(rt: HostRuntime) -> Result<(), Fail> {
+    for (name, line) in NO_PROCEDURES {
+        for format in &[Format::Dot, Format::Json] {
+            let asked = Asked {
+                format: *format,
+                facts: NONE,
+                procedure: Some(name),
+            };
+            check(&rt, recursion::TEXT, asked, line)?;
+        }
+    }
+    Ok(())
+}
+
+const REFUSED_TEXTS: &[(&str, Asked<'static>, &str)] = &[
+    ("", GRAPH, "tacview: 1:1: refusal 6: NoMain\n"),
+    ("", LINES, "tacview: 1:1: refusal 6: NoMain\n"),
+    (
+        "proc main\nx =\nend\n",
+        GRAPH,
+        "tacview: 2:4: refusal 4: Syntax\n",
+    ),
+    (
+        "proc main\nx =\nend\n",
+        LINES,
+        "tacview: 2:4: refusal 4: Syntax\n",
+    ),
+    (
+        "proc main\ncall z\nend\n",
+        GRAPH,
+        "tacview: 2:6: refusal 10: UnknownProcedure\n",
+    ),
+    (
+        "proc main\ncall z\nend\n",
+        LINES,
+        "tacview: 2:6: refusal 10: UnknownProcedure\n",
+    ),
+];
+
+#[test]
+fn refused_texts(rt: HostRuntime) -> Result<(), Fail> {
+    check_all(&rt, REFUSED_TEXTS)
+}
+
+#[test]
+fn programs_over_the_limits(rt: HostRuntime) -> Result<(), Fail> {
+    let text = repeated(rt.alloc(), "proc main\n", "skip\n", 16_384, "end\n")?;
+    let line = "tacview: refusal 21: TooManyPoints\n";
+    check_by(&rt, text.as_bytes(), usize::MAX, GRAPH, ALONE, line)?;
+    check_by(&rt, text.as_bytes(), usize::MAX, LINES, ALONE, line)
+}
+
+#[test]
+fn faults_of_readers(rt: HostRuntime) -> Result<(), Fail> {
+    for asked in &[GRAPH, LINES] {
+        for left in 0..small::TEXT.len() {
+            let reader = Pieces {
+                rest: small::TEXT.as_bytes(),
+                piece: usize::MAX,
+                left,
+                fault: ErrorKind::Other,
+            };
+            check_by(
+                &rt,
+                reader,
+                usize::MAX,
+                *asked,
+                ALONE,
+                "tacview: read fault\n",
+            )?;
+        }
+    }
+    Ok(())
+}
+
+// The writer takes so many bytes of the answer to the small text, and then fails.
+fn check_writer<R: Threads + Sync + Abort + AllocGlobal>(
+    rt: &R,
+    asked: Asked<'_>,
+    answer: &str,
+    left: usize,
+) -> Result<(), Fail> {
+    let beginning = answer.as_bytes().get(..left).ok_or("a beginning")?;
+    let mut page = blank_page(rt.alloc());
+    page.left = left;
+    page.fault = Some(ErrorKind::Other);
+    let got = told(rt, small::TEXT.as_bytes(), &mut page, asked, ALONE)?;
+    assert_eq!(rt; page.taken.as_slice(), beginning);
+    assert!(rt; got.as_slice().starts_with(b"tacview: write fault\n"));
+    Ok(())
+}
+
+#[test]
+fn faults_of_writers(rt: HostRuntime) -> Result<(), Fail> {
+    for left in &[0, 1, 100, SMALL_GRAPH.len() - 1] {
+        check_writer(&rt, GRAPH, SMALL_GRAPH, *left)?;
+    }
+    for left in &[0, 1, 100, SMALL_LINES.len() - 1] {
+        check_writer(&rt, LINES, SMALL_LINES, *left)?;
+    }
+    Ok(())
+}
+
+const FAULTS: &[(Option<&str>, Fault, &str)] = &[
+    (
+        None,
+        Fault::Graph(GraphFault::TooManyBits),
+        "tacview: refusal 22: TooManyBits\n",
+    ),
+    (Some("f"), Fault::OutOfMemory, "tacview: out of memory\n"),
+    (Some("f"), Fault::Read, "tacview: read fault\n"),
+    (None, Fault::Write, "tacview: write fault\n"),
+    (None, Fault::NoProcedure, "tacview: no such procedure\n"),
+    (
+        Some(" ~\u{7f}\t"),
+        Fault::NoProcedure,
+        "tacview: the program has no procedure  ~\\x7f\\x09\n",
+    ),
+];
+
+#[test]
+fn lines_of_faults(rt: HostRuntime) -> Result<(), Fail> {
+    for (name, fault, wanted) in FAULTS {
+        let line = line_of(rt.alloc(), *name, fault)?;
+        assert_eq!(rt; line.as_slice(), wanted.as_bytes());
+    }
+    Ok(())
+}
+
+// Numbers of workers and widths of slices that are taken, and others that are not.
+const IN_RANGE: &[(u32, u32)] = &[(1, 1), (64, 4096), (1, 4096), (64, 1)];
+
+const OUT_OF_RANGE: &[(u32, u32)] = &[(0, 64), (65, 64), (1, 0), (1, 4097), (u32::MAX, 64)];
+
+#[test]
+fn ranges_of_options(rt: HostRuntime) {
+    for (workers, cut) in IN_RANGE {
+        assert!(rt; Options::new(*workers, *cut, Format::Dot, NONE, None).is_some());
+    }
+    for (workers, cut) in OUT_OF_RANGE {
+        assert!(rt; Options::new(*workers, *cut, Format::Dot, NONE, None).is_none());
+    }
+}
+
+// The workers, the width, the format and the facts that the words name, or the kind of the error.
+fn named_by(alloc: Global, words: &[&str]) -> Result<(u32, u32, Format, Chosen), error::ErrorKind> {
+    match Options::from_words(alloc, words) {
+        Ok(options) => Ok((options.workers, options.cut, options.format, options.facts)),
+        Err(error) => Err(error.kind()),
+    }
+}
+
+// The procedure that the words name, or the kind of the error.
+fn procedure_by(alloc: Global, words: &[&str]) -> Result<Option<String>, error::ErrorKind> {
+    match Options::from_words(alloc, words) {
+        Ok(options) => Ok(options.procedure),
+        Err(error) => Err(error.kind()),
+    }
+}
+
+const ALL_WORDS: &[&str] = &[
+    "tacview",
+    "--workers=64",
+    "--cut",
+    "4096",
+    "--format=dot",
+    "--procedure",
+    "f",
+    "--facts=all",
+];
+
+#[test]
+fn words_that_are_taken(rt: HostRuntime) -> Result<(), Fail> {
+    let (workers, cut, format, facts) = named_by(rt.alloc(), &["tacview"])?;
+    assert!(rt; workers == 1 && cut == 64 && format == Format::Dot && facts == NONE);
+    let (_, _, format, facts) = named_by(rt.alloc(), &["tacview", "--format", "json"])?;
+    assert!(rt; facts == ALL && format == Format::Json);
+    let (workers, cut, _, facts) = named_by(rt.alloc(), ALL_WORDS)?;
+    assert!(rt; workers == 64 && cut == 4096 && facts == ALL);
+    assert!(rt; procedure_by(rt.alloc(), &["tacview"])?.is_none());
+    let name = procedure_by(rt.alloc(), ALL_WORDS)?.ok_or("a name")?;
+    assert_eq!(rt; name.as_str(), "f");
+    Ok(())
+}
+
+// Lists of analyses, and whose facts each names.
+const LISTS: &[(&str, Chosen)] = &[
+    ("none", NONE),
+    ("all", ALL),
+    ("reach", REACH),
+    (
+        "live,reach",
+        Chosen {
+            reach: true,
+            live: true,
+            avail: false,
+            busy: false,
+        },
+    ),
+    (
+        "busy,busy",
+        Chosen {
+            reach: false,
+            live: false,
+            avail: false,
+            busy: true,
+        },
+    ),
+    ("avail,busy,live,reach", ALL),
+];
+
+#[test]
+fn lists_of_facts(rt: HostRuntime) -> Result<(), Fail> {
+    for (list, wanted) in LISTS {
+        let (_, _, _, facts) = named_by(rt.alloc(), &["tacview", "--facts", list])?;
+        assert!(rt; facts == *wanted);
+    }
+    Ok(())
+}
+
+const REFUSED_WORDS: &[[&str; 3]] = &[
+    ["tacview", "--workers", "0"],
+    ["tacview", "--cut", "4097"],
+    ["tacview", "--format", "svg"],
+    ["tacview", "--format", "Dot"],
+    ["tacview", "--facts", ""],
+    ["tacview", "--facts", "reach,"],
+    ["tacview", "--facts", "reach live"],
+    ["tacview", "--facts", "Reach"],
+    ["tacview", "--facts", "none,reach"],
+    ["tacview", "--facts", "all,reach"],
+    ["tacview", "--facts=reach", "--facts=live"],
+    ["tacview", "--facts=reach", "--procedure"],
+    ["tacview", "--procedure=f", "--procedure=f"],
+    ["tacview", "--procedure=f", "program.tac"],
+];
+
+#[test]
+fn words_that_are_refused(rt: HostRuntime) -> Result<(), Fail> {
+    for words in REFUSED_WORDS {
+        assert!(rt; named_by(rt.alloc(), words.as_slice()).is_err());
+    }
+    Ok(())
+}
