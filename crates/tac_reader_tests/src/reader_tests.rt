@@ -1,5 +1,5 @@
 ghost use Rattle.std.specs.Prelude.{◌≡◌};
-ghost use Rattle.tac_reader.specs.Programs.{program_of};
+ghost use Rattle.tac_reader.specs.Parses.{program_of};
 
 use std::alloc::{AllocError, Global};
 use std::process::Abort;
