@@ -1,7 +1,7 @@
 // What the program is asked to do.
 
 ghost use Rattle.std.specs.Prelude.{◌≡◌, ◌≤◌, ◌↔◌, IsSome, IfSome};
-ghost use Rattle.flow_texts.specs.Ranges.{AreInRange};
+ghost use Rattle.flow_team.specs.Ranges.{AreInRange};
 
 use flow_runs::are_in_range;
 

@@ -1,7 +1,7 @@
 // The ranges of the numbers that both programs take.
 
 ghost use Rattle.std.specs.Prelude.{MatchBool};
-ghost use Rattle.flow_texts.specs.Ranges.{AreInRange};
+ghost use Rattle.flow_team.specs.Ranges.{AreInRange};
 
 /// Whether these are 1 to 64 workers, and slices of 1 to 4,096 bits.
 pub fn are_in_range(workers: u32, cut: u32) -> bool

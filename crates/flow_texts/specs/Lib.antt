@@ -1,4 +1,3 @@
-pub mod Ranges
 pub mod Tables
 pub mod Reports
 pub mod code

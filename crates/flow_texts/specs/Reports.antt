@@ -10,18 +10,10 @@ use Rattle.flow_graph.specs.declared.analysis.Analysis.TheVariants.{Reach, Live,
 use Rattle.tac_program.specs.Programs.{Program}
 use Rattle.tac_program.specs.declared.program.StmtKind.{StmtKind}
 use Rattle.tac_program.specs.declared.program.StmtKind.TheVariants as kind
-use Rattle.flow_team.specs.Tables.{Facts, AreFacts, IsTableOf}
+use Rattle.flow_team.specs.Tables.{Facts, AreFacts}
 use Rattle.flow_texts.specs.Tables.{bit_text, bits_at, line_at, variable_text}
 use Rattle.flow_texts.specs.declared.remark.Remark.{Remark}
 use Rattle.flow_texts.specs.declared.remark.Remark.TheVariants.{NeverReached, Unset, Computed, VeryBusy, Dead}
-use Rattle.flow_texts.specs.declared.tables.Tables.{Tables}
-
--- each is this program's table of its analysis
-pub record AreTablesOf (program : Program) (tables : Tables) : Type 0 where
-  pub reach : (tables.reach.analysis ≡ Reach) × IsTableOf program tables.reach
-  pub live : (tables.live.analysis ≡ Live) × IsTableOf program tables.live
-  pub avail : (tables.avail.analysis ≡ Avail) × IsTableOf program tables.avail
-  pub busy : (tables.busy.analysis ≡ Busy) × IsTableOf program tables.busy
 
 -- what is known of a program: the facts of the four analyses, and which points are doubtful
 pub record Knowledge : Type 0 where

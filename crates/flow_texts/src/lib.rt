@@ -13,7 +13,6 @@ mod report_answers;
 mod report_asks;
 mod reports;
 mod table_texts;
-mod tables;
 
 pub use bit_texts::{line, texts_of_bits, write_number};
 pub use findings::Findings;
@@ -25,4 +24,4 @@ pub use report_answers::ReportAnswers;
 pub use reports::{ReportText, report, report_here};
 pub use std::alloc::AllocError as OutOfMemory;
 pub use table_texts::{TableText, table_text};
-pub use tables::{Tables, table_of};
+pub use flow_team::{Tables, table_of};

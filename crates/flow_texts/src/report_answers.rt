@@ -2,15 +2,14 @@
 
 ghost use Rattle.std.specs.Prelude.{◌≡◌, ◌<◌, Some, length, slice_get, slice_index, IfOk};
 ghost use Rattle.flow_team.specs.Asks.{flags_of};
-ghost use Rattle.flow_texts.specs.Ranges.{AreInRange};
-ghost use Rattle.flow_texts.specs.Reports.{AreTablesOf};
+ghost use Rattle.flow_team.specs.Ranges.{AreInRange};
+ghost use Rattle.flow_team.specs.AllTables.{AreTablesOf};
 ghost use Rattle.flow_texts.specs.code.Reported.{TellReport};
 ghost use Rattle.flow_texts.specs.code.Told.{facts_in};
 
 use crate::report_asks::{PointAsks, report_asks};
-use crate::tables::Tables;
 use flow_graph::{Analysis, Graph, OutOfMemory};
-use flow_team::{Answers, OpenGate, answer, answer_here};
+use flow_team::{Answers, OpenGate, Tables, answer, answer_here};
 use std::alloc::{AllocError, Global};
 use std::marker::Model;
 use std::thread::Threads;

@@ -4,7 +4,8 @@ ghost use Rattle.std.specs.Prelude.{◌≡◌, ◌+◌, ◌<◌, ◌≤◌, ◌+
 ghost use Rattle.flow_graph.specs.Points.{point_count};
 ghost use Rattle.flow_texts.specs.code.Findings.{AreFindings, knowledge_of, line_behind, words_before, words_behind};
 ghost use Rattle.text_pieces.specs.Pieces.{IsOpen, Takes, outlet};
-ghost use Rattle.flow_texts.specs.Reports.{AreTablesOf, IsReport, ListsSafely, count_line, lines_at, report_of};
+ghost use Rattle.flow_team.specs.AllTables.{AreTablesOf};
+ghost use Rattle.flow_texts.specs.Reports.{IsReport, ListsSafely, count_line, lines_at, report_of};
 ghost use Rattle.flow_texts.specs.code.Reported.{TellReport};
 ghost use Rattle.flow_texts.specs.Tables.{line_at};
 
@@ -14,8 +15,8 @@ use crate::remark::Remark;
 use crate::remark_form::RemarkForm;
 use crate::remarks::words_before_name;
 use crate::report_answers::ReportAnswers;
-use crate::tables::Tables;
 use flow_graph::{Analysis, Graph, OutOfMemory};
+use flow_team::Tables;
 use itoa::Buffer;
 use std::alloc::Global;
 use std::marker::Model;

@@ -20,7 +20,8 @@ use Rattle.bit_rows.specs.RowSet.{contains}
 use Rattle.bit_rows.specs.RowTable.{set_at}
 use Rattle.flow_team.specs.Tables.{Facts, TableFacts}
 use Rattle.flow_graph.proofs.edges.EdgeLemmas.{IsFrom, a_step, a_call, a_return, edges_from_are, in_procedure}
-use Rattle.flow_texts.specs.Reports.{AreTablesOf, Knowledge, assigned, dead_at, unset_at}
+use Rattle.flow_team.specs.AllTables.{AreTablesOf}
+use Rattle.flow_texts.specs.Reports.{Knowledge, assigned, dead_at, unset_at}
 use Rattle.flow_texts.specs.Tables.{bits_at}
 use Rattle.flow_texts.specs.code.Findings.{AreFindings, TellDoubtful}
 use Rattle.text_pieces.specs.code.Lists.{some_stand}

@@ -6,7 +6,7 @@ ghost use Rattle.flow_graph.specs.Points.{place_of, point_count, procedure_at, s
 ghost use Rattle.flow_texts.specs.code.Findings.{AreFindings, IsRemarkIn};
 ghost use Rattle.text_pieces.specs.code.Lists.{text_at};
 ghost use Rattle.text_pieces.specs.Pieces.{IsOpen, Takes, outlet};
-ghost use Rattle.flow_texts.specs.Reports.{AreTablesOf};
+ghost use Rattle.flow_team.specs.AllTables.{AreTablesOf};
 ghost use Rattle.flow_texts.specs.code.Reported.{TellReport};
 ghost use Rattle.tac_program.specs.Listings.{statement_text};
 ghost use Rattle.flow_views.specs.code.Shown.{AreShown, known_of, numbers_of};

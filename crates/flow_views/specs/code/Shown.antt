@@ -6,7 +6,8 @@ use Rattle.flow_graph.specs.Edges.{edges_from}
 use Rattle.flow_graph.specs.Points.{point_count, points}
 use Rattle.flow_graph.specs.declared.edge.Edge.{Edge}
 use Rattle.flow_graph.specs.declared.edge.Edge.TheVariants.{Step, Call, Ret}
-use Rattle.flow_texts.specs.Reports.{AreTablesOf, Knowledge}
+use Rattle.flow_team.specs.AllTables.{AreTablesOf}
+use Rattle.flow_texts.specs.Reports.{Knowledge}
 use Rattle.flow_texts.specs.code.Findings.{AreFindings, TellDoubtful}
 use Rattle.tac_program.specs.Programs.{Program}
 use Rattle.flow_views.specs.code.Names.{AreNames}

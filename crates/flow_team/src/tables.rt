@@ -1,11 +1,14 @@
 ghost use Rattle.std.specs.Prelude.{◌≡◌, IfOk};
 ghost use Rattle.flow_team.specs.Tables.{IsTableOf};
-ghost use Rattle.flow_texts.specs.Ranges.{AreInRange};
-ghost use Rattle.flow_texts.specs.Reports.{AreTablesOf};
+ghost use Rattle.flow_team.specs.Ranges.{AreInRange};
+ghost use Rattle.flow_team.specs.AllTables.{AreTablesOf};
 
+use crate::OutOfMemory;
+use crate::gate::OpenGate;
+use crate::table::Table;
+use crate::team::analyse;
 use bit_rows::Cut;
-use flow_graph::{Analysis, Graph, OutOfMemory};
-use flow_team::{OpenGate, Table, analyse};
+use flow_graph::{Analysis, Graph};
 use std::alloc::{AllocError, Global};
 use std::thread::Threads;
 
