@@ -20,4 +20,8 @@ IsShown show.Busy program out = IsTableText program Busy out
 -- all but a listing needs the program's graph
 abbrev pub needs_graph : Show → Bool
 needs_graph show.List = false
-needs_graph _ = true
+needs_graph show.Report = true
+needs_graph show.Reach = true
+needs_graph show.Live = true
+needs_graph show.Avail = true
+needs_graph show.Busy = true
