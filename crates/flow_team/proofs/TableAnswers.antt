@@ -15,19 +15,19 @@ use Rattle.flow_graph.specs.declared.analysis.Analysis.{Analysis}
 use Rattle.flow_graph.specs.declared.analysis.Analysis.TheVariants.{Reach, Live, Avail, Busy}
 use Rattle.tac_program.specs.Programs.{Program}
 use Rattle.flow_team.specs.Asks.{AreAnswers, IsAnswerTo, IsAskOf}
-use Rattle.flow_team.specs.Tables.{AreFacts, IsTableOf, TableFacts}
+use Rattle.flow_team.specs.Tables.{AreFacts, IsTableOf, TableFacts, facts_of}
 use Rattle.flow_team.specs.declared.ask.Ask.{Ask}
 
 -- a word of a table's set is the answer to its ask
 pub table_answers : (program : Program) (table : TableFacts) (ask : Ask) (value : ℕ) → table.analysis ≡ ask.analysis → IsTableOf program table → IsAskOf program ask
-    → ((k : ℕ) → k < 64 → has_bit value k ≡ table.facts.contains ask.point (64 * ask.word + k)) → ((k : ℕ) → k < 64 → table.bits ≤ 64 * ask.word + k → has_bit value k ≡ false)
+    → ((k : ℕ) → k < 64 → has_bit value k ≡ (facts_of table).contains ask.point (64 * ask.word + k)) → ((k : ℕ) → k < 64 → table.bits ≤ 64 * ask.word + k → has_bit value k ≡ false)
     → IsAnswerTo program ask value
 table_answers program table ask value same is of set past k small =
     let b = 64 * ask.word + k in
-    let facts : AreFacts program ask.analysis table.facts = subst (λ (a : Analysis). AreFacts program a table.facts) same is.facts in
+    let facts : AreFacts program ask.analysis (facts_of table) = subst (λ (a : Analysis). AreFacts program a (facts_of table)) same is.facts in
     elim (cases_lt b (bits program ask.analysis)) [
       | inl below ↦
-          let told : (table.facts.contains ask.point b ≡ true) ↔ IsInTable program ask.analysis ask.point b = facts.sets ask.point b of.point below in (
+          let told : ((facts_of table).contains ask.point b ≡ true) ↔ IsInTable program ask.analysis ask.point b = facts.sets ask.point b of.point below in (
             (λ has. (below, told.0 (sym (set k small) ∙ has))),
             (λ there. set k small ∙ told.1 there.1),
           )
@@ -40,11 +40,11 @@ table_answers program table ask value same is of set past k small =
 
 -- and its flags are the path flags of its direction
 pub table_flags : (program : Program) (table : TableFacts) (analysis : Analysis) (flags : List Bool) → table.analysis ≡ analysis → IsTableOf program table
-    → flags ≡ map table.facts.has_path (range_with_len 0 (point_count program))
+    → flags ≡ map (facts_of table).has_path (range_with_len 0 (point_count program))
     → (length flags ≡ point_count program) × ((point : ℕ) → point < point_count program → (slice_index_or flags point false ≡ true) ↔ HasPathAt program analysis point)
 table_flags program table analysis flags same is flags_are =
-    let facts : AreFacts program analysis table.facts = subst (λ (a : Analysis). AreFacts program a table.facts) same is.facts in
-    let has = table.facts.has_path in (
+    let facts : AreFacts program analysis (facts_of table) = subst (λ (a : Analysis). AreFacts program a (facts_of table)) same is.facts in
+    let has = (facts_of table).has_path in (
       subst (λ (fs : List Bool). length fs ≡ point_count program) (sym flags_are) (length-map-range_with_len has 0 (point_count program)),
       λ point below. subst (λ (fs : List Bool). (slice_index_or fs point false ≡ true) ↔ HasPathAt program analysis point) (sym flags_are)
           (subst (λ (b : Bool). (b ≡ true) ↔ HasPathAt program analysis point) (sym (get_or-map-range_with_len has 0 (point_count program) point point false below (omega arith))) (facts.paths point below)),

@@ -1,9 +1,12 @@
 -- Words and sets that are turned, and what the solution of a may form says of a table.
-use Rattle.std.proofs.Common.{◌≡◌, ◌↔◌, ℕ, ◌+◌, ◌*◌, ◌<◌, ◌≤◌, Bool, true, false, not, ◌&&◌, nat_lt, length, inl, inr, refl, sym, ap, ap₂, subst, ◌∙◌, arith}
+use Rattle.std.proofs.Common.{◌≡◌, ◌↔◌, ℕ, ◌+◌, ◌*◌, ◌<◌, ◌≤◌, Bool, true, false, not, ◌&&◌, nat_lt, List, [], length, slice_index_or, inl, inr, refl, sym, ap, ap₂, subst, ◌∙◌, arith}
 use Rattle.std.specs.Prelude.{bit_xor}
 use Rattle.std.proofs.lemmas.Bool.{cases_lt, lt-ltb, le-ltb}
-use Rattle.std.proofs.lemmas.List.FromFn.{get_or-map-range_with_len}
-use Rattle.bit_rows.specs.RowSet.{RowSet, IsWordOf, contains, empty_set}
+use Rattle.std.proofs.lemmas.List.{get_or-map}
+use Rattle.std.proofs.lemmas.List.FromFn.{get_or-map-range_with_len, length-map-range_with_len}
+use Rattle.std.proofs.Math.Dec.{leb-zero}
+use Rattle.std.proofs.Math.Nat.{sub-zero}
+use Rattle.bit_rows.specs.RowSet.{RowSet, IsWordOf, contains, empty_set, set_of}
 use Rattle.bit_rows.specs.RowTable.{RowTable, set_at}
 use Rattle.bit_rows.specs.Words.{has_bit}
 use Rattle.bit_rows.proofs.RowSets.{contains-set_of, contains-above, hi_of-set_of}
@@ -16,7 +19,7 @@ use Rattle.flow_graph.proofs.graphs.MayForms.{flags_are_may_forms, may_tables_ar
 use Rattle.gk_solve.specs.Solved.{IsMeetOverPaths}
 use Rattle.tac_program.specs.Programs.{Program}
 use Rattle.flow_team.specs.Tables.{IsTableOf}
-use Rattle.flow_team.specs.code.Turned.{table_facts, turned, turned_set, turned_table}
+use Rattle.flow_team.specs.code.Turned.{members_of, table_facts, turned, turned_set, turned_table}
 use Rattle.flow_team.proofs.Turns.{has_bit-xor}
 
 and_true : (b : Bool) → (b && true) ≡ b
@@ -38,6 +41,20 @@ module _ (turns : Bool) (rows : RowTable) (point : ℕ) (there : point < length 
   pub contains-turned : (bit : ℕ) → bit < rows.hi → contains (set_at (turned_table turns rows) point) bit ≡ turned turns (contains (set_at rows point) bit)
   contains-turned bit below =
       ap (λ (s : RowSet). contains s bit) set_at-turned ∙ contains-set_of 0 rows.hi (λ b. turned turns (contains (set_at rows point) b)) bit (omega arith) below
+
+  -- the first member is that of bit 0
+  from_first : (bit : ℕ) → contains (turned_set turns rows point) bit ≡ slice_index_or (turned_set turns rows point).members bit false
+  unfolding contains set_of
+  from_first bit = λ i. leb-zero bit i && slice_index_or (turned_set turns rows point).members (sub-zero bit i) false
+
+  -- what its table says of a bit is whether the point's set has it
+  pub told_contains : (bit : ℕ) → slice_index_or (slice_index_or (members_of (turned_table turns rows)) point []) bit false ≡ contains (set_at (turned_table turns rows) point) bit
+  told_contains bit =
+      let size : length (turned_table turns rows).sets ≡ length rows.flags = length-map-range_with_len (turned_set turns rows) 0 (length rows.flags) in
+      ap (λ ms. slice_index_or ms bit false) (get_or-map (λ (s : RowSet). s.members) (turned_table turns rows).sets point (empty_set 0 rows.hi) [] (omega (arith, there, size)))
+      ∙ ap (λ (s : RowSet). slice_index_or s.members bit false) set_at-turned
+      ∙ sym (from_first bit)
+      ∙ ap (λ (s : RowSet). contains s bit) (sym set_at-turned)
 
   -- nothing is past the last bit
   pub none_past : (bit : ℕ) → rows.hi ≤ bit → contains (set_at (turned_table turns rows) point) bit ≡ false
@@ -89,7 +106,8 @@ turned_is_table program analysis rows meet = record {
         ((λ is. law.1 (told.0 is)), (λ path. told.1 (law.0 path)));
     sets = λ point bit there below.
         subst (λ (b : Bool). (b ≡ true) ↔ IsInTable program analysis point bit)
-        (sym (contains-turned (is_must analysis) rows point (omega (arith, there, meet.count)) bit (omega (arith, below, meet.same_hi))))
+        (sym (told_contains (is_must analysis) rows point (omega (arith, there, meet.count)) bit
+        ∙ contains-turned (is_must analysis) rows point (omega (arith, there, meet.count)) bit (omega (arith, below, meet.same_hi))))
         (turned_bit program analysis point bit (contains (set_at rows point) bit) (meet.bit point bit there (omega arith) below) (is_must analysis) refl);
   };
 }

@@ -1,5 +1,5 @@
 -- The table of an analysis: at each point exactly the meet over its valid paths.
-use Rattle.std.specs.Prelude.{◌≡◌, ◌↔◌, ℕ, ◌<◌, Bool, true}
+use Rattle.std.specs.Prelude.{◌≡◌, ◌↔◌, ℕ, ◌<◌, Bool, true, false, List, [], length, slice_index_or}
 use Rattle.flow_graph.specs.Analyses.{HasPathAt, IsInTable}
 use Rattle.flow_graph.specs.Points.{point_count}
 use Rattle.flow_graph.specs.Universes.{bits as bits_of}
@@ -17,15 +17,22 @@ pub record AreFacts (program : Program) (analysis : Analysis) (facts : Facts) : 
   pub sets : (point bit : ℕ) → point < point_count program → bit < bits_of program analysis
       → (facts.contains point bit ≡ true) ↔ IsInTable program analysis point bit
 
--- A table: its analysis, how many points and how many bits it has, and what it says of them.
+-- A table: its analysis, how many bits it has, for each point whether it has a path, and for each point and bit whether the bit is in its set.
 pub record TableFacts : Type 0 where
   pub analysis : Analysis
-  pub points : ℕ
   pub bits : ℕ
-  pub facts : Facts
+  pub paths : List Bool
+  pub sets : List (List Bool)
 
--- The table is of this program: of each point and bit, it says the facts of its analysis.
+-- what a table says
+abbrev pub facts_of : TableFacts → Facts
+facts_of table = record {
+  has_path = λ point. slice_index_or table.paths point false;
+  contains = λ point bit. slice_index_or (slice_index_or table.sets point []) bit false;
+}
+
+-- The table is of this program: of all its points and of all bits, it says the facts of its analysis.
 pub record IsTableOf (program : Program) (table : TableFacts) : Type 0 where
-  pub points : table.points ≡ point_count program
+  pub points : length table.paths ≡ point_count program
   pub bits : table.bits ≡ bits_of program table.analysis
-  pub facts : AreFacts program table.analysis table.facts
+  pub facts : AreFacts program table.analysis (facts_of table)

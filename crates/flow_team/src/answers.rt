@@ -6,7 +6,7 @@ ghost use Rattle.bit_rows.specs.RowTable.{set_at};
 ghost use Rattle.flow_graph.specs.Points.{point_count};
 ghost use Rattle.flow_graph.specs.declared.analysis.Analysis.TheVariants.{Reach, Live, Avail, Busy};
 ghost use Rattle.flow_team.specs.Asks.{AreAnswers, AreAsksOf, IsAnswerTo, IsAskOf, flags_of};
-ghost use Rattle.flow_team.specs.Tables.{IsTableOf};
+ghost use Rattle.flow_team.specs.Tables.{IsTableOf, facts_of};
 ghost use Rattle.flow_team.specs.declared.ask.Ask.{Ask as AskValue};
 ghost use Rattle.flow_team.specs.code.Boards.{IsWanted};
 
@@ -108,8 +108,8 @@ fn words_in(
 
 // The path flag of each point of a table.
 fn flags_in(alloc: Global, graph: &Graph<'_>, table: &Table) -> Result<Vec<bool>, OutOfMemory>
-    requires { table.now.points ≡ point_count graph.now }
-    ensures { IfOk result (λ flags. flags.items ≡ map table.now.facts.has_path (range_with_len 0 (point_count graph.now))) }
+    requires { length table.now.paths ≡ point_count graph.now }
+    ensures { IfOk result (λ flags. flags.items ≡ map (facts_of table.now).has_path (range_with_len 0 (point_count graph.now))) }
 {
     let mut flags = Vec::new(alloc);
     for point in 0..graph.points() {

@@ -1,5 +1,6 @@
-ghost use Rattle.std.specs.Prelude.{◌≡◌, ℕ, ◌+◌, ◌*◌, ◌≤◌, ◌<◌, false};
+ghost use Rattle.std.specs.Prelude.{◌≡◌, ℕ, ◌+◌, ◌*◌, ◌≤◌, ◌<◌, false, length};
 ghost use Rattle.bit_rows.specs.Words.{has_bit};
+ghost use Rattle.flow_team.specs.Tables.{facts_of};
 ghost use Rattle.flow_team.specs.code.Turned.{table_facts};
 
 use crate::turned_words::TurnedWords;
@@ -16,6 +17,7 @@ pub struct Table {
 
 impl Model for Table {
     ghost use Rattle.flow_team.specs.Tables.{TableFacts};
+    ghost use Rattle.flow_team.specs.code.Turned.{table_facts};
 
     ghost Value = { TableFacts };
 
@@ -39,25 +41,25 @@ impl Table {
 
     /// Whether some valid path leads to the point, or for a backward analysis from it to the end of `main`.
     pub fn has_path(&self, point: u32) -> bool
-        requires { point < self.now.points }
-        ensures { result ≡ self.now.facts.has_path point }
+        requires { point < length self.now.paths }
+        ensures { result ≡ (facts_of self.now).has_path point }
     {
         self.words.flag(point)
     }
 
     /// Whether the bit is in the set of the point.
     pub fn contains(&self, point: u32, bit: u32) -> bool
-        requires point { point < self.now.points }
+        requires point { point < length self.now.paths }
         requires bit { bit < self.now.bits }
-        ensures { result ≡ self.now.facts.contains point bit }
+        ensures { result ≡ (facts_of self.now).contains point bit }
     {
         (self.word(point, bit / 64) >> (bit % 64)) & 1 == 1
     }
 
     /// A word of the point's set: bit `64 * word + k` at place `k`; 0 at all places past the last bit.
     pub fn word(&self, point: u32, word: u32) -> u64
-        requires { point < self.now.points }
-        ensures set { (k : ℕ) → k < 64 → has_bit result k ≡ self.now.facts.contains point (64 * word + k) }
+        requires { point < length self.now.paths }
+        ensures set { (k : ℕ) → k < 64 → has_bit result k ≡ (facts_of self.now).contains point (64 * word + k) }
         ensures past { (k : ℕ) → k < 64 → self.now.bits ≤ 64 * word + k → has_bit result k ≡ false }
     {
         self.words.word(point, word)

@@ -1,9 +1,8 @@
 // The words of a closed board, as a table's sets.
-ghost use Rattle.std.specs.Prelude.{◌≡◌, ℕ, ◌+◌, ◌-◌, ◌*◌, ◌^◌, ◌<◌, ◌≤◌, ◌&&◌, false, nat_lt, length};
-ghost use Rattle.bit_rows.specs.RowSet.{IsWordOf};
-ghost use Rattle.bit_rows.specs.RowTable.{flag_at, set_at};
+ghost use Rattle.std.specs.Prelude.{◌≡◌, ℕ, ◌+◌, ◌-◌, ◌*◌, ◌^◌, ◌<◌, ◌≤◌, ◌&&◌, false, nat_lt, [], length, slice_index_or};
+ghost use Rattle.bit_rows.specs.RowTable.{flag_at};
 ghost use Rattle.bit_rows.specs.Words.{has_bit};
-ghost use Rattle.flow_team.specs.code.Turned.{turned_table};
+ghost use Rattle.flow_team.specs.code.Turned.{members_of, turned_table};
 
 use slice_board::PostedWords;
 use std::marker::Model;
@@ -65,7 +64,7 @@ impl TurnedWords {
     /// A word of the point's set, 0 at all places past the last bit.
     pub(crate) fn word(&self, point: u32, word: u32) -> u64
         requires { point < length self.now.flags }
-        ensures set { IsWordOf (set_at self.now point) word result }
+        ensures set { (k : ℕ) → k < 64 → has_bit result k ≡ slice_index_or (slice_index_or (members_of self.now) point []) (64 * word + k) false }
         ensures past { (k : ℕ) → k < 64 → self.now.hi ≤ 64 * word + k → has_bit result k ≡ false }
     {
         self.posted.word(point, word) ^ turned_word(self.posted.bits(), self.turns, word)

@@ -1,5 +1,6 @@
 // The texts of a set's bits, run by run: bits that lie side by side are one range of bytes.
 
+ghost use Rattle.flow_team.specs.Tables.{facts_of};
 ghost use Rattle.std.specs.Prelude.{◌≡◌, ℕ, Bool, true, false, ◌+◌, ◌-◌, ◌<◌, ◌≤◌, ◌||◌, codes, filter, length, map};
 ghost use Rattle.std.specs.List.{range_with_len};
 ghost use Rattle.bit_rows.specs.Words.{has_bit};
@@ -138,9 +139,9 @@ fn write_words<K: Sink>(
 ) -> bool
     ghost member: { ℕ → Bool }
     requires ready { IsOpen (outlet K.contents K.faults out.old) }
-    requires point { point < table.now.points }
+    requires point { point < length table.now.paths }
     requires bits { bits ≤ length texts.now.texts }
-    requires member { (bit : ℕ) → table.now.facts.contains point bit ≡ member bit }
+    requires member { (bit : ℕ) → (facts_of table.now).contains point bit ≡ member bit }
     ensures same_reference { out.new.sink.ghost_name ≡ out.old.sink.ghost_name }
     ensures wrote { Wrote texts.now.between (chosen texts.now.texts member) false 0 bits
         (outlet K.contents K.faults out.old) (outlet K.contents K.faults out.new) result }
@@ -170,10 +171,10 @@ pub fn write_members<K: Sink>(
     bits: u32,
 ) -> bool
     requires ready { IsOpen (outlet K.contents K.faults out.old) }
-    requires point { point < table.now.points }
+    requires point { point < length table.now.paths }
     requires bits { bits ≤ length texts.now.texts }
     ensures same_reference { out.new.sink.ghost_name ≡ out.old.sink.ghost_name }
-    ensures wrote { Wrote texts.now.between (chosen texts.now.texts (table.now.facts.contains point)) false 0 bits
+    ensures wrote { Wrote texts.now.between (chosen texts.now.texts ((facts_of table.now).contains point)) false 0 bits
         (outlet K.contents K.faults out.old) (outlet K.contents K.faults out.new) result }
 {
     write_words(out, texts, table, point, bits)
@@ -192,11 +193,11 @@ pub fn write_set<K: Sink>(
 )
     requires ready { IsOpen (outlet K.contents K.faults out.old) }
     requires commas { texts.now.between ≡ codes ", " }
-    requires point { point < table.now.points }
+    requires point { point < length table.now.paths }
     requires bits { bits ≤ length texts.now.texts }
     ensures same_reference { out.new.sink.ghost_name ≡ out.old.sink.ghost_name }
     ensures takes { Takes (outlet K.contents K.faults out.old) (outlet K.contents K.faults out.new)
-        (listed (map (text_at texts.now.texts) (filter (table.now.facts.contains point) (range_with_len 0 bits)))) }
+        (listed (map (text_at texts.now.texts) (filter ((facts_of table.now).contains point) (range_with_len 0 bits)))) }
 {
     if write_members(out, texts, table, point, bits) {
         return;

@@ -3,7 +3,7 @@
 ghost use Rattle.std.specs.Prelude.{◌≡◌, ◌<◌, IfOk, codes, if◌then◌else◌};
 ghost use Rattle.flow_graph.specs.Points.{point_count};
 ghost use Rattle.flow_graph.specs.Universes.{bits as bits_of};
-ghost use Rattle.flow_team.specs.Tables.{IsTableOf};
+ghost use Rattle.flow_team.specs.Tables.{IsTableOf, facts_of};
 ghost use Rattle.text_pieces.specs.code.Blocks.{HoldsTexts};
 ghost use Rattle.text_pieces.specs.Pieces.{IsOpen, Takes, outlet};
 ghost use Rattle.flow_texts.specs.Tables.{IsTableText, bit_text, place_text, point_line};
@@ -52,7 +52,7 @@ fn write_point<K: Sink>(
     requires table { IsTableOf graph.now table.now }
     requires texts { HoldsTexts (codes ", ") (bit_text graph.now table.now.analysis) (bits_of graph.now table.now.analysis) texts.now }
     ensures same_reference { out.new.sink.ghost_name ≡ out.old.sink.ghost_name }
-    ensures takes { Takes (outlet K.contents K.faults out.old) (outlet K.contents K.faults out.new) (point_line graph.now table.now.analysis table.now.facts point) }
+    ensures takes { Takes (outlet K.contents K.faults out.old) (outlet K.contents K.faults out.new) (point_line graph.now table.now.analysis (facts_of table.now) point) }
 {
     if out.has_failed() {
         return;
@@ -76,13 +76,13 @@ pub struct TableText<'a> {
 impl<'a> Model for TableText<'a> {
     ghost use Rattle.std.specs.Prelude.{List, ℕ, codes};
     ghost use Rattle.flow_graph.specs.Universes.{bits as bits_of};
-    ghost use Rattle.flow_team.specs.Tables.{IsTableOf};
+    ghost use Rattle.flow_team.specs.Tables.{IsTableOf, facts_of};
     ghost use Rattle.text_pieces.specs.code.Blocks.{HoldsTexts};
     ghost use Rattle.flow_texts.specs.Tables.{bit_text, table_text_of};
 
     ghost Value = { List ℕ };
 
-    ghost view = { λ text. table_text_of text.graph.now text.table.now.analysis text.table.now.facts };
+    ghost view = { λ text. table_text_of text.graph.now text.table.now.analysis (facts_of text.table.now) };
 
     ghost invariant = { λ text. IsTableOf text.graph.now text.table.now
         × HoldsTexts (codes ", ") (bit_text text.graph.now text.table.now.analysis) (bits_of text.graph.now text.table.now.analysis) text.texts };

@@ -3,7 +3,7 @@ use Rattle.std.proofs.Common.{◌≡◌, ℕ, ◌<◌, subst}
 use Rattle.flow_graph.specs.Points.{point_count}
 use Rattle.flow_graph.specs.declared.analysis.Analysis.TheVariants.{Reach, Live, Avail, Busy}
 use Rattle.flow_graph.specs.declared.analysis.Analysis.{Analysis}
-use Rattle.flow_team.specs.Tables.{AreFacts, IsTableOf, TableFacts}
+use Rattle.flow_team.specs.Tables.{AreFacts, IsTableOf, TableFacts, facts_of}
 use Rattle.tac_program.specs.Programs.{Program}
 use Rattle.flow_texts.specs.Reports.{IsKnowledge, dead_at, remarks_at, unset_at}
 use Rattle.flow_texts.specs.code.Findings.{knowledge_of}
@@ -11,8 +11,8 @@ use Rattle.flow_texts.proofs.KnownReports.{agrees, same_dead, same_remarks, same
 use Rattle.flow_views.specs.code.Shown.{AreShown, known_of}
 use Rattle.flow_views.specs.declared.shown.Shown.{Shown}
 
-facts_are : (program : Program) (table : TableFacts) (analysis : Analysis) → table.analysis ≡ analysis → IsTableOf program table → AreFacts program analysis table.facts
-facts_are program table analysis same is = subst (λ (a : Analysis). AreFacts program a table.facts) same is.facts
+facts_are : (program : Program) (table : TableFacts) (analysis : Analysis) → table.analysis ≡ analysis → IsTableOf program table → AreFacts program analysis (facts_of table)
+facts_are program table analysis same is = subst (λ (a : Analysis). AreFacts program a (facts_of table)) same is.facts
 
 module _ (shown : Shown) (are : AreShown shown) where
   pub known_is : IsKnowledge shown.found.graph.now (known_of shown)

@@ -18,7 +18,7 @@ use Rattle.flow_graph.specs.declared.analysis.Analysis.TheVariants.{Reach, Live,
 use Rattle.flow_graph.specs.declared.edge.Edge.{Edge}
 use Rattle.bit_rows.specs.RowSet.{contains}
 use Rattle.bit_rows.specs.RowTable.{set_at}
-use Rattle.flow_team.specs.Tables.{Facts, TableFacts}
+use Rattle.flow_team.specs.Tables.{Facts, TableFacts, facts_of}
 use Rattle.flow_graph.proofs.edges.EdgeLemmas.{IsFrom, a_step, a_call, a_return, edges_from_are, in_procedure}
 use Rattle.flow_team.specs.AllTables.{AreTablesOf}
 use Rattle.flow_texts.specs.Reports.{Knowledge, assigned, dead_at, unset_at}
@@ -90,11 +90,11 @@ none_dead program known point ends = ap (λ o. variables (option_and_then assign
 
 -- the bits of a point, as they are called
 pub set_texts : (program : Program) (analysis : Analysis) (table : TableFacts) (facts : Facts) (count point : ℕ) (f g : ℕ → List ℕ)
-    → count ≡ bits program analysis → table.facts ≡ facts → ((n : ℕ) → n < bits program analysis → f n ≡ g n)
-    → map f (filter (table.facts.contains point) (range_with_len 0 count)) ≡ map g (bits_at program analysis facts point)
+    → count ≡ bits program analysis → facts_of table ≡ facts → ((n : ℕ) → n < bits program analysis → f n ≡ g n)
+    → map f (filter ((facts_of table).contains point) (range_with_len 0 count)) ≡ map g (bits_at program analysis facts point)
 set_texts program analysis table facts count point f g all told same =
-    ap (λ n. map f (filter (table.facts.contains point) (range_with_len 0 n))) all
-    ∙ map-members f g (table.facts.contains point) 0 (bits program analysis) (λ n below. same n (omega (arith, below)))
+    ap (λ n. map f (filter ((facts_of table).contains point) (range_with_len 0 n))) all
+    ∙ map-members f g ((facts_of table).contains point) 0 (bits program analysis) (λ n below. same n (omega (arith, below)))
     ∙ ap (λ (told : Facts). map g (bits_at program analysis told point)) told
 
 -- each bit of an analysis has its number

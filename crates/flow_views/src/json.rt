@@ -1,5 +1,6 @@
 // The text of lines of JSON.
 
+ghost use Rattle.flow_team.specs.Tables.{facts_of};
 ghost use Rattle.std.specs.Prelude.{◌≡◌, ◌+◌, ◌++◌, ◌<◌, ◌≤◌, Some, codes, decimal, filter, flat_map, length, map, IfOk, IfSome};
 ghost use Rattle.std.specs.List.{range_with_len};
 ghost use Rattle.flow_graph.specs.Points.{place_of, point_count, procedure_at, statement_at};
@@ -142,10 +143,10 @@ fn write_array<K: Sink>(
 )
     requires ready { IsOpen (outlet K.contents K.faults out.old) }
     requires commas { texts.now.between ≡ codes "," }
-    requires point { point < table.now.points }
+    requires point { point < length table.now.paths }
     requires bits { bits ≤ length texts.now.texts }
     ensures same_reference { out.new.sink.ghost_name ≡ out.old.sink.ghost_name }
-    ensures takes { Takes (outlet K.contents K.faults out.old) (outlet K.contents K.faults out.new) (array (map (text_at texts.now.texts) (filter (table.now.facts.contains point) (range_with_len 0 bits)))) }
+    ensures takes { Takes (outlet K.contents K.faults out.old) (outlet K.contents K.faults out.new) (array (map (text_at texts.now.texts) (filter ((facts_of table.now).contains point) (range_with_len 0 bits)))) }
 {
     out.write(b"[");
     write_members(out, texts, table, point, bits);

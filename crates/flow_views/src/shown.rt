@@ -3,7 +3,7 @@
 ghost use Rattle.std.specs.Prelude.{◌≡◌, ◌+◌, ◌<◌, ◌≤◌, suc, Some, flat_map, length, map, IfOk, IfSome};
 ghost use Rattle.flow_graph.specs.Edges.{edges_from};
 ghost use Rattle.flow_graph.specs.Points.{end_place, entry_point, kind_at, point_count, points, procedure_at, statement_at};
-ghost use Rattle.flow_team.specs.Tables.{IsTableOf};
+ghost use Rattle.flow_team.specs.Tables.{IsTableOf, facts_of};
 ghost use Rattle.text_pieces.specs.Pieces.{IsOpen, Takes, outlet};
 ghost use Rattle.flow_team.specs.AllTables.{AreTablesOf};
 ghost use Rattle.flow_texts.specs.Reports.{IsKnowledge, dead_at, remarks_at, unset_at};
@@ -128,7 +128,7 @@ impl Shown<'_> {
         requires { AreShown self.now }
         ensures analysis { result.now.analysis ≡ analysis }
         ensures table { IsTableOf self.now.found.graph.now result.now }
-        ensures facts { result.now.facts ≡ told_by (known_of self.now) analysis }
+        ensures facts { facts_of result.now ≡ told_by (known_of self.now) analysis }
     {
         match analysis {
             Analysis::Reach => &self.tables.reach,

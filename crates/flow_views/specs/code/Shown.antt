@@ -1,4 +1,5 @@
 -- How the code's tables stand for what is shown.
+use Rattle.flow_team.specs.Tables.{facts_of}
 use Rattle.std.specs.Prelude.{◌≡◌, ℕ, ◌-◌, ◌<◌, false, List, get_or, map, length, IfSome}
 use Rattle.std.specs.List.{range_with_len}
 use Rattle.smallvec.specs.SmallVec.{SmallVec}
@@ -25,10 +26,10 @@ numbers_of numbers = range_with_len numbers.first (numbers.end - numbers.first)
 -- what is known of a program by its tables and its doubtful points
 abbrev pub known_of : Shown → Knowledge
 known_of shown = record {
-  reach = shown.tables.now.reach.facts;
-  live = shown.tables.now.live.facts;
-  avail = shown.tables.now.avail.facts;
-  busy = shown.tables.now.busy.facts;
+  reach = facts_of shown.tables.now.reach;
+  live = facts_of shown.tables.now.live;
+  avail = facts_of shown.tables.now.avail;
+  busy = facts_of shown.tables.now.busy;
   doubtful = λ point. get_or shown.found.doubtful.items point false;
 }
 
