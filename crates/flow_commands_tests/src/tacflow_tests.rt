@@ -6,7 +6,7 @@ use failing_streams::{Page, Pieces, blank_page};
 use flow_commands::{Options, Show, run};
 use flow_graph::GraphFault;
 use flow_runs::{Fault, fault_line};
-use std::alloc::Global;
+use std::alloc::{AllocError, Global};
 use std::io::{ErrorKind, Read};
 use std::process::Abort;
 use std::test::Fail;
@@ -408,7 +408,7 @@ fn faults_around_the_smallest(rt: HostRuntime) -> Result<(), Fail> {
 const PRINTS: u32 = 12_000;
 
 // That program, as a listing has it.
-fn prints(alloc: Global) -> Result<String, Fail> {
+fn prints(alloc: Global) -> Result<String, AllocError> {
     repeated(
         alloc,
         "proc main\n",
