@@ -17,10 +17,11 @@ from .compiling import BadWords, run_gcc
 from .findings import Findings
 from .sources import Sources
 
-# More statements of gcc's than these are no program within tacview's limits; so many functions and statements mostly are.
+# More statements of gcc's than the first are no program within tacview's limits. What weighs no more than the second mostly is one, where
+# a function weighs as much as its statements and some more.
 MANY_STATEMENTS = 24000
-FEW_STATEMENTS = 8000
-FEW_FUNCTIONS = 180
+PART = 9000
+FUNCTION = 15
 HERE = os.path.dirname(os.path.realpath(__file__))
 
 
@@ -170,18 +171,19 @@ class Analysis:
         """Analyses the program, in parts where it is too large."""
         if self.is_whole and not any(function.name == "main" for function in self.functions()):
             raise BadWords("--whole needs the file that has main")
-        weights = {function: function.size() for function in self.functions()}
-        total = sum(weights.values())
-        if total <= MANY_STATEMENTS and (self.task.is_whole or len(weights) <= emit.LIMITS["procedures"]):
+        sizes = {function: function.size() for function in self.functions()}
+        total = sum(sizes.values())
+        if total <= MANY_STATEMENTS and (self.task.is_whole or len(sizes) <= emit.LIMITS["procedures"]):
             try:
                 self.analyse_part(frozenset())
                 return
             except emit.TooLarge as fault:
                 self.outcome.notes.append(f"{self.files[0].name}: {fault}; analysed in parts, between which less is known")
         else:
-            self.outcome.notes.append(f"{self.files[0].name}: {len(weights)} functions with {total} statements are more than tacflow takes; "
+            self.outcome.notes.append(f"{self.files[0].name}: {len(sizes)} functions with {total} statements are more than tacflow takes; "
                                       "analysed in parts, between which less is known")
-        self.analyse_in_parts(weights, max(2, -(-total // FEW_STATEMENTS), -(-len(weights) // FEW_FUNCTIONS)))
+        weights = {function: size + FUNCTION for function, size in sizes.items()}
+        self.analyse_in_parts(weights, max(2, -(-sum(weights.values()) // PART)))
 
     def analyse_in_parts(self, weights, count):
         """Analyses functions by functions, the others taken as code that is not known."""
