@@ -1,6 +1,7 @@
 """Programs of tacflow's language while they are made: variables, statements, procedures."""
 
 from dataclasses import dataclass, field
+from typing import NamedTuple
 
 
 @dataclass(eq=False, slots=True)
@@ -26,8 +27,7 @@ class Variable:
         return self.home is None or self.home is procedure or bool(procedure.function) and self.home == procedure.function.file
 
 
-@dataclass(frozen=True)
-class Number:
+class Number(NamedTuple):
     """A number that stands for a constant of the C program; `text` is how C writes it."""
     value: int
     text: str
@@ -92,12 +92,8 @@ class Procedure:
 
     def locals(self):
         """The variables of its own that its statements name."""
-        found = {}
-        for step in self.steps:
-            for variable in [step.variable, *step.operands, *step.touched]:
-                if isinstance(variable, Variable) and variable.owner is self:
-                    found[variable] = None
-        return list(found)
+        named = dict.fromkeys(variable for step in self.steps for variable in (step.variable, *step.operands, *step.touched))
+        return [variable for variable in named if isinstance(variable, Variable) and variable.owner is self]
 
 
 class Builder:
@@ -112,7 +108,8 @@ class Builder:
     def add(self, kind, **parts):
         """Adds a step of this kind for the C statement at hand."""
         self.slot += 1
-        step = Step(kind, origin=self.origin, slot=self.slot, role=parts.pop("role", self.role), **parts)
+        parts.setdefault("role", self.role)
+        step = Step(kind, origin=self.origin, slot=self.slot, **parts)
         self.procedure.steps.append(step)
         return step
 
@@ -124,10 +121,10 @@ class Builder:
 
     def use(self, variables, role=None):
         """Reads the variables, two a statement."""
-        variables = list(dict.fromkeys(variables))
+        variables = tuple(dict.fromkeys(variables))
         for at in range(0, len(variables), 2):
             after = Label()
-            self.add("use", operands=tuple(variables[at:at + 2]), label=after, role=role or self.role)
+            self.add("use", operands=variables[at:at + 2], label=after, role=role or self.role)
             self.label(after)
 
     def set(self, variable, operands=(), operator="", **parts):

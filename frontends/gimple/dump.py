@@ -75,6 +75,7 @@ class Function:
     body: list = field(default_factory=list)
     fault: Refusal = None
     named: tuple = None
+    used: tuple = None
 
     def names(self):
         """The declared names in its statements that are none of its locals, callees too."""
@@ -85,6 +86,20 @@ class Function:
             own = self.locals.union(self.parameters)
             self.named = tuple(name for name in dict.fromkeys(re.findall(operands.DECLARED, text)) if name not in own)
         return self.named
+
+    def uses(self):
+        """The names that its operands have, each with whether its address is taken there, and the operand that is not known, if any."""
+        if self.used is None:
+            found, unknown = {}, None
+            for word, place in {word: statement.place for statement in statements_in(self.body) for word in words_of(statement)}.items():
+                reference = operands.parse(word)
+                if reference is None or reference.base is None and reference.constant is None and not reference.is_memory:
+                    unknown = word, place
+                    continue
+                for name in [*reference.addressed, *operands.names_read(reference)]:
+                    found[name, name in reference.addressed] = None
+            self.used = tuple(pair for pair in found if operands.is_declared(pair[0])), unknown
+        return self.used
 
     def size(self):
         """How many statements it has."""

@@ -123,8 +123,9 @@ class Writer:
             return f"if {' < '.join(operands)} goto {label}"
         if step.kind == "call":
             return "call " + " | ".join(callee.name for callee in step.callees)
-        return {"read": lambda: f"read {self.name(step.variable)}", "goto": lambda: f"goto {label}",
-                "fork": lambda: f"if 0 goto {label}", "return": lambda: "return"}[step.kind]()
+        if step.kind == "read":
+            return f"read {self.name(step.variable)}"
+        return {"goto": f"goto {label}", "fork": f"if 0 goto {label}", "return": "return"}[step.kind]
 
     def right_side(self, step, operands):
         """What a variable is set to."""

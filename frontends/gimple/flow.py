@@ -1,6 +1,10 @@
 """Small analyses of one procedure that the encodings rest on: what may run next, what is in use, what may be unset."""
 
 
+# The steps behind which not only the next one comes.
+JUMPS = frozenset(["return", "goto", "use", "fork"])
+
+
 def successors(steps, by_outcome=False):
     """For each step the places that may come next; the end is the number of steps.
 
@@ -8,18 +12,18 @@ def successors(steps, by_outcome=False):
     was compiled, and nothing is to be told of that.
     """
     places = {step.label: at for at, step in enumerate(steps) if step.kind == "label"}
-    found = []
+    found = [(at,) for at in range(1, len(steps) + 1)]
     for at, step in enumerate(steps):
+        if step.kind not in JUMPS:
+            continue
         if step.kind == "return":
-            found.append(())
+            found[at] = ()
         elif step.kind == "goto":
-            found.append((places[step.label],))
+            found[at] = (places[step.label],)
         elif by_outcome and step.outcome is not None:
-            found.append((places[step.label] if step.outcome else at + 1,))
-        elif step.kind in ("fork", "use"):
-            found.append((at + 1, places[step.label]))
+            found[at] = (places[step.label] if step.outcome else at + 1,)
         else:
-            found.append((at + 1,))
+            found[at] = (at + 1, places[step.label])
     return found
 
 
@@ -27,10 +31,10 @@ def blocks_of(steps, by_outcome=False):
     """The stretches of steps that run one after the other, as pairs of first place and the place behind, and where each leads."""
     follow = successors(steps, by_outcome)
     firsts = {0}
-    for at, places in enumerate(follow):
-        if places != (at + 1,):
+    for at, step in enumerate(steps):
+        if step.kind in JUMPS:
             firsts.add(at + 1)
-            firsts.update(places)
+            firsts.update(follow[at])
     firsts = sorted(first for first in firsts if first < len(steps))
     numbers = {first: number for number, first in enumerate(firsts)}
     ends = [*firsts[1:], len(steps)]
@@ -54,65 +58,95 @@ def live_before(steps, variables):
     numbers = {variable: 1 << number for number, variable in enumerate(variables)}
     reads = [0 if step.result_of_call or not step.operands else bits_of(step.operands, numbers) for step in steps]
     kills = [0 if step.weak or step.variable is None else numbers.get(step.variable, 0) for step in steps]
-    live = [0] * (len(steps) + 1)
     blocks, leads = blocks_of(steps)
+    behind = live_behind(blocks, leads, reads, kills)
+    live = [0] * (len(steps) + 1)
+    for (first, end), value in zip(blocks, behind):
+        for at in range(end - 1, first - 1, -1):
+            value = live[at] = reads[at] | (value & ~kills[at])
+    return live, numbers
+
+
+def live_behind(blocks, leads, reads, kills):
+    """The bits of what is still read behind each block."""
     before = [[] for _ in blocks]
     for block, places in enumerate(leads):
         for place in places:
             before[place].append(block)
+    read, killed = [0] * len(blocks), [0] * len(blocks)
+    for block, (first, end) in enumerate(blocks):
+        for at in range(end - 1, first - 1, -1):
+            read[block] = reads[at] | (read[block] & ~kills[at])
+            killed[block] |= kills[at]
+    live, behind = list(read), [0] * len(blocks)
     waiting = list(range(len(blocks)))
     while waiting:
         block = waiting.pop()
-        first, end = blocks[block]
-        value = 0
+        value = behind[block]
         for place in leads[block]:
-            value |= live[blocks[place][0]]
-        known = live[first]
-        for at in range(end - 1, first - 1, -1):
-            value = live[at] = reads[at] | (value & ~kills[at])
-        if value != known:
+            value |= live[place]
+        behind[block] = value
+        value = read[block] | (value & ~killed[block])
+        if value != live[block]:
+            live[block] = value
             waiting += before[block]
-    return live, numbers
+    return behind
 
 
 def mark_unset(steps, variables):
     """Notes at each step the variables that it reads and that nothing on some way from the entry has touched, and those that
     nothing has touched on any way."""
-    if not variables:
+    if not variables or not steps:
         return
     numbers = {variable: 1 << number for number, variable in enumerate(variables)}
-    every = (1 << len(variables)) - 1
-    touches = [numbers.get(step.variable, 0) | bits_of(step.touched, numbers) for step in steps]
-    ends = [numbers.get(step.variable, 0) if step.ends_life else 0 for step in steps]
+    touches = [bits_of((step.variable, *step.touched), numbers) for step in steps]
+    ends = [touches[at] if step.ends_life else 0 for at, step in enumerate(steps)]
     blocks, leads = blocks_of(steps, True)
-    unset = [None] * len(blocks)
-    touched = [0] * len(blocks)
-    if blocks:
-        unset[0] = every
-    waiting = [0] if blocks else []
+    for (first, end), state in zip(blocks, states_before(blocks, leads, touches, ends, (1 << len(variables)) - 1)):
+        if state is None:
+            continue
+        unset, touched = state
+        for at in range(first, end):
+            if unset and steps[at].operands:
+                note_unset(steps[at], numbers, unset, touched)
+            if touches[at]:
+                unset = unset & ~touches[at] | ends[at]
+                touched = (touched | touches[at]) & ~ends[at]
+
+
+def states_before(blocks, leads, touches, ends, every):
+    """What some way to each block has not touched, and what some way has; None where no way leads to it."""
+    changes = []
+    for first, end in blocks:
+        touching = ending = made = 0
+        for at in range(first, end):
+            if touches[at]:
+                touching |= touches[at]
+                ending = ending & ~touches[at] | ends[at]
+                made = (made | touches[at]) & ~ends[at]
+        changes.append((touching, ending, made))
+    states = [(every, 0), *[None] * (len(blocks) - 1)]
+    waiting = [0]
     while waiting:
         block = waiting.pop()
-        value, seen = unset[block], touched[block]
-        for at in range(*blocks[block]):
-            value = value & ~touches[at] | ends[at]
-            seen = (seen | touches[at]) & ~ends[at]
+        touching, ending, made = changes[block]
+        unset, touched = states[block]
+        unset, touched = unset & ~touching | ending, touched & ~ending | made
         for place in leads[block]:
-            joined = value | (unset[place] or 0), seen | touched[place]
-            if joined != (unset[place], touched[place]):
-                unset[place], touched[place] = joined
+            known = states[place] or (0, 0)
+            joined = unset | known[0], touched | known[1]
+            if joined != states[place]:
+                states[place] = joined
                 waiting.append(place)
-    for (first, end), value, seen in zip(blocks, unset, touched):
-        for at in range(first, end) if value is not None else ():
-            if steps[at].operands:
-                note_unset(steps[at], numbers, value, seen)
-            value = value & ~touches[at] | ends[at]
-            seen = (seen | touches[at]) & ~ends[at]
+    return states
 
 
 def note_unset(step, numbers, unset, touched):
     """Notes at a step which of the variables that it reads are unset before it."""
-    step.unset = tuple(variable for variable in step.reads() if numbers.get(variable, 0) & unset)
-    step.surely_unset = tuple(variable for variable in step.unset if not numbers[variable] & touched)
+    found = tuple(variable for variable in step.operands if numbers.get(variable, 0) & unset)
+    if found:
+        step.unset = found
+        step.surely_unset = tuple(variable for variable in found if not numbers[variable] & touched)
 
 
 def components(procedures, callees):

@@ -12,6 +12,7 @@ PIECE = re.compile(rf"(?P<name>{DECLARED}|{TEMPORARY}|<retval>)|(?P<word>[A-Za-z
                    r"|(?P<number>[-+]?\d+(?:\.\d+)?(?:[eE][-+]\d+)?\w*)|(?P<sign>\S)")
 MARK = re.compile(rf"{STRING.pattern}|->|[<>()\[\]{{}},]")
 OPENING = {"<": ">", "(": ")", "[": "]", "{": "}"}
+NESTED = re.compile(r'[<(\[{"]')
 
 
 def without_places(text):
@@ -32,6 +33,8 @@ def without_places(text):
 
 def split_words(text):
     """The words between the commas of the outermost level."""
+    if not NESTED.search(text):
+        return [word.strip() for word in text.split(",")]
     words = []
     depth = start = 0
     for found in MARK.finditer(text):

@@ -56,8 +56,8 @@ def build(world, keeps_temporaries=False):
 
 def named_in(procedures):
     """The variables that these procedures name."""
-    return {variable for procedure in procedures for step in procedure.steps for variable in (step.variable, *step.operands)
-            if isinstance(variable, Variable)}
+    named = {part for procedure in procedures for step in procedure.steps for part in (step.variable, *step.operands)}
+    return {part for part in named if isinstance(part, Variable)}
 
 
 def translate_all(world, services):

@@ -10,6 +10,8 @@ LOCAL_STATIC = re.compile(r"\.\d+$")
 DEFINITION = re.compile(r"/\* (?P<file>.*):(?P<line>\d+):[NO]F \*/ (?P<rest>.*)$")
 DEFINED_NAME = re.compile(r"([A-Za-z_$][\w$]*) \(")
 ORIGINAL = re.compile(r";; Function (\S+) \(|[ (]\(void\) ([A-Za-z_$][\w$]*)[;,)]")
+NO_SUCCESSOR = re.compile(r"\n;;    succ:[ ]*\n")
+ENDLESS = re.compile(rf"(?:\S+ = )?({operands.DECLARED}) \(")
 TABLES = (".init_array", ".preinit_array", ".fini_array", ".ctors", ".dtors")
 
 
@@ -110,17 +112,19 @@ def symbol_in(head, lines):
 
 def read_blocks(text, symbols):
     """Reads `-fdump-tree-ssa-lineno-uid-blocks`: calls behind which nothing follows, and volatile accesses."""
-    last = ""
-    for line in text.split("\n"):
-        plain = line.strip()
-        if plain.startswith(";;    succ:"):
-            callee = re.match(rf"(?:\S+ = )?({operands.DECLARED}) \(", operands.without_places(last))
-            if plain == ";;    succ:" and callee:
-                symbols.endless.add(callee[1])
-        elif plain and not plain.startswith(";;"):
-            last = plain
-            if "={v}" in plain and "{CLOBBER" not in plain:
-                take_volatile(operands.without_places(plain), symbols)
+    for found in NO_SUCCESSOR.finditer(text):
+        callee = ENDLESS.match(operands.without_places(line_at(text, found.start() - 1)))
+        if callee:
+            symbols.endless.add(callee[1])
+    for found in re.finditer(r"=\{v\}", text):
+        line = line_at(text, found.start())
+        if not line.startswith(";;") and "{CLOBBER" not in line:
+            take_volatile(operands.without_places(line), symbols)
+
+
+def line_at(text, at):
+    """The line of a text that has this place, without the blanks round it."""
+    return text[text.rfind("\n", 0, at + 1) + 1:text.find("\n", at + 1)].strip()
 
 
 def take_volatile(line, symbols):

@@ -6,7 +6,6 @@ from dataclasses import dataclass, field
 
 from . import operands
 from .code import Procedure, Variable
-from .dump import statements_in, words_of
 from .faults import Refusal
 
 ARTIFICIAL = re.compile(r"^$|\.|^<|^__(?:PRETTY_)?(?:func|FUNCTION)__$")
@@ -72,12 +71,16 @@ class World:
 
     def take_function(self, file, function):
         """Takes in a function and the statics in it."""
+        is_outside = function in self.outside
+        if is_outside:
+            file.outside.add(function.uid)
+            if not function.statics:
+                return
         procedure = Procedure(function.name, function.name, function)
         for name in function.statics:
             source, uid = operands.split_declared(name)
             file.statics[uid] = self.new_static(file, procedure, name, source)
-        if function in self.outside:
-            file.outside.add(function.uid)
+        if is_outside:
             return
         self.procedures[file, function.uid] = procedure
         file.by_uid[function.uid] = procedure
@@ -216,27 +219,21 @@ class World:
                 if function.fault:
                     self.take_all(file)
                 elif procedure is not None:
-                    for statement in statements_in(function.body):
-                        self.take_addresses_in(file, procedure, statement)
+                    self.take_uses(file, procedure)
         if any(file.symbols.starts_by_table() for file in self.files):
             self.own_starts.update(self.addressed_procedures)
 
-    def take_addresses_in(self, file, procedure, statement):
-        """Marks what one statement takes the address of."""
-        for word in words_of(statement):
-            reference = operands.parse(word)
-            if reference is None or (reference.base is None and reference.constant is None and not reference.is_memory):
-                procedure.refusal = Refusal(f"an operand that is not known: {word}",
-                                            statement.place or function_place(file, procedure))
-                self.take_all(file)
-                return
-            for name in [*reference.addressed, *operands.names_read(reference)]:
-                self.take_name(file, procedure, name, name in reference.addressed)
+    def take_uses(self, file, procedure):
+        """Marks what a function's statements take the address of."""
+        names, unknown = procedure.function.uses()
+        for name, is_address in names:
+            self.take_name(file, procedure, name, is_address)
+        if unknown:
+            procedure.refusal = Refusal(f"an operand that is not known: {unknown[0]}", unknown[1] or function_place(file, procedure))
+            self.take_all(file)
 
     def take_name(self, file, procedure, name, is_address):
         """Marks a name that an operand has."""
-        if not operands.is_declared(name):
-            return
         is_own = self.is_local(procedure, name)
         if not is_own and self.is_function(file, name):
             found = self.callee(file, name).procedure
