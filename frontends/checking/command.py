@@ -101,7 +101,7 @@ def check(words):
     if words.values["--write-baseline"] is not None:
         baseline.write(words.values["--write-baseline"], remarks)
     write(words, remarks)
-    tell_end(outcomes, remarks, len(files))
+    tell_end(outcomes, remarks, len(set(files)))
     if any(outcome.faults for outcome in outcomes):
         return 3
     return 1 if remarks and words.flags["--error"] else 0

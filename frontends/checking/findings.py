@@ -123,10 +123,15 @@ class Findings:
         self.put(claim, self.remark(line, kind, text, notes))
 
     def holds_for_macro(self, step):
-        """Whether an assignment is no macro's, or all of this macro's in its file to variables of this name are dead."""
+        """Whether an assignment is no macro's, or all of this macro's in its file to variables of this name are dead.
+
+        Where a macro sets a variable to zero, as one that frees does, that is meant for other uses.
+        """
         word = self.macro_at(step)
         if not word:
             return True
+        if has_plain_value(step):
+            return False
         name, file = step.variable.source, step.origin.place.file
         return all(self.has_fact(line, "dead", line[1].variable.name) for line in self.lines
                    if line[0] not in self.never and line[1].kind == "set" and line[1].role in SHOWN_ROLES
@@ -153,10 +158,9 @@ class Findings:
 
     def is_plain_initial(self, step):
         """Whether an assignment is a declaration's `= 0` or the like."""
-        statement = step.origin
-        if statement.kind != "assign" or statement.words[2] not in PLAIN_VALUES:
+        if not has_plain_value(step):
             return False
-        place = statement.place
+        place = step.origin.place
         behind = self.sources.get(place.file).behind(place.line, place.column)
         return behind.startswith(step.variable.source)
 
@@ -192,7 +196,10 @@ class Findings:
         key = (step.origin.place, "busy", self.plain_expression(found))
         if not self.is_new(key) or not self.holds(claim, lambda copy: self.is_busy_copy(copy, key[2])):
             return
-        places = self.traces.evaluated_next(procedure, step, name)
+        ways = self.traces.evaluated_next(procedure, step, name)
+        if not all(ways) or all(way == ways[0] for way in ways):
+            return  # nothing is gained before this test that isn't behind it
+        places = sorted({place for way in ways for place in way}, key=lambda place: (place.file, place.line, place.column))
         notes = tuple(Note(place.file, place.line, place.column, "evaluated here") for place in places)
         self.put(key, self.remark(line, "busy", f"'{self.expression_shown(found)}' is very busy", notes))
 
@@ -294,3 +301,8 @@ class Findings:
             if place and is_shared((*place[:2], 0)):
                 found.add(((*place[:2], 0), "never", procedure.source))
         return found
+
+
+def has_plain_value(step):
+    """Whether a step is an assignment of zero or the like."""
+    return step.origin.kind == "assign" and step.origin.words[2] in PLAIN_VALUES

@@ -6,6 +6,7 @@ IGNORE = re.compile(r"tacflow:\s*ignore\b(?:\s+(?P<kinds>[a-z-]+(?:\s*,\s*[a-z-]
 ONLY_COMMENT = re.compile(r"\s*(?://|/\*)")
 UNUSED = r"__attribute__\s*\(\([^;]*\b(?:__)?unused(?:__)?\b|\[\[[^;]*\bunused\]\]|\bmaybe_unused\]\]|\b[A-Z_]*UNUSED[A-Z_]*\b"
 CONSTANT = r"(?:[A-Za-z_]\w*|\.?\d[\w.]*|'(?:\\.|[^'\\])+')"
+NUMBER = re.compile(r"(-?)(0[xX][0-9A-Fa-f]+|\d+)[uUlL]*$")
 BEFORE = r"(?<![\w$.])(?<!->)"
 AFTER = r"(?![\w$]|\s*(?:\(|\[|\.\w|->))"
 # What may not stand behind an operator, since it would be another one.
@@ -51,9 +52,9 @@ class Source:
         """
         text = "\n".join(self.line(number) for number in range(line - 1, line + 3))
         for pattern, form in patterns(operator, operands, is_element):
-            found = re.search(pattern, text)
-            if found:
-                return form(found)
+            shown = next(filter(None, map(form, re.finditer(pattern, text))), "")
+            if shown:
+                return shown
         # a macro's expressions stand at its name
         behind = self.behind(line, column)
         return canonical(operator, operands, is_element) if re.match(r"[A-Za-z_$][\w$]*", behind) or not self.lines else ""
@@ -75,7 +76,7 @@ def silences(text, kind):
 
 
 def patterns(operator, operands, is_element):
-    """Patterns of an expression in a source, each with what it is told as."""
+    """Patterns of an expression in a source, each with what it is told as, '' where another constant stands there."""
     words = [BEFORE + re.escape(text) if is_name else BEFORE + CONSTANT for text, is_name in operands]
     ends = [AFTER if is_name or operator else "" for _, is_name in operands]
     if len(words) == 1:
@@ -87,18 +88,40 @@ def patterns(operator, operands, is_element):
         return
     signs = ("+", "-") if operator in ("+", "-") and not operands[1][1] else (operator,)
     for sign in signs:
-        yield binary_pattern(sign, first, second + ends[1])
-        if sign in "+-" and not operands[1][1]:
+        yield binary_pattern(sign, first, second + ends[1], operands, sign != operator)
+        if sign in "+-" and is_number("1", operands[1], sign != operator):
             doubled = re.escape(sign * 2)
             yield rf"({first})\s*{doubled}|{doubled}\s*({first})", lambda found, sign=sign: f"{found[1] or found[2]} {sign} 1"
     if operator in SWAPPED:
-        yield binary_pattern(SWAPPED[operator], second, first + ends[0])
+        yield binary_pattern(SWAPPED[operator], second, first + ends[0], operands[::-1])
 
 
-def binary_pattern(sign, first, second):
+def binary_pattern(sign, first, second, operands, is_taken_away=False):
     """The pattern of one operator between two operands, also as an assignment, and what it is told as."""
+    def form(found):
+        is_meant = all(is_name or is_number(told, (text, is_name), is_taken_away)
+                       for told, (text, is_name) in zip((found[1], found[2]), operands))
+        return f"{found[1]} {sign} {found[2]}" if is_meant else ""
     mark = re.escape(sign) + CLOSED.get(sign, "") + ("=?" if sign in ASSIGNING else "")
-    return rf"({first})\s*\)*\s*{mark}\s*\(*\s*({second})", lambda found: f"{found[1]} {sign} {found[2]}"
+    return rf"({first})\s*\)*\s*{mark}\s*\(*\s*({second})", form
+
+
+def is_number(told, operand, is_taken_away):
+    """Whether a source's constant may be an operand that is no name; one that is taken away is added by gcc, in a type of some width."""
+    text, is_name = operand
+    value, known = value_of(told), value_of(text)
+    if is_name or value is None or known is None:
+        return not is_name
+    return known in ([-value, *[(1 << bits) - value for bits in (8, 16, 32, 64)]] if is_taken_away else [value])
+
+
+def value_of(text):
+    """The value of a whole number as C writes it, None of other constants."""
+    found = NUMBER.match(text)
+    if not found:
+        return None
+    digits = found[2]
+    return int(found[1] + digits, 8 if digits.isdigit() and digits[0] == "0" else 0)
 
 
 def canonical(operator, operands, is_element):

@@ -45,9 +45,9 @@ class Traces:
         return [place for place in found if place != step.origin.place]
 
     def evaluated_next(self, procedure, step, expression):
-        """The places that evaluate an expression next."""
+        """The places that evaluate an expression next, for each of the ways that lead on."""
         follow, _, numbers, _ = self.of(procedure)
-        return self.walk(procedure, follow[numbers[step]], follow, lambda other: other.expression == expression)
+        return [self.walk(procedure, [start], follow, lambda other: other.expression == expression) for start in follow[numbers[step]]]
 
     @staticmethod
     def walk(procedure, starts, leads, stops):

@@ -206,7 +206,7 @@ class Translator(Calls, Jumps):
         self.note_addresses(words)
         if operation == "pointer_plus_expr":
             self.pass_over_scaling(words)
-        elif operation == "negate_expr" and words[0] in self.evaluations:
+        elif words[0] in self.evaluations and (operation == "negate_expr" or operation == "plus_expr" and not self.reads_of(words[1:])):
             self.evaluations[target] = self.evaluations[words[0]]
         element = self.element(words[0]) if operation == "array_ref" else None
         values = [] if element else [self.value(word) for word in words]
@@ -220,7 +220,7 @@ class Translator(Calls, Jumps):
             step.is_element = bool(element)
 
     def pass_over_scaling(self, words):
-        """What gcc multiplied or negated to add it to a pointer was not evaluated by the source."""
+        """What gcc multiplied or negated, and added a constant to, to add it to a pointer was not evaluated by the source."""
         for word in words:
             if word in self.evaluations:
                 self.evaluations[word].role = "made"

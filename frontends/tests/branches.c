@@ -44,7 +44,7 @@ static int sums(int a, int b)
 static int loops(int n)
 {
     int i, total = 0, first;
-    for (i = 0; i < n; i++) {   /* n - 2 is evaluated behind the loop in any case */ /* expect: 'n - 2' is very busy */
+    for (i = 0; i < n; i++) {   /* n - 2 is evaluated behind the loop in any case, but at one place: nothing is gained before it */
         total = total + i;
         first = i;
     }

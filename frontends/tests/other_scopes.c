@@ -5,6 +5,6 @@ static int own = 3;
 int other(int n)
 {
     if (n > 4)              /* expect: 'own * shared' is very busy */
-        n = 5;
+        return own * shared;
     return own * shared + n;
 }

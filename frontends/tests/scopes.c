@@ -18,7 +18,8 @@ static int called(int n)
 int main(int argc, char **argv)
 {
     if (argc > 3)           /* what called and other evaluate can't be named here */ /* expect: 'argc + 2' is very busy */
-        printf("more");
-    own = argc + 2;
+        own = argc + 2;
+    else
+        own = 7 * (argc + 2);
     return called(argc) + other(argc) + own;
 }

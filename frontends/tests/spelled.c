@@ -1,6 +1,8 @@
 /* Only what stands in the source is told, and as it stands there. */
 /* options: --whole */
 int printf(const char *, ...);
+void *malloc(unsigned long);
+void free(void *);
 
 #define SIZE 16
 #define NEXT(i) ((i) + 1)
@@ -37,6 +39,24 @@ static unsigned constants(unsigned size, int i)
     return a + b + c + d + e + f + g + h;
 }
 
+static int other_constants(int n, unsigned long m)
+{
+    int a = n - 1;
+    int b = n - 4;
+    int c = n - 1;          /* expect: 'n - 1' is already computed */
+    unsigned long d = m - 0x11ul;
+    unsigned long e = m - 18;
+    unsigned long f = m - 021;  /* expect: 'm - 021' is already computed */
+    return a + b + c + d + e + f;
+}
+
+static unsigned long scaled(struct item *p, unsigned long n)
+{
+    unsigned long size = 16 * n;
+    p[n - 1].key = 1;       /* gcc multiplies n and then takes 16 away, the source does not */
+    return size;
+}
+
 static int macros(int i)
 {
     int x, y;
@@ -48,6 +68,7 @@ static int macros(int i)
 
 #define KEPT(x, y) (y = (x) + 2, (x) * 2)
 #define LOST(x, y) (y = (x) + 3, (x) * 3)
+#define FREE(x) do { free(x); (x) = 0; } while (0)
 
 static int by_macro(int i, int n)
 {
@@ -56,6 +77,16 @@ static int by_macro(int i, int n)
     n = n * KEPT(n, y) + y;
     n = n + LOST(i, z);     /* expect: assignment to 'z' is dead */
     return n + LOST(n, z);  /* expect: assignment to 'z' is dead */
+}
+
+static int freed(int n)
+{
+    char *p = malloc(n);
+    FREE(p);                /* a macro sets p to zero for those that use it again */
+    p = malloc(n + 8);
+    free(p);
+    p = 0;                  /* expect: assignment to 'p' is dead */
+    return n;
 }
 
 static int steps(int i, int n)
@@ -70,5 +101,5 @@ static int steps(int i, int n)
 int main(int argc, char **argv)
 {
     return elements(argc, items, argc) + constants(argc, argc) + macros(argc) + steps(argc, 2)
-        + by_macro(argc, 1);
+        + by_macro(argc, 1) + other_constants(argc, 5) + scaled(items, 3) + freed(argc);
 }

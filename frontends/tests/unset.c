@@ -7,7 +7,7 @@ struct pair { int first, second; };
 static int surely(int n)
 {
     int x;
-    if (n > 3)              /* expect: 'x + n' is very busy */
+    if (n > 3)
         printf("%d", x);    /* expect: 'x' is used before it is set */
     return x + n;           /* note: used here too */
 }

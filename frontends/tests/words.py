@@ -47,7 +47,7 @@ CASES = [
     ("-x c -j2 -o x.o -MF y.d -I . -DX=1 -std=gnu11 one.c z.o -lm", 0, r"1 remark on 1 file"),
     ("--whole one.c library.c", 0, r"2 remarks on 2 files: 1 dead, 1 never"),
     ("--together one.c library.c", 0, r"2 remarks on 2 files: 2 dead"),
-    ("one.c library.c one.c", 0, r"2 remarks on 3 files: 2 dead"),
+    ("one.c library.c one.c", 0, r"2 remarks on 2 files: 2 dead"),
     ("one.c broken.c library.c", 3, r"(?s)broken.c: gcc failed.*2 remarks on 3 files: 2 dead"),
     ("--together one.c broken.c library.c", 3, r"(?s)broken.c: gcc failed.*2 remarks on 3 files: 2 dead"),
     ("--whole one.c broken.c library.c", 3, r"(?s)the rest is not taken as the whole program.*2 remarks on 3 files: 2 dead"),
