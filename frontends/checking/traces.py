@@ -35,32 +35,39 @@ class Traces:
         if step.variable.is_addressed:
             return []
         follow, _, numbers, _ = self.of(procedure)
-        return self.walk(procedure, follow[numbers[step]], follow,
-                         lambda other: other.kind in ("set", "read") and other.variable is step.variable and not other.weak)
+        return places_of(self.walk(procedure, follow[numbers[step]], follow, lambda other: other.kind in ("set", "read")
+                                   and other.variable is step.variable and not other.weak))
 
     def evaluated(self, procedure, step):
         """The places that evaluated the step's expression last."""
         _, before, numbers, _ = self.of(procedure)
         found = self.walk(procedure, before[numbers[step]], before, lambda other: other.expression == step.expression)
-        return [place for place in found if place != step.origin.place]
+        return [place for place in places_of(found) if place != step.origin.place]
 
     def evaluated_next(self, procedure, step, expression):
-        """The places that evaluate an expression next, for each of the ways that lead on."""
+        """The places that evaluate an expression next, for each of the ways that lead on. Those that step a variable, as i++, do not count."""
         follow, _, numbers, _ = self.of(procedure)
-        return [self.walk(procedure, [start], follow, lambda other: other.expression == expression) for start in follow[numbers[step]]]
+        ways = [self.walk(procedure, [start], follow, lambda other: other.expression == expression) for start in follow[numbers[step]]]
+        return [places_of(found for found in way if found.variable not in found.operands) for way in ways]
 
     @staticmethod
     def walk(procedure, starts, leads, stops):
-        """The places of the first steps on each way that stop it, in source order, a few of them."""
+        """The first steps on each way that stop it."""
         steps = procedure.steps
-        seen, waiting, found = set(), list(starts), set()
+        seen, waiting, found = set(), list(starts), []
         while waiting:
             at = waiting.pop()
             if at in seen or at >= len(steps):
                 continue
             seen.add(at)
-            if not stops(steps[at]):
+            if stops(steps[at]):
+                found.append(steps[at])
+            else:
                 waiting += leads[at]
-            elif steps[at].origin and steps[at].origin.place and steps[at].role != "made":
-                found.add(steps[at].origin.place)
-        return sorted(found, key=lambda place: (place.file, place.line, place.column))[:MOST]
+        return found
+
+
+def places_of(steps):
+    """The places of steps that stand in the source, in its order, a few of them."""
+    found = {step.origin.place for step in steps if step.origin and step.origin.place and step.role != "made"}
+    return sorted(found, key=lambda place: (place.file, place.line, place.column))[:MOST]

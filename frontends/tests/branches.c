@@ -41,6 +41,15 @@ static int sums(int a, int b)
     return z + a * b;       /* expect: 'a * b' is already computed */
 }
 
+static int steps(int n, int k)
+{
+    if (k > 1)              /* n is stepped on both ways: nothing is gained before them */
+        n++;
+    else
+        n = 3 * ++n;
+    return n;
+}
+
 static int loops(int n)
 {
     int i, total = 0, first;
@@ -86,5 +95,5 @@ out:
 
 int main(int argc, char **argv)
 {
-    return choose(argc) + all_cases(argc) + sums(argc, 2) + loops(argc) + short_circuit(argc, 1) + labels(argc);
+    return choose(argc) + all_cases(argc) + sums(argc, 2) + steps(argc, 3) + loops(argc) + short_circuit(argc, 1) + labels(argc);
 }
