@@ -45,7 +45,9 @@ impl Layout {
     ) -> Result<(), OutOfMemory> {
         let mut latest = u32::MAX;
         for point in points {
-            if leading.get(*point as usize).copied() != Some(leads) || u32::from(*point) >= links.points() {
+            if leading.get(*point as usize).copied() != Some(leads)
+                || u32::from(*point) >= links.points()
+            {
                 continue;
             }
             let procedure = links.procedure_of(u32::from(*point));

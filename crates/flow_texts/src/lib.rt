@@ -16,6 +16,7 @@ mod table_texts;
 
 pub use bit_texts::{line, texts_of_bits, write_number};
 pub use findings::Findings;
+pub use flow_team::{Tables, table_of};
 pub use members::{write_members, write_set};
 pub use remark::Remark;
 pub use remark_form::RemarkForm;
@@ -24,4 +25,3 @@ pub use report_answers::ReportAnswers;
 pub use reports::{ReportText, report, report_here};
 pub use std::alloc::AllocError as OutOfMemory;
 pub use table_texts::{TableText, table_text};
-pub use flow_team::{Tables, table_of};

@@ -4,8 +4,8 @@ ghost use Rattle.std.specs.Prelude.{◌≡◌, ℕ, List, [], ◌∷◌, map, op
 ghost use Rattle.tac_lines.specs.Forms.{fills, first_wrong, has_form, comparison, unary, statement_forms};
 ghost use Rattle.tac_lines.specs.code.Views.{GoesAsFar, token_view, tokens_view, word_at, slot_view, slots_view, form_slots, fills_at, of_key, wrong_of, is_whole};
 
-use tac_program::Op;
 use crate::token::{Keyword, Token, TokenKind};
+use tac_program::Op;
 
 /// The form of a statement: one for each row of the table of statements.
 #[derive(Clone, Copy, PartialEq, Eq)]

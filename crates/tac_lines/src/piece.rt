@@ -8,8 +8,8 @@ ghost use Rattle.tac_program.specs.Spelling.{is_letter, is_digit, is_name_byte, 
 ghost use Rattle.tac_program.specs.Names.{is_one_of};
 ghost use Rattle.tac_lines.specs.code.Views.{piece_at, front_view, word_at};
 
-use tac_program::Op;
 use crate::token::{Keyword, TokenKind};
+use tac_program::Op;
 
 fn starts_name(b: u8) -> bool
     ensures { result ≡ is_letter b }

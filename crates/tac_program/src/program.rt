@@ -221,12 +221,7 @@ impl Model for Proc {
 
 impl Proc {
     /// A procedure of these parts.
-    pub fn new(
-        name: u32,
-        labels: Vec<Label>,
-        label_names: NameTable,
-        stmts: Vec<Stmt>,
-    ) -> Self
+    pub fn new(name: u32, labels: Vec<Label>, label_names: NameTable, stmts: Vec<Stmt>) -> Self
         requires { LabelsRise labels.items }
         ensures { result ≡ record { name = name; labels = labels.items; label_names = label_names; statements = stmts.items } }
     {

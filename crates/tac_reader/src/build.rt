@@ -10,15 +10,10 @@ ghost use Rattle.tac_lines.specs.Text.{line_after};
 ghost use Rattle.tac_lines.specs.code.Views.{token_view, tokens_view};
 ghost use Rattle.tac_program.specs.declared.program.StmtKind.TheVariants.{Binary, Copy, IfCompare, Unary};
 
-use tac_lines::Form;
-use tac_lines::Statement;
-use tac_program::NameTable;
 use crate::occurrences::Variables;
-use tac_lines::number_value;
-use tac_program::{Callees, Op, Operand, StmtKind};
-use tac_lines::{Role, cells};
-use tac_lines::{Token, TokenKind};
 use std::alloc::AllocError;
+use tac_lines::{Form, Role, Statement, Token, TokenKind, cells, number_value};
+use tac_program::{Callees, NameTable, Op, Operand, StmtKind};
 
 /// The tables that the numbers in a procedure's statements are places in.
 #[derive(Clone, Copy)]

@@ -17,14 +17,10 @@ ghost use Rattle.tac_program.specs.Names.{is_one_of};
 ghost use Rattle.tac_lines.specs.code.Views.{tokens_view};
 ghost use Rattle.tac_lines.specs.declared.refusal.RefusalKind.TheVariants.{DuplicateCallee, DuplicateLabel, DuplicateProcedure, NoMain, TooManyProcedures, UnknownLabel, UnknownProcedure};
 
-use tac_lines::{Fault, Stop};
-use tac_program::NameSeeds;
-use tac_program::NameTable;
-use tac_lines::RefusalKind;
 use crate::section::{Section, labels, line_cells, section_cells};
-use tac_lines::Role;
-use tac_lines::Token;
 use std::alloc::{AllocError, Global};
+use tac_lines::{Fault, RefusalKind, Role, Stop, Token};
+use tac_program::{NameSeeds, NameTable};
 
 /// The most procedures that a program may have.
 const MOST_PROCEDURES: usize = 256;

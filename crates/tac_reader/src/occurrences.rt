@@ -4,8 +4,8 @@ ghost use Rattle.std.specs.Prelude.{◌≡◌, All, slice_range};
 ghost use Rattle.tac_program.specs.Programs.{number_of};
 ghost use Rattle.tac_reader.specs.code.Occurrences.{IsNumberedIn};
 
-use tac_program::NameTable;
 use tac_lines::Token;
+use tac_program::NameTable;
 
 /// The bytes `start..stop` of a text, which are the name of the variable of this number.
 #[derive(Clone, Copy)]

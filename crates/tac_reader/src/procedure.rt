@@ -13,16 +13,13 @@ ghost use Rattle.tac_lines.specs.code.Views.{tokens_view};
 
 use crate::build::{Names, Progress, kind};
 use crate::cursor::LineCursor;
-use tac_lines::{Lines, Statement, counted};
-use tac_lines::stop_of;
-use tac_program::NameSeeds;
-use tac_program::NameTable;
 use crate::occurrences::{Occurrence, Variables};
-use tac_program::{Label, Proc, Program, Span, Stmt};
 use crate::section::Section;
-use tac_lines::{Role, cells, has_only_variables};
-use tac_lines::{Token, TokenKind};
 use std::alloc::{AllocError, Global};
+use tac_lines::{
+    Lines, Role, Statement, Token, TokenKind, cells, counted, has_only_variables, stop_of,
+};
+use tac_program::{Label, NameSeeds, NameTable, Proc, Program, Span, Stmt};
 
 /// The names that the whole program shares.
 #[derive(Clone, Copy)]

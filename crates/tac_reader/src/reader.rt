@@ -14,16 +14,12 @@ use crate::checks::{
     check_callees, check_count, check_jumps, check_labels, check_main, check_procedures,
     check_repeated_callees,
 };
-use tac_lines::{Fault, Stop};
-use tac_lines::Lines;
-use tac_lines::lex::lex;
-use tac_program::NameSeeds;
-use tac_program::NameTable;
 use crate::procedure::{program, variables};
-use tac_program::Program;
-use tac_lines::{ReadFault, Refusal, RefusalKind};
 use crate::section::{Section, sections};
 use std::alloc::Global;
+use tac_lines::lex::lex;
+use tac_lines::{Fault, Lines, ReadFault, Refusal, RefusalKind, Stop};
+use tac_program::{NameSeeds, NameTable, Program};
 
 /// The longest text, in bytes.
 const LONGEST_TEXT: usize = 1_048_576;

@@ -9,12 +9,9 @@ ghost use Rattle.tac_reader.specs.Sections.{sections_in, statements_of};
 ghost use Rattle.tac_lines.specs.code.Views.{tokens_view};
 ghost use Rattle.tac_lines.specs.declared.lexed.LineRange.{LineRange};
 
-use tac_lines::Lines;
-use tac_lines::lex::{is_end, is_proc};
-use tac_lines::label_at;
-use tac_lines::{Role, cells};
-use tac_lines::Token;
 use std::alloc::{AllocError, Global};
+use tac_lines::lex::{is_end, is_proc};
+use tac_lines::{Lines, Role, Token, cells, label_at};
 
 /// A procedure: its name, and the lines between its `proc` line and its `end`.
 #[derive(Clone, Copy)]
