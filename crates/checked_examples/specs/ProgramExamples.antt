@@ -6,7 +6,8 @@ use Rattle.tac_reader.specs.Parses.{program_of}
 use Rattle.flow_graph.specs.Analyses.{shape_of, transfer_of}
 use Rattle.flow_graph.specs.Paths.{Shape, Transfer}
 use Rattle.flow_graph.specs.Points.{point_count}
-use Rattle.flow_graph.specs.Universes.{Analysis, bits}
+use Rattle.flow_graph.specs.Universes.{bits}
+use Rattle.flow_graph.specs.declared.analysis.Analysis.{Analysis}
 use Rattle.flow_graph.specs.Transfers.{gens, kills, is_in_boundary}
 
 -- points 0 to 6 of main and 7, 8 of p

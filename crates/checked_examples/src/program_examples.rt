@@ -8,7 +8,8 @@ ghost use Rattle.flow_graph.specs.Examples.{two_calls, earlier_definition, later
 ghost use Rattle.flow_graph.specs.Paths.{root, final};
 ghost use Rattle.flow_graph.specs.Points.{points, point_count, place_of, point_of, entry_point, end_point, kind_at};
 ghost use Rattle.checked_examples.specs.ProgramExamples.{calls_twice, calls_itself, adds_to_itself, calls_endless, may_loop, calls_main, computes_twice, prints_between_calls, calls_either, calls_several, calls_once, uncalled_procedure_calls, main_comes_last, each_kind, repeats_expressions, gen_at, kill_at, boundary_of, IsShapeOf, IsTransferOf};
-ghost use Rattle.flow_graph.specs.Universes.{definitions, expressions, evaluated_at, bits, Unary, Binary};
+ghost use Rattle.flow_graph.specs.Universes.{definitions, expressions, evaluated_at, bits};
+ghost use Rattle.flow_graph.specs.declared.expression.Expr.TheVariants.{Unary, Binary};
 ghost use Rattle.flow_graph.specs.declared.analysis.Analysis.TheVariants.{Reach, Live, Avail, Busy};
 ghost use Rattle.flow_graph.specs.declared.edge.Edge.TheVariants.{Step, Call, Ret};
 ghost use Rattle.tac_program.specs.declared.program.Op.TheVariants.{Plus, Minus};
