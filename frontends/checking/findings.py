@@ -26,29 +26,32 @@ class Findings:
         self.sources = sources
         self.files = {file.name: file for file in files}
         self.shows_all = shows_all
-        self.lines = [(number, step, procedure) for number, step, procedure in written.notes if step.origin and step.origin.place]
+        lines = [(number, step, procedure) for number, step, procedure in written.notes if step.origin and step.origin.place]
+        self.lines = [line for line in lines if not line[2].is_once]
+        self.lines_once = [line for line in lines if line[2].is_once and line[1].kind == "set"]
         self.never = {number for number, told in facts.items() if ("never_reached", "") in told}
         self.traces = Traces()
         self.remarks = {}
         self.tried = set()
-        told = {line[1].origin.place for line in self.lines if line[0] in facts}
-        self.by_claim = self.gather(line for line in self.lines if line[1].origin.place in told)
+        told = {line[1].origin.place for line in [*self.lines, *self.lines_once] if line[0] in facts}
+        self.by_claim = self.gather(line for line in [*self.lines, *self.lines_once] if line[1].origin.place in told)
         self.take_all()
 
     # What can be told at a place
 
     def claims(self, line):
         """What could be told of a line, by keys that all copies of its place share."""
-        _, step, _ = line
+        _, step, procedure = line
         place = step.origin.place
         if step.role in SHOWN_ROLES or self.shows_all:
-            if step.kind == "set" and self.name(step.variable):
+            if step.kind == "set" and self.name(step.variable) and not step.told_once:
                 yield place, "dead", self.name(step.variable)
             if step.expression and self.plain_expression(step):
                 yield place, "computed", self.plain_expression(step)
         if step.role == "test":
             yield place, "busy", ""
-        yield place, "never", ""
+        if not procedure.is_once:
+            yield place, "never", ""
 
     def gather(self, lines):
         """Lines by what could be told of them."""
@@ -80,10 +83,10 @@ class Findings:
 
     def take_all(self):
         """Makes all remarks."""
-        for line in self.lines:
+        for line in [*self.lines, *self.lines_once]:
             told = self.facts.get(line[0], ())
             for kind, name in told:
-                if kind == "dead":
+                if kind == "dead" and not line[1].told_once:
                     self.take_dead(line)
                 elif kind == "computed":
                     self.take_computed(line, name)
@@ -133,8 +136,8 @@ class Findings:
         if has_plain_value(step):
             return False
         name, file = step.variable.source, step.origin.place.file
-        return all(self.has_fact(line, "dead", line[1].variable.name) for line in self.lines
-                   if line[0] not in self.never and line[1].kind == "set" and line[1].role in SHOWN_ROLES
+        return all(self.has_fact(line, "dead", line[1].variable.name) for line in [*self.lines, *self.lines_once]
+                   if line[0] not in self.never and line[1].kind == "set" and not line[1].told_once and line[1].role in SHOWN_ROLES
                    and line[1].variable.source == name and line[1].origin.place.file == file and self.macro_at(line[1]) == word)
 
     def macro_at(self, step):
@@ -295,7 +298,8 @@ class Findings:
 
     def seen_at(self, is_shared):
         """The keys of all that could be told at places that are shared."""
-        found = set(self.gather(line for line in self.lines if line[0] not in self.never and is_shared(line[1].origin.place)))
+        found = set(self.gather(line for line in [*self.lines, *self.lines_once]
+                                if line[0] not in self.never and is_shared(line[1].origin.place)))
         for procedure in self.program.procedures:
             place = self.definition_of(procedure) if procedure.function else None
             if place and is_shared((*place[:2], 0)):

@@ -1,7 +1,9 @@
 """Functions that may be active twice: their locals are written so that activations are not taken for one another."""
 
+import copy
+
 from . import flow
-from .code import Builder, Procedure, Step
+from .code import Builder, Procedure, Step, Variable
 
 
 def callees_of(procedure):
@@ -10,16 +12,20 @@ def callees_of(procedure):
 
 
 def keep_activations_apart(functions, everything):
-    """Writes the locals of procedures that may recur as docs/ENCODINGS.md says. Answers the procedures that were made for it."""
+    """Writes the locals of procedures that may recur as docs/ENCODINGS.md says.
+
+    Answers the procedures that were made for it, and those that stand for one activation each.
+    """
     callees = {procedure: callees_of(procedure) for procedure in everything}
     number = flow.components(everything, callees)
-    made = []
+    made, single = [], []
     shared = {}
     for procedure in functions:
         again = {id(step) for step in procedure.steps if step.kind == "call"
                  and any(number[callee] == number[procedure] for callee in step.callees)}
         if again:
-            shared[procedure] = variables_in_use(procedure, again)
+            shared[procedure], unread = variables_in_use(procedure, again)
+            single += [one_activation(procedure, unread)] if unread else []
     weak = {variable for variables in shared.values() for variable in variables}
     for procedure in everything:
         for step in procedure.steps:
@@ -29,23 +35,57 @@ def keep_activations_apart(functions, everything):
         again = [step for step in procedure.steps if step.kind == "call"
                  and any(number[callee] == number[procedure] for callee in step.callees)]
         made += change_locals(procedure, variables, again)
-    return made
+    return made, single
 
 
 def variables_in_use(procedure, again):
-    """The locals that are in use across one of these calls, or at the entry, or that pointers may lead to."""
+    """The locals that are in use across one of these calls, or at the entry, or that pointers may lead to.
+
+    Beside them those of which some value seems to be read by nobody, as far as one activation goes.
+    """
     own = list(dict.fromkeys([*procedure.locals(), *[parameter for parameter in procedure.parameters if parameter]]))
     live, numbers = flow.live_before(procedure.steps, own)
-    used = 0
+    used = unread = 0
     for at, step in enumerate(procedure.steps):
         if id(step) in again:
             used |= live[at + 1]
+        if is_own_set(step) and not step.weak:
+            unread |= numbers.get(step.variable, 0) & ~live[at + 1]
     found = []
     for variable in own:
         at_entry = live[0] & numbers[variable] and not variable.is_parameter
         if variable.is_addressed or used & numbers[variable] or at_entry:
             found.append(variable)
-    return found
+    return found, [variable for variable in found if variable.source and not variable.is_addressed and unread & numbers[variable]]
+
+
+def is_own_set(step):
+    """Whether a step sets a variable, and is not the passing of an argument, to an inner activation for one."""
+    return step.kind == "set" and step.role != "argument"
+
+
+def one_activation(procedure, variables):
+    """A procedure that does what one activation of a function does with these locals, to which no pointer leads.
+
+    Whatever it calls leaves them as they are, so all else that it does is left out. It has all ways of the function.
+    """
+    single = Procedure(f"{procedure.wish}__once", procedure.source, procedure.function, is_once=True)
+    copies = {variable: Variable(variable.wish, variable.source, single, is_array=variable.is_array, is_parameter=variable.is_parameter)
+              for variable in variables}
+    build = Builder(single)
+    for step in procedure.steps:
+        reads = tuple(copies[part] for part in step.reads() if part in copies)
+        if step.kind in ("label", "goto", "return", "fork"):
+            single.steps.append(copy.copy(step))
+        elif step.kind == "use":
+            build.add("use" if reads else "fork", operands=reads, label=step.label)
+        else:
+            build.use(reads)
+        if is_own_set(step) and step.variable in copies:
+            build.add("set", variable=copies[step.variable], weak=step.weak, ends_life=step.ends_life, role=step.role)
+            single.steps[-1].origin, single.steps[-1].slot = step.origin, step.slot
+            step.told_once = True
+    return single
 
 
 def change_locals(procedure, variables, calls):

@@ -47,7 +47,8 @@ class Step:
     `operator` and `operands`; one that is `weak` may also leave the variable as it is. A use reads its operands, and leads to
     `label` or on where it is a test. A fork leads to `label` or on. A note stands for no statement: it says that the
     variables of `touched` may be written from there on, through an address or a part. A test that compares one variable with a number
-    has variable, operation and number in `compares`, one of two numbers its outcome in `outcome`.
+    has variable, operation and number in `compares`, one of two numbers its outcome in `outcome`. Of a set that is `told_once` a copy
+    in a procedure of one activation tells whether its value is read.
     """
     kind: str
     variable: Variable = None
@@ -68,6 +69,7 @@ class Step:
     expression: str = ""
     compares: tuple = ()
     outcome: bool = None
+    told_once: bool = False
 
     def reads(self):
         """The variables that it reads."""
@@ -79,6 +81,7 @@ class Procedure:
     """A procedure of the program.
 
     function: the C function's dump, or None where the front end made it. refusal: why it stands for unknown code, or None.
+    is_once: it has the locals of one activation of the function and nothing else.
     """
     wish: str
     source: str = ""
@@ -88,6 +91,7 @@ class Procedure:
     result: Variable = None
     stop: Label = None
     refusal: object = None
+    is_once: bool = False
     name: str = ""
 
     def locals(self):

@@ -4,7 +4,7 @@ from dataclasses import dataclass
 
 from . import flow
 from .activations import callees_of, keep_activations_apart
-from .code import Builder, Label, Procedure, Variable
+from .code import Builder, Label, Procedure, Step, Variable
 from .dump import statements_in
 from .faults import Refusal
 from .known_tests import lead_past
@@ -47,8 +47,9 @@ def build(world, keeps_temporaries=False):
     kept += [helper for helper in helpers if helper in called]
     root = Procedure("main")
     fill_root(root, services, world, kept)
-    changes = keep_activations_apart([procedure for procedure in kept if procedure.function], [root, *kept])
-    everything = [root, *kept, *changes]
+    changes, single = keep_activations_apart([procedure for procedure in kept if procedure.function], [root, *kept])
+    begin_with(root, single)
+    everything = [root, *kept, *changes, *single]
     for procedure in everything:
         tidy(procedure)
     return Program(everything, [procedure for procedure in functions if procedure not in called], refused)
@@ -134,6 +135,14 @@ def fill_root(root, services, world, procedures):
         build.use([main.result] if main.result else ())
     build.label(end)
     build.call([services.unknown])
+
+
+def begin_with(root, procedures):
+    """Has the program begin with one of these procedures and end, or go on as it was."""
+    start = Procedure("start")
+    over = Label()
+    call_from_outside(Builder(start), procedures, over)
+    root.steps = [*start.steps, *root.steps, *([Step("label", label=over)] if procedures else [])]
 
 
 def run_alone(build, procedures):

@@ -155,12 +155,13 @@ class Changes:
         self.bodies = bodies
         self.facts = facts
         self.declared = {variable: declared for (_, declared), variable in world.locals.items()}
-        self.notes = [note for note in written.notes if note[1].origin]
+        self.notes = [note for note in written.notes if note[1].origin and not note[2].is_once]
+        self.once = [note for note in written.notes if note[1].origin and note[2].is_once and note[1].kind == "set"]
         self.never = {number for number, told in facts.items() if ("never_reached", "") in told}
         self.before, self.after, self.top, self.globals = {}, {}, {}, []
         self.counts = dict.fromkeys(("dead", "never", "computed", "busy"), 0)
         self.copies = {}
-        for number, step, procedure in self.notes:
+        for number, step, procedure in [*self.notes, *self.once]:
             self.copies.setdefault((step.origin, step.slot), []).append((number, step, procedure))
 
     def make(self, kinds):
@@ -177,19 +178,20 @@ class Changes:
 
     def holds(self, step, kind, name):
         """Whether all copies of a step that are reached have a fact."""
-        copies = [number for number, _, _ in self.copies[step.origin, step.slot] if number not in self.never]
-        return bool(copies) and all((kind, name) in self.facts.get(number, ()) for number in copies)
+        copies = [(number, other) for number, other, procedure in self.copies[step.origin, step.slot]
+                  if number not in self.never and not (other.told_once if kind == "dead" else procedure.is_once)]
+        return bool(copies) and all((kind, name or other.variable.name) in self.facts.get(number, ()) for number, other in copies)
 
     def overwrite(self):
         """Overwrites each value that is dead."""
         done = set()
-        for _, step, procedure in self.notes:
+        for _, step, procedure in [*self.notes, *self.once]:
             statement = step.origin
             if step.kind != "set" or step.role != "plain" or statement in done or self.body_of(procedure) is None:
                 continue
             if re.fullmatch(operands.TEMPORARY, statement.words[1]):
                 continue
-            if statement.kind in ("assign", "call") and self.holds(step, "dead", step.variable.name):
+            if statement.kind in ("assign", "call") and self.holds(step, "dead", ""):
                 target = self.body_of(procedure).name_all(statement.words[1])
                 self.after.setdefault(statement, []).append(f"__builtin_memset((void *)&({target}), {CHANGED}, sizeof({target}));")
                 done.add(statement)
