@@ -244,14 +244,15 @@ class Analysis:
 
 
 def cut(functions, weights, count):
-    """Functions in so many stretches of about the same weight."""
+    """Functions in so many stretches of about the same weight: at least two, where there are two functions."""
     total = sum(weights.get(function, 1) for function in functions)
     parts, at = [[]], 0
     for function in functions:
-        if at * count >= total * len(parts) and parts[-1]:
+        weight = weights.get(function, 1)
+        if (2 * at + weight) * count >= 2 * total * len(parts) and parts[-1]:
             parts.append([])
         parts[-1].append(function)
-        at += weights.get(function, 1)
+        at += weight
     return parts
 
 

@@ -11,6 +11,10 @@ import time
 from collections import Counter
 
 HERE = os.path.dirname(os.path.realpath(__file__))
+sys.path.insert(0, os.path.join(HERE, ".."))
+
+from checking import analysis
+
 CHECK = os.path.join(HERE, "..", "check-c")
 ONE_REMARK = "int printf(const char *, ...);\nint main(int c, char **v)\n{\n\tint gone = c * 2;\n    return 0;\n}\n"
 BROKEN = "int main(void) { return x; }\n"
@@ -122,6 +126,10 @@ def wrong_parts(folder):
             file.write(f'#include "parts.h"\nint {name}(int n) {{ {own} }}\n{functions}')
     with open(os.path.join(folder, "parts.h"), "w", encoding="utf-8") as file:
         file.write(header)
+    for weights in ((1, 1, 10), (10, 1, 1), (1, 10), (5, 1, 1, 9)):
+        halves = analysis.cut(list(range(len(weights))), dict(enumerate(weights)), 2)
+        if len(halves) != 2 or sum(halves, []) != list(range(len(weights))):
+            yield f"halves of {weights}: {halves}"
     for words in ("--together first.c second.c", "--together -j 2 first.c second.c"):
         told = run(words + " --format json", folder)
         places = Counter((row["file"], row["message"]) for row in map(json.loads, told.stdout.splitlines()))
