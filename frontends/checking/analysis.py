@@ -1,5 +1,6 @@
 """One program from its C files to its remarks: gcc, the translation, tacview, and parts where it is beyond tacview's limits."""
 
+import gc
 import json
 import os
 import signal
@@ -93,6 +94,7 @@ shared = []
 def processes(count, begin, *parts):
     """A pool of so many processes, each of which has this one's memory as it is now and begins with a call of this function."""
     from multiprocessing import get_context  # it takes a while, and one program needs none
+    gc.freeze()  # a collection would write to all that is shared, so that each process had it by itself
     return get_context("fork").Pool(count, begin, parts)
 
 
@@ -193,6 +195,8 @@ class Analysis:
             for part in parts:
                 self.try_part(part, weights)
             return
+        for file in self.files:
+            file.functions_naming()  # which all parts need
         with processes(self.task.processes, take_up, self, parts, weights) as pool:
             for done in pool.imap(do_part, range(len(parts)), chunksize=1):
                 self.parts += done

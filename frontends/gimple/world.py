@@ -37,10 +37,14 @@ class File:
         """The names that functions have which are taken as other code."""
         if not self.outside:
             return []
+        inside = Counter(name for function in self.functions if function.uid not in self.outside for name in function.names())
+        return [name for name, count in self.functions_naming().items() if count > inside[name]]
+
+    def functions_naming(self):
+        """For each name how many functions have it."""
         if self.naming is None:
             self.naming = Counter(name for function in self.functions for name in function.names())
-        inside = Counter(name for function in self.functions if function.uid not in self.outside for name in function.names())
-        return [name for name, count in self.naming.items() if count > inside[name]]
+        return self.naming
 
 
 class World:
