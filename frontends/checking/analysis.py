@@ -22,7 +22,7 @@ from .sources import Sources
 # a function weighs as much as its statements and some more.
 MANY_STATEMENTS = 24000
 PART = 9000
-FUNCTION = 15
+FUNCTION = 20
 HERE = os.path.dirname(os.path.realpath(__file__))
 
 
