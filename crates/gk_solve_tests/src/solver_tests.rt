@@ -376,3 +376,43 @@ fn loops_are_gone_over_as_deep_as_they_lie(rt: HostRuntime) -> Result<(), Fail> 
     }
     Ok(())
 }
+
+/// How many procedures call one another, and how many statements stand behind the calls that wait for eight of them.
+const WAITING: u32 = 16;
+
+const BEHIND: u32 = 900;
+
+/// Procedures of which each may call the one before, and may go to where no way leads to its end: there it calls eight of them, again and
+/// again.
+fn write_waiting(text: &mut String) -> Result<(), OutOfMemory> {
+    text.push_str("proc main\ncall p0\nend\n")?;
+    for number in 0..WAITING {
+        let before = (number + 1) % WAITING;
+        write!(
+            text,
+            "proc p{number}\nif c goto on\nif c goto out\ncall p{before}\ngoto out\n"
+        )?;
+        text.push_str("on: call p0 | p2 | p4 | p6 | p8 | p10 | p12 | p14\n")?;
+        for _ in 0..BEHIND {
+            text.push_str("skip\n")?;
+        }
+        write!(text, "goto on\nout: v{number} = 1\nend\n")?;
+    }
+    Ok(())
+}
+
+/// What leads to no exit is gone over when the exits are known: with its loop twice, however often they changed. The others, that a
+/// chain of all procedures passes, are gone over as often as there are procedures at most.
+#[test]
+fn what_leads_to_no_exit_waits(rt: HostRuntime) -> Result<(), Fail> {
+    let mut text = String::new(rt.alloc());
+    write_waiting(&mut text)?;
+    let followed = steps_followed(rt.alloc(), text.as_bytes())?;
+    let (for_flags, for_all) = followed.expect(&rt, "a graph");
+    let each = u64::from(BEHIND) + 1;
+    let others = 6;
+    assert_eq!(rt; for_flags, u64::from(WAITING) * (each + others));
+    let most = u64::from(WAITING) * (2 * each + u64::from(WAITING) * others);
+    assert!(rt; for_all - for_flags <= most);
+    Ok(())
+}
