@@ -156,7 +156,8 @@ def wrong_ends(folder):
     os.chmod(slow, 0o755)
     for words in ("one.c", "-j2 one.c library.c"):
         started = subprocess.Popen([sys.executable, CHECK, *words.split()], cwd=folder, stderr=subprocess.PIPE, text=True,
-                                   env=dict(os.environ, TACVIEW=slow), start_new_session=True)
+                                   env=dict(os.environ, TACVIEW=slow), start_new_session=True,
+                                   preexec_fn=lambda: signal.signal(signal.SIGINT, signal.SIG_DFL))  # a shell may have it ignored
         time.sleep(1.5)
         os.killpg(started.pid, signal.SIGINT)
         told = started.communicate()[1]
