@@ -1,5 +1,7 @@
 """One program from its C files to its remarks: gcc, the translation, tacview, and parts where it is beyond tacview's limits."""
 
+import contextlib
+import functools
 import gc
 import json
 import os
@@ -7,7 +9,6 @@ import signal
 import subprocess
 import tempfile
 from collections import Counter
-from concurrent.futures import ThreadPoolExecutor
 from dataclasses import dataclass, field
 
 from gimple import dump, emit, inputs, program
@@ -136,12 +137,15 @@ def analyse(task):
 def compile_all(task, outcome):
     """The files of a task; those that gcc refuses are left out."""
     files = []
-    with tempfile.TemporaryDirectory() as folder, ThreadPoolExecutor(task.processes) as threads:
-        started = [threads.submit(run_gcc, given, os.path.join(folder, str(number)))
-                   for number, given in enumerate(task.inputs)]
-        for given, run in zip(task.inputs, started):
+    with tempfile.TemporaryDirectory() as folder, contextlib.ExitStack() as stack:
+        runs = [functools.partial(run_gcc, given, os.path.join(folder, str(number))) for number, given in enumerate(task.inputs)]
+        if task.processes > 1 and len(runs) > 1:
+            from concurrent.futures import ThreadPoolExecutor  # it takes a while, and one file needs none
+            threads = stack.enter_context(ThreadPoolExecutor(task.processes))
+            runs = [threads.submit(run).result for run in runs]
+        for given, run in zip(task.inputs, runs):
             try:
-                path = run.result()
+                path = run()
                 files += [inputs.read_file(path, given.shown(given.file), given.shown)] if path else []
             except Refusal as refusal:
                 outcome.faults.append(str(refusal))
@@ -205,10 +209,12 @@ class Analysis:
         """The places that several functions have, as those of headers and macros, which may come into several parts."""
         counts = Counter()
         for file in self.files:
-            for function in file.functions:
-                definition = file.symbols.definitions.get(function.name)
-                counts.update({statement.place for statement in dump.statements_in(function.body)} | {definition and (*definition, 0)})
-        return frozenset(place for place, count in counts.items() if place and count > 1)
+            defined = [file.symbols.definitions.get(function.name) for function in file.functions]
+            counts.update((*definition, 0) for definition in defined if definition)
+            told = Counter(text for function in file.functions for text in function.places())
+            for text, count in told.items():
+                counts[dump.place_in(text, file.functions[0].shown)] += count
+        return frozenset(place for place, count in counts.items() if count > 1)
 
     def own_files(self):
         """The files of this program that no other one compiles."""

@@ -8,7 +8,12 @@ from typing import NamedTuple
 from . import operands
 from .faults import Refusal
 
-HEADER = re.compile(r";; Function (?P<name>\S+) \((?P<linkage>[^,]*), .*decl_uid=(?P<uid>\d+)")
+HEADER = re.compile(r"^;; Function (?P<name>\S+) \((?P<linkage>[^,\n]*), .*decl_uid=(?P<uid>\d+)", re.MULTILINE)
+FIRST_STATEMENT = re.compile(r"^(?: *(?:\[[^\[\]\"\n]*\] )?(?:gimple_|//)|\}$)", re.MULTILINE)
+STATEMENT_PLACE = re.compile(r"^ *\[([^\[\]\"\n]*:\d+:\d+)(?: discrim \d+)?\] gimple_", re.MULTILINE)
+SWITCH = re.compile(r"^ *gimple_switch .*", re.MULTILINE)
+# A text without them falls apart into words, in which alone there are declared names.
+SIGNS = str.maketrans(dict.fromkeys("[]<>(),;:&+-={}\"/!|^%~?'\\", " "))
 STATEMENT = re.compile(r"gimple_(?P<kind>\w+) <(?P<words>.*)>(?P<rest>[^>]*)$")
 CASE = re.compile(r"(?:default|case [^:]*): <([^>]*)>")
 OPERAND_NAME = re.compile(r'(?:"\w+" )?"(?P<constraint>[^"]*)" (?P<operand>.*)$')
@@ -59,33 +64,61 @@ class Try:
 
 @dataclass(eq=False)
 class Function:
-    """A function's dump: what it declares, by names as `xD.12`, and its statements.
+    """A function's dump: what it declares, by names as `xD.12`, and its statements, which are read when they are asked for.
 
-    attributes: what stands before its heading. arrays: the locals that are arrays. fault: why its body can't be read, or None.
+    attributes: what stands before its heading. arrays: the locals that are arrays. text: the lines of its statements, of which the
+    first has this `number` in the dump. shown: what a file of the dump's is called in places.
     """
     name: str
     linkage: str
     uid: int
     file: str
+    shown: object = str
     attributes: str = ""
     parameters: list = field(default_factory=list)
     locals: set = field(default_factory=set)
     arrays: set = field(default_factory=set)
     statics: list = field(default_factory=list)
-    body: list = field(default_factory=list)
-    fault: Refusal = None
+    text: str = ""
+    number: int = 1
     named: tuple = None
     used: tuple = None
 
+    @functools.cached_property
+    def contents(self):
+        """Its statements, and why they can't be read, or None."""
+        try:
+            return Reader(self).block("}"), None
+        except Refusal as refusal:
+            return [], refusal
+        except (ValueError, IndexError):
+            return [], Refusal(f"'{self.name}' has a dump that is not written as expected", self.file)
+
+    @property
+    def body(self):
+        """Its statements."""
+        return self.contents[0]
+
+    @property
+    def fault(self):
+        """Why its statements can't be read, or None."""
+        return self.contents[1]
+
     def names(self):
-        """The declared names in its statements that are none of its locals, callees too."""
+        """The declared names in its statements that are none of its locals, callees and fields too; its statements need not be read."""
         if self.named is None:
-            words = [word for statement in statements_in(self.body)
-                     for word in [*words_of(statement), *(statement.words[:1] if statement.kind == "call" else ())]]
-            text = " ".join(operands.STRING.sub("", word) for word in words)
             own = self.locals.union(self.parameters)
-            self.named = tuple(name for name in dict.fromkeys(re.findall(operands.DECLARED, text)) if name not in own)
+            words = [word for word in dict.fromkeys(self.text.translate(SIGNS).split()) if "D." in word]
+            self.named = tuple(name for name in dict.fromkeys(name for word in words for name in declared_in(word)) if name not in own)
         return self.named
+
+    def places(self):
+        """The places of its statements, as the dump has them; its statements need not be read."""
+        found = set(STATEMENT_PLACE.findall(self.text))
+        if "gimple_switch" in self.text:
+            for switch in SWITCH.findall(self.text):
+                found.update(":".join(place) for place in operands.PLACE.findall(switch))
+        return found
 
     def uses(self):
         """The names that its operands have, each with whether its address is taken there, and the operand that is not known, if any."""
@@ -102,8 +135,8 @@ class Function:
         return self.used
 
     def size(self):
-        """How many statements it has."""
-        return sum(1 for _ in statements_in(self.body)) + 1
+        """How many statements it has, about."""
+        return self.text.count("gimple_") + 1
 
     @property
     def is_nested(self):
@@ -122,80 +155,22 @@ class Function:
 
 
 class Reader:
-    """A reader of one dump's lines. shown: what a file of the dump's is called in places."""
+    """A reader of a function's statements."""
 
-    def __init__(self, text, file, shown):
-        self.shown = functools.cache(shown)
-        self.lines = text.split("\n")
+    def __init__(self, function):
+        self.file = function.file
+        self.shown = function.shown
+        self.lines = function.text.split("\n")
+        self.number = function.number
         self.at = 0
-        self.file = file
-        self.count = 0
         self.last_place = None
-
-    def functions(self):
-        """All functions of the dump."""
-        found = []
-        while self.at < len(self.lines):
-            header = HEADER.match(self.lines[self.at])
-            self.at += 1
-            if header:
-                found.append(self.function(header))
-        return found
 
     def next_line(self):
         """The next line, which has to be there."""
         if self.at >= len(self.lines):
-            raise Refusal("the dump ends within a function", self.file)
+            raise Refusal("the dump ends within a function", self.last_place or self.file)
         self.at += 1
         return self.lines[self.at - 1]
-
-    def function(self, header):
-        """The function whose header was read."""
-        name = header["name"]
-        function = Function(name, header["linkage"], int(header["uid"]), self.file)
-        before = []
-        line = self.next_line()
-        while line != "{":
-            before.append(line)
-            line = self.next_line()
-        heading = " ".join(before)
-        if f"{name}D.{function.uid}" not in heading:
-            raise Refusal("no raw dump with numbers; run gcc with -fdump-tree-lower-raw-lineno-uid", self.file)
-        function.attributes = heading.split(f"{name}D.{function.uid}")[0]
-        function.parameters = parameters_in(heading, f"{name}D.{function.uid}")
-        try:
-            self.declarations(function)
-            function.body = self.block("}")
-        except Refusal as refusal:
-            function.fault = refusal
-            self.pass_function()
-        return function
-
-    def pass_function(self):
-        """Passes the rest of a function that can't be read."""
-        while self.at < len(self.lines) and not self.lines[self.at].startswith(";; Function "):
-            self.at += 1
-
-    def declarations(self, function):
-        """The declarations, up to the first statement."""
-        depth = 0
-        text = ""
-        line = self.next_line()
-        while not self.is_statement(line):
-            line = line.strip()
-            text += " " + line
-            depth += line.count("{") - line.count("}")
-            if depth == 0 and line.endswith(";"):
-                declare(function, text.strip())
-                text = ""
-            line = self.next_line()
-        self.at -= 1
-
-    @staticmethod
-    def is_statement(line):
-        """Whether a line is the first one behind the declarations."""
-        plain = operands.PLACE.sub("", line.strip(), count=1)
-        return line == "}" or plain.startswith(("gimple_", "//"))
 
     def block(self, closing):
         """The statements up to this closing line."""
@@ -247,20 +222,17 @@ class Reader:
 
     def statement(self, line, place):
         """A statement of one line."""
-        self.count += 1
         if line.startswith("gimple_switch") and place is None:
             place = self.first_place(line)
         found = STATEMENT.match(line)
         if not found:
             raise Refusal(f"a statement that is not known: {line[:60]}", place or self.last_place)
-        return Statement(found["kind"], operands.split_words(operands.without_places(found["words"])), place, self.count, self.file,
-                         found["rest"])
-
+        return Statement(found["kind"], operands.split_words(operands.without_places(found["words"])), place, self.number + self.at,
+                         self.file, found["rest"])
 
     def assembler(self, place):
         """A statement of assembler, its first line passed."""
-        self.count += 1
-        found = Assembler("asm", [], place, self.count, self.file)
+        found = Assembler("asm", [], place, self.number + self.at, self.file)
         opening = self.next_line()
         if opening.strip() != "STRING <":
             raise Refusal("assembler that is not written as expected", place or self.last_place)
@@ -291,6 +263,18 @@ class Reader:
                 target.append((named["constraint"], named["operand"]))
             else:
                 raise Refusal("assembler that is not written as expected", statement.place)
+
+
+def place_in(text, shown):
+    """A place, from `file:line:column` as a dump has it."""
+    file, line, column = text.rsplit(":", 2)
+    return Place(shown(file), int(line), int(column))
+
+
+@functools.lru_cache(maxsize=1 << 16)
+def declared_in(word):
+    """The declared names in a word without signs."""
+    return tuple(re.findall(operands.DECLARED, word))
 
 
 def closing_bracket(text):
@@ -338,7 +322,46 @@ def cases_of(statement):
 
 def read(text, file, shown):
     """The functions of a dump."""
-    return Reader(text, file, shown).functions()
+    shown = functools.cache(shown)
+    starts = [found.start() for found in HEADER.finditer(text)]
+    found, number = [], 1
+    for start, end in zip(starts, [*starts[1:], len(text)]):
+        part = text[start:end]
+        found.append(function_in(part, number, file, shown))
+        number += part.count("\n")
+    return found
+
+
+def function_in(text, number, file, shown):
+    """The function of a part of a dump, whose first line has this number."""
+    header = HEADER.match(text)
+    function = Function(header["name"], header["linkage"], int(header["uid"]), file, shown)
+    heading, _, inside = text[text.index("\n"):].partition("\n{\n")
+    heading = heading.replace("\n", " ")
+    name = f"{function.name}D.{function.uid}"
+    if name not in heading:
+        raise Refusal("no raw dump with numbers; run gcc with -fdump-tree-lower-raw-lineno-uid", file)
+    function.attributes = heading.split(name)[0]
+    function.parameters = parameters_in(heading, name)
+    first = FIRST_STATEMENT.search(inside)
+    if first:
+        take_declarations(function, inside[:first.start()])
+        function.text = inside[first.start():]
+        function.number = number + text[:len(text) - len(function.text)].count("\n")
+    return function
+
+
+def take_declarations(function, text):
+    """Takes in a function's declarations."""
+    depth = 0
+    declaration = ""
+    for line in text.split("\n"):
+        line = line.strip()
+        declaration += " " + line
+        depth += line.count("{") - line.count("}")
+        if depth == 0 and line.endswith(";"):
+            declare(function, declaration.strip())
+            declaration = ""
 
 
 def words_of(statement):

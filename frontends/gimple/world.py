@@ -31,7 +31,7 @@ class File:
     by_uid: dict = field(default_factory=dict)
     by_name: dict = field(default_factory=dict)
     outside: set = field(default_factory=set)
-    naming: Counter = None
+    naming: dict = None
 
     def named_outside(self):
         """The names that functions have which are taken as other code."""
@@ -41,9 +41,13 @@ class File:
         return [name for name, count in self.functions_naming().items() if count > inside[name]]
 
     def functions_naming(self):
-        """For each name how many functions have it."""
+        """For each name of a function, or of a variable that lives between calls, how many functions have it."""
         if self.naming is None:
-            self.naming = Counter(name for function in self.functions for name in function.names())
+            own = {function.uid for function in self.functions}
+            own.update(operands.split_declared(name)[1] for function in self.functions for name in function.statics)
+            counts = Counter(name for function in self.functions for name in function.names())
+            parts = {name: operands.split_declared(name) for name in counts}
+            self.naming = {name: count for name, count in counts.items() if parts[name][1] in own or parts[name][0] in self.symbols.by_name}
         return self.naming
 
 
@@ -220,9 +224,11 @@ class World:
                 self.take_outside_name(file, name)
             for function in file.functions:
                 procedure = file.by_uid.get(function.uid)
+                if procedure is None:
+                    continue  # its names were taken
                 if function.fault:
                     self.take_all(file)
-                elif procedure is not None:
+                else:
                     self.take_uses(file, procedure)
         if any(file.symbols.starts_by_table() for file in self.files):
             self.own_starts.update(self.addressed_procedures)
