@@ -74,8 +74,8 @@ def run_gcc(given, folder):
     """Has gcc dump a file's code into a new folder; answers the path of the dump, or None where there is no function."""
     gcc = os.environ.get("GCC", "gcc")
     os.mkdir(folder)
-    command = [gcc, "-S", "-o", os.path.join(folder, "out.s"), "-w", *given.options, *ASKED, "-aux-info", os.path.join(folder, "c.aux"),
-               "-dumpdir", folder + "/", "-dumpbase", "c", given.file]
+    command = [gcc, "-S", "-o", os.path.join(folder, "out.s"), "-w", *given.options, *ASKED, "-aux-info", os.path.join(folder, "c.aux"), "-MMD",
+               "-MF", os.path.join(folder, "c.sources"), "-dumpdir", folder + "/", "-dumpbase", "c", given.file]
     try:
         done = subprocess.run(command, cwd=given.directory, capture_output=True, text=True, errors="surrogateescape", check=False)
     except OSError as fault:

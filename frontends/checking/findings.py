@@ -4,6 +4,7 @@ import re
 
 from gimple.code import Variable
 
+from .macros import Macros
 from .remark import Note, Remark
 from .sources import canonical
 from .traces import Traces
@@ -25,6 +26,7 @@ class Findings:
         self.facts = facts
         self.sources = sources
         self.files = {file.name: file for file in files}
+        self.macros = {file.name: Macros(sources, file.symbols.sources) for file in files}
         self.shows_all = shows_all
         lines = [(number, step, procedure) for number, step, procedure in written.notes if step.origin and step.origin.place]
         self.lines = [line for line in lines if not line[2].is_once]
@@ -175,19 +177,20 @@ class Findings:
             return
         if not self.holds(claim, lambda copy: self.has_fact(copy, "computed", copy[1].expression)):
             return
-        shown = self.expression_shown(step)
+        shown = self.expression_shown(step, procedure)
         if shown:
             notes = tuple(Note(place.file, place.line, place.column, "evaluated here")
                           for place in self.traces.evaluated(procedure, step))
             self.put(claim, self.remark(line, "computed", f"'{shown}' is already computed", notes))
 
-    def expression_shown(self, step):
-        """An expression as its source has it, '' where it stands there in no form."""
+    def expression_shown(self, step, procedure):
+        """An expression of a procedure's as its source has it, '' where it stands there in no form."""
         if self.shows_all:
             return self.plain_expression(step)
         operands = [(part.source, True) if isinstance(part, Variable) else (part.text, False) for part in step.operands]
         place = step.origin.place
-        return self.sources.get(place.file).expression_at(place.line, place.column, step.operator, operands, step.is_element)
+        macros = self.macros[procedure.function.file]
+        return self.sources.get(place.file).expression_at(place.line, place.column, step.operator, operands, step.is_element, macros)
 
     def take_busy(self, line, name):
         """An expression that each way from a test evaluates."""
@@ -204,7 +207,7 @@ class Findings:
             return  # nothing is gained before this test that isn't behind it
         places = sorted({place for way in ways for place in way}, key=lambda place: (place.file, place.line, place.column))
         notes = tuple(Note(place.file, place.line, place.column, "evaluated here") for place in places)
-        self.put(key, self.remark(line, "busy", f"'{self.expression_shown(found)}' is very busy", notes))
+        self.put(key, self.remark(line, "busy", f"'{self.expression_shown(found, procedure)}' is very busy", notes))
 
     def is_busy_copy(self, line, expression):
         """Whether a copy of a test has an expression, by the source's names, as very busy."""
@@ -220,7 +223,8 @@ class Findings:
         for step in self.traces.evaluations(procedure).get(name, ()):
             if step.role not in SHOWN_ROLES and not self.shows_all or not step.origin or not step.origin.place:
                 continue
-            if self.plain_expression(step) and all(part.is_in_scope(procedure) for part in step.reads()) and self.expression_shown(step):
+            is_in_scope = all(part.is_in_scope(procedure) for part in step.reads())
+            if is_in_scope and self.plain_expression(step) and self.expression_shown(step, procedure):
                 return step
         return None
 

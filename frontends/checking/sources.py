@@ -2,6 +2,8 @@
 
 import re
 
+from .macros import NAME, macros_in
+
 IGNORE = re.compile(r"tacflow:\s*ignore\b(?:\s+(?P<kinds>[a-z-]+(?:\s*,\s*[a-z-]+)*))?")
 ONLY_COMMENT = re.compile(r"\s*(?://|/\*)")
 UNUSED = r"__attribute__\s*\(\([^;]*\b(?:__)?unused(?:__)?\b|\[\[[^;]*\bunused\]\]|\bmaybe_unused\]\]|\b[A-Z_]*UNUSED[A-Z_]*\b"
@@ -20,6 +22,7 @@ class Source:
 
     def __init__(self, path):
         self.lines = []
+        self.defined = None
         try:
             with open(path, encoding="utf-8", errors="surrogateescape") as file:
                 self.lines = file.read().split("\n")
@@ -45,10 +48,16 @@ class Source:
         word = re.compile(rf"\b{re.escape(name)}\b")
         return any(word.search(text) and re.search(UNUSED, text) for text in self.lines[max(first - 1, 0):last])
 
-    def expression_at(self, line, column, operator, operands, is_element):
+    def macros(self):
+        """The macros that it defines, by name."""
+        if self.defined is None:
+            self.defined = macros_in("\n".join(self.lines))
+        return self.defined
+
+    def expression_at(self, line, column, operator, operands, is_element, macros):
         """How an expression is written at a place, '' where it is not there.
 
-        operands: pairs of a text and whether it is a variable's name.
+        operands: pairs of a text and whether it is a variable's name. macros: those of the sources, not of the system.
         """
         text = "\n".join(self.line(number) for number in range(line - 1, line + 3))
         for pattern, form in patterns(operator, operands, is_element):
@@ -56,8 +65,9 @@ class Source:
             if shown:
                 return shown
         # a macro's expressions stand at its name
-        behind = self.behind(line, column)
-        return canonical(operator, operands, is_element) if re.match(r"[A-Za-z_$][\w$]*", behind) or not self.lines else ""
+        name = NAME.match(self.behind(line, column))
+        is_written = not self.lines or name and macros.may_write(name.group(), operator, is_element)
+        return canonical(operator, operands, is_element) if is_written else ""
 
     def use_at(self, line, name):
         """How a variable, or the part of it that is meant, is named on a line."""

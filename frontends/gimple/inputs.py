@@ -44,6 +44,8 @@ def read_file(path, name=None, shown=str):
         symbols.read_definitions(read_text(other), known, shown)
     for other in glob.glob(glob.escape(stem) + "*.original"):
         symbols.read_casts(read_text(other), known)
+    for other in glob.glob(glob.escape(stem) + "*.sources"):
+        symbols.read_sources(read_text(other), known, shown)
     name = name or stem
     try:
         return File(name, dump.read(text, name, shown), known)

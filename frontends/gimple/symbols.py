@@ -39,7 +39,7 @@ class Symbols:
     to which something leads that gcc doesn't see.
     endless: the declared names of functions whose calls never return. volatile: the declared names that are accessed as volatile.
     definitions: by name, file and line where a function is defined. cast_away: pairs of a function's name and that of a
-    variable which it casts to void.
+    variable which it casts to void. sources: the files that it was made of, but for the system's headers.
     """
     by_name: dict = field(default_factory=dict)
     addressed: set = field(default_factory=set)
@@ -47,6 +47,7 @@ class Symbols:
     volatile: set = field(default_factory=set)
     definitions: dict = field(default_factory=dict)
     cast_away: set = field(default_factory=set)
+    sources: list = field(default_factory=list)
 
     def starts_by_table(self):
         """Whether some variable stands in a table of functions that the system calls by itself."""
@@ -151,3 +152,9 @@ def read_casts(text, symbols):
             function = found[1]
         else:
             symbols.cast_away.add((function, found[2]))
+
+
+def read_sources(text, symbols, shown):
+    """Reads `-MMD -MF`: the files of which gcc read one C file, as they are shown."""
+    names = re.findall(r"(?:\\.|[^\s\\])+", text.partition(": ")[2])
+    symbols.sources += [shown(re.sub(r"\\(.)", r"\1", name)) for name in names]
