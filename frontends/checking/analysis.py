@@ -20,10 +20,11 @@ from .findings import Findings
 from .sources import Sources
 
 # More statements of gcc's than the first are no program within tacview's limits. What weighs no more than the second mostly is one, where
-# a function weighs as much as its statements and some more.
+# a function weighs as much as its statements and some more. What weighs more than the third is not even tried.
 MANY_STATEMENTS = 24000
 PART = 9000
 FUNCTION = 20
+HOPELESS = 96000
 HERE = os.path.dirname(os.path.realpath(__file__))
 
 
@@ -184,6 +185,9 @@ class Analysis:
                 self.analyse_part(frozenset())
                 return
             except emit.TooLarge as fault:
+                if len(sizes) == 1:
+                    self.leave_out(self.functions()[0], fault)
+                    return
                 self.outcome.notes.append(f"{self.files[0].name}: {fault}; analysed in parts, between which less is known")
         else:
             self.outcome.notes.append(f"{self.files[0].name}: {len(sizes)} functions with {total} statements are more than tacflow takes; "
@@ -226,14 +230,21 @@ class Analysis:
 
     def try_part(self, part, weights):
         """Analyses some functions, or half of them and then the others where they are too many."""
+        weight = sum(weights[function] for function in part)
         try:
+            if weight > HOPELESS:
+                raise emit.TooLarge(f"{weight} statements are more than tacflow takes")
             self.analyse_part(frozenset(self.functions()) - frozenset(part))
         except emit.TooLarge as fault:
             if len(part) == 1:
-                self.parts.append(Outcome(notes=[f"{part[0].file}: '{part[0].name}' is left out: {fault}"]))
+                self.leave_out(part[0], fault)
                 return
             for half in cut(part, weights, 2):
                 self.try_part(half, weights)
+
+    def leave_out(self, function, fault):
+        """Tells that a function by itself is too large."""
+        self.parts.append(Outcome(notes=[f"{function.file}: '{function.name}' is left out: {fault}"]))
 
     def analyse_part(self, outside):
         """Analyses all functions but those outside."""

@@ -31,13 +31,7 @@ class Names:
 
 
 class TooLarge(Refusal):
-    """A program beyond a limit of the language. weights: how much of it each procedure takes. total, limit: how much there is and may be."""
-
-    def __init__(self, message, weights, total, limit):
-        super().__init__(message)
-        self.weights = weights
-        self.total = total
-        self.limit = limit
+    """A program beyond a limit of the language."""
 
 
 @dataclass
@@ -145,9 +139,8 @@ class Writer:
             count["variables and definitions"] for count in self.counts.values())
         for what, limit in LIMITS.items():
             if totals[what] > limit:
-                weights = {procedure: count.get(what, 1) for procedure, count in self.counts.items()}
                 raise TooLarge(f"the program has {totals[what]} {what}, {totals[what] - limit} more than the {limit} that tacflow takes; "
-                               + self.advice(what), weights, totals[what], limit)
+                               + self.advice(what))
 
     def advice(self, what):
         """Where such a program is split best."""
@@ -156,6 +149,8 @@ class Writer:
         if not functions:
             return "give it fewer files"
         largest = functions[weights.index(max(weights))]
+        if len({procedure.function for procedure in functions}) == 1:
+            return f"'{largest.source}' by itself takes that"
         rest = sum(weights)
         half = next(number for number in range(len(weights)) if sum(weights[:number + 1]) * 2 >= rest)
         return (f"'{largest.source}' takes the most, {max(weights)}; split the sources before or behind "

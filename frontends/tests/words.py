@@ -14,6 +14,7 @@ HERE = os.path.dirname(os.path.realpath(__file__))
 sys.path.insert(0, os.path.join(HERE, ".."))
 
 from checking import analysis
+from checking.compiling import Input
 
 CHECK = os.path.join(HERE, "..", "check-c")
 ONE_REMARK = "int printf(const char *, ...);\nint main(int c, char **v)\n{\n\tint gone = c * 2;\n    return 0;\n}\n"
@@ -138,6 +139,22 @@ def wrong_parts(folder):
             yield f"check-c {words}: {places}{told.stderr}"
 
 
+def wrong_large(folder):
+    """What is wrong where a function by itself is too large: the others are analysed all the same, and it reads what it may."""
+    path = os.path.join(folder, "large.c")
+    with open(path, "w", encoding="utf-8") as file:
+        file.write("static int kept, lost;\n" + LIBRARY + "void g(int n)\n{\n    kept = n;\n    lost = n;\n}\n"
+                   + "int h(void)\n{\n" + "    kept += 1;\n" * 100 + "    return kept;\n}\n")
+    limits = analysis.MANY_STATEMENTS, analysis.HOPELESS
+    analysis.MANY_STATEMENTS, analysis.HOPELESS = 100, 200
+    outcome = analysis.analyse(analysis.Task((Input(path, ()),)))
+    analysis.MANY_STATEMENTS, analysis.HOPELESS = limits
+    told = sorted((remark.line, remark.text) for remark in outcome.remarks.values() if remark.kind == "dead")
+    is_noted = any("'h' is left out" in note for note in outcome.notes)
+    if told != [(4, "assignment to 'gone' is dead"), (10, "assignment to 'lost' is dead")] or not is_noted:
+        yield f"a large function: {told} {outcome.notes} {outcome.faults}"
+
+
 def wrong_ends(folder):
     """What is wrong where the answer can't be written, or where the run is interrupted."""
     with open("/dev/full", "w", encoding="utf-8") as full:
@@ -168,7 +185,7 @@ def wrong_ends(folder):
 def differences():
     """What is wrong, for each group of trials the lines that say so."""
     wrong = []
-    groups = (wrong_cases, wrong_forms, wrong_baselines, wrong_databases, wrong_parts, wrong_ends)
+    groups = (wrong_cases, wrong_forms, wrong_baselines, wrong_databases, wrong_parts, wrong_large, wrong_ends)
     for group in groups:
         with tempfile.TemporaryDirectory() as folder:
             os.mkdir(os.path.join(folder, "folder.c"))
