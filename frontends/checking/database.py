@@ -11,28 +11,24 @@ def inputs_of(path, wanted):
     """The C files of a database with their options; those that are wanted where some are."""
     if os.path.isdir(path):
         path = os.path.join(path, "compile_commands.json")
+    names = {os.path.realpath(name): name for name in wanted}
+    found = {}
     try:
         with open(path, encoding="utf-8", errors="surrogateescape") as file:
             entries = json.load(file)
-        found = [given for given in map(input_of, entries) if given]
+        for entry in entries:
+            place = os.path.realpath(os.path.join(entry["directory"], entry["file"]))
+            given = input_of(entry) if place in names or not names else None
+            if given:
+                found[given] = place
     except OSError as fault:
         raise BadWords(f"{path}: {fault.strerror}") from None
     except (ValueError, KeyError, TypeError, AttributeError):
         raise BadWords(f"{path} is no compilation database") from None
-    found = list(dict.fromkeys(found))
-    if not wanted:
-        return found
-    names = {os.path.realpath(name): name for name in wanted}
-    chosen = [given for given in found if real(given) in names]
-    missing = set(names) - {real(given) for given in chosen}
+    missing = set(names) - set(found.values())
     if missing:
         raise BadWords(f"{names[min(missing)]} is not in {path}")
-    return chosen
-
-
-def real(given):
-    """Where a file is."""
-    return os.path.realpath(os.path.join(given.directory, given.file))
+    return list(found)
 
 
 def input_of(entry):
