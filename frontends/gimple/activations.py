@@ -1,7 +1,5 @@
 """Functions that may be active twice: their locals are written so that activations are not taken for one another."""
 
-import copy
-
 from . import flow
 from .code import Builder, Procedure, Step, Variable
 
@@ -76,7 +74,7 @@ def one_activation(procedure, variables):
     for step in procedure.steps:
         reads = tuple(copies[part] for part in step.reads() if part in copies)
         if step.kind in ("label", "goto", "return", "fork"):
-            single.steps.append(copy.copy(step))
+            single.steps.append(step.jump())
         elif step.kind == "use":
             build.add("use" if reads else "fork", operands=reads, label=step.label)
         else:

@@ -75,6 +75,10 @@ class Step:
         """The variables that it reads."""
         return [operand for operand in self.operands if isinstance(operand, Variable)]
 
+    def jump(self):
+        """Another step that leads where this one leads."""
+        return Step(self.kind, label=self.label, callees=self.callees, origin=self.origin, slot=self.slot, role=self.role)
+
 
 @dataclass(eq=False)
 class Procedure:

@@ -274,7 +274,7 @@ def place_in(text, shown):
 @functools.lru_cache(maxsize=1 << 16)
 def declared_in(word):
     """The declared names in a word without signs."""
-    return tuple(re.findall(operands.DECLARED, word))
+    return tuple(operands.DECLARED_FIRST.findall(word))
 
 
 def closing_bracket(text):

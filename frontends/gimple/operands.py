@@ -8,6 +8,8 @@ PLACE = re.compile(r"\[([^\[\]\"]*):(\d+):(\d+)(?: discrim \d+)?\] ?")
 STRING = re.compile(r'[uUL8]{0,2}"(?:\\.|[^"\\])*"')
 DECLARED = r"(?:(?:\*\.)?[\w$]+?(?:\.[\w$]+?)*?)??D\.\d+(?!\w)"
 TEMPORARY = r"(?:[A-Za-z_$][\w$]*(?:\.\d+)?)?_\d+(?:\(D\))?(?![\w.$])"
+DECLARED_FIRST = re.compile(DECLARED)
+TEMPORARY_NAME = re.compile(TEMPORARY)
 PIECE = re.compile(rf"(?P<name>{DECLARED}|{TEMPORARY}|<retval>)|(?P<word>[A-Za-z_$][\w$.]*)|(?P<arrow>->)"
                    r"|(?P<number>[-+]?\d+(?:\.\d+)?(?:[eE][-+]\d+)?\w*)|(?P<sign>\S)")
 MARK = re.compile(rf"{STRING.pattern}|->|[<>()\[\]{{}},]")
@@ -34,7 +36,7 @@ def without_places(text):
 def split_words(text):
     """The words between the commas of the outermost level."""
     if not NESTED.search(text):
-        return [word.strip() for word in text.split(",")]
+        return [word.strip() for word in text.split(",")] if "  " in text else text.split(", ")
     words = []
     depth = start = 0
     for found in MARK.finditer(text):
@@ -53,14 +55,14 @@ def split_words(text):
 @functools.lru_cache(maxsize=1 << 16)
 def is_declared(text):
     """Whether a text is one declared name, as `xD.12`, and no field of one."""
-    found = re.match(DECLARED, text)
+    found = DECLARED_FIRST.match(text)
     return bool(found) and found.end() == len(text)
 
 
 @functools.lru_cache(maxsize=1 << 16)
 def is_temporary(text):
     """Whether a text is a temporary of gcc's, as `_12`."""
-    return bool(re.fullmatch(TEMPORARY, text))
+    return bool(TEMPORARY_NAME.fullmatch(text))
 
 
 @functools.lru_cache(maxsize=1 << 16)

@@ -44,9 +44,10 @@ def build(world, keeps_temporaries=False):
         flow.mark_unset(procedure.steps, own)
     named = named_in(kept)
     fill_memory(services, [variable for variable in reached if variable in named])
-    kept += [helper for helper in helpers if helper in called]
+    helpers = [helper for helper in helpers if helper in called]
+    kept += helpers
     root = Procedure("main")
-    fill_root(root, services, world, kept)
+    fill_root(root, services, world, kept, named | named_in(helpers))
     changes, single = keep_activations_apart([procedure for procedure in kept if procedure.function], [root, *kept])
     begin_with(root, single)
     everything = [root, *kept, *changes, *single]
@@ -116,10 +117,9 @@ def returned_words(body):
             if statement.kind == "return" and statement.words[0] != "NULL"]
 
 
-def fill_root(root, services, world, procedures):
-    """Where the program begins: its variables have values, some code runs by itself, then `main` or code outside."""
+def fill_root(root, services, world, procedures, named):
+    """Where the program begins: its variables that are named have values, some code runs by itself, then `main` or code outside."""
     build = Builder(root)
-    named = named_in(procedures)
     for variable in world.globals.values():
         if variable in named:
             build.add("read", variable=variable)

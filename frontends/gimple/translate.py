@@ -22,6 +22,7 @@ UNARY = {"negate_expr": "-", "bit_not_expr": "~", "truth_not_expr": "!"}
 COPIES = {"var_decl", "parm_decl", "result_decl", "ssa_name", "integer_cst", "real_cst", "string_cst", "addr_expr", "mem_ref",
           "component_ref", "array_ref", "bit_field_ref", "realpart_expr", "imagpart_expr", "view_convert_expr", "constructor",
           "complex_cst", "vector_cst"}
+NUMBER = re.compile(r"-?\d+")
 SIMPLE = {"predict", "nop", "debug"}
 DAMAGE = (ValueError, IndexError, AttributeError, TypeError)
 
@@ -163,7 +164,7 @@ class Translator(Calls, Jumps):
     def element(self, word):
         """The array and the index, as operands, where a word is an element of a variable at one index; else None."""
         reference = operands.parse(word)
-        if reference.index is None or reference.base is None or re.fullmatch(r"-?\d+", reference.index):
+        if reference.index is None or reference.base is None or NUMBER.fullmatch(reference.index):
             return None
         array = self.name_value(reference.base).exact
         index = self.name_value(reference.index).exact
