@@ -36,7 +36,9 @@ TEXTS = [
 ]
 WORDS = {
     "tacflow": [f"--show {kind}" for kind in ("report", "list", "reach", "live", "avail", "busy")],
-    "tacview": ["--format dot", "--format dot --facts all", "--format json", "--format json --procedure main"],
+    "tacview": [
+        *("--format dot", "--format dot --facts all", "--format json", "--format json --procedure main", "--format report --limits large"),
+    ],
 }
 WORKERS = (1, 3)
 

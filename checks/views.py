@@ -97,6 +97,8 @@ def check_json(source):
     program, points, remarks = objects(source)
     assert [point["point"] for point in points] == list(range(program["points"]))
     assert report_of(program, remarks) == run(TACFLOW, [], source).decode()
+    for words in [], ["--limits", "large"], ["--procedure", "main", "--facts", "all"]:
+        assert run(TACVIEW, ["--format", "report", *words], source) == run(TACFLOW, [], source), words
     for analysis in ANALYSES:
         assert table_of(points, analysis) == run(TACFLOW, ["--show", analysis], source).decode(), analysis
     assert [point["statement"] for point in points] == statements_of(run(TACFLOW, ["--show", "list"], source).decode())

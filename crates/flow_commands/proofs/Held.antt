@@ -22,10 +22,12 @@ as_made values = record {
   plain = refl;
   workers = (λ _. record { parser = refl; any_case = refl; least = refl; action = refl; simple = refl }, (other, (other, tt)));
   cut = (other, (λ _. record { parser = refl; any_case = refl; least = refl; action = refl; simple = refl }, (other, tt)));
-  of_kind = (other, (other, (λ _. record { parser = refl; any_case = refl; least = refl; action = refl; simple = refl }, tt)));
   workers_default = refl;
   cut_default = refl;
-  kind_default = refl;
+  one_kind = record {
+    of_kind = (other, (other, (λ _. record { parser = refl; any_case = refl; least = refl; action = refl; simple = refl }, tt)));
+    kind_default = refl;
+  };
 }
 
 as_built : (values : Bor (List PossibleValue)) → HasOptions (built (tacflow_command values)) values
@@ -33,10 +35,12 @@ as_built values = record {
   plain = refl;
   workers = (λ _. record { parser = refl; any_case = refl; least = refl; action = refl; simple = refl }, (other, (other, (other, tt))));
   cut = (other, (λ _. record { parser = refl; any_case = refl; least = refl; action = refl; simple = refl }, (other, (other, tt))));
-  of_kind = (other, (other, (λ _. record { parser = refl; any_case = refl; least = refl; action = refl; simple = refl }, (other, tt))));
   workers_default = refl;
   cut_default = refl;
-  kind_default = refl;
+  one_kind = record {
+    of_kind = (other, (other, (λ _. record { parser = refl; any_case = refl; least = refl; action = refl; simple = refl }, (other, tt))));
+    kind_default = refl;
+  };
 }
 
 pub has_options : (values : Bor (List PossibleValue)) (a : App) → (a ≡ tacflow_command values) ⊎ (a ≡ built (tacflow_command values)) → HasOptions a values

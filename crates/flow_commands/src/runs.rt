@@ -4,6 +4,7 @@ ghost use Rattle.std.specs.Prelude.{◌≡◌, ◌<◌, ◌+◌, ◌-◌, ◌^�
 ghost use Rattle.std.specs.Io.KnownBytes.{Keeps};
 ghost use Rattle.flow_runs.specs.Faults.{UnlessWrite, WhereNoGraph, WhereNoProcedure, WhereRefused, WhereWrite, read_faults_in, write_faults_in};
 ghost use Rattle.flow_runs.specs.Runs.{PullsOverLimit, PullsRefused, WritesAnswer, WritesBeginning};
+ghost use Rattle.tac_program.specs.declared.limits.Limits.TheVariants.{Standard};
 ghost use Rattle.flow_commands.specs.Runs.{IsShown, needs_graph};
 
 use crate::options::Options;
@@ -32,14 +33,14 @@ pub fn run<R: Threads + Sync, S: Source, K: Sink>(
     requires running { S.ended source.old ≡ false }
     requires source_below { S.faults source.old < 2 ^ 32 - 1 }
     requires sink_below { K.faults sink.old < 2 ^ 32 - 1 }
-    ensures written { OnOk result (WritesAnswer (needs_graph options.show) (IsShown options.show)
+    ensures written { OnOk result (WritesAnswer Standard (needs_graph options.show) (IsShown options.show)
         (S.remaining source.old) (S.remaining source.new) (S.ended source.new) (K.contents sink.old) (K.contents sink.new)) }
     ensures flushed { OnOk result (K.flushed sink.new ≡ true) }
-    ensures refused { IfErr result (WhereRefused (PullsRefused (S.remaining source.old) (S.remaining source.new) (S.ended source.new))) }
-    ensures no_graph { IfErr result (WhereNoGraph (PullsOverLimit (needs_graph options.show)
+    ensures refused { IfErr result (WhereRefused (PullsRefused Standard (S.remaining source.old) (S.remaining source.new) (S.ended source.new))) }
+    ensures no_graph { IfErr result (WhereNoGraph (PullsOverLimit Standard (needs_graph options.show)
         (S.remaining source.old) (S.remaining source.new) (S.ended source.new))) }
     ensures all_procedures { IfErr result (WhereNoProcedure ⊥) }
-    ensures beginning { IfErr result (WhereWrite (WritesBeginning (needs_graph options.show) (IsShown options.show)
+    ensures beginning { IfErr result (WhereWrite (WritesBeginning Standard (needs_graph options.show) (IsShown options.show)
         (S.remaining source.old) (S.remaining source.new) (S.ended source.new) (K.contents sink.old) (K.contents sink.new))) }
     ensures unwritten { IfErr result (UnlessWrite (Keeps (K.contents sink.old) (K.contents sink.new))) }
     ensures source_faults { S.faults source.new ≡ S.faults source.old + read_faults_in result }

@@ -3,9 +3,9 @@
 ghost use Rattle.std.specs.Prelude.{◌≡◌, ◌+◌, ◌-◌, ◌^◌, ◌<◌, IfErr, OnOk, true};
 ghost use Rattle.std.specs.Thread.{IsSync};
 ghost use Rattle.flow_graph.specs.Limits.{HasFewBits, HasFewPoints};
+ghost use Rattle.tac_program.specs.declared.limits.Limits.TheVariants.{Standard};
 ghost use Rattle.flow_team.specs.Tables.{IsTableOf};
 ghost use Rattle.flow_texts.specs.Reports.{IsReport, ListsSafely};
-ghost use Rattle.flow_texts.specs.code.Reported.{TellReport};
 ghost use Rattle.flow_texts.specs.Tables.{IsTableText};
 ghost use Rattle.flow_runs.specs.Faults.{Delivers, OfProgram, write_faults_in};
 ghost use Rattle.flow_runs.specs.Runs.{IsOverLimit};
@@ -13,12 +13,12 @@ ghost use Rattle.flow_commands.specs.Runs.{IsShown, needs_graph as kind_needs_gr
 
 use crate::options::{Options, Show};
 use flow_graph::{Analysis, Graph};
-use flow_runs::{Fault, Shown, graph_of, push_text};
+use flow_runs::{Fault, Shown, graph_of, push_report, push_text};
 use flow_team::Table;
-use flow_texts::{ReportAnswers, ReportText, TableText, table_of};
+use flow_texts::{TableText, table_of};
 use std::alloc::Global;
 use std::thread::Threads;
-use tac_program::{Program, listing};
+use tac_program::{Limits, Program, listing};
 use text_pieces::{Bytes, Sink};
 
 // Writes a table of a graph. It is not owned here, so that no way out drops it.
@@ -70,50 +70,13 @@ fn show_table<R: Threads + Sync, K: Sink>(
 ) -> Result<(), Fault>
     requires threads { IsSync R.row }
     requires below { K.faults sink.old < 2 ^ 32 - 1 }
-    ensures delivers { Delivers (λ out. HasFewPoints program.now × HasFewBits program.now × IsTableText program.now analysis out) (K.contents sink.old) (K.contents sink.new) result }
+    ensures delivers { Delivers (λ out. HasFewPoints Standard program.now × HasFewBits Standard program.now × IsTableText program.now analysis out) (K.contents sink.old) (K.contents sink.new) result }
     ensures flushed { OnOk result (K.flushed sink.new ≡ true) }
-    ensures fault { IfErr result (OfProgram (IsOverLimit program.now) ⊥) }
+    ensures fault { IfErr result (OfProgram (IsOverLimit Standard program.now) ⊥) }
     ensures faults { K.faults sink.new ≡ K.faults sink.old + write_faults_in result }
 {
-    let graph = graph_of(alloc, program)?;
+    let graph = graph_of(alloc, program, Limits::Standard)?;
     table_of_graph(rt, alloc, &graph, analysis, options, sink)
-}
-
-// Writes the report of a graph out of answers. They are not owned here, so that no way out drops them.
-fn push_report<K: Sink>(
-    alloc: Global,
-    graph: &Graph<'_>,
-    answers: &ReportAnswers,
-    sink: &mut K,
-) -> Result<(), Fault>
-    requires answers { TellReport graph.now answers.now }
-    requires below { K.faults sink.old < 2 ^ 32 - 1 }
-    ensures delivers { Delivers (λ out. IsReport graph.now out × ListsSafely graph.now out) (K.contents sink.old) (K.contents sink.new) result }
-    ensures flushed { OnOk result (K.flushed sink.new ≡ true) }
-    ensures fault { IfErr result (OfProgram (λ _. ⊥) ⊥) }
-    ensures faults { K.faults sink.new ≡ K.faults sink.old + write_faults_in result }
-{
-    let text = ReportText::of(alloc, graph, answers)?;
-    push_text(alloc, &text, sink)
-}
-
-// Writes the report of a graph. The graph is not owned here, and the answers where they are made.
-fn report_of_graph<R: Threads + Sync, K: Sink>(
-    rt: &R,
-    alloc: Global,
-    graph: &Graph<'_>,
-    options: Options,
-    sink: &mut K,
-) -> Result<(), Fault>
-    requires threads { IsSync R.row }
-    requires below { K.faults sink.old < 2 ^ 32 - 1 }
-    ensures delivers { Delivers (λ out. IsReport graph.now out × ListsSafely graph.now out) (K.contents sink.old) (K.contents sink.new) result }
-    ensures flushed { OnOk result (K.flushed sink.new ≡ true) }
-    ensures fault { IfErr result (OfProgram (λ _. ⊥) ⊥) }
-    ensures faults { K.faults sink.new ≡ K.faults sink.old + write_faults_in result }
-{
-    let answers = ReportAnswers::of(rt, alloc, graph, options.workers, options.cut)?;
-    push_report(alloc, graph, &answers, sink)
 }
 
 // Writes the report.
@@ -126,21 +89,27 @@ fn show_report<R: Threads + Sync, K: Sink>(
 ) -> Result<(), Fault>
     requires threads { IsSync R.row }
     requires below { K.faults sink.old < 2 ^ 32 - 1 }
-    ensures delivers { Delivers (λ out. HasFewPoints program.now × HasFewBits program.now × IsReport program.now out × ListsSafely program.now out) (K.contents sink.old) (K.contents sink.new) result }
+    ensures delivers { Delivers (λ out. HasFewPoints Standard program.now × HasFewBits Standard program.now × IsReport program.now out × ListsSafely program.now out) (K.contents sink.old) (K.contents sink.new) result }
     ensures flushed { OnOk result (K.flushed sink.new ≡ true) }
-    ensures fault { IfErr result (OfProgram (IsOverLimit program.now) ⊥) }
+    ensures fault { IfErr result (OfProgram (IsOverLimit Standard program.now) ⊥) }
     ensures faults { K.faults sink.new ≡ K.faults sink.old + write_faults_in result }
 {
-    let graph = graph_of(alloc, program)?;
-    report_of_graph(rt, alloc, &graph, options, sink)
+    let graph = graph_of(alloc, program, Limits::Standard)?;
+    push_report(rt, alloc, &graph, options.workers, options.cut, sink)
 }
 
 impl Shown for Options {
+    ghost limits = { λ _. Standard };
+
     ghost needs_graph = { λ options. kind_needs_graph options.show };
 
     ghost is_shown = { λ options. IsShown options.show };
 
     ghost lacks = { λ _ _. ⊥ };
+
+    fn limits(&self) -> Limits {
+        Limits::Standard
+    }
 
     fn show<R: Threads + Sync, K: Sink>(
         &self,

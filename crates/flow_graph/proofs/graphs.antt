@@ -1,3 +1,4 @@
 pub mod ExampleLemmas
 pub mod GraphLaws
+pub mod LimitLemmas
 pub mod MayForms

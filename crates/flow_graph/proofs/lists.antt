@@ -1,4 +1,3 @@
-pub mod Counts
 pub mod Membership
 pub mod NumberListLemmas
 pub mod Ranges

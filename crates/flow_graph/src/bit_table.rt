@@ -1,6 +1,6 @@
 // Rows of bits, in one block of words.
 
-ghost use Rattle.std.specs.Prelude.{◌≡◌, ◌+◌, ◌*◌, ◌/◌, ◌<◌, ◌≤◌, ◌||◌, ◌&&◌, ℕ, length, IfOk, nat_eq};
+ghost use Rattle.std.specs.Prelude.{◌≡◌, ◌+◌, ◌*◌, ◌/◌, ◌<◌, ◌≤◌, ◌||◌, ◌&&◌, ℕ, length, IfOk, nat_eq, false};
 ghost use Rattle.bit_rows.specs.Words.{has_bit};
 ghost use Rattle.flow_graph.specs.code.BitTables.{HasRow, IsBlank, table_has};
 
@@ -8,22 +8,39 @@ use std::alloc::{AllocError, Global};
 
 /// A block of rows of bits. Bit `b` of a row stands in its word `b / 64`, at place `b % 64`.
 #[derive(Drop)]
-pub(crate) struct BitTable {
-    pub(crate) width: usize,
-    pub(crate) words: Vec<u64>,
+pub struct BitTable {
+    /// The number that the first word of each row stands for.
+    pub first: u32,
+    /// How many words a row has.
+    pub width: usize,
+    /// The words, row after row.
+    pub words: Vec<u64>,
 }
 
 impl BitTable {
     /// So many rows, each of so many bits, and none set.
     pub(crate) fn blank(alloc: Global, rows: u32, bits: u32) -> Result<BitTable, AllocError>
-        requires rows { rows ≤ 4096 }
-        requires bits { bits ≤ 4096 }
+        requires rows { rows ≤ 131072 }
+        requires bits { bits ≤ 512 }
         ensures { IfOk result (λ t. IsBlank rows bits t.words.items t.width) }
     {
         let width = (bits as usize).div_ceil(64);
         let mut words = Vec::new(alloc);
         words.resize(rows as usize * width, 0)?;
-        Ok(BitTable { width, words })
+        Ok(BitTable {
+            first: 0,
+            width,
+            words,
+        })
+    }
+
+    /// Clears all bits.
+    pub(crate) fn clear(&mut self)
+        ensures width { self.new.width ≡ self.old.width }
+        ensures count { length self.new.words.items ≡ length self.old.words.items }
+        ensures bits { (r b : ℕ) → table_has self.new.words.items self.new.width r b ≡ false }
+    {
+        self.words.fill(0);
     }
 
     /// Sets a bit of a row.

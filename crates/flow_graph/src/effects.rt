@@ -1,9 +1,9 @@
 // What each statement of a program does with the bits of an analysis.
 
 ghost use Rattle.std.specs.List.{list_any};
-ghost use Rattle.std.specs.Prelude.{◌≡◌, ◌*◌, ◌/◌, ◌<◌, ◌≤◌, ◌&&◌, ◌||◌, ℕ, IfOk, IfSome, length, nat_eq, option_copied, option_map, Some};
+ghost use Rattle.std.specs.Prelude.{◌≡◌, ◌+◌, ◌*◌, ◌/◌, ◌<◌, ◌≤◌, ◌&&◌, ◌||◌, ℕ, IfOk, IfSome, length, nat_eq, option_copied, option_map, Some};
 ghost use Rattle.flow_graph.specs.code.BitTables.{table_has};
-ghost use Rattle.flow_graph.specs.code.Effects.{AreDependenceWords, AreEffects, IsDependence, IsNumberedEffect, depends, marks, owns_numbered};
+ghost use Rattle.flow_graph.specs.code.Effects.{AreDependentWords, AreEffects, IsNumberedEffect, depends, marks, owns_numbered};
 ghost use Rattle.flow_graph.specs.Points.{kind_at, point_count, statement_at};
 ghost use Rattle.flow_graph.specs.Transfers.{has_operand, names_variable, operands_of};
 ghost use Rattle.flow_graph.specs.Universes.{bits};
@@ -60,7 +60,11 @@ fn operand_variables(expression: Expr) -> (Option<u32>, Option<u32>)
 }
 
 /// The variables that a bit depends on.
-fn bit_variables(graph: &Graph<'_>, analysis: Analysis, bit: u32) -> (Option<u32>, Option<u32>)
+pub(crate) fn bit_variables(
+    graph: &Graph<'_>,
+    analysis: Analysis,
+    bit: u32,
+) -> (Option<u32>, Option<u32>)
     requires { bit < bits graph.now analysis }
     ensures { (x : ℕ) → (marks result.0 x || marks result.1 x) ≡ depends graph.now analysis x bit }
 {
@@ -190,25 +194,41 @@ fn mark(table: &mut BitTable, rows: u32, row: Option<u32>, bit: u32)
     }
 }
 
-/// The bits that depend on each variable, and the words of 64 bits in which some bit does.
-pub(crate) fn dependence(
+/// For each variable the words of 64 bits in which some bit depends on it: word `w` at place `w % 64`.
+pub(crate) fn dependent_words(
     alloc: Global,
     graph: &Graph<'_>,
     analysis: Analysis,
-) -> Result<(BitTable, BitTable), AllocError>
-    ensures bits { IfOk result (λ r. IsDependence graph.now analysis (r.0).words.items (r.0).width) }
-    ensures words { IfOk result (λ r. AreDependenceWords graph.now analysis (r.1).words.items (r.1).width) }
+) -> Result<BitTable, AllocError>
+    ensures { IfOk result (λ words. AreDependentWords graph.now analysis words.words.items words.width) }
 {
     let rows = graph.program().variables();
     let bits = graph.bits(analysis);
-    let mut table = BitTable::blank(alloc, rows, bits)?;
     let mut words = BitTable::blank(alloc, rows, 64)?;
     for bit in 0..bits {
         let (first, second) = bit_variables(graph, analysis, bit);
-        mark(&mut table, rows, first, bit);
-        mark(&mut table, rows, second, bit);
-        mark(&mut words, rows, first, bit / 64);
-        mark(&mut words, rows, second, bit / 64);
+        mark(&mut words, rows, first, bit / 64 % 64);
+        mark(&mut words, rows, second, bit / 64 % 64);
     }
-    Ok((table, words))
+    Ok(words)
+}
+
+/// Puts for each variable the bits from one on that depend on it, as many as a row has.
+pub(crate) fn put_dependence(graph: &Graph<'_>, analysis: Analysis, from: u32, table: &mut BitTable)
+    requires rows { length table.old.words.items ≡ length graph.now.variable_names * table.old.width }
+    requires narrow { table.old.width ≤ 8 }
+    ensures width { table.new.width ≡ table.old.width }
+    ensures count { length table.new.words.items ≡ length table.old.words.items }
+    ensures bits { (r b : ℕ) → r < length graph.now.variable_names → b < 64 * table.old.width → from + b < bits graph.now analysis
+        → table_has table.new.words.items table.new.width r b ≡ depends graph.now analysis r (from + b) }
+{
+    let rows = graph.program().variables();
+    table.clear();
+    let most = 64 * table.width as u32;
+    let count = graph.bits(analysis).saturating_sub(from).min(most);
+    for place in 0..count {
+        let (first, second) = bit_variables(graph, analysis, from + place);
+        mark(table, rows, first, place);
+        mark(table, rows, second, place);
+    }
 }

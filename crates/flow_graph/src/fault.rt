@@ -4,10 +4,10 @@ use thiserror::Error;
 /// Why a program has no graph.
 #[derive(Clone, Copy, Debug, Drop, PartialEq, Eq, Error)]
 pub enum GraphFault {
-    /// 21: the program has more than 16,384 points.
+    /// 21: the program has more points than the limits allow.
     #[error("refusal 21: TooManyPoints")]
     TooManyPoints,
-    /// 22: some analysis has more than 4,096 bits.
+    /// 22: some analysis has more bits than the limits allow.
     #[error("refusal 22: TooManyBits")]
     TooManyBits,
     /// Memory was refused.

@@ -1,10 +1,11 @@
-ghost use Rattle.std.specs.Prelude.{◌≡◌, ◌+◌, ◌<◌, ◌≤◌, length, slice_get, Some, IfOk, OnOk, IsErrOf, option_copied};
+ghost use Rattle.std.specs.Prelude.{◌≡◌, ◌+◌, ◌<◌, ◌≤◌, ◌⊎◌, true, false, length, slice_get, Some, IfOk, OnOk, IsErrOf, option_copied};
 ghost use Rattle.flow_graph.specs.Limits.{HasFewBits, HasFewPoints, HasManyBits, HasManyPoints};
 ghost use Rattle.flow_graph.specs.Points.{end_place, place_of, point_count, point_of, statement_at};
 ghost use Rattle.flow_graph.specs.Universes.{IsDefinitionIn, bits, definitions as definitions_of, evaluated_at, expressions as expressions_of};
 ghost use Rattle.tac_program.specs.Sound.{IsSound};
 ghost use Rattle.flow_graph.specs.declared.fault.GraphFault.TheVariants.{TooManyBits, TooManyPoints};
-ghost use Rattle.tac_program.specs.Sound.{IsSound};
+ghost use Rattle.tac_program.specs.Limits.{most_definitions, most_expressions, most_variables};
+ghost use Rattle.tac_program.specs.declared.limits.Limits.TheVariants.{Large, Standard};
 
 use crate::analysis::Analysis;
 use crate::expression::Expr;
@@ -17,10 +18,7 @@ use crate::universes::{definitions, expressions};
 use indexmap::IndexSet;
 use std::alloc::Global;
 use std::marker::Model;
-use tac_program::{Program, Stmt};
-
-/// The most bits that an analysis may have.
-const MOST_BITS: usize = 4_096;
+use tac_program::{Limits, Program, Stmt};
 
 /// The flow graph of a program: its points and edges, and the bits of the four analyses (Aho, Lam, Sethi, Ullman, 2nd
 /// edition, 9.2 and 9.5; with calls and returns as in Reps, Horwitz, Sagiv 1995). It borrows the program and stands for it.
@@ -43,12 +41,13 @@ impl<'p> Model for Graph<'p> {
     ghost use Rattle.flow_graph.specs.code.Sites.{AreSites};
     ghost use Rattle.flow_graph.specs.Universes.{definitions as definitions_of, expressions as expressions_of};
     ghost use Rattle.tac_program.specs.Programs.{Program};
+    ghost use Rattle.tac_program.specs.declared.limits.Limits.TheVariants.{Large};
 
     ghost Value = { Program };
 
     ghost view = { λ graph. graph.points };
 
-    ghost invariant = { λ graph. HasFewBits graph.points
+    ghost invariant = { λ graph. HasFewBits Large graph.points
         × (graph.definitions.items ≡ definitions_of graph.points)
         × (graph.expressions.keys ≡ expressions_of graph.points)
         × AreEvaluated graph.points graph.evaluated.items
@@ -68,24 +67,43 @@ impl Drop for Graph<'_> {
     }
 }
 
+/// Whether there are more definitions, variables or expressions than the limits allow.
+fn has_many_bits(limits: Limits, definitions: usize, variables: u32, expressions: usize) -> bool
+    ensures many { result ≡ true → (most_definitions limits < definitions) ⊎ ((most_variables limits < variables) ⊎ (most_expressions limits < expressions)) }
+    ensures few { result ≡ false → (definitions ≤ most_definitions limits) × (variables ≤ most_variables limits) × (expressions ≤ most_expressions limits) }
+{
+    if (limits.definitions() as usize) < definitions {
+        return true;
+    }
+    if limits.variables() < variables {
+        return true;
+    }
+    (limits.expressions() as usize) < expressions
+}
+
 impl<'p> Graph<'p> {
-    /// The graph of a program.
+    /// The graph of a program within these limits.
     ///
-    /// `TooManyPoints` (21) where it has more than 16,384 points; else `TooManyBits` (22) where some analysis has more than
-    /// 4,096 bits; `OutOfMemory` only where memory was refused.
-    pub fn build(alloc: Global, program: &'p Program) -> Result<Self, GraphFault>
+    /// `TooManyPoints` (21) where it has more points than they allow; else `TooManyBits` (22) where some analysis has more bits;
+    /// `OutOfMemory` only where memory was refused.
+    pub fn build_within(
+        alloc: Global,
+        program: &'p Program,
+        limits: Limits,
+    ) -> Result<Self, GraphFault>
         ensures graph { IfOk result (λ graph. graph ≡ program.now) }
-        ensures few_points { OnOk result (HasFewPoints program.now) }
-        ensures few_bits { OnOk result (HasFewBits program.now) }
-        ensures many_points { IsErrOf result TooManyPoints → HasManyPoints program.now }
-        ensures many_bits { IsErrOf result TooManyBits → HasManyBits program.now }
+        ensures few_points { OnOk result (HasFewPoints limits program.now) }
+        ensures few_bits { OnOk result (HasFewBits limits program.now) }
+        ensures many_points { IsErrOf result TooManyPoints → HasManyPoints limits program.now }
+        ensures many_bits { IsErrOf result TooManyBits → HasManyBits limits program.now }
     {
-        let points = Points::new(alloc, program)?;
+        let points = Points::new(alloc, program, limits)?;
         let definitions = definitions(alloc, &points)?;
-        if MOST_BITS < definitions.len() {
+        let (expressions, evaluated) = expressions(alloc, &points)?;
+        let variables = program.variables();
+        if has_many_bits(limits, definitions.len(), variables, expressions.len()) {
             return Err(GraphFault::TooManyBits);
         }
-        let (expressions, evaluated) = expressions(alloc, &points)?;
         let sites = call_sites(alloc, &points)?;
         Ok(Graph {
             points,
@@ -96,6 +114,20 @@ impl<'p> Graph<'p> {
         })
     }
 
+    /// The graph of a program of at most 16,384 points and 4,096 bits in each analysis.
+    ///
+    /// `TooManyPoints` (21) where it has more points; else `TooManyBits` (22) where some analysis has more bits; `OutOfMemory` only
+    /// where memory was refused.
+    pub fn build(alloc: Global, program: &'p Program) -> Result<Self, GraphFault>
+        ensures graph { IfOk result (λ graph. graph ≡ program.now) }
+        ensures few_points { OnOk result (HasFewPoints Standard program.now) }
+        ensures few_bits { OnOk result (HasFewBits Standard program.now) }
+        ensures many_points { IsErrOf result TooManyPoints → HasManyPoints Standard program.now }
+        ensures many_bits { IsErrOf result TooManyBits → HasManyBits Standard program.now }
+    {
+        Graph::build_within(alloc, program, Limits::Standard)
+    }
+
     /// The program.
     pub fn program(&self) -> &'p Program
         ensures { result.now ≡ self.now }
@@ -103,10 +135,10 @@ impl<'p> Graph<'p> {
         self.points.program()
     }
 
-    /// How many points there are: at most 16,384.
+    /// How many points there are: at most 1,048,576.
     pub fn points(&self) -> u32
         ensures count { result ≡ point_count self.now }
-        ensures few { HasFewPoints self.now }
+        ensures few { HasFewPoints Large self.now }
         ensures sound { IsSound self.now }
     {
         self.points.count()
@@ -129,10 +161,11 @@ impl<'p> Graph<'p> {
         self.points.place(point)
     }
 
-    /// How many bits an analysis has: at most 4,096.
+    /// How many bits an analysis has: at most 1,179,648.
     pub fn bits(&self, analysis: Analysis) -> u32
         ensures count { result ≡ bits self.now analysis }
-        ensures few { HasFewBits self.now }
+        ensures few { HasFewBits Large self.now }
+        ensures most { result ≤ 1179648 }
     {
         match analysis {
             Analysis::Reach => self.definitions.len() as u32,

@@ -29,6 +29,7 @@ mod walk;
 mod words;
 
 pub use analysis::Analysis;
+pub use bit_table::BitTable;
 pub use edge::Edge;
 pub use expression::Expr;
 pub use fault::GraphFault;

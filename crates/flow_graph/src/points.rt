@@ -4,17 +4,16 @@ ghost use Rattle.std.specs.Prelude.{◌≡◌, ◌≢◌, ◌+◌, ◌<◌, ◌�
 ghost use Rattle.flow_graph.specs.Limits.{HasFewPoints, HasManyPoints};
 ghost use Rattle.flow_graph.specs.code.PointTables.{AreFirstPoints, AreProcedures};
 ghost use Rattle.flow_graph.specs.Points.{end_place, place_of, point_count, point_of, statement_at};
+ghost use Rattle.tac_program.specs.Limits.{most_points};
 ghost use Rattle.tac_program.specs.Sound.{IsSound};
+ghost use Rattle.tac_program.specs.declared.limits.Limits.TheVariants.{Large, Standard};
 ghost use Rattle.flow_graph.specs.declared.fault.GraphFault.TheVariants.{TooManyPoints, TooManyBits};
 
 use crate::fault::GraphFault;
 use crate::place::Place;
 use std::alloc::{AllocError, Global};
 use std::marker::Model;
-use tac_program::{Program, Stmt};
-
-/// The most points that a graph may have.
-const MOST_POINTS: usize = 16_384;
+use tac_program::{Limits, Program, Stmt};
 
 /// The points of a program, which it stands for.
 #[derive(Drop)]
@@ -29,27 +28,30 @@ impl<'p> Model for Points<'p> {
     ghost use Rattle.flow_graph.specs.code.PointTables.{AreFirstPoints, AreProcedures};
     ghost use Rattle.tac_program.specs.Programs.{Program};
     ghost use Rattle.tac_program.specs.Sound.{IsSound};
+    ghost use Rattle.tac_program.specs.declared.limits.Limits.TheVariants.{Large};
 
     ghost Value = { Program };
 
     ghost view = { λ points. points.program.now };
 
-    ghost invariant = { λ points. HasFewPoints points.program.now
+    ghost invariant = { λ points. HasFewPoints Large points.program.now
         × AreFirstPoints points.program.now points.firsts.items
         × AreProcedures points.program.now points.procedures.items
         × IsSound points.program.now };
 }
 
 /// Whether there are not too many points.
-fn has_few_points(program: &Program) -> bool
+fn has_few_points(program: &Program, limits: Limits) -> bool
     ensures sound { IsSound program.now }
-    ensures few { IsTrue result ↔ HasFewPoints program.now }
+    ensures few { IsTrue result ↔ HasFewPoints limits program.now }
+    ensures large { IsTrue result → HasFewPoints Large program.now }
 {
     let procs = program.procs();
+    let most = limits.points() as usize;
     let mut count = 0;
     for procedure in procs {
         count += procedure.stmts().len() + 1;
-        if MOST_POINTS < count {
+        if most < count {
             return false;
         }
     }
@@ -58,7 +60,7 @@ fn has_few_points(program: &Program) -> bool
 
 /// The first point of each procedure.
 fn first_points(alloc: Global, program: &Program) -> Result<Vec<u32>, AllocError>
-    requires { HasFewPoints program.now }
+    requires { HasFewPoints Large program.now }
     ensures { IfOk result (λ firsts. AreFirstPoints program.now firsts.items) }
 {
     let procs = program.procs();
@@ -73,7 +75,7 @@ fn first_points(alloc: Global, program: &Program) -> Result<Vec<u32>, AllocError
 
 /// The procedure of each point, for so many points.
 fn point_procedures(alloc: Global, program: &Program) -> Result<Vec<u32>, AllocError>
-    requires { HasFewPoints program.now }
+    requires { HasFewPoints Large program.now }
     ensures { IfOk result (λ procedures. AreProcedures program.now procedures.items) }
 {
     let procs = program.procs();
@@ -89,13 +91,13 @@ fn point_procedures(alloc: Global, program: &Program) -> Result<Vec<u32>, AllocE
 
 impl<'p> Points<'p> {
     /// The points of a program.
-    pub fn new(alloc: Global, program: &'p Program) -> Result<Self, GraphFault>
+    pub fn new(alloc: Global, program: &'p Program, limits: Limits) -> Result<Self, GraphFault>
         ensures program { IfOk result (λ points. points ≡ program.now) }
-        ensures few { OnOk result (HasFewPoints program.now) }
-        ensures many { IsErrOf result TooManyPoints → HasManyPoints program.now }
+        ensures few { OnOk result (HasFewPoints limits program.now) }
+        ensures many { IsErrOf result TooManyPoints → HasManyPoints limits program.now }
         ensures never_bits { result ≢ Err TooManyBits }
     {
-        if !has_few_points(program) {
+        if !has_few_points(program, limits) {
             return Err(GraphFault::TooManyPoints);
         }
         let firsts = first_points(alloc, program)?;
@@ -117,7 +119,7 @@ impl<'p> Points<'p> {
     /// How many points there are.
     pub fn count(&self) -> u32
         ensures count { result ≡ point_count self.now }
-        ensures few { HasFewPoints self.now }
+        ensures few { HasFewPoints Large self.now }
         ensures sound { IsSound self.now }
     {
         self.procedures.len() as u32
@@ -149,7 +151,7 @@ impl<'p> Points<'p> {
         requires { point < point_count self.now }
         ensures stmt { option_copied result ≡ statement_at self.now point }
         ensures sound { IsSound self.now }
-        ensures few { HasFewPoints self.now }
+        ensures few { HasFewPoints Large self.now }
     {
         let place = self.place(point);
         let procedure = &self.program.procs()[place.procedure as usize];

@@ -1,13 +1,14 @@
-ghost use Rattle.std.specs.Prelude.{◌≡◌, ◌+◌, ◌*◌, ◌/◌, ◌<◌, ℕ, false, true, IfOk, IfSome, length, option_map, unwrap_or};
+ghost use Rattle.std.specs.Prelude.{◌≡◌, ◌+◌, ◌*◌, ◌/◌, ◌%◌, ◌^◌, ◌<◌, ◌≤◌, ℕ, false, true, IfOk, IfSome, length, option_map, unwrap_or};
 ghost use Rattle.bit_rows.specs.Words.{has_bit};
 ghost use Rattle.flow_graph.specs.Analyses.{is_backward as is_backward_of, is_must, main_procedure};
 ghost use Rattle.flow_graph.specs.Problems.{may_shape, IsAffected, IsWordOf, may_boundary, may_gens, may_kills};
-ghost use Rattle.flow_graph.specs.code.Effects.{depends};
+ghost use Rattle.flow_graph.specs.code.Effects.{IsDependence, depends};
 ghost use Rattle.flow_graph.specs.Limits.{HasFewBits, HasFewPoints};
 ghost use Rattle.flow_graph.specs.WellFormed.{IsWellFormed};
 ghost use Rattle.flow_graph.specs.Points.{end_point, point_count, procedure_at};
 ghost use Rattle.flow_graph.specs.Universes.{bits as bits_of};
 ghost use Rattle.tac_program.specs.Sound.{IsSound};
+ghost use Rattle.tac_program.specs.declared.limits.Limits.TheVariants.{Large};
 
 use crate::OutOfMemory;
 use crate::analysis::Analysis;
@@ -15,9 +16,11 @@ use crate::bit_table::BitTable;
 use crate::directed_edges::{directed_edges, is_backward};
 use crate::edge::Edge;
 use crate::effect::Effect;
-use crate::effects::{dependence, effects};
+use crate::effects::{bit_variables, dependent_words, effects, put_dependence};
 use crate::graph::Graph;
-use crate::words::{full_word, generated, killed, own_word, word_mark};
+use crate::words::{
+    full_word, generated, generates, is_either, killed, kills, own_word, word_mark,
+};
 use std::alloc::Global;
 use std::marker::Model;
 
@@ -28,14 +31,13 @@ pub struct Problem<'g, 'p> {
     analysis: Analysis,
     edges: Vec<Edge>,
     effects: Vec<Effect>,
-    dependence: BitTable,
-    dependence_words: BitTable,
+    dependent_words: BitTable,
 }
 
 impl<'g, 'p> Model for Problem<'g, 'p> {
     ghost use Rattle.flow_graph.specs.Problems.{MayForm, may_shape};
     ghost use Rattle.std.specs.Prelude.{◌≡◌};
-    ghost use Rattle.flow_graph.specs.code.Effects.{AreEffects, AreDependenceWords, IsDependence};
+    ghost use Rattle.flow_graph.specs.code.Effects.{AreEffects, AreDependentWords};
     ghost use Rattle.flow_graph.specs.WellFormed.{IsWellFormed};
 
     ghost Value = { MayForm };
@@ -43,8 +45,7 @@ impl<'g, 'p> Model for Problem<'g, 'p> {
     ghost view = { λ problem. record { program = problem.graph.now; analysis = problem.analysis } };
 
     ghost invariant = { λ problem. AreEffects problem.graph.now problem.analysis problem.effects.items
-        × IsDependence problem.graph.now problem.analysis problem.dependence.words.items problem.dependence.width
-        × AreDependenceWords problem.graph.now problem.analysis problem.dependence_words.words.items problem.dependence_words.width
+        × AreDependentWords problem.graph.now problem.analysis problem.dependent_words.words.items problem.dependent_words.width
         × (problem.edges.items ≡ (may_shape problem.graph.now problem.analysis).edges)
         × IsWellFormed (may_shape problem.graph.now problem.analysis) };
 }
@@ -57,8 +58,7 @@ impl Drop for Problem<'_, '_> {
             analysis: _,
             edges: _,
             effects: _,
-            dependence: _,
-            dependence_words: _,
+            dependent_words: _,
         } = self;
     }
 }
@@ -72,14 +72,13 @@ impl<'g, 'p> Problem<'g, 'p> {
         let _ = graph.program().procs();
         let edges = directed_edges(alloc, graph, analysis)?;
         let effects = effects(alloc, graph, analysis)?;
-        let (dependence, dependence_words) = dependence(alloc, graph, analysis)?;
+        let dependent_words = dependent_words(alloc, graph, analysis)?;
         Ok(Problem {
             graph,
             analysis,
             edges,
             effects,
-            dependence,
-            dependence_words,
+            dependent_words,
         })
     }
 
@@ -101,7 +100,7 @@ impl<'g, 'p> Problem<'g, 'p> {
         program.main()
     }
 
-    /// How many procedures there are: at most 256.
+    /// How many procedures there are: at most 16,384.
     pub fn procedures(&self) -> u32
         ensures count { result ≡ length self.now.program.procedures }
         ensures sound { IsSound self.now.program }
@@ -160,18 +159,27 @@ impl<'g, 'p> Problem<'g, 'p> {
         self.edges.as_slice()
     }
 
-    /// How many points there are: at most 16,384.
+    /// How many points there are: at most 1,048,576.
     pub fn points(&self) -> u32
         ensures count { result ≡ point_count self.now.program }
-        ensures few { HasFewPoints self.now.program }
+        ensures few { HasFewPoints Large self.now.program }
     {
         self.graph.points()
     }
 
-    /// How many bits there are: at most 4,096.
+    /// How many variables there are: at most 131,072.
+    pub fn variables(&self) -> u32
+        ensures count { result ≡ length self.now.program.variable_names }
+        ensures few { result ≤ 131072 }
+    {
+        self.graph.bits(Analysis::Live)
+    }
+
+    /// How many bits there are: at most 1,179,648.
     pub fn bits(&self) -> u32
         ensures count { result ≡ bits_of self.now.program self.now.analysis }
-        ensures few { HasFewBits self.now.program }
+        ensures few { HasFewBits Large self.now.program }
+        ensures most { result ≤ 1179648 }
     {
         self.graph.bits(self.analysis)
     }
@@ -195,59 +203,104 @@ impl<'g, 'p> Problem<'g, 'p> {
         }
     }
 
-    /// The word of the bits that depend on the variable, if one is written. What stands past the last bit is not told.
-    fn touched_word(&self, written: Option<u32>, word: u32) -> u64
-        requires { IfSome written (λ x. x < length self.now.program.variable_names) }
-        ensures { (k : ℕ) → k < 64 → 64 * word + k < bits_of self.now.program self.now.analysis → has_bit result k ≡ unwrap_or (option_map (λ x. depends self.now.program self.now.analysis x (64 * word + k)) written) false }
+    /// Whether the bit depends on the variable, if one is written.
+    fn touches(&self, written: Option<u32>, bit: u32) -> bool
+        requires { bit < bits_of self.now.program self.now.analysis }
+        ensures { result ≡ unwrap_or (option_map (λ x. depends self.now.program self.now.analysis x bit) written) false }
     {
+        let (first, second) = bit_variables(self.graph, self.analysis, bit);
         match written {
-            None => 0,
-            Some(variable) => self.dependence.word(variable, word),
+            None => false,
+            Some(variable) => is_either(first, second, variable),
         }
     }
 
-    /// The words in which some bit depends on the variable, if one is written.
+    /// The words in which some bit depends on the variable, if one is written: word `w` at place `w % 64`.
     fn touched_words(&self, written: Option<u32>) -> u64
         requires { IfSome written (λ x. x < length self.now.program.variable_names) }
         ensures { (bit : ℕ) → bit < bits_of self.now.program self.now.analysis
-            → unwrap_or (option_map (λ x. depends self.now.program self.now.analysis x bit) written) false ≡ true → has_bit result (bit / 64) ≡ true }
+            → unwrap_or (option_map (λ x. depends self.now.program self.now.analysis x bit) written) false ≡ true → has_bit result (bit / 64 % 64) ≡ true }
     {
         match written {
             None => 0,
-            Some(variable) => self.dependence_words.word(variable, 0),
+            Some(variable) => self.dependent_words.word(variable, 0),
         }
     }
 
-    /// The words of 64 bits in which the step of the statement at a point may generate or kill a bit, each as a bit by its
-    /// number: where place `w` is 0, it does so for no bit of word `w`.
+    /// The words of 64 bits in which the step of the statement at a point may generate or kill a bit: where place `p` is 0, it does so
+    /// for no bit of a word `w` with `w % 64` equal to `p`.
     pub fn effect_words(&self, point: u32) -> u64
         requires { point < point_count self.now.program }
-        ensures { (bit : ℕ) → bit < bits_of self.now.program self.now.analysis → IsAffected self.now point bit → has_bit result (bit / 64) ≡ true }
+        ensures { (bit : ℕ) → bit < bits_of self.now.program self.now.analysis → IsAffected self.now point bit → has_bit result (bit / 64 % 64) ≡ true }
     {
         let effect = self.effects[point as usize];
         let own = word_mark(effect.first) | word_mark(effect.second);
         own | self.touched_words(effect.written)
     }
 
-    /// The bits that the step of the statement at a point generates, by words.
-    pub fn gen_word(&self, point: u32, word: u32) -> u64
-        requires { point < point_count self.now.program }
+    /// A table in which to put, for each variable, the bits of so many words that depend on it.
+    pub fn no_dependence(&self, alloc: Global, words: u32) -> Result<BitTable, OutOfMemory>
+        requires { words ≤ 8 }
+        ensures rows { IfOk result (λ table. length table.words.items ≡ length self.now.program.variable_names * table.width) }
+        ensures width { IfOk result (λ table. table.width ≡ words) }
+    {
+        BitTable::blank(alloc, self.variables(), 64 * words)
+    }
+
+    /// Puts into a table for each variable the bits that depend on it, of the words from one on, as many as a row has. It is what
+    /// [`gen_word`](Problem::gen_word) and [`kill_word`](Problem::kill_word) of these words are made of.
+    pub fn put_dependence(&self, first: u32, table: &mut BitTable)
+        requires rows { length table.old.words.items ≡ length self.now.program.variable_names * table.old.width }
+        requires narrow { table.old.width ≤ 8 }
+        requires first { first < 2 ^ 25 }
+        ensures first { table.new.first ≡ first }
+        ensures width { table.new.width ≡ table.old.width }
+        ensures bits { IsDependence self.now.program self.now.analysis first table.new.words.items table.new.width }
+    {
+        put_dependence(self.graph, self.analysis, 64 * first, table);
+        table.first = first;
+    }
+
+    /// The word of the bits that depend on the variable, if one is written. What stands past the last bit is not told.
+    fn touched_word(&self, written: Option<u32>, word: u32, table: &BitTable) -> u64
+        requires written { IfSome written (λ x. x < length self.now.program.variable_names) }
+        requires table { IsDependence self.now.program self.now.analysis table.now.first table.now.words.items table.now.width }
+        requires from { table.now.first ≤ word }
+        requires until { word < table.now.first + table.now.width }
+        ensures { (k : ℕ) → k < 64 → 64 * word + k < bits_of self.now.program self.now.analysis
+            → has_bit result k ≡ unwrap_or (option_map (λ x. depends self.now.program self.now.analysis x (64 * word + k)) written) false }
+    {
+        match written {
+            None => 0,
+            Some(variable) => table.word(variable, word - table.first),
+        }
+    }
+
+    /// The bits that the step of the statement at a point generates, by words, by a table that has the word.
+    pub fn gen_word(&self, point: u32, word: u32, table: &BitTable) -> u64
+        requires point { point < point_count self.now.program }
+        requires table { IsDependence self.now.program self.now.analysis table.now.first table.now.words.items table.now.width }
+        requires from { table.now.first ≤ word }
+        requires until { word < table.now.first + table.now.width }
         ensures { IsWordOf (may_gens self.now point) (bits_of self.now.program self.now.analysis) word result }
     {
         let effect = self.effects[point as usize];
         let own = own_word(effect, word);
-        let touched = self.touched_word(effect.written, word);
+        let touched = self.touched_word(effect.written, word, table);
         generated(self.analysis, own, touched) & full_word(self.bits(), word)
     }
 
-    /// The bits that the step of the statement at a point kills, by words.
-    pub fn kill_word(&self, point: u32, word: u32) -> u64
-        requires { point < point_count self.now.program }
+    /// The bits that the step of the statement at a point kills, by words, by a table that has the word.
+    pub fn kill_word(&self, point: u32, word: u32, table: &BitTable) -> u64
+        requires point { point < point_count self.now.program }
+        requires table { IsDependence self.now.program self.now.analysis table.now.first table.now.words.items table.now.width }
+        requires from { table.now.first ≤ word }
+        requires until { word < table.now.first + table.now.width }
         ensures { IsWordOf (may_kills self.now point) (bits_of self.now.program self.now.analysis) word result }
     {
         let effect = self.effects[point as usize];
         let own = own_word(effect, word);
-        let touched = self.touched_word(effect.written, word);
+        let touched = self.touched_word(effect.written, word, table);
         killed(self.analysis, own, touched) & full_word(self.bits(), word)
     }
 
@@ -257,7 +310,10 @@ impl<'g, 'p> Problem<'g, 'p> {
         requires bit { bit < bits_of self.now.program self.now.analysis }
         ensures { result ≡ may_gens self.now point bit }
     {
-        (self.gen_word(point, bit / 64) >> (bit % 64)) & 1 == 1
+        let effect = self.effects[point as usize];
+        let own = is_either(effect.first, effect.second, bit);
+        let touched = self.touches(effect.written, bit);
+        generates(self.analysis, own, touched)
     }
 
     /// Whether the step of the statement at a point kills a bit.
@@ -266,7 +322,10 @@ impl<'g, 'p> Problem<'g, 'p> {
         requires bit { bit < bits_of self.now.program self.now.analysis }
         ensures { result ≡ may_kills self.now point bit }
     {
-        (self.kill_word(point, bit / 64) >> (bit % 64)) & 1 == 1
+        let effect = self.effects[point as usize];
+        let own = is_either(effect.first, effect.second, bit);
+        let touched = self.touches(effect.written, bit);
+        kills(self.analysis, own, touched)
     }
 
     /// The bits of the boundary by words. What stands past the last bit is not told.

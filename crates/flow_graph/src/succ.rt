@@ -3,7 +3,9 @@
 ghost use Rattle.std.specs.Prelude.{◌≡◌, ◌<◌, suc, [], ◌∷◌, ◌++◌, length, map, All, Some, IfOk, OnOk, option_copied};
 ghost use Rattle.flow_graph.specs.Edges.{edges_from, edges_of, label_point, two_steps};
 ghost use Rattle.flow_graph.specs.code.Labels.{labels_at};
-ghost use Rattle.flow_graph.specs.Limits.{HasFewPoints, most_points};
+ghost use Rattle.flow_graph.specs.Limits.{HasFewPoints};
+ghost use Rattle.tac_program.specs.Limits.{most_points};
+ghost use Rattle.tac_program.specs.declared.limits.Limits.TheVariants.{Large};
 ghost use Rattle.flow_graph.specs.Points.{end_point, entry_point, kind_at, point_count, procedure_at, statement_at};
 ghost use Rattle.flow_graph.specs.declared.edge.Edge.TheVariants.{Step, Call, Ret};
 ghost use Rattle.tac_program.specs.Sound.{IsSound};
@@ -32,7 +34,7 @@ fn label_target(points: &Points<'_>, point: u32, label: u32) -> u32
 /// The end of a point's procedure.
 fn end_target(points: &Points<'_>, point: u32) -> u32
     requires point { point < point_count points.now }
-    requires few { HasFewPoints points.now }
+    requires few { HasFewPoints Large points.now }
     ensures { result ≡ end_point points.now (procedure_at points.now point) }
 {
     let procedure = points.place(point).procedure;
@@ -43,7 +45,7 @@ fn end_target(points: &Points<'_>, point: u32) -> u32
 
 /// Puts the step to the next point last, and the one that a test takes, unless the two are one.
 fn put_test<E: EdgeList>(edges: &mut E, point: u32, target: u32) -> Result<(), OutOfMemory>
-    requires { point < most_points }
+    requires { point < most_points Large }
     ensures { OnOk result (E.listed edges.new ≡ E.listed edges.old ++ two_steps point target) }
 {
     let next = point + 1;
@@ -82,7 +84,7 @@ fn put_calls<E: EdgeList>(
 
 /// Puts a return to each call site last.
 fn put_returns<E: EdgeList>(edges: &mut E, point: u32, sites: &[u32]) -> Result<(), OutOfMemory>
-    requires { All (λ site. site < most_points) sites.now }
+    requires { All (λ site. site < most_points Large) sites.now }
     ensures { OnOk result (E.listed edges.new ≡ E.listed edges.old ++ map (λ site. Ret site point (suc site)) sites.now) }
 {
     for site in sites {
@@ -105,7 +107,7 @@ fn put_statement<E: EdgeList>(
     requires point { point < point_count points.now }
     requires kind { kind_at points.now point ≡ Some kind.now }
     requires sound { IsSound points.now }
-    requires few { HasFewPoints points.now }
+    requires few { HasFewPoints Large points.now }
     ensures { OnOk result (E.listed edges.new ≡ E.listed edges.old ++ edges_of points.now point kind.now) }
 {
     match kind {

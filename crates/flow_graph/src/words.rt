@@ -1,6 +1,6 @@
 // Words of sets of bits.
 
-ghost use Rattle.std.specs.Prelude.{◌≡◌, ◌+◌, ◌*◌, ◌<◌, ℕ, nat_lt, ◌/◌, true};
+ghost use Rattle.std.specs.Prelude.{◌≡◌, ◌+◌, ◌*◌, ◌<◌, ℕ, nat_lt, ◌||◌, ◌/◌, ◌%◌, true};
 ghost use Rattle.bit_rows.specs.Words.{has_bit};
 ghost use Rattle.flow_graph.specs.code.Effects.{effect_owns, gen_from, kill_from, marks};
 
@@ -36,13 +36,54 @@ pub(crate) fn own_word(effect: Effect, word: u32) -> u64
     mark_word(effect.first, word) | mark_word(effect.second, word)
 }
 
-/// The word that a single bit lies in, as a bit by the word's number, or none. Words past the first 64 have none.
+/// The word that a single bit lies in, word `w` at place `w % 64`, or none.
 pub(crate) fn word_mark(mark: Option<u32>) -> u64
-    ensures { (bit : ℕ) → marks mark bit ≡ true → bit / 64 < 64 → has_bit result (bit / 64) ≡ true }
+    ensures { (bit : ℕ) → marks mark bit ≡ true → has_bit result (bit / 64 % 64) ≡ true }
 {
     match mark {
         None => 0,
-        Some(bit) => mark_word(Some(bit / 64), 0),
+        Some(bit) => mark_word(Some(bit / 64 % 64), 0),
+    }
+}
+
+// Whether a number is this one, if there is one.
+fn is_marked(mark: Option<u32>, number: u32) -> bool
+    ensures { result ≡ marks mark number }
+{
+    match mark {
+        None => false,
+        Some(marked) => number == marked,
+    }
+}
+
+/// Whether one of two numbers is this one.
+pub(crate) fn is_either(first: Option<u32>, second: Option<u32>, number: u32) -> bool
+    ensures { result ≡ (marks first number || marks second number) }
+{
+    is_marked(first, number) || is_marked(second, number)
+}
+
+/// Whether a bit is generated, of whether it is the statement's own and whether it is touched.
+pub(crate) fn generates(analysis: Analysis, own: bool, touched: bool) -> bool
+    ensures { result ≡ gen_from analysis own touched }
+{
+    match analysis {
+        Analysis::Reach => own,
+        Analysis::Live => own,
+        Analysis::Avail => touched,
+        Analysis::Busy => touched && !own,
+    }
+}
+
+/// Whether a bit is killed, of whether it is the statement's own and whether it is touched.
+pub(crate) fn kills(analysis: Analysis, own: bool, touched: bool) -> bool
+    ensures { result ≡ kill_from analysis own touched }
+{
+    match analysis {
+        Analysis::Reach => touched && !own,
+        Analysis::Live => touched,
+        Analysis::Avail => own && !touched,
+        Analysis::Busy => own,
     }
 }
 

@@ -1,6 +1,6 @@
 // What a program's graph and problems answer, as text: a table of tests is then rows of text, question and answer.
 
-ghost use Rattle.std.specs.Prelude.{◌≡◌, length, IfOk};
+ghost use Rattle.std.specs.Prelude.{◌≡◌, ◌<◌, ◌^◌, length, IfOk};
 ghost use Rattle.flow_graph.specs.Points.{point_count};
 
 use flow_graph::{Analysis, Edge, Graph, GraphFault, OutOfMemory, Problem};
@@ -92,9 +92,11 @@ pub fn write_answer(
         Question::Numbers => write_numbers(text, graph),
         Question::LeadsTo(marked) => write_leading(text, alloc, graph, marked),
         Question::Frame(analysis) => write_frame(text, &Problem::of(alloc, graph, analysis)?),
-        Question::Sets(analysis) => write_all_sets(text, &Problem::of(alloc, graph, analysis)?),
+        Question::Sets(analysis) => {
+            write_all_sets(text, alloc, &Problem::of(alloc, graph, analysis)?)
+        }
         Question::SetsAt(analysis, point) => {
-            write_sets(text, &Problem::of(alloc, graph, analysis)?, point)
+            write_sets(text, alloc, &Problem::of(alloc, graph, analysis)?, point)
         }
     }
 }
@@ -218,8 +220,43 @@ fn write_word(text: &mut String, word: u32, bits: u64) -> Result<(), OutOfMemory
     Ok(())
 }
 
+/// What is generated at a point, of a word.
+fn gen_word(
+    alloc: Global,
+    problem: &Problem<'_, '_>,
+    point: u32,
+    word: u32,
+) -> Result<u64, OutOfMemory>
+    requires point { point < point_count problem.now.program }
+    requires word { word < 2 ^ 25 }
+{
+    let mut table = problem.no_dependence(alloc, 1)?;
+    problem.put_dependence(word, &mut table);
+    Ok(problem.gen_word(point, word, &table))
+}
+
+/// What is killed at a point, of a word.
+fn kill_word(
+    alloc: Global,
+    problem: &Problem<'_, '_>,
+    point: u32,
+    word: u32,
+) -> Result<u64, OutOfMemory>
+    requires point { point < point_count problem.now.program }
+    requires word { word < 2 ^ 25 }
+{
+    let mut table = problem.no_dependence(alloc, 1)?;
+    problem.put_dependence(word, &mut table);
+    Ok(problem.kill_word(point, word, &table))
+}
+
 /// What is generated and killed at a point, by bits and by words up to the first behind the last bit.
-fn write_sets(text: &mut String, problem: &Problem<'_, '_>, point: u32) -> Result<(), OutOfMemory> {
+fn write_sets(
+    text: &mut String,
+    alloc: Global,
+    problem: &Problem<'_, '_>,
+    point: u32,
+) -> Result<(), OutOfMemory> {
     if problem.points() <= point {
         return text.push_str("no such point");
     }
@@ -230,7 +267,7 @@ fn write_sets(text: &mut String, problem: &Problem<'_, '_>, point: u32) -> Resul
         }
     }
     for word in 0..problem.bits() / 64 + 2 {
-        write_word(text, word, problem.gen_word(point, word))?;
+        write_word(text, word, gen_word(alloc, problem, point, word)?)?;
     }
     text.push_str(", kills")?;
     for bit in 0..problem.bits() {
@@ -239,13 +276,17 @@ fn write_sets(text: &mut String, problem: &Problem<'_, '_>, point: u32) -> Resul
         }
     }
     for word in 0..problem.bits() / 64 + 2 {
-        write_word(text, word, problem.kill_word(point, word))?;
+        write_word(text, word, kill_word(alloc, problem, point, word)?)?;
     }
     text.push('\n')
 }
 
 /// Writes the boundary of a problem, and what is generated and killed at each of its points.
-fn write_all_sets(text: &mut String, problem: &Problem<'_, '_>) -> Result<(), OutOfMemory> {
+fn write_all_sets(
+    text: &mut String,
+    alloc: Global,
+    problem: &Problem<'_, '_>,
+) -> Result<(), OutOfMemory> {
     text.push_str("begins")?;
     for bit in 0..problem.bits() {
         if problem.in_boundary(bit) {
@@ -257,7 +298,7 @@ fn write_all_sets(text: &mut String, problem: &Problem<'_, '_>) -> Result<(), Ou
     }
     text.push('\n')?;
     for point in 0..problem.points() {
-        write_sets(text, problem, point)?;
+        write_sets(text, alloc, problem, point)?;
     }
     Ok(())
 }

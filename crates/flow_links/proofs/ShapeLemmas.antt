@@ -1,5 +1,5 @@
 -- The points, procedures and edges of a program, in either direction
-use Rattle.std.proofs.Common.{◌≡◌, ℕ, ◌<◌, ◌≤◌, ◌^◌, Bool, true, false, List, length, get_or, map, refl, ap, subst, ◌∙◌, arith}
+use Rattle.std.proofs.Common.{◌≡◌, ℕ, ◌<◌, ◌≤◌, Bool, true, false, List, length, get_or, map, refl, ap, subst, ◌∙◌, arith}
 use Rattle.std.proofs.lemmas.List.{length-map, get_or-map}
 use Rattle.std.proofs.lemmas.List.Elements.{All-contains_itself}
 use Rattle.tac_program.specs.Programs.{Program}
@@ -14,6 +14,7 @@ use Rattle.flow_graph.specs.Points.{point_count, procedure_at, entry_point}
 use Rattle.flow_graph.specs.ProgramLaws.{IsPlaced}
 use Rattle.flow_graph.specs.declared.analysis.Analysis.{Analysis}
 use Rattle.flow_graph.specs.Limits.{HasFewPoints}
+use Rattle.tac_program.specs.declared.limits.Limits.TheVariants.{Large}
 use Rattle.flow_graph.proofs.graphs.GraphLaws.{graphs_are_well_formed, edges_join_points, entry_in, end_in, calls_return_behind_sites, returns_have_calls_at_sites}
 use Rattle.flow_graph.proofs.places.PointLemmas.{points_have_places}
 use Rattle.flow_graph.proofs.paths.Reversal.{edge_reversed, edge_back, reversed_is_well_formed}
@@ -80,13 +81,13 @@ module _ (program : Program) (sound : IsSound program) where
 -- what holds of the numbers of a may form
 pub record AreInRange (program : Program) (analysis : Analysis) : Type 0 where
   pub numbered : IsNumbered (may_shape program analysis) (is_backward analysis) (point_count program)
-  pub few : point_count program ≤ 16384
-  pub few_procedures : (may_shape program analysis).procedures ≤ 256
+  pub few : point_count program ≤ 1048576
+  pub few_procedures : (may_shape program analysis).procedures ≤ 16384
   pub procedures_are : (may_shape program analysis).procedures ≡ length program.procedures
   pub procedure_is : (x : ℕ) → (may_shape program analysis).procedure_of x ≡ procedure_at program x
   pub root_is : (may_shape program analysis).root_procedure ≡ main_procedure program
 
-pub in_range : (program : Program) (analysis : Analysis) → IsSound program → HasFewPoints program → AreInRange program analysis
+pub in_range : (program : Program) (analysis : Analysis) → IsSound program → HasFewPoints Large program → AreInRange program analysis
 in_range program analysis sound few = record {
   numbered = shapes_are_numbered program sound (is_backward analysis);
   few = few;
@@ -101,15 +102,9 @@ pub ends : {program : Program} {analysis : Analysis} → AreInRange program anal
     → (source_of other < point_count program) × (target_of other < point_count program)
 ends {program = program} {analysis = analysis} range edge other there is = range.numbered.edge_in_range other (subst (λ e. IsEdge (may_shape program analysis) e) is there)
 
-pub ends_fit : {program : Program} {analysis : Analysis} → AreInRange program analysis → (edge other : Edge) → IsEdge (may_shape program analysis) edge → edge ≡ other → (source_of other < 2 ^ 16) × (target_of other < 2 ^ 16)
-ends_fit range edge other there is = let low = ends range edge other there is in let few = range.few in let source = low.0 in let target = low.1 in (omega (arith, few, source), omega (arith, few, target))
-
 -- the procedure of a point
 pub procedure_low : {program : Program} {analysis : Analysis} → AreInRange program analysis → (x : ℕ) → x < point_count program → procedure_at program x < length program.procedures
 procedure_low range x low = let is = range.procedure_is x in let inside = range.numbered.procedure_in_range x low in let count = range.procedures_are in omega (arith, is, inside, count)
-
-pub procedure_fits : {program : Program} {analysis : Analysis} → AreInRange program analysis → (x : ℕ) → x < point_count program → procedure_at program x < 2 ^ 16
-procedure_fits range x low = let is = range.procedure_is x in let inside = range.numbered.procedure_in_range x low in let few = range.few_procedures in omega (arith, is, inside, few)
 
 -- the number at which an edge stands
 pub key_low : {program : Program} {analysis : Analysis} → AreInRange program analysis → (kind : ListKind) (edge : Edge) → IsEdge (may_shape program analysis) edge
@@ -127,15 +122,11 @@ key_low range Sites (Step x y) there = omega arith
 key_low range Sites (Call site x y) there = let low = range.numbered.procedure_in_range x (range.numbered.edge_in_range (Call site x y) there).0 in omega (arith, low)
 key_low range Sites (Ret site x y) there = omega arith
 
-pub keys_few : {program : Program} {analysis : Analysis} → AreInRange program analysis → (kind : ListKind) → keys_of kind (may_shape program analysis) (point_count program) ≤ 16384
+pub keys_few : {program : Program} {analysis : Analysis} → AreInRange program analysis → (kind : ListKind) → keys_of kind (may_shape program analysis) (point_count program) ≤ 1048576
 keys_few range Steps = range.few
 keys_few range Calls = range.few
 keys_few range Callers = range.few
 keys_few range Sites = let few = range.few_procedures in omega (arith, few)
-
-pub key_fits : {program : Program} {analysis : Analysis} → AreInRange program analysis → (kind : ListKind) (edge : Edge) → IsEdge (may_shape program analysis) edge
-    → key_of kind (may_shape program analysis) (point_count program) edge < 2 ^ 16
-key_fits range kind edge there = let low = key_low range kind edge there in let few = keys_few range kind in omega (arith, low, few)
 
 pub keys_low : {program : Program} {analysis : Analysis} → AreInRange program analysis → (kind : ListKind) (edges : List Edge) → AreEdges (may_shape program analysis) edges → (keys : List ℕ)
     → keys ≡ map (key_of kind (may_shape program analysis) (point_count program)) edges → (i : ℕ) → i < length keys → get_or keys i 0 ≤ keys_of kind (may_shape program analysis) (point_count program)

@@ -6,9 +6,6 @@ use crate::OutOfMemory;
 use crate::links::Links;
 use std::alloc::Global;
 
-// More steps than a walk takes: two for each call and each procedure.
-const MOST_STEPS: u32 = 300_000;
-
 /// Along which calls a walk goes.
 #[derive(Clone, Copy)]
 pub(crate) enum Way {
@@ -31,7 +28,7 @@ struct OpenProcedure {
 pub(crate) struct CallWalk {
     open: Vec<OpenProcedure>,
     entered: Vec<bool>,
-    left: Vec<u16>,
+    left: Vec<u32>,
 }
 
 // The procedure at the other end of a call, if there are so many.
@@ -42,13 +39,11 @@ fn other_end(links: &Links<'_, '_>, way: Way, procedure: u32, call: usize) -> Op
     let _ = links.points();
     match way {
         Way::ToCallees => match links.sites_in(procedure).get(call) {
-            Some(site) => Some(u32::from(site.callee)),
+            Some(site) => Some(site.callee),
             None => None,
         },
         Way::ToCallers => match links.callers_of(links.exit(procedure)).get(call) {
-            Some(point) if u32::from(*point) < links.points() => {
-                Some(links.procedure_of(u32::from(*point)))
-            }
+            Some(point) if *point < links.points() => { Some(links.procedure_of(*point)) }
             _ => None,
         },
     }
@@ -98,7 +93,7 @@ impl CallWalk {
                 self.enter(other)
             }
             None => {
-                self.left.push(latest.procedure as u16)?;
+                self.left.push(latest.procedure)?;
                 Ok(())
             }
         }
@@ -112,7 +107,9 @@ impl CallWalk {
         procedure: u32,
     ) -> Result<usize, OutOfMemory> {
         self.enter(procedure)?;
-        'steps: for _ in 0..MOST_STEPS {
+        // A step for each call, of which a point has eight at most, and one for each procedure that is left.
+        let most = 16 * u64::from(links.points());
+        'steps: for _ in 0..most {
             match self.open.pop() {
                 Some(latest) if latest.procedure < links.procedures() => {
                     self.visit(links, way, latest)?;
@@ -124,7 +121,7 @@ impl CallWalk {
     }
 
     /// The procedures that were left.
-    pub(crate) fn into_left(self) -> Vec<u16> {
+    pub(crate) fn into_left(self) -> Vec<u32> {
         self.left
     }
 }

@@ -9,7 +9,7 @@ use crate::links::Links;
 use std::alloc::Global;
 
 /// The round of an exit that is not reached.
-const NEVER: u16 = u16::MAX;
+const NEVER: u32 = u32::MAX;
 
 // A walk in rounds: in each, calls lead on whose callees were left in a round before.
 #[derive(Drop)]
@@ -17,11 +17,11 @@ struct ExitWalk {
     // The points that were reached.
     reached: Vec<bool>,
     // Those from which the walk did not go on yet.
-    waiting: Vec<u16>,
+    waiting: Vec<u32>,
     // The round of each procedure's exit.
-    rounds: Vec<u16>,
+    rounds: Vec<u32>,
     // The procedures whose exits were reached in this round.
-    left: Vec<u16>,
+    left: Vec<u32>,
 }
 
 impl ExitWalk {
@@ -39,7 +39,7 @@ impl ExitWalk {
     }
 
     // Reaches a point.
-    fn reach(&mut self, point: u16) -> Result<(), OutOfMemory> {
+    fn reach(&mut self, point: u32) -> Result<(), OutOfMemory> {
         match self.reached.get_mut(point as usize) {
             Some(reached) if !*reached => *reached = true,
             _ => return Ok(()),
@@ -50,12 +50,12 @@ impl ExitWalk {
 
     // Whether the callee of a call was left in a round before.
     fn leads_on(&self, links: &Links<'_, '_>, call: CallLink) -> bool {
-        let exit = u32::from(call.exit);
+        let exit = call.exit;
         exit < links.points() && self.round_of(links.procedure_of(exit)) != NEVER
     }
 
     // The round of a procedure's exit.
-    fn round_of(&self, procedure: u32) -> u16 {
+    fn round_of(&self, procedure: u32) -> u32 {
         match self.rounds.get(procedure as usize) {
             Some(round) => *round,
             None => NEVER,
@@ -79,7 +79,7 @@ impl ExitWalk {
         let _ = links.procedures();
         let procedure = links.procedure_of(point);
         if links.exit(procedure) == point && self.round_of(procedure) == NEVER {
-            self.left.push(procedure as u16)?;
+            self.left.push(procedure)?;
         }
         Ok(())
     }
@@ -89,8 +89,8 @@ impl ExitWalk {
         // Each point waits once.
         for _ in 0..links.points() {
             match self.waiting.pop() {
-                Some(point) if u32::from(point) < links.points() => {
-                    self.visit(links, u32::from(point))?;
+                Some(point) if point < links.points() => {
+                    self.visit(links, point)?;
                 }
                 _ => return Ok(()),
             }
@@ -109,9 +109,9 @@ impl ExitWalk {
                 Some(reached) => *reached,
                 None => false,
             };
-            if is_reached && u32::from(*caller) < links.points() {
+            if is_reached && *caller < links.points() {
                 // All calls of a point lead to the same one behind it.
-                if let Some(call) = links.calls_from(u32::from(*caller)).first() {
+                if let Some(call) = links.calls_from(*caller).first() {
                     self.reach(call.after)?;
                 }
             }
@@ -123,8 +123,8 @@ impl ExitWalk {
     fn end_round(
         &mut self,
         links: &Links<'_, '_>,
-        round: u16,
-        left: &[u16],
+        round: u32,
+        left: &[u32],
     ) -> Result<(), OutOfMemory> {
         for procedure in left {
             if let Some(place) = self.rounds.get_mut(*procedure as usize) {
@@ -132,8 +132,8 @@ impl ExitWalk {
             }
         }
         for procedure in left {
-            if u32::from(*procedure) < links.procedures() {
-                self.reach_behind(links, u32::from(*procedure))?;
+            if *procedure < links.procedures() {
+                self.reach_behind(links, *procedure)?;
             }
         }
         Ok(())
@@ -149,7 +149,7 @@ fn walk_in_rounds(
     // Its contract tells where entries lie.
     let _ = links.points();
     for procedure in 0..links.procedures() {
-        walk.reach(links.entry(procedure) as u16)?;
+        walk.reach(links.entry(procedure))?;
     }
     for round in 0..links.procedures() {
         walk.visit_waiting(links)?;
@@ -157,13 +157,13 @@ fn walk_in_rounds(
         if left.is_empty() {
             break;
         }
-        walk.end_round(links, round as u16, left.as_slice())?;
+        walk.end_round(links, round, left.as_slice())?;
     }
     Ok(())
 }
 
 /// For each procedure the round in which its exit is reached, where a call leads on from the round on that is behind its callee's.
-pub(crate) fn exit_rounds(alloc: Global, links: &Links<'_, '_>) -> Result<Vec<u16>, OutOfMemory> {
+pub(crate) fn exit_rounds(alloc: Global, links: &Links<'_, '_>) -> Result<Vec<u32>, OutOfMemory> {
     let mut found = ExitWalk::new(alloc, links)?;
     walk_in_rounds(alloc, links, &mut found)?;
     Ok(found.rounds)

@@ -7,7 +7,7 @@ use std::alloc::Global;
 /// Points in an order, and where its parts and its wholes end.
 #[derive(Drop)]
 pub(crate) struct Layout {
-    pub points: Vec<u16>,
+    pub points: Vec<u32>,
     pub part_ends: Vec<u32>,
     pub whole_ends: Vec<u32>,
 }
@@ -39,18 +39,16 @@ impl Layout {
     pub(crate) fn put(
         &mut self,
         links: &Links<'_, '_>,
-        points: &[u16],
+        points: &[u32],
         leading: &[bool],
         leads: bool,
     ) -> Result<(), OutOfMemory> {
         let mut latest = u32::MAX;
         for point in points {
-            if leading.get(*point as usize).copied() != Some(leads)
-                || u32::from(*point) >= links.points()
-            {
+            if leading.get(*point as usize).copied() != Some(leads) || *point >= links.points() {
                 continue;
             }
-            let procedure = links.procedure_of(u32::from(*point));
+            let procedure = links.procedure_of(*point);
             if procedure != latest {
                 let end = self.end();
                 put_end(&mut self.part_ends, end)?;

@@ -10,7 +10,7 @@ use std::alloc::Global;
 const MOST_ROUNDS: u32 = 8;
 
 // Whether a point is known to lead on.
-fn is_known(leading: &[bool], point: u16) -> bool {
+fn is_known(leading: &[bool], point: u32) -> bool {
     leading.get(point as usize).copied() == Some(true)
 }
 
@@ -38,11 +38,11 @@ fn leads_on(links: &Links<'_, '_>, leading: &[bool], point: u32) -> bool
 }
 
 // Goes over these points from the last to the first, and tells whether one more leads on.
-fn find_more(links: &Links<'_, '_>, points: &[u16], leading: &mut [bool]) -> bool {
+fn find_more(links: &Links<'_, '_>, points: &[u32], leading: &mut [bool]) -> bool {
     let mut more = false;
     for point in points.iter().rev() {
-        let point = u32::from(*point);
-        if point < links.points() && !is_known(leading, point as u16) {
+        let point = *point;
+        if point < links.points() && !is_known(leading, point) {
             let leads = leads_on(links, leading, point);
             if let Some(place) = leading.get_mut(point as usize) {
                 *place = leads;
@@ -57,7 +57,7 @@ fn find_more(links: &Links<'_, '_>, points: &[u16], leading: &mut [bool]) -> boo
 pub(crate) fn leading_points(
     alloc: Global,
     links: &Links<'_, '_>,
-    points: &[u16],
+    points: &[u32],
 ) -> Result<Vec<bool>, OutOfMemory> {
     let mut leading = vec![in alloc; false; links.points() as usize]?;
     for _ in 0..MOST_ROUNDS {

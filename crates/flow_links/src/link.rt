@@ -2,16 +2,16 @@
 #[derive(Debug, Clone, Copy, PartialEq, Eq)]
 pub struct CallLink {
     /// The exit of the procedure that is called.
-    pub exit: u16,
+    pub exit: u32,
     /// The point after the call.
-    pub after: u16,
+    pub after: u32,
 }
 
 /// A call in a procedure.
 #[derive(Debug, Clone, Copy, PartialEq, Eq)]
 pub struct SiteLink {
     /// The point of the call.
-    pub point: u16,
+    pub point: u32,
     /// The procedure that is called.
-    pub callee: u16,
+    pub callee: u32,
 }

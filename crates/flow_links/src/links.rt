@@ -2,6 +2,7 @@ ghost use Rattle.std.specs.Prelude.{◌≡◌, ◌<◌, ◌≤◌, ℕ, IfOk, le
 ghost use Rattle.flow_graph.specs.Analyses.{is_backward as is_backward_of};
 ghost use Rattle.flow_graph.specs.Problems.{may_shape};
 ghost use Rattle.flow_graph.specs.Limits.{HasFewPoints};
+ghost use Rattle.tac_program.specs.declared.limits.Limits.TheVariants.{Large};
 ghost use Rattle.flow_graph.specs.Points.{point_count};
 ghost use Rattle.flow_links.specs.LinkLists.{AreStepsFrom, AreCallsFrom, AreCallersOf, AreSitesIn};
 ghost use Rattle.flow_links.specs.Shapes.{directed_shape, IsNumbered};
@@ -26,9 +27,9 @@ pub struct Links<'g, 'p> {
     problem: Snapshot<Problem<'g, 'p>>,
     backward: bool,
     root: u32,
-    entries: Vec<u16>,
-    exits: Vec<u16>,
-    procedures: Vec<u16>,
+    entries: Vec<u32>,
+    exits: Vec<u32>,
+    procedures: Vec<u32>,
     steps: PointLists,
     calls: CallLists,
     callers: PointLists,
@@ -71,40 +72,40 @@ impl Drop for Links<'_, '_> {
 }
 
 // The entry of each procedure.
-fn entries(alloc: Global, problem: &Problem<'_, '_>) -> Result<Vec<u16>, OutOfMemory>
+fn entries(alloc: Global, problem: &Problem<'_, '_>) -> Result<Vec<u32>, OutOfMemory>
     ensures { IfOk result (λ entries. AreEach entries.items (may_shape problem.now.program problem.now.analysis).procedures (may_shape problem.now.program problem.now.analysis).entry) }
 {
     let count = problem.procedures();
     let _ = problem.points();
     let mut entries = Vec::with_capacity(alloc, count as usize)?;
     for procedure in 0..count {
-        entries.push(problem.entry(procedure) as u16)?;
+        entries.push(problem.entry(procedure))?;
     }
     Ok(entries)
 }
 
 // The exit of each procedure.
-fn exits(alloc: Global, problem: &Problem<'_, '_>) -> Result<Vec<u16>, OutOfMemory>
+fn exits(alloc: Global, problem: &Problem<'_, '_>) -> Result<Vec<u32>, OutOfMemory>
     ensures { IfOk result (λ exits. AreEach exits.items (may_shape problem.now.program problem.now.analysis).procedures (may_shape problem.now.program problem.now.analysis).exit) }
 {
     let count = problem.procedures();
     let _ = problem.points();
     let mut exits = Vec::with_capacity(alloc, count as usize)?;
     for procedure in 0..count {
-        exits.push(problem.exit(procedure) as u16)?;
+        exits.push(problem.exit(procedure))?;
     }
     Ok(exits)
 }
 
 // The procedure of each point.
-fn procedures_of(alloc: Global, problem: &Problem<'_, '_>) -> Result<Vec<u16>, OutOfMemory>
+fn procedures_of(alloc: Global, problem: &Problem<'_, '_>) -> Result<Vec<u32>, OutOfMemory>
     ensures { IfOk result (λ procedures. AreEach procedures.items (point_count problem.now.program) (may_shape problem.now.program problem.now.analysis).procedure_of) }
 {
     let _ = problem.procedures();
     let points = problem.points();
     let mut procedures = Vec::with_capacity(alloc, points as usize)?;
     for point in 0..points {
-        procedures.push(problem.procedure(point) as u16)?;
+        procedures.push(problem.procedure(point))?;
     }
     Ok(procedures)
 }
@@ -112,9 +113,9 @@ fn procedures_of(alloc: Global, problem: &Problem<'_, '_>) -> Result<Vec<u16>, O
 // The procedures' entries and exits, and the procedure of each point.
 #[derive(Drop)]
 struct PlaceTables {
-    entries: Vec<u16>,
-    exits: Vec<u16>,
-    procedures: Vec<u16>,
+    entries: Vec<u32>,
+    exits: Vec<u32>,
+    procedures: Vec<u32>,
 }
 
 // The tables of a problem's procedures and points.
@@ -178,19 +179,19 @@ impl<'g, 'p> Links<'g, 'p> {
         Ok(links.with_orders(points, procedures))
     }
 
-    /// How many points there are: at most 16,384.
+    /// How many points there are: at most 1,048,576.
     pub fn points(&self) -> u32
         ensures count { result ≡ point_count self.now.program }
-        ensures few { HasFewPoints self.now.program }
+        ensures few { HasFewPoints Large self.now.program }
         ensures numbered { IsNumbered (directed_shape self.now) self.now.backward (point_count self.now.program) }
     {
         self.procedures.len() as u32
     }
 
-    /// How many procedures there are: at most 256.
+    /// How many procedures there are: at most 16,384.
     pub fn procedures(&self) -> u32
         ensures count { result ≡ (directed_shape self.now).procedures }
-        ensures few { (directed_shape self.now).procedures ≤ 256 }
+        ensures few { (directed_shape self.now).procedures ≤ 16384 }
     {
         self.entries.len() as u32
     }
@@ -207,7 +208,7 @@ impl<'g, 'p> Links<'g, 'p> {
         requires { procedure < (directed_shape self.now).procedures }
         ensures { result ≡ (directed_shape self.now).entry procedure }
     {
-        self.entries[procedure as usize] as u32
+        self.entries[procedure as usize]
     }
 
     /// The point at which a procedure is left: its first, where the edges are turned round.
@@ -215,7 +216,7 @@ impl<'g, 'p> Links<'g, 'p> {
         requires { procedure < (directed_shape self.now).procedures }
         ensures { result ≡ (directed_shape self.now).exit procedure }
     {
-        self.exits[procedure as usize] as u32
+        self.exits[procedure as usize]
     }
 
     /// The procedure of a point.
@@ -223,7 +224,7 @@ impl<'g, 'p> Links<'g, 'p> {
         requires { point < point_count self.now.program }
         ensures { result ≡ (directed_shape self.now).procedure_of point }
     {
-        self.procedures[point as usize] as u32
+        self.procedures[point as usize]
     }
 
     /// Whether the edges are turned round.
@@ -234,7 +235,7 @@ impl<'g, 'p> Links<'g, 'p> {
     }
 
     /// The points to which steps lead from a point.
-    pub fn steps_from(&self, point: u32) -> &[u16]
+    pub fn steps_from(&self, point: u32) -> &[u32]
         requires { point < point_count self.now.program }
         ensures { AreStepsFrom (directed_shape self.now) (point_count self.now.program) point result.now }
     {
@@ -254,7 +255,7 @@ impl<'g, 'p> Links<'g, 'p> {
     }
 
     /// The points of the calls whose callee is left at a point: none unless it is an exit.
-    pub fn callers_of(&self, point: u32) -> &[u16]
+    pub fn callers_of(&self, point: u32) -> &[u32]
         requires { point < point_count self.now.program }
         ensures { AreCallersOf (directed_shape self.now) (point_count self.now.program) point result.now }
     {

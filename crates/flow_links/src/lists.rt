@@ -19,7 +19,7 @@ use work_list::Groups;
 #[derive(Drop)]
 pub(crate) struct PointLists {
     pub starts: Vec<u32>,
-    pub items: Vec<u16>,
+    pub items: Vec<u32>,
 }
 
 /// Where calls lead, by point.

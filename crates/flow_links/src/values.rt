@@ -11,30 +11,25 @@ use flow_graph::{Edge, Problem};
 use std::alloc::Global;
 
 // The point to which a step leads.
-fn target(problem: &Problem<'_, '_>, edge: Edge) -> u16
+fn target(problem: &Problem<'_, '_>, edge: Edge) -> u32
     requires { IsEdge (may_shape problem.now.program problem.now.analysis) edge }
     ensures { result ≡ step_target edge }
 {
-    // Their contracts tell that the program is sound and has few points.
-    let _ = problem.procedures();
-    let _ = problem.points();
     match edge {
-        Edge::Step { to, .. } => to as u16,
+        Edge::Step { to, .. } => to,
         Edge::Call { .. } => 0,
         Edge::Ret { .. } => 0,
     }
 }
 
 // The point from which a call leads.
-fn source(problem: &Problem<'_, '_>, edge: Edge) -> u16
+fn source(problem: &Problem<'_, '_>, edge: Edge) -> u32
     requires { IsEdge (may_shape problem.now.program problem.now.analysis) edge }
     ensures { result ≡ call_source edge }
 {
-    let _ = problem.procedures();
-    let _ = problem.points();
     match edge {
         Edge::Step { .. } => 0,
-        Edge::Call { from, .. } => from as u16,
+        Edge::Call { from, .. } => from,
         Edge::Ret { .. } => 0,
     }
 }
@@ -44,6 +39,7 @@ fn link_of(problem: &Problem<'_, '_>, edge: Edge) -> CallLink
     requires { IsEdge (may_shape problem.now.program problem.now.analysis) edge }
     ensures { result ≡ call_link (may_shape problem.now.program problem.now.analysis) (is_backward_of problem.now.analysis) edge }
 {
+    // Their contracts tell that the program is sound and has few points.
     let _ = problem.procedures();
     let _ = problem.points();
     match edge {
@@ -51,10 +47,7 @@ fn link_of(problem: &Problem<'_, '_>, edge: Edge) -> CallLink
         Edge::Call { site, to, .. } => {
             let exit = problem.exit(problem.procedure(to));
             let after = if problem.reverses() { site } else { site + 1 };
-            CallLink {
-                exit: exit as u16,
-                after: after as u16,
-            }
+            CallLink { exit, after }
         }
         Edge::Ret { .. } => CallLink { exit: 0, after: 0 },
     }
@@ -73,8 +66,8 @@ fn site_of(problem: &Problem<'_, '_>, edge: Edge) -> SiteLink
             callee: 0,
         },
         Edge::Call { from, to, .. } => SiteLink {
-            point: from as u16,
-            callee: problem.procedure(to) as u16,
+            point: from,
+            callee: problem.procedure(to),
         },
         Edge::Ret { .. } => SiteLink {
             point: 0,
@@ -89,7 +82,7 @@ pub(crate) fn targets(
     problem: &Problem<'_, '_>,
     edges: &[Edge],
     places: &[u32],
-) -> Result<Vec<u16>, OutOfMemory>
+) -> Result<Vec<u32>, OutOfMemory>
     requires edges { AreEdges (may_shape problem.now.program problem.now.analysis) edges.now }
     requires places { (j : ℕ) → j < length places.now → slice_index places.now j < length edges.now }
     ensures { IfOk result (λ list. list.items ≡ map (λ place. step_target (edge_at edges.now place)) places.now) }
@@ -107,7 +100,7 @@ pub(crate) fn sources(
     problem: &Problem<'_, '_>,
     edges: &[Edge],
     places: &[u32],
-) -> Result<Vec<u16>, OutOfMemory>
+) -> Result<Vec<u32>, OutOfMemory>
     requires edges { AreEdges (may_shape problem.now.program problem.now.analysis) edges.now }
     requires places { (j : ℕ) → j < length places.now → slice_index places.now j < length edges.now }
     ensures { IfOk result (λ list. list.items ≡ map (λ place. call_source (edge_at edges.now place)) places.now) }

@@ -9,8 +9,8 @@ use std::alloc::Global;
 // What is still to be done on a walk.
 #[derive(Clone, Copy)]
 enum Visit {
-    Enter(u16),
-    Leave(u16),
+    Enter(u32),
+    Leave(u32),
 }
 
 /// A walk along steps: which points were entered, and those that were left, each behind those to which it led.
@@ -18,7 +18,7 @@ enum Visit {
 pub(crate) struct StepWalk {
     open: Vec<Visit>,
     entered: Vec<bool>,
-    left: Vec<u16>,
+    left: Vec<u32>,
 }
 
 impl StepWalk {
@@ -35,7 +35,7 @@ impl StepWalk {
 
     // Whether a point was not entered.
     #[inline(always)]
-    fn is_new(&self, point: u16) -> bool {
+    fn is_new(&self, point: u32) -> bool {
         match self.entered.get(point as usize) {
             Some(entered) => !*entered,
             None => false,
@@ -44,7 +44,7 @@ impl StepWalk {
 
     // Puts a point that was not entered on what is to be done.
     #[inline(always)]
-    fn put(&mut self, point: u16) -> Result<(), OutOfMemory> {
+    fn put(&mut self, point: u32) -> Result<(), OutOfMemory> {
         if self.is_new(point) {
             self.open.push(Visit::Enter(point))?;
         }
@@ -52,7 +52,7 @@ impl StepWalk {
     }
 
     // Enters a point: it is left when those behind its steps and its calls are.
-    fn enter(&mut self, links: &Links<'_, '_>, point: u16) -> Result<(), OutOfMemory>
+    fn enter(&mut self, links: &Links<'_, '_>, point: u32) -> Result<(), OutOfMemory>
         requires { point < point_count links.now.program }
     {
         match self.entered.get_mut(point as usize) {
@@ -61,23 +61,23 @@ impl StepWalk {
         }
         self.open.push(Visit::Leave(point))?;
         // All calls of a point lead to the same one behind it.
-        if let Some(call) = links.calls_from(u32::from(point)).first() {
+        if let Some(call) = links.calls_from(point).first() {
             self.put(call.after)?;
         }
-        for target in links.steps_from(u32::from(point)) {
+        for target in links.steps_from(point) {
             self.put(*target)?;
         }
         Ok(())
     }
 
     // Walks from a point on.
-    fn walk_from(&mut self, links: &Links<'_, '_>, point: u16) -> Result<(), OutOfMemory> {
+    fn walk_from(&mut self, links: &Links<'_, '_>, point: u32) -> Result<(), OutOfMemory> {
         self.put(point)?;
         // Each point is left once, and is put here by its steps and its calls: no walk does as much.
         let most = 8 * u64::from(links.points());
         for _ in 0..most {
             match self.open.pop() {
-                Some(Visit::Enter(point)) if u32::from(point) < links.points() => {
+                Some(Visit::Enter(point)) if point < links.points() => {
                     self.enter(links, point)?;
                 }
                 Some(Visit::Leave(point)) => self.left.push(point)?,
@@ -100,17 +100,17 @@ impl StepWalk {
     {
         // Its contract tells that there are few points.
         let _ = links.points();
-        self.walk_from(links, entry as u16)?;
+        self.walk_from(links, entry)?;
         for point in first..last + 1 {
-            if self.is_new(point as u16) {
-                self.walk_from(links, point as u16)?;
+            if self.is_new(point) {
+                self.walk_from(links, point)?;
             }
         }
         Ok(())
     }
 
     /// The points that were left.
-    pub(crate) fn into_left(self) -> Vec<u16> {
+    pub(crate) fn into_left(self) -> Vec<u32> {
         self.left
     }
 }

@@ -51,15 +51,28 @@ named_kind (v ∷ vs) (k ∷ ks) t same e = go (bytes_eq k.0 t) refl (named_kind
 
 -- ---- what a parse by a command's rules holds
 
--- The rules of a command have the options of numbers and one of a kind, and nothing else of their names.
+-- The rules of a command have an option of this name that is one of a kind, with a default, and nothing else of the name.
+pub record HasKind (a : App) (kind : Text) (values : Bor (List PossibleValue)) : Type 0 where
+  pub of_kind : OnlyOption a.top.rules kind (parser.Values values)
+  pub kind_default : has_default a.top.rules kind ≡ true
+
+-- They have the options of numbers and one of a kind.
 pub record HasOptions (a : App) (kind : Text) (values : Bor (List PossibleValue)) : Type 0 where
   pub plain : a.top.is_plain ≡ true
   pub workers : OnlyOption a.top.rules (codes "workers") (parser.Signed (pos 1) (pos 64))
   pub cut : OnlyOption a.top.rules (codes "cut") (parser.Signed (pos 1) (pos 4096))
-  pub of_kind : OnlyOption a.top.rules kind (parser.Values values)
   pub workers_default : has_default a.top.rules (codes "workers") ≡ true
   pub cut_default : has_default a.top.rules (codes "cut") ≡ true
-  pub kind_default : has_default a.top.rules kind ≡ true
+  pub one_kind : HasKind a kind values
+
+pub kind_held : {T : Type 0} (kinds : List (Text × T)) (c : Command) (f : Found) (kind : Text) (values : Bor (List PossibleValue))
+    → (kind ≡ [] → ⊥) → (app_of c).top.is_plain ≡ true → HasKind (app_of c) kind values → AreKindsOf kinds values.now
+    → ValuesPass c f → HasDefaults c f → HoldsKind kinds (rows_of f) kind
+kind_held kinds c f kind values named plain has are passes defaults =
+    let groups = (plain_fields c plain).groups in
+    let found = matched_in f kind (default_held f kind (args_of c) defaults has.kind_default) in
+    let value = option_held c kind _ has.of_kind groups named f found.0 passes found.1 in
+    (value.0, sym (first_value-rows f kind) ∙ value.1, named_kind values.now kinds value.0 are value.3)
 
 pub options_held : {T : Type 0} (kinds : List (Text × T)) (c : Command) (f : Found) (kind : Text) (values : Bor (List PossibleValue))
     → (kind ≡ [] → ⊥) → HasOptions (app_of c) kind values → AreKindsOf kinds values.now → ValuesPass c f → HasDefaults c f
@@ -69,11 +82,9 @@ options_held kinds c f kind values named has are passes defaults =
     let of = λ (name : Text) (default : has_default (map rule_of (args_of c)) name ≡ true). matched_in f name (default_held f name (args_of c) defaults default) in
     let workers = of (codes "workers") has.workers_default in
     let cut = of (codes "cut") has.cut_default in
-    let found = of kind has.kind_default in
     let workers_value = option_held c (codes "workers") _ has.workers groups (λ e. cc) f workers.0 passes workers.1 in
-    let cut_value = option_held c (codes "cut") _ has.cut groups (λ e. cc) f cut.0 passes cut.1 in
-    let kind_value = option_held c kind _ has.of_kind groups named f found.0 passes found.1 in (
+    let cut_value = option_held c (codes "cut") _ has.cut groups (λ e. cc) f cut.0 passes cut.1 in (
       (workers_value.0, sym (one_text-rows f (codes "workers")) ∙ workers_value.2, workers_value.3),
       (cut_value.0, sym (one_text-rows f (codes "cut")) ∙ cut_value.2, cut_value.3),
-      (kind_value.0, sym (first_value-rows f kind) ∙ kind_value.1, named_kind values.now kinds kind_value.0 are kind_value.3),
+      kind_held kinds c f kind values named has.plain has.one_kind are passes defaults,
     )

@@ -9,7 +9,7 @@ ghost use Rattle.flow_runs.specs.Runs.{IsOverLimit};
 use crate::fault::Fault;
 use flow_graph::{Graph, GraphFault};
 use std::alloc::Global;
-use tac_program::Program;
+use tac_program::{Limits, Program};
 use text_pieces::{Sink, Source, Text, TransferFault, deliver, pull_all};
 
 /// Pulls up to the source's end, or this many bytes.
@@ -31,18 +31,18 @@ pub(crate) fn pull_text<S: Source>(
     }
 }
 
-/// The graph of a program.
+/// The graph of a program within limits.
 ///
 /// - `Graph`: the program has too many points (21) or bits (22).
 /// - `OutOfMemory`: memory was refused.
-pub fn graph_of<'p>(alloc: Global, program: &'p Program) -> Result<Graph<'p>, Fault>
+pub fn graph_of<'p>(alloc: Global, program: &'p Program, limits: Limits) -> Result<Graph<'p>, Fault>
     ensures graph { IfOk result (λ graph. graph ≡ program.now) }
-    ensures few_points { OnOk result (HasFewPoints program.now) }
-    ensures few_bits { OnOk result (HasFewBits program.now) }
-    ensures fault { IfErr result (OfProgram (IsOverLimit program.now) ⊥) }
+    ensures few_points { OnOk result (HasFewPoints limits program.now) }
+    ensures few_bits { OnOk result (HasFewBits limits program.now) }
+    ensures fault { IfErr result (OfProgram (IsOverLimit limits program.now) ⊥) }
     ensures no_write { write_faults_in result ≡ 0 }
 {
-    match Graph::build(alloc, program) {
+    match Graph::build_within(alloc, program, limits) {
         Ok(graph) => Ok(graph),
         Err(GraphFault::OutOfMemory) => Err(Fault::OutOfMemory),
         Err(GraphFault::TooManyPoints) => Err(Fault::Graph(GraphFault::TooManyPoints)),

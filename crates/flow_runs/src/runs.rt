@@ -13,11 +13,8 @@ use std::alloc::Global;
 use std::thread::Threads;
 use text_pieces::{Sink, Source};
 
-/// How many bytes are pulled at most: one more than the longest text has.
-const MOST_PULLED: usize = 1_048_577;
-
-/// Pulls the text until the source has ended or 1,048,577 bytes are in hand, finds what is to be shown of it, pushes that and
-/// nothing else, in pieces of 65,536 bytes, and flushes. All that it needs memory for it has before the first push.
+/// Pulls the text until the source has ended or one byte more is in hand than the limits allow, finds what is to be shown of it,
+/// pushes that and nothing else, in pieces of 65,536 bytes, and flushes. All that it needs memory for it has before the first push.
 ///
 /// The condition: the source has not ended, and both counts of faults are below `u32::MAX`.
 ///
@@ -36,20 +33,21 @@ pub fn run<R: Threads + Sync, S: Source, K: Sink, W: Shown>(
     requires running { S.ended source.old ≡ false }
     requires source_below { S.faults source.old < 2 ^ 32 - 1 }
     requires sink_below { K.faults sink.old < 2 ^ 32 - 1 }
-    ensures written { OnOk result (WritesAnswer (W.needs_graph shown.now) (W.is_shown shown.now)
+    ensures written { OnOk result (WritesAnswer (W.limits shown.now) (W.needs_graph shown.now) (W.is_shown shown.now)
         (S.remaining source.old) (S.remaining source.new) (S.ended source.new) (K.contents sink.old) (K.contents sink.new)) }
     ensures flushed { OnOk result (K.flushed sink.new ≡ true) }
-    ensures refused { IfErr result (WhereRefused (PullsRefused (S.remaining source.old) (S.remaining source.new) (S.ended source.new))) }
-    ensures no_graph { IfErr result (WhereNoGraph (PullsOverLimit (W.needs_graph shown.now)
+    ensures refused { IfErr result (WhereRefused (PullsRefused (W.limits shown.now) (S.remaining source.old) (S.remaining source.new) (S.ended source.new))) }
+    ensures no_graph { IfErr result (WhereNoGraph (PullsOverLimit (W.limits shown.now) (W.needs_graph shown.now)
         (S.remaining source.old) (S.remaining source.new) (S.ended source.new))) }
-    ensures no_procedure { IfErr result (WhereNoProcedure (PullsNoProcedure (W.lacks shown.now)
+    ensures no_procedure { IfErr result (WhereNoProcedure (PullsNoProcedure (W.limits shown.now) (W.lacks shown.now)
         (S.remaining source.old) (S.remaining source.new) (S.ended source.new))) }
-    ensures beginning { IfErr result (WhereWrite (WritesBeginning (W.needs_graph shown.now) (W.is_shown shown.now)
+    ensures beginning { IfErr result (WhereWrite (WritesBeginning (W.limits shown.now) (W.needs_graph shown.now) (W.is_shown shown.now)
         (S.remaining source.old) (S.remaining source.new) (S.ended source.new) (K.contents sink.old) (K.contents sink.new))) }
     ensures unwritten { IfErr result (UnlessWrite (Keeps (K.contents sink.old) (K.contents sink.new))) }
     ensures source_faults { S.faults source.new ≡ S.faults source.old + read_faults_in result }
     ensures sink_faults { K.faults sink.new ≡ K.faults sink.old + write_faults_in result }
 {
-    let text = pull_text(alloc, source, MOST_PULLED)?;
+    let most = shown.limits().text() as usize + 1;
+    let text = pull_text(alloc, source, most)?;
     answer(rt, alloc, &text, shown, sink)
 }

@@ -3,17 +3,21 @@
 ghost use Rattle.std.specs.Prelude.{◌≡◌, ◌<◌, ◌+◌, ◌-◌, ◌^◌, ℕ, Bool, true, List, IfErr, OnOk};
 ghost use Rattle.std.specs.Thread.{IsSync};
 ghost use Rattle.tac_program.specs.Programs.{Program as SourceProgram};
+ghost use Rattle.tac_program.specs.declared.limits.Limits.{Limits as LimitsValue};
 ghost use Rattle.flow_runs.specs.Faults.{Delivers, OfProgram, WhereNoGraph, write_faults_in};
 ghost use Rattle.flow_runs.specs.Runs.{HasItsGraph, IsOverLimit};
 
 use crate::fault::Fault;
 use std::alloc::Global;
 use std::thread::Threads;
-use tac_program::Program;
+use tac_program::{Limits, Program};
 use text_pieces::Sink;
 
 /// What a run shows of a program, and how.
 pub trait Shown {
+    // How large a text and its program may be.
+    ghost limits: { Self → LimitsValue };
+
     // Whether the program's graph is needed.
     ghost needs_graph: { Self → Bool };
 
@@ -22,6 +26,10 @@ pub trait Shown {
 
     // The program has not the procedure that is asked for.
     ghost lacks: { Self → SourceProgram → Type 0 };
+
+    /// How large a text and its program may be.
+    fn limits(&self) -> Limits
+        ensures { result ≡ limits self.now };
 
     /// Writes what is shown of a program, and flushes. All that it needs memory for it has before the first push.
     ///
@@ -41,9 +49,9 @@ pub trait Shown {
     ) -> Result<(), Fault>
         requires threads { IsSync R.row }
         requires below { K.faults sink.old < 2 ^ 32 - 1 }
-        ensures delivers { Delivers (λ out. HasItsGraph (needs_graph self.now) program.now × is_shown self.now program.now out) (K.contents sink.old) (K.contents sink.new) result }
+        ensures delivers { Delivers (λ out. HasItsGraph (limits self.now) (needs_graph self.now) program.now × is_shown self.now program.now out) (K.contents sink.old) (K.contents sink.new) result }
         ensures flushed { OnOk result (K.flushed sink.new ≡ true) }
-        ensures fault { IfErr result (OfProgram (IsOverLimit program.now) (lacks self.now program.now)) }
+        ensures fault { IfErr result (OfProgram (IsOverLimit (limits self.now) program.now) (lacks self.now program.now)) }
         ensures needed { IfErr result (WhereNoGraph (λ _. needs_graph self.now ≡ true)) }
         ensures faults { K.faults sink.new ≡ K.faults sink.old + write_faults_in result };
 }

@@ -11,7 +11,7 @@ use work_list::group;
 // A solver solves so many words at once, a group: a slice that cuts groups would solve the same words again.
 const GROUP_WORDS: u32 = 4;
 
-// At most so many groups of words are told apart in each analysis, so that a group's number fits into 16 bits.
+// At most so many groups of words are told apart in each analysis: more than an analysis has.
 const MOST_GROUPS: u32 = 1 << 14;
 
 /// How many groups of words hold so many bits: at least one.
@@ -33,7 +33,7 @@ pub(crate) struct AskOrder {
 }
 
 // Asks of one analysis in one group of words are solved together.
-fn key_of(ask: Ask, groups: u32) -> u16
+fn key_of(ask: Ask, groups: u32) -> u32
     requires some { 0 < groups }
     requires most { groups ≤ 2 ^ 14 }
     ensures { result < 4 * groups }
@@ -44,7 +44,7 @@ fn key_of(ask: Ask, groups: u32) -> u16
         Analysis::Avail => 2 * groups,
         Analysis::Busy => 3 * groups,
     };
-    (first + (ask.word / GROUP_WORDS).min(groups - 1)) as u16
+    first + (ask.word / GROUP_WORDS).min(groups - 1)
 }
 
 // How many groups of words each analysis has.
@@ -60,7 +60,7 @@ fn group_count(asks: &[Ask]) -> u32
 }
 
 // The group of each ask.
-fn keys(alloc: Global, asks: &[Ask], groups: u32) -> Result<Vec<u16>, OutOfMemory>
+fn keys(alloc: Global, asks: &[Ask], groups: u32) -> Result<Vec<u32>, OutOfMemory>
     requires some { 0 < groups }
     requires most { groups ≤ 2 ^ 14 }
     ensures count { IfOk result (λ keys. length keys.items ≡ length asks.now) }

@@ -2,6 +2,7 @@
 
 ghost use Rattle.std.specs.Prelude.{◌≡◌, IfOk, length, map, not};
 ghost use Rattle.flow_graph.specs.Limits.{HasFewPoints};
+ghost use Rattle.tac_program.specs.declared.limits.Limits.TheVariants.{Large};
 ghost use Rattle.flow_graph.specs.Points.{points, point_count};
 ghost use Rattle.flow_graph.specs.declared.analysis.Analysis.TheVariants.{Live};
 ghost use Rattle.tac_program.specs.Sound.{IsSound};
@@ -22,7 +23,7 @@ fn endless_points(
 ) -> Result<Vec<bool>, OutOfMemory>
     requires { length (flags_of answers.now.replies Live) ≡ point_count graph.now }
     ensures points { IfOk result (λ endless. endless.items ≡ map (λ point. not ((facts_in answers.now.replies Live).has_path point)) (points graph.now)) }
-    ensures few { HasFewPoints graph.now }
+    ensures few { HasFewPoints Large graph.now }
     ensures sound { IsSound graph.now }
 {
     let mut endless = Vec::new(alloc);
@@ -41,7 +42,7 @@ pub(crate) fn doubtful_points(
 ) -> Result<Vec<bool>, OutOfMemory>
     requires { TellReport graph.now answers.now }
     ensures points { IfOk result (λ doubtful. TellDoubtful graph.now doubtful.items) }
-    ensures few { HasFewPoints graph.now }
+    ensures few { HasFewPoints Large graph.now }
     ensures sound { IsSound graph.now }
 {
     let endless = endless_points(alloc, graph, answers)?;

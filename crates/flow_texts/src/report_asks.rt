@@ -12,7 +12,7 @@ ghost use Rattle.flow_texts.specs.code.Reported.{AreAsked, AreAskedAt};
 use crate::operands::{VariablesRead, assigned, is_test, variables_read};
 use flow_graph::{Analysis, Graph, OutOfMemory};
 use flow_team::Ask;
-use std::alloc::Global;
+use std::alloc::{AllocError, Global};
 use tac_program::StmtKind;
 
 /// Which ask of a report is the first of each kind at a point.
@@ -107,7 +107,7 @@ fn ask_assigned(
 // Asks for all words of very busy expressions.
 fn ask_all(graph: &Graph<'_>, asks: &mut Vec<Ask>, point: u32) -> Result<(), OutOfMemory>
     requires point { point < point_count graph.now }
-    ensures asks { IfOk result (λ _. Asks graph.now asks.old.items asks.new.items 64) }
+    ensures asks { IfOk result (λ _. Asks graph.now asks.old.items asks.new.items 2048) }
     ensures asked { IfOk result (λ _. (kind : KindValue) → AsksBusy graph.now asks.new.items (length asks.old.items) point kind) }
 {
     let words = graph.bits(Analysis::Busy).div_ceil(64);
@@ -130,7 +130,7 @@ fn ask_busy(
     kind: &StmtKind,
 ) -> Result<(), OutOfMemory>
     requires point { point < point_count graph.now }
-    ensures asks { IfOk result (λ _. Asks graph.now asks.old.items asks.new.items 64) }
+    ensures asks { IfOk result (λ _. Asks graph.now asks.old.items asks.new.items 2048) }
     ensures asked { IfOk result (λ _. AsksBusy graph.now asks.new.items (length asks.old.items) point kind.now) }
 {
     if !is_test(kind) {
@@ -150,7 +150,7 @@ fn ask_kind(
     requires point { point < point_count graph.now }
     requires kind { kind_at graph.now point ≡ Some kind.now }
     requires few { length asks.old.items < 2 ^ 31 }
-    ensures asks { IfOk result (λ _. Asks graph.now asks.old.items asks.new.items 68) }
+    ensures asks { IfOk result (λ _. Asks graph.now asks.old.items asks.new.items 2052) }
     ensures asked { IfOk result (λ here. AreAskedAt graph.now asks.new.items here point kind.now) }
 {
     let reads = asks.len() as u32;
@@ -173,7 +173,7 @@ fn ask_kind(
 fn ask_point(graph: &Graph<'_>, asks: &mut Vec<Ask>, point: u32) -> Result<PointAsks, OutOfMemory>
     requires point { point < point_count graph.now }
     requires few { length asks.old.items < 2 ^ 31 }
-    ensures asks { IfOk result (λ _. Asks graph.now asks.old.items asks.new.items 68) }
+    ensures asks { IfOk result (λ _. Asks graph.now asks.old.items asks.new.items 2052) }
     ensures asked { IfOk result (λ here. (kind : KindValue) → kind_at graph.now point ≡ Some kind → AreAskedAt graph.now asks.new.items here point kind) }
 {
     let Some(stmt) = graph.stmt(point) else {
@@ -187,7 +187,11 @@ fn ask_point(graph: &Graph<'_>, asks: &mut Vec<Ask>, point: u32) -> Result<Point
     ask_kind(graph, asks, point, &stmt.kind)
 }
 
-/// What a report asks of a graph's analyses, point by point, and where the asks of each point stand.
+// A point asks 2,052 words at most, and a board has fewer than 2^26: with more before a point, there is no room for its own.
+const MOST_ASKS: usize = (1 << 26) - 2_053;
+
+/// What a report asks of a graph's analyses, point by point, and where the asks of each point stand. Fails where memory runs out, and for
+/// more asks than a board has words: within the standard limits none has as many.
 pub(crate) fn report_asks(
     alloc: Global,
     graph: &Graph<'_>,
@@ -200,6 +204,9 @@ pub(crate) fn report_asks(
     let mut asks = Vec::new(alloc);
     let mut places = Vec::new(alloc);
     for point in 0..graph.points() {
+        if MOST_ASKS < asks.len() {
+            return Err(AllocError);
+        }
         let here = ask_point(graph, &mut asks, point)?;
         places.push(here)?;
     }

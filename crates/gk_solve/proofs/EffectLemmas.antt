@@ -1,5 +1,5 @@
 -- What a statement does with the bits of a word
-use Rattle.std.proofs.Common.{◌≡◌, ◌<◌, ◌≤◌, ◌+◌, ◌*◌, ◌/◌, ◌%◌, ◌^◌, ◌&&◌, ◌||◌, not, inl, inr, nat_lt, true, false, Bool, ℕ, arith, refl, sym, ◌∙◌, ap, bit_or, bit_and, get_or}
+use Rattle.std.proofs.Common.{◌≡◌, ◌<◌, ◌+◌, ◌*◌, ◌/◌, ◌%◌, ◌^◌, ◌&&◌, ◌||◌, not, inl, inr, nat_lt, true, false, Bool, ℕ, arith, refl, sym, ◌∙◌, ap, bit_or, bit_and, get_or}
 use Rattle.std.proofs.lemmas.Bool.{cases_lt, lt-ltb, le-ltb, false≢true}
 use Rattle.bit_rows.specs.Words.{has_bit}
 use Rattle.bit_rows.proofs.WordBits.{has_bit-or, has_bit-and, has_bit-zero, has_bit-shifted_same}
@@ -25,18 +25,18 @@ unfolding place_boundary
 boundary_of_word form word value k low is = is k low
 
 -- a word of which no affected bit tells is one in which the statement is idle
-pub idle_word : (form : MayForm) (point words word : ℕ) → ((bit : ℕ) → bit < bits_of form.program form.analysis → IsAffected form point bit → has_bit words (bit / 64) ≡ true)
-    → has_bit words word ≡ false → IsIdle form point word
+pub idle_word : (form : MayForm) (point words word : ℕ) → ((bit : ℕ) → bit < bits_of form.program form.analysis → IsAffected form point bit → has_bit words (bit / 64 % 64) ≡ true)
+    → has_bit words (word % 64) ≡ false → IsIdle form point word
 unfolding place_gens place_kills
 idle_word form point words word told clear k low = (
   never (may_gens form point (64 * word + k)) (λ below gens. told (64 * word + k) below (inl gens)),
   never (may_kills form point (64 * word + k)) (λ below kills. told (64 * word + k) below (inr kills)),
 )
   where
-    here : (64 * word + k) / 64 ≡ word
-    here = omega (arith, low)
+    here : (64 * word + k) / 64 % 64 ≡ word % 64
+    here = let same : (64 * word + k) / 64 ≡ word = omega (arith, low) in ap (λ n. n % 64) same
 
-    never : (b : Bool) → (64 * word + k < bits_of form.program form.analysis → b ≡ true → has_bit words ((64 * word + k) / 64) ≡ true) → (nat_lt (64 * word + k) (bits_of form.program form.analysis) && b) ≡ false
+    never : (b : Bool) → (64 * word + k < bits_of form.program form.analysis → b ≡ true → has_bit words ((64 * word + k) / 64 % 64) ≡ true) → (nat_lt (64 * word + k) (bits_of form.program form.analysis) && b) ≡ false
     never b tells = elim (cases_lt (64 * word + k) (bits_of form.program form.analysis)) [
       | inr past ↦ ap (λ a. a && b) (le-ltb (64 * word + k) (bits_of form.program form.analysis) past)
       | inl below ↦ ap (λ a. a && b) (lt-ltb (64 * word + k) (bits_of form.program form.analysis) below) ∙ not_so b (λ is. false≢true (sym clear ∙ (ap (has_bit words) (sym here) ∙ tells below is)))
@@ -45,13 +45,6 @@ idle_word form point words word told clear k low = (
         not_so : (b : Bool) → (b ≡ true → ⊥) → b ≡ false
         not_so false never_so = refl
         not_so true never_so = absurd (never_so refl)
-
--- past the last bit a statement is idle
-pub idle_past : (form : MayForm) (point word : ℕ) → bits_of form.program form.analysis ≤ 64 * word → IsIdle form point word
-unfolding place_gens place_kills
-idle_past form point word past k low =
-    let out : nat_lt (64 * word + k) (bits_of form.program form.analysis) ≡ false = le-ltb (64 * word + k) (bits_of form.program form.analysis) (omega (arith, past)) in
-    (ap (λ b. b && may_gens form point (64 * word + k)) out, ap (λ b. b && may_kills form point (64 * word + k)) out)
 
 -- a bit more
 pub bit_here : (words word : ℕ) → word < 64 → has_bit (bit_or words (1 * 2 ^ word % 2 ^ 64)) word ≡ true
@@ -69,19 +62,14 @@ pub ungenerated_same : (bit gen kill : Bool) → gen ≡ false → kill ≡ fals
 ungenerated_same bit gen kill no_gen no_kill = unkilled_same bit kill no_kill ∙ ap (λ g. g || (bit && not kill)) (sym no_gen)
 
 module _ (width : ℕ) (frame : GroupFrame) (is : IsGroupFrame width frame) (point : ℕ) (within : point < point_count frame.problem.now.program) where
-  -- past the last word, or where the statement's words have no place for it
-  pub idle_beyond : (word : ℕ) → 64 ≤ word → IsIdle frame.problem.now point word
-  idle_beyond word past = idle_past frame.problem.now point word (omega (arith, is.few, past))
-
+  -- where the statement's words have none of the group's
   pub idle_in_group : bit_and (get_or frame.effects.now point 0) frame.mask ≡ 0 → (w : ℕ) → w < width → IsIdle frame.problem.now point (frame.first + w)
-  idle_in_group none w inside = elim (cases_lt (frame.first + w) 64) [
-    | inr past ↦ idle_beyond (frame.first + w) past
-    | inl low ↦
-        let there = is.mask w inside low in
-        let both : (has_bit (get_or frame.effects.now point 0) (frame.first + w) && has_bit frame.mask (frame.first + w)) ≡ false =
-        sym (has_bit-and (get_or frame.effects.now point 0) frame.mask (frame.first + w)) ∙ (ap (λ n. has_bit n (frame.first + w)) none ∙ has_bit-zero (frame.first + w)) in
-        is.effects.idle point (frame.first + w) within low (left (has_bit (get_or frame.effects.now point 0) (frame.first + w)) (has_bit frame.mask (frame.first + w)) both there)
-  ]
+  idle_in_group none w inside =
+      let place : ℕ = (frame.first + w) % 64 in
+      let there = is.mask w inside in
+      let both : (has_bit (get_or frame.effects.now point 0) place && has_bit frame.mask place) ≡ false =
+      sym (has_bit-and (get_or frame.effects.now point 0) frame.mask place) ∙ (ap (λ n. has_bit n place) none ∙ has_bit-zero place) in
+      is.effects.idle point (frame.first + w) within (left (has_bit (get_or frame.effects.now point 0) place) (has_bit frame.mask place) both there)
     where
       left : (a b : Bool) → (a && b) ≡ false → b ≡ true → a ≡ false
       left false b e t = refl

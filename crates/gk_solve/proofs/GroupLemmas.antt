@@ -99,14 +99,14 @@ module _ (width : ℕ) (frame : GroupFrame) (is : IsGroupFrame width frame) wher
         (call_makes is.numbered ((group_of frame width).transfer w) there.0 at there.1 there.2 (flag_of at path).1 (reached_exit there.1 there.3) (kept_word table w) (made_word table w) (get_or made w 0) k low (call_made there.1 there.3 w k inside)
         (sound w inside).0 (sound w inside).1 has)
 
-    pub call_settled_of : (new : List (Summary W)) (dirty_after : List Bool) → AreSameBut (directed_shape frame.links.now) link.after table new dirty_after
+    pub call_settled_of : (new : List (Summary W)) (dirty_after : List Bool) → AreSameBut link.after table new dirty_after
         → ((w k : ℕ) → w < width → has_bit (get_or kept w 0) k ≡ true → HasBit (kept_word new w) link.after k)
         → ((w k : ℕ) → w < width → has_bit (get_or made w 0) k ≡ true → HasBit (made_word new w) link.after k)
         → IsSummaryCallSettled (group_of frame width) frame.paths.now at new dirty_after link
     call_settled_of new dirty_after same kept_added made_added = record {
       settled = λ site y call exit after.
           call_settled (group_of frame width) frame.paths.now site at y call table new dirty_after (record { kept = kept; made = made }) (call_kept y exit) (call_made y exit)
-          (subst (λ n. AreSameBut (directed_shape frame.links.now) n table new dirty_after) after same)
+          (subst (λ n. AreSameBut n table new dirty_after) after same)
           (λ w k inside has. subst (λ n. HasBit (kept_word new w) n k) after (kept_added w k inside has))
           (λ w k inside has. subst (λ n. HasBit (made_word new w) n k) after (made_added w k inside has));
     }

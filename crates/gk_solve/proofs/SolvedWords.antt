@@ -1,5 +1,5 @@
 -- The places of words are the bits that they stand for
-use Rattle.std.proofs.Common.{◌≡◌, ◌<◌, ◌≤◌, ◌+◌, ◌-◌, ◌*◌, ◌↔◌, ◌&&◌, get_or, map, true, Bool, ℕ, List, [], arith, sym, ◌∙◌, subst, ap}
+use Rattle.std.proofs.Common.{◌≡◌, ◌<◌, ◌≤◌, ◌+◌, ◌-◌, ◌*◌, ◌↔◌, ◌&&◌, get_or, map, Bool, ℕ, List, [], arith, sym, ◌∙◌, subst, ap}
 use Rattle.std.proofs.Math.ListN.{get_or-map}
 use Rattle.std.proofs.lemmas.Bool.{lt-ltb}
 use Rattle.bit_rows.specs.Words.{has_bit}
@@ -9,11 +9,11 @@ use Rattle.flow_graph.specs.WellFormed.{AgreesOnSteps, IsWellFormed}
 use Rattle.flow_graph.specs.Universes.{bits as bits_of}
 use Rattle.flow_graph.proofs.graphs.MayForms.{steps_have_statements}
 use Rattle.flow_graph.specs.Points.{point_count}
-use Rattle.flow_links.specs.Shapes.{IsNumbered, LinkedProgram, directed_shape}
+use Rattle.flow_links.specs.Shapes.{LinkedProgram, directed_shape}
 use Rattle.gk_solve.specs.Equations.{IsInSolution}
 use Rattle.gk_solve.specs.Solved.{SliceTable, AreSolved, AreMeetWords, HasPathFlags, direction_of, word_at}
 use Rattle.gk_solve.specs.Tables.Flags.{ArePathFlags}
-use Rattle.gk_solve.specs.Tables.Groups.{AreEffectWords, IsGroupFrame, group_of, made_word}
+use Rattle.gk_solve.specs.Tables.Groups.{IsGroupFrame, group_of, made_word}
 use Rattle.gk_solve.specs.Tables.Solutions.{AreSliceSolutions}
 use Rattle.gk_solve.specs.Tables.Words.{HasBit, place_boundary, place_gens, place_kills, place_transfer, step_statement}
 use Rattle.gk_solve.specs.declared.group_frame.GroupFrame.{GroupFrame}
@@ -80,25 +80,6 @@ meet_words form slice formed solved point word k point_low from until low =
     let is = solved point word k point_low from until low in
     let meet = (solution_is_meet (may_shape form.program form.analysis) (may_transfer form.program form.analysis (64 * word + k)) point formed).1 in
     (λ has. let there = is.0 has in (there.0, there.1, meet.0 there.2), λ there. is.1 (there.0, there.1, meet.1 there.2))
-
--- what makes a group's frame
-pub frame_is : (width : ℕ) (frame : GroupFrame) (routes : LinkedProgram) → frame.links.now ≡ routes → routes ≡ direction_of frame.problem.now
-    → IsNumbered (directed_shape frame.links.now) frame.links.now.backward (point_count frame.links.now.program) → ArePathFlags (directed_shape routes) (point_count routes.program) frame.paths.now
-    → AreEffectWords frame.problem.now frame.effects.now → bits_of frame.problem.now.program frame.problem.now.analysis ≤ 4096 → frame.first < 64 → width ≤ 8
-    → ((w : ℕ) → w < width → frame.first + w < 64 → has_bit frame.mask (frame.first + w) ≡ true) → IsGroupFrame width frame
-frame_is width frame routes same direction numbered paths effects few first narrow mask =
-    let flags = subst (λ (l : LinkedProgram). ArePathFlags (directed_shape l) (point_count l.program) frame.paths.now) (sym same) paths in
-    record {
-      direction = same ∙ direction;
-      numbered = numbered;
-      path_count = flags.count;
-      paths = flags.exact;
-      effects = effects;
-      few = few;
-      first = first;
-      narrow = narrow;
-      mask = mask;
-    }
 
 -- path flags tell where valid paths lead
 pub flags_tell : (form : MayForm) (linked : LinkedProgram) → linked ≡ direction_of form → IsWellFormed (may_shape form.program form.analysis) → (flags : List Bool)

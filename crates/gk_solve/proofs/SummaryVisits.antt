@@ -1,5 +1,5 @@
 -- What a visit of a point does to summaries and marks
-use Rattle.std.proofs.Common.{◌≡◌, ◌≢◌, ◌<◌, ◌≤◌, ◌+◌, inl, inr, ◌&&◌, ◌||◌, not, length, get_or, set, true, Bool, ℕ, List, [], arith, sym, ◌∙◌, subst, ap, suc, zero, ◌*◌}
+use Rattle.std.proofs.Common.{◌≡◌, ◌≢◌, ◌<◌, ◌≤◌, ◌+◌, inl, inr, ◌&&◌, ◌||◌, not, length, get_or, set, true, false, refl, ◌⊎◌, Bool, ℕ, List, [], arith, sym, ◌∙◌, subst, ap, suc, zero, ◌*◌}
 use prog.Memory.{up}
 use Rattle.std.proofs.lemmas.Bool.{cases_eq}
 use Rattle.std.proofs.lemmas.List.{get_or_default, get_or-set_same, get_or-set_other}
@@ -9,10 +9,9 @@ use Rattle.flow_graph.specs.declared.edge.Edge.{Edge}
 use Rattle.flow_graph.specs.declared.edge.Edge.TheVariants.{Step, Call, Ret}
 use Rattle.flow_graph.specs.Paths.{Shape, IsEdge, source_of}
 use Rattle.flow_links.specs.Shapes.{after_site}
-use Rattle.work_list.specs.Marks.{IsMarked}
+use Rattle.work_list.specs.Marks.{IsMarked, AreClear}
 use Rattle.gk_solve.specs.Tables.Flags.{IsFlagged}
-use Rattle.gk_solve.specs.Tables.Groups.{Group, summary_at, kept_word, made_word, room_of_summary, room_of_summaries, SummariesGrow, AreSoundSummaries, IsSummaryCallSettled, IsSummaryClosedAt, SummarySpreads, IsWoken, AreSameBut, AreOf, AreJoined, IsKeptAcross, IsMadeAcross}
-use Rattle.gk_solve.specs.Tables.Visits.{IsSettled}
+use Rattle.gk_solve.specs.Tables.Groups.{Group, summary_at, kept_word, made_word, room_of_summary, room_of_summaries, SummariesGrow, AreSoundSummaries, IsCallerSettled, IsSummaryCallSettled, IsSummaryClosedAt, IsSummarySettled, SummarySpreads, AreSameBut, AreOf, AreJoined, IsKeptAcross, IsMadeAcross, WaitsFor}
 use Rattle.gk_solve.specs.Tables.Words.{HasBit, AreSoundWords, IsKept, IsMade}
 use Rattle.flow_links.specs.declared.link.CallLink.{CallLink}
 use Rattle.gk_solve.specs.declared.summary.Summary.{Summary}
@@ -103,13 +102,13 @@ abbrev exit_of : Shape → ℕ → ℕ
 exit_of shape y = shape.exit (shape.procedure_of y)
 
 module _ {W : ℕ} (group : Group) (paths : List Bool) where
-  -- what is settled stays so, where the table grows and the point that changes is woken
+  -- what is settled stays so, where the table grows and the point that changes is marked
   pub put_settled : (old new : List (Summary W)) (dirty dirty_after : List Bool) (at : ℕ) → SummariesGrow group.width old new → ((x : ℕ) → IsMarked dirty x → IsMarked dirty_after x)
-      → AreSameBut group.shape at old new dirty_after
-      → (edge : Edge) → IsEdge group.shape edge → IsSettled (IsSummaryClosedAt group paths) source_of old dirty edge → IsSettled (IsSummaryClosedAt group paths) source_of new dirty_after edge
-  put_settled old new dirty dirty_after at grows keeps same edge there (inr marked) = inr (keeps (source_of edge) marked)
+      → AreSameBut at old new dirty_after
+      → (edge : Edge) → IsEdge group.shape edge → IsSummarySettled group paths old dirty edge → IsSummarySettled group paths new dirty_after edge
+  put_settled old new dirty dirty_after at grows keeps same edge there (inr waits) = inr (waits.0, waits.1, keeps waits.0 waits.2)
   put_settled old new dirty dirty_after at grows keeps same (Step x y) there (inl closed) = elim (same x) [
-    | inr woken ↦ inr (subst (IsMarked dirty_after) (sym woken.0) woken.1.here)
+    | inr woken ↦ inr (x, refl, subst (IsMarked dirty_after) (sym woken.0) woken.1)
     | inl still ↦ inl (λ w inside. (
       λ k low at_x has unkilled. (grows w inside).0 y k ((closed w inside).0 k low at_x (sym (ap (λ (s : Summary W). has_bit (get_or s.kept w 0) k) still) ∙ has) unkilled),
       λ k low at_x either. (grows w inside).1 y k ((closed w inside).1 k low at_x (elim either [
@@ -119,9 +118,9 @@ module _ {W : ℕ} (group : Group) (paths : List Bool) where
     ))
   ]
   put_settled old new dirty dirty_after at grows keeps same (Call site x y) there (inl closed) = elim (same x) [
-    | inr woken ↦ inr (subst (IsMarked dirty_after) (sym woken.0) woken.1.here)
+    | inr woken ↦ inr (x, inl refl, subst (IsMarked dirty_after) (sym woken.0) woken.1)
     | inl still ↦ elim (same (exit_of group.shape y)) [
-      | inr woken ↦ inr (woken.1.callers site x y there woken.0)
+      | inr woken ↦ inr (exit_of group.shape y, inr refl, subst (IsMarked dirty_after) (sym woken.0) woken.1)
       | inl through ↦ inl (λ w inside. (
         λ k low at_x at_exit has passes. (grows w inside).0 (after_site group.backward site) k
             ((closed w inside).0 k low at_x at_exit (sym (ap (λ (s : Summary W). has_bit (get_or s.kept w 0) k) still) ∙ has) (sym (ap (λ (s : Summary W). has_bit (get_or s.kept w 0) k) through) ∙ passes)),
@@ -136,12 +135,12 @@ module _ {W : ℕ} (group : Group) (paths : List Bool) where
 
   -- a step whose bits were put is settled
   pub step_settled : (x y : ℕ) (old new : List (Summary W)) (dirty_after : List Bool) (more : Summary W)
-      → IsKeptAcross group x y (summary_at old x).kept more.kept → IsMadeAcross group x y (summary_at old x).made more.made → AreSameBut group.shape y old new dirty_after
+      → IsKeptAcross group x y (summary_at old x).kept more.kept → IsMadeAcross group x y (summary_at old x).made more.made → AreSameBut y old new dirty_after
       → ((w k : ℕ) → w < group.width → has_bit (get_or more.kept w 0) k ≡ true → HasBit (kept_word new w) y k)
       → ((w k : ℕ) → w < group.width → has_bit (get_or more.made w 0) k ≡ true → HasBit (made_word new w) y k)
-      → IsSettled (IsSummaryClosedAt group paths) source_of new dirty_after (Step x y)
+      → IsSummarySettled group paths new dirty_after (Step x y)
   step_settled x y old new dirty_after more keep make same kept_added made_added = elim (same x) [
-    | inr woken ↦ inr (subst (IsMarked dirty_after) (sym woken.0) woken.1.here)
+    | inr woken ↦ inr (x, refl, subst (IsMarked dirty_after) (sym woken.0) woken.1)
     | inl still ↦ inl (λ w inside. (
       λ k low at_x has unkilled. kept_added w k inside (keep w k inside low ∙ and_both (has_bit (kept_word old w x) k) (not ((group.transfer w k).kill x y))
           (sym (ap (λ (s : Summary W). has_bit (get_or s.kept w 0) k) still) ∙ has) (not_false ((group.transfer w k).kill x y) unkilled)),
@@ -156,14 +155,14 @@ module _ {W : ℕ} (group : Group) (paths : List Bool) where
   pub call_settled : (site x y : ℕ) → IsEdge group.shape (Call site x y) → (old new : List (Summary W)) (dirty_after : List Bool) (more : Summary W)
       → ((w k : ℕ) → w < group.width → has_bit (get_or more.kept w 0) k ≡ (has_bit (kept_word old w x) k && has_bit (kept_word old w (exit_of group.shape y)) k))
       → ((w k : ℕ) → w < group.width → has_bit (get_or more.made w 0) k ≡ (has_bit (made_word old w (exit_of group.shape y)) k || (has_bit (made_word old w x) k && has_bit (kept_word old w (exit_of group.shape y)) k)))
-      → AreSameBut group.shape (after_site group.backward site) old new dirty_after
+      → AreSameBut (after_site group.backward site) old new dirty_after
       → ((w k : ℕ) → w < group.width → has_bit (get_or more.kept w 0) k ≡ true → HasBit (kept_word new w) (after_site group.backward site) k)
       → ((w k : ℕ) → w < group.width → has_bit (get_or more.made w 0) k ≡ true → HasBit (made_word new w) (after_site group.backward site) k)
-      → IsSettled (IsSummaryClosedAt group paths) source_of new dirty_after (Call site x y)
+      → IsSummarySettled group paths new dirty_after (Call site x y)
   call_settled site x y there old new dirty_after more keep make same kept_added made_added = elim (same x) [
-    | inr woken ↦ inr (subst (IsMarked dirty_after) (sym woken.0) woken.1.here)
+    | inr woken ↦ inr (x, inl refl, subst (IsMarked dirty_after) (sym woken.0) woken.1)
     | inl still ↦ elim (same (exit_of group.shape y)) [
-      | inr woken ↦ inr (woken.1.callers site x y there woken.0)
+      | inr woken ↦ inr (exit_of group.shape y, inr refl, subst (IsMarked dirty_after) (sym woken.0) woken.1)
       | inl through ↦ inl (λ w inside. (
         λ k low at_x at_exit has passes. kept_added w k inside (keep w k inside ∙ and_both (has_bit (kept_word old w x) k) (has_bit (kept_word old w (exit_of group.shape y)) k)
             (sym (ap (λ (s : Summary W). has_bit (get_or s.kept w 0) k) still) ∙ has) (sym (ap (λ (s : Summary W). has_bit (get_or s.kept w 0) k) through) ∙ passes)),
@@ -176,27 +175,60 @@ module _ {W : ℕ} (group : Group) (paths : List Bool) where
   ]
 
   -- a call whose callee's exit has no path is settled
-  pub call_blocked : (site x y : ℕ) (table : List (Summary W)) (dirty : List Bool) → (IsFlagged paths (exit_of group.shape y) → ⊥) → IsSettled (IsSummaryClosedAt group paths) source_of table dirty (Call site x y)
+  pub call_blocked : (site x y : ℕ) (table : List (Summary W)) (dirty : List Bool) → (IsFlagged paths (exit_of group.shape y) → ⊥) → IsSummarySettled group paths table dirty (Call site x y)
   call_blocked site x y table dirty never = inl (λ w inside. (λ k low at_x at_exit has passes. absurd (never at_exit), λ k low at_x at_exit either. absurd (never at_exit)))
 
   -- the edges of a point without a path are
-  pub settled_off_path : (edge : Edge) (table : List (Summary W)) (dirty : List Bool) → (IsFlagged paths (source_of edge) → ⊥) → IsSettled (IsSummaryClosedAt group paths) source_of table dirty edge
+  pub settled_off_path : (edge : Edge) (table : List (Summary W)) (dirty : List Bool) → (IsFlagged paths (source_of edge) → ⊥) → IsSummarySettled group paths table dirty edge
   settled_off_path (Step x y) table dirty never = inl (λ w inside. (λ k low at_x has unkilled. absurd (never at_x), λ k low at_x either. absurd (never at_x)))
   settled_off_path (Call site x y) table dirty never = inl (λ w inside. (λ k low at_x at_exit has passes. absurd (never at_x), λ k low at_x at_exit either. absurd (never at_x)))
   settled_off_path (Ret site x y) table dirty never = inl (λ w inside. (tt, tt))
 
-  -- the edges of a point are its steps and calls
-  pub by_source : (table : List (Summary W)) (dirty : List Bool) (at : ℕ)
-      → ((y : ℕ) → IsEdge group.shape (Step at y) → IsSettled (IsSummaryClosedAt group paths) source_of table dirty (Step at y))
-      → ((site y : ℕ) → IsEdge group.shape (Call site at y) → IsSettled (IsSummaryClosedAt group paths) source_of table dirty (Call site at y))
-      → (edge : Edge) → IsEdge group.shape edge → source_of edge ≡ at → IsSettled (IsSummaryClosedAt group paths) source_of table dirty edge
-  by_source table dirty at steps calls (Step x y) there same =
-      subst (λ n. IsSettled (IsSummaryClosedAt group paths) source_of table dirty (Step n y)) (sym same) (steps y (subst (λ n. IsEdge group.shape (Step n y)) same there))
-  by_source table dirty at steps calls (Call site x y) there same =
-      subst (λ n. IsSettled (IsSummaryClosedAt group paths) source_of table dirty (Call site n y)) (sym same) (calls site y (subst (λ n. IsEdge group.shape (Call site n y)) same there))
-  by_source table dirty at steps calls (Ret site x y) there same = inl (λ w inside. (tt, tt))
+  -- the edges that wait for a point are its steps and calls, and the calls that are left there
+  pub by_waits : (table : List (Summary W)) (dirty : List Bool) (at : ℕ) → ((y : ℕ) → IsEdge group.shape (Step at y) → IsSummarySettled group paths table dirty (Step at y))
+      → ((site y : ℕ) → IsEdge group.shape (Call site at y) → IsSummarySettled group paths table dirty (Call site at y))
+      → ((site x y : ℕ) → IsEdge group.shape (Call site x y) → exit_of group.shape y ≡ at → IsSummarySettled group paths table dirty (Call site x y))
+      → (edge : Edge) → IsEdge group.shape edge → WaitsFor group.shape edge at → IsSummarySettled group paths table dirty edge
+  by_waits table dirty at steps calls callers (Step x y) there same =
+      subst (λ n. IsSummarySettled group paths table dirty (Step n y)) (sym same) (steps y (subst (λ n. IsEdge group.shape (Step n y)) same there))
+  by_waits table dirty at steps calls callers (Call site x y) there (inl same) =
+      subst (λ n. IsSummarySettled group paths table dirty (Call site n y)) (sym same) (calls site y (subst (λ n. IsEdge group.shape (Call site n y)) same there))
+  by_waits table dirty at steps calls callers (Call site x y) there (inr left) = callers site x y there left
+  by_waits table dirty at steps calls callers (Ret site x y) there waits = absurd waits
 
--- what a summary that is put does, where its point and those that wait for it are woken
+  -- those that wait for a point without a path are settled
+  pub off_path : (table : List (Summary W)) (dirty : List Bool) (at : ℕ) → (IsFlagged paths at → ⊥)
+      → (edge : Edge) → IsEdge group.shape edge → WaitsFor group.shape edge at → IsSummarySettled group paths table dirty edge
+  off_path table dirty at never (Step x y) there same = settled_off_path (Step x y) table dirty (λ flagged. never (subst (IsFlagged paths) same flagged))
+  off_path table dirty at never (Call site x y) there (inl same) = settled_off_path (Call site x y) table dirty (λ flagged. never (subst (IsFlagged paths) same flagged))
+  off_path table dirty at never (Call site x y) there (inr left) = call_blocked site x y table dirty (λ flagged. never (subst (IsFlagged paths) left flagged))
+  off_path table dirty at never (Ret site x y) there waits = absurd waits
+
+  -- a mark that is taken leaves each edge settled but those that wait for its point
+  pub waits_but : (table : List (Summary W)) (dirty : List Bool) (at : ℕ) (edge : Edge) → IsSummarySettled group paths table dirty edge
+      → WaitsFor group.shape edge at ⊎ IsSummarySettled group paths table (set dirty at false) edge
+  waits_but table dirty at edge (inl closed) = inr (inl closed)
+  waits_but table dirty at edge (inr waits) = elim (cases_eq waits.0 at) [
+    | inl same ↦ inl (subst (WaitsFor group.shape edge) same waits.1)
+    | inr other ↦ inr (inr (waits.0, waits.1, get_or-set_other dirty at waits.0 false false other ∙ waits.2))
+  ]
+
+  -- where all is to be visited, each edge is settled
+  pub all_wait : (table : List (Summary W)) (dirty : List Bool) → ((edge : Edge) → IsEdge group.shape edge → IsMarked dirty (source_of edge))
+      → (edge : Edge) → IsEdge group.shape edge → IsSummarySettled group paths table dirty edge
+  all_wait table dirty marked (Step x y) there = inr (x, refl, marked (Step x y) there)
+  all_wait table dirty marked (Call site x y) there = inr (x, inl refl, marked (Call site x y) there)
+  all_wait table dirty marked (Ret site x y) there = inl (λ w inside. (tt, tt))
+
+  -- where none is, each edge is closed
+  pub none_waits : (table : List (Summary W)) (dirty : List Bool) → ((edge : Edge) → IsEdge group.shape edge → IsSummarySettled group paths table dirty edge) → AreClear dirty
+      → (edge : Edge) → IsEdge group.shape edge → IsSummaryClosedAt group paths table edge
+  none_waits table dirty settled clear edge there = elim (settled edge there) [
+    | inl closed ↦ closed
+    | inr waits ↦ let none : get_or dirty waits.0 false ≡ false = clear waits.0 in let marked = waits.2 in absurd (cc)
+  ]
+
+-- what a summary that is put does, where its point is marked
 module _ {W : ℕ} (group : Group) (paths : List Bool) (table : List (Summary W)) (dirty dirty_after : List Bool) (at : ℕ) (before more after : Summary W) (within : at < length table)
     (read : before ≡ get_or table at before) (kept : AreJoined group.width before.kept more.kept after.kept) (made : AreJoined group.width before.made more.made after.made) where
   here : before ≡ summary_at table at
@@ -208,23 +240,28 @@ module _ {W : ℕ} (group : Group) (paths : List Bool) (table : List (Summary W)
   here_made : AreJoined group.width (summary_at table at).made more.made after.made
   here_made = subst (λ (s : Summary W). AreJoined group.width s.made more.made after.made) here made
 
-  pub put_same : IsWoken group.shape dirty_after at → AreSameBut group.shape at table (set table at after) dirty_after
-  put_same woken x = elim (cases_eq x at) [
-    | inl same ↦ inr (same, woken)
+  pub put_same : IsMarked dirty_after at → AreSameBut at table (set table at after) dirty_after
+  put_same marked x = elim (cases_eq x at) [
+    | inl same ↦ inr (same, marked)
     | inr other ↦ inl (unwritten group.width table at more after within here_kept here_made x other)
   ]
 
-  pub put_spreads : length dirty_after ≡ length dirty → ((x : ℕ) → IsMarked dirty x → IsMarked dirty_after x) → IsWoken group.shape dirty_after at → room_of_summary after < room_of_summary before
+  pub put_spreads : length dirty_after ≡ length dirty → ((x : ℕ) → IsMarked dirty x → IsMarked dirty_after x) → IsMarked dirty_after at → room_of_summary after < room_of_summary before
       → AreOf group (IsKept group.shape) more.kept at → AreOf group (IsMade group.shape) more.made at → SummarySpreads group paths table dirty (set table at after) dirty_after
-  put_spreads count keeps woken less are_kept are_made =
+  put_spreads count keeps marked less are_kept are_made =
       let grows = put_grows group.width table at more after within here_kept here_made in
       record {
         count = count;
         grows = grows;
-        settled = put_settled group paths table (set table at after) dirty dirty_after at grows keeps (put_same woken);
+        settled = put_settled group paths table (set table at after) dirty dirty_after at grows keeps (put_same marked);
         progress = inr (put_less group.width table at more after within here_kept here_made (subst (λ (s : Summary W). room_of_summary after < room_of_summary s) here less));
         sound = put_sound group table at more after within here_kept here_made are_kept are_made;
       }
+
+-- what is settled of a caller stays so
+pub caller_settled_more : {W : ℕ} (group : Group) (paths : List Bool) (exit : ℕ) (t0 : List (Summary W)) (d0 : List Bool) (t1 : List (Summary W)) (d1 : List Bool) (x : ℕ)
+    → SummarySpreads group paths t0 d0 t1 d1 → IsCallerSettled group paths exit t0 d0 x → IsCallerSettled group paths exit t1 d1 x
+caller_settled_more group paths exit t0 d0 t1 d1 x spreads is = record { settled = λ site y there left. spreads.settled (Call site x y) there (is.settled site y there left) }
 
 -- what a call's link tells of stays settled
 pub call_settled_more : {W : ℕ} (group : Group) (paths : List Bool) (at : ℕ) (t0 : List (Summary W)) (d0 : List Bool) (t1 : List (Summary W)) (d1 : List Bool) (link : CallLink) → SummarySpreads group paths t0 d0 t1 d1

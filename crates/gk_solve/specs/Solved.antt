@@ -40,11 +40,12 @@ IsMeetOverPaths form lo hi rows =
 abbrev pub direction_of : MayForm → LinkedProgram
 direction_of form = record { program = form.program; backward = is_backward form.analysis }
 
--- What a caller sees of the words of a slice: how many points and procedures there are, the slice's bits, which words were solved
+-- What a caller sees of the words of a slice: how many points, procedures and variables there are, the slice's bits, which words were solved
 -- last, and for each point those words, one after the other.
 pub record SliceTable : Type 0 where
   pub points : ℕ
   pub procedures : ℕ
+  pub variables : ℕ
   pub lo : ℕ
   pub hi : ℕ
   pub from : ℕ
@@ -59,6 +60,7 @@ word_at slice point word = slice_index (slice_index_or slice.words point []) (wo
 pub record IsSliceOf (form : MayForm) (slice : SliceTable) : Type 0 where
   pub points : slice.points ≡ point_count form.program
   pub procedures : slice.procedures ≡ (may_shape form.program form.analysis).procedures
+  pub variables : slice.variables ≡ length form.program.variable_names
   pub ordered : slice.lo ≤ slice.hi
   pub within : slice.hi ≤ bits_of form.program form.analysis
 

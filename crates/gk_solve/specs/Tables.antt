@@ -6,4 +6,5 @@ pub mod Rows
 pub mod SliceTables
 pub mod Solutions
 pub mod Visits
+pub mod Widths
 pub mod Words

@@ -73,7 +73,7 @@ fn visit_site<const W: usize>(
     }
     let here = table[site.point as usize];
     let more = new_or_kept(here.made, brought[procedure as usize], here.kept);
-    put(frame, table, brought, dirty, site.callee as u32, more);
+    put(frame, table, brought, dirty, site.callee, more);
 }
 
 // Goes over the calls of a procedure.

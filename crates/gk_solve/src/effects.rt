@@ -1,5 +1,5 @@
 // What statements do with the bits of words.
-ghost use Rattle.std.specs.Prelude.{◌≡◌, ◌+◌, ◌*◌, ◌<◌, ◌/◌, ◌&&◌, ◌||◌, not, ℕ, false, true, IfOk, length, slice_index, if◌then◌else◌};
+ghost use Rattle.std.specs.Prelude.{◌≡◌, ◌+◌, ◌*◌, ◌<◌, ◌/◌, ◌%◌, ◌&&◌, ◌||◌, not, ℕ, false, true, IfOk, length, slice_index, if◌then◌else◌};
 ghost use Rattle.bit_rows.specs.Words.{has_bit};
 ghost use Rattle.flow_graph.specs.Paths.{Shape};
 ghost use Rattle.flow_graph.specs.Points.{point_count};
@@ -33,12 +33,12 @@ fn has_word(words: u64, word: u32) -> bool
 // The words in which the statement at a point does something.
 fn words_of_effect(problem: &Problem<'_, '_>, point: u32) -> u64
     requires { point < point_count problem.now.program }
-    ensures { (word : ℕ) → word < 64 → has_bit result word ≡ false → IsIdle problem.now point word }
+    ensures { (word : ℕ) → has_bit result (word % 64) ≡ false → IsIdle problem.now point word }
 {
     problem.effect_words(point)
 }
 
-/// For each point the words in which its statement does something.
+/// For each point the words in which its statement does something: word `w` at place `w % 64`.
 pub(crate) fn effect_words(
     alloc: Global,
     problem: &Problem<'_, '_>,
@@ -62,10 +62,7 @@ fn touches<const W: usize>(frame: &GroupFrame, point: u32, w: usize) -> bool
     ensures { result ≡ false → IsIdle frame.now.problem.now point (frame.now.first + w) }
 {
     let word = frame.first + w as u32;
-    if 64 <= word {
-        return false;
-    }
-    has_word(frame.effects[point as usize], word)
+    has_word(frame.effects[point as usize], word % 64)
 }
 
 // The bits of one word of the group that the statement at a point generates.
@@ -78,7 +75,7 @@ fn gen_of<const W: usize>(frame: &GroupFrame, point: u32, w: usize) -> u64
 {
     if touches::<W>(frame, point, w) {
         let problem = frame.problem;
-        return problem.gen_word(point, frame.first + w as u32);
+        return problem.gen_word(point, frame.first + w as u32, frame.dependence);
     }
     0
 }
@@ -93,7 +90,7 @@ fn kill_of<const W: usize>(frame: &GroupFrame, point: u32, w: usize) -> u64
 {
     if touches::<W>(frame, point, w) {
         let problem = frame.problem;
-        return problem.kill_word(point, frame.first + w as u32);
+        return problem.kill_word(point, frame.first + w as u32, frame.dependence);
     }
     0
 }

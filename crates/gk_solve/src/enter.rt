@@ -57,7 +57,7 @@ fn visit_site(
     // Its contract tells what a shape's edges are.
     let _ = links.points();
     if reached[site.point as usize] {
-        enter(links, reached, flags, dirty, site.callee as u32);
+        enter(links, reached, flags, dirty, site.callee);
     }
 }
 

@@ -3,38 +3,21 @@ ghost use Rattle.std.specs.Prelude.{◌≡◌, ◌<◌, ◌||◌, ℕ, false, tr
 ghost use Rattle.bit_rows.specs.Words.{has_bit};
 ghost use Rattle.flow_graph.specs.declared.edge.Edge.{Edge};
 ghost use Rattle.flow_graph.specs.declared.edge.Edge.TheVariants.{Step, Call};
-ghost use Rattle.flow_graph.specs.Paths.{IsEdge, source_of};
+ghost use Rattle.flow_graph.specs.Paths.{IsEdge};
 ghost use Rattle.flow_graph.specs.Points.{point_count};
 ghost use Rattle.gk_solve.specs.Equations.{HasFlag};
 ghost use Rattle.flow_links.specs.Shapes.{directed_shape};
 ghost use Rattle.flow_links.specs.LinkLists.{IsCallLink};
-ghost use Rattle.work_list.specs.Marks.{IsMarked, AreClear};
 ghost use Rattle.gk_solve.specs.Tables.Flags.{IsFlagged};
-ghost use Rattle.gk_solve.specs.Tables.Groups.{AreCompleteSummaries, AreJoined, AreOf, AreSameBut, AreSoundSummaries, IsGroupFrame, IsSummaryCallSettled, IsSummaryClosedAt, IsWoken, SummarySpreads, group_of, kept_word, made_word, room_of_summary};
-ghost use Rattle.gk_solve.specs.Tables.Visits.{IsSettled};
+ghost use Rattle.gk_solve.specs.Tables.Groups.{AreCompleteSummaries, AreJoined, AreOf, AreSameBut, AreSoundSummaries, IsCallerSettled, IsGroupFrame, IsSummaryCallSettled, IsSummarySettled, SummarySpreads, WaitsFor, group_of, kept_word, made_word, room_of_summary};
 ghost use Rattle.gk_solve.specs.Tables.Words.{HasBit, IsKept, IsMade, step_statement};
 
 use crate::effects::across;
 use crate::group_frame::GroupFrame;
 use crate::lanes::{added, both, new_or_kept};
 use crate::summary::Summary;
-use flow_links::{CallLink, Links};
+use flow_links::CallLink;
 use work_list::Marks;
-
-// Marks a point and those that wait for it.
-fn wake(links: &Links<'_, '_>, dirty: &mut Marks, at: u32)
-    requires dirty_count { length dirty.now ≡ point_count links.now.program }
-    requires within { at < point_count links.now.program }
-    ensures count { length dirty.new ≡ length dirty.old }
-    ensures keeps { (x : ℕ) → IsMarked dirty.old x → IsMarked dirty.new x }
-    ensures woken { IsWoken (directed_shape links.now) dirty.new at }
-{
-    dirty.mark(at as usize);
-    let callers = links.callers_of(at);
-    for caller in callers {
-        dirty.mark(*caller as usize);
-    }
-}
 
 // A summary with bits added, and whether some of those were missing.
 #[inline(always)]
@@ -49,7 +32,7 @@ fn joined<const W: usize>(before: Summary<W>, more: Summary<W>) -> (Summary<W>, 
     (Summary { kept, made }, more_kept || more_made)
 }
 
-// Adds to the summary of a point, and where that is anything, marks the point and those that wait for it.
+// Adds to the summary of a point, and where that is anything, marks it.
 #[inline(always)]
 fn put<const W: usize>(
     frame: &GroupFrame,
@@ -64,7 +47,7 @@ fn put<const W: usize>(
     requires keeps { AreOf (group_of frame.now W) (IsKept (directed_shape frame.now.links.now)) more.kept at }
     requires makes { AreOf (group_of frame.now W) (IsMade (directed_shape frame.now.links.now)) more.made at }
     ensures spreads { SummarySpreads (group_of frame.now W) frame.now.paths.now table.old dirty.old table.new dirty.new }
-    ensures same { AreSameBut (directed_shape frame.now.links.now) at table.old table.new dirty.new }
+    ensures same { AreSameBut at table.old table.new dirty.new }
     ensures kept_added { (w k : ℕ) → w < W → has_bit (slice_index more.entry.kept w) k ≡ true → HasBit (kept_word table.new w) at k }
     ensures made_added { (w k : ℕ) → w < W → has_bit (slice_index more.entry.made w) k ≡ true → HasBit (made_word table.new w) at k }
 {
@@ -74,7 +57,7 @@ fn put<const W: usize>(
         return;
     }
     table[at as usize] = after;
-    wake(frame.links, dirty, at);
+    dirty.mark(at as usize);
 }
 
 // The point of a step's statement.
@@ -100,7 +83,7 @@ fn visit_step<const W: usize>(
     requires there { IsEdge (directed_shape frame.now.links.now) (Step at to) }
     requires sound { AreSoundSummaries (group_of frame.now W) table.now }
     ensures spreads { SummarySpreads (group_of frame.now W) frame.now.paths.now table.old dirty.old table.new dirty.new }
-    ensures settled { IsSettled (IsSummaryClosedAt (group_of frame.now W) frame.now.paths.now) source_of table.new dirty.new (Step at to) }
+    ensures settled { IsSummarySettled (group_of frame.now W) frame.now.paths.now table.new dirty.new (Step at to) }
 {
     let links = frame.links;
     let point = statement_point(links.is_backward(), at, to);
@@ -135,7 +118,7 @@ fn visit_call<const W: usize>(
         kept: both(before.kept, through.kept),
         made: new_or_kept(through.made, before.made, through.kept),
     };
-    put(frame, table, dirty, call.after as u32, more);
+    put(frame, table, dirty, call.after, more);
 }
 
 // Goes over the steps from a point with a path.
@@ -155,13 +138,13 @@ fn visit_steps<const W: usize>(
     requires sound { AreSoundSummaries (group_of frame.now W) table.now }
     ensures spreads { SummarySpreads (group_of frame.now W) frame.now.paths.now table.old dirty.old table.new dirty.new }
     ensures settled { (y : ℕ) → IsEdge (directed_shape frame.now.links.now) (Step at y)
-        → IsSettled (IsSummaryClosedAt (group_of frame.now W) frame.now.paths.now) source_of table.new dirty.new (Step at y) }
+        → IsSummarySettled (group_of frame.now W) frame.now.paths.now table.new dirty.new (Step at y) }
 {
     let links = frame.links;
     let steps = links.steps_from(at);
     *followed = followed.saturating_add(steps.len() as u64);
     for to in steps {
-        visit_step(frame, table, dirty, at, *to as u32);
+        visit_step(frame, table, dirty, at, *to);
     }
 }
 
@@ -180,7 +163,7 @@ fn visit_calls<const W: usize>(
     requires sound { AreSoundSummaries (group_of frame.now W) table.now }
     ensures spreads { SummarySpreads (group_of frame.now W) frame.now.paths.now table.old dirty.old table.new dirty.new }
     ensures settled { (site y : ℕ) → IsEdge (directed_shape frame.now.links.now) (Call site at y)
-        → IsSettled (IsSummaryClosedAt (group_of frame.now W) frame.now.paths.now) source_of table.new dirty.new (Call site at y) }
+        → IsSummarySettled (group_of frame.now W) frame.now.paths.now table.new dirty.new (Call site at y) }
 {
     let links = frame.links;
     let calls = links.calls_from(at);
@@ -189,7 +172,83 @@ fn visit_calls<const W: usize>(
     }
 }
 
-// Goes over the edges from a point.
+// Goes over one call from a point with a path, if it is left at an exit.
+fn visit_call_left_at<const W: usize>(
+    frame: &GroupFrame,
+    table: &mut [Summary<W>],
+    dirty: &mut Marks,
+    at: u32,
+    exit: u32,
+    call: CallLink,
+)
+    requires frame { IsGroupFrame W frame.now }
+    requires count { length table.now ≡ point_count frame.now.links.now.program }
+    requires dirty_count { length dirty.now ≡ point_count frame.now.links.now.program }
+    requires path { IsFlagged frame.now.paths.now at }
+    requires there { IsCallLink (directed_shape frame.now.links.now) frame.now.links.now.backward at call }
+    requires sound { AreSoundSummaries (group_of frame.now W) table.now }
+    ensures spreads { SummarySpreads (group_of frame.now W) frame.now.paths.now table.old dirty.old table.new dirty.new }
+    ensures settled { call.exit ≡ exit → IsSummaryCallSettled (group_of frame.now W) frame.now.paths.now at table.new dirty.new call }
+{
+    if call.exit == exit {
+        visit_call(frame, table, dirty, at, call);
+    }
+}
+
+// Goes over the calls from a point that are left at an exit, unless the point is still to be visited.
+fn visit_caller<const W: usize>(
+    frame: &GroupFrame,
+    table: &mut [Summary<W>],
+    dirty: &mut Marks,
+    at: u32,
+    exit: u32,
+)
+    requires frame { IsGroupFrame W frame.now }
+    requires count { length table.now ≡ point_count frame.now.links.now.program }
+    requires dirty_count { length dirty.now ≡ point_count frame.now.links.now.program }
+    requires within { at < point_count frame.now.links.now.program }
+    requires sound { AreSoundSummaries (group_of frame.now W) table.now }
+    ensures spreads { SummarySpreads (group_of frame.now W) frame.now.paths.now table.old dirty.old table.new dirty.new }
+    ensures settled { IsCallerSettled (group_of frame.now W) frame.now.paths.now exit table.new dirty.new at }
+{
+    if !frame.paths[at as usize] {
+        return;
+    }
+    if dirty.contains(at as usize) {
+        return;
+    }
+    let links = frame.links;
+    let calls = links.calls_from(at);
+    for call in calls {
+        visit_call_left_at(frame, table, dirty, at, exit, *call);
+    }
+}
+
+// Goes over the calls that are left at a point.
+fn visit_callers<const W: usize>(
+    frame: &GroupFrame,
+    table: &mut [Summary<W>],
+    dirty: &mut Marks,
+    at: u32,
+)
+    requires frame { IsGroupFrame W frame.now }
+    requires count { length table.now ≡ point_count frame.now.links.now.program }
+    requires dirty_count { length dirty.now ≡ point_count frame.now.links.now.program }
+    requires within { at < point_count frame.now.links.now.program }
+    requires sound { AreSoundSummaries (group_of frame.now W) table.now }
+    ensures spreads { SummarySpreads (group_of frame.now W) frame.now.paths.now table.old dirty.old table.new dirty.new }
+    ensures settled { (site x y : ℕ) → IsEdge (directed_shape frame.now.links.now) (Call site x y)
+        → (directed_shape frame.now.links.now).exit ((directed_shape frame.now.links.now).procedure_of y) ≡ at
+        → IsSummarySettled (group_of frame.now W) frame.now.paths.now table.new dirty.new (Call site x y) }
+{
+    let links = frame.links;
+    let callers = links.callers_of(at);
+    for caller in callers {
+        visit_caller(frame, table, dirty, *caller, at);
+    }
+}
+
+// Goes over the edges that wait for a point.
 #[inline(always)]
 fn visit<const W: usize>(
     frame: &GroupFrame,
@@ -204,12 +263,13 @@ fn visit<const W: usize>(
     requires within { at < point_count frame.now.links.now.program }
     requires sound { AreSoundSummaries (group_of frame.now W) table.now }
     ensures spreads { SummarySpreads (group_of frame.now W) frame.now.paths.now table.old dirty.old table.new dirty.new }
-    ensures settled { (edge : Edge) → IsEdge (directed_shape frame.now.links.now) edge → source_of edge ≡ at
-        → IsSettled (IsSummaryClosedAt (group_of frame.now W) frame.now.paths.now) source_of table.new dirty.new edge }
+    ensures settled { (edge : Edge) → IsEdge (directed_shape frame.now.links.now) edge → WaitsFor (directed_shape frame.now.links.now) edge at
+        → IsSummarySettled (group_of frame.now W) frame.now.paths.now table.new dirty.new edge }
 {
     if frame.paths[at as usize] {
         visit_steps(frame, table, dirty, at, followed);
         visit_calls(frame, table, dirty, at);
+        visit_callers(frame, table, dirty, at);
     }
 }
 

@@ -52,7 +52,7 @@ fn visit_steps(
     let steps = links.steps_from(at);
     *followed = followed.saturating_add(steps.len() as u64);
     for to in steps {
-        grow(links, flags, dirty, *to as u32);
+        grow(links, flags, dirty, *to);
     }
 }
 
@@ -70,7 +70,7 @@ fn visit_call(links: &Links<'_, '_>, flags: &mut [bool], dirty: &mut Marks, at: 
     // Its contract tells what a shape's edges are.
     let _ = links.points();
     if flags[call.exit as usize] {
-        grow(links, flags, dirty, call.after as u32);
+        grow(links, flags, dirty, call.after);
     }
 }
 

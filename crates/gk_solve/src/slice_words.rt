@@ -1,12 +1,14 @@
 // The words of a slice.
-ghost use Rattle.std.specs.Prelude.{◌≡◌, ◌+◌, ◌-◌, ◌*◌, ◌/◌, ◌<◌, ◌≤◌, ◌↔◌, ℕ, true, IfOk, length, slice_index};
+ghost use Rattle.std.specs.Prelude.{◌≡◌, ◌+◌, ◌-◌, ◌*◌, ◌/◌, ◌%◌, ◌^◌, ◌<◌, ◌≤◌, ◌↔◌, ℕ, true, IfOk, length, slice_index};
 ghost use Rattle.bit_rows.specs.Words.{has_bit};
 ghost use Rattle.flow_graph.specs.Points.{point_count};
 ghost use Rattle.flow_graph.specs.Problems.{MayForm};
 ghost use Rattle.flow_graph.specs.Universes.{bits as bits_of};
+ghost use Rattle.flow_graph.specs.code.Effects.{IsDependence};
 ghost use Rattle.flow_links.specs.Shapes.{LinkedProgram, directed_shape};
 ghost use Rattle.gk_solve.specs.Solved.{AreSolved, IsSliceOf, direction_of, word_at};
 ghost use Rattle.gk_solve.specs.Tables.Groups.{AreEffectWords, IsGroupFrame};
+ghost use Rattle.gk_solve.specs.Tables.Widths.{width_of};
 
 use crate::OutOfMemory;
 use crate::effects::with_bit;
@@ -14,7 +16,7 @@ use crate::group_frame::GroupFrame;
 use crate::routes::Routes;
 use crate::solution::solve_group;
 use crate::summary::Summary;
-use flow_graph::Problem;
+use flow_graph::{BitTable, Problem};
 use flow_links::Links;
 use std::alloc::Global;
 use std::marker::Model;
@@ -36,6 +38,8 @@ pub struct SliceWords {
     many_brought: Vec<[u64; WIDTH]>,
     dirty: Marks,
     callers: Marks,
+    variables: u32,
+    dependence: BitTable,
 }
 
 impl Model for SliceWords {
@@ -64,22 +68,22 @@ impl Drop for SliceWords {
             many_brought: _,
             dirty: _,
             callers: _,
+            variables: _,
+            dependence: _,
         } = self;
     }
 }
 
-// The words of a group, a bit each.
+// The words of a group, a bit each: word `w` at place `w % 64`.
 fn group_mask<const W: usize>(first: u32) -> u64
     requires narrow { W ≤ 8 }
-    requires first { first < 64 }
-    ensures { (w : ℕ) → w < W → first + w < 64 → has_bit result (first + w) ≡ true }
+    requires first { first < 2 ^ 31 }
+    ensures { (w : ℕ) → w < W → has_bit result ((first + w) % 64) ≡ true }
 {
     let mut mask = 0;
     for w in 0..W {
         let word = first + w as u32;
-        if word < 64 {
-            mask = with_bit(mask, word);
-        }
+        mask = with_bit(mask, word % 64);
     }
     mask
 }
@@ -89,11 +93,15 @@ fn group_frame<'a, 'g, 'p, const W: usize>(
     problem: &'a Problem<'g, 'p>,
     routes: &'a Routes<'g, 'p>,
     effects: &'a [u64],
+    dependence: &'a BitTable,
     word: u32,
 ) -> GroupFrame<'a, 'g, 'p>
     requires narrow { W ≤ 8 }
     requires routes { routes.now ≡ direction_of problem.now }
     requires effects { AreEffectWords problem.now effects.now }
+    requires dependence { IsDependence problem.now.program problem.now.analysis word dependence.now.words.items dependence.now.width }
+    requires row_first { dependence.now.first ≡ word }
+    requires row_words { dependence.now.width ≡ W }
     requires word { 64 * word < bits_of problem.now.program problem.now.analysis }
     ensures frame { IsGroupFrame W result }
     ensures problem { result.problem.now ≡ problem.now }
@@ -111,6 +119,7 @@ fn group_frame<'a, 'g, 'p, const W: usize>(
         effects,
         first: word,
         mask: group_mask::<W>(word),
+        dependence,
     }
 }
 
@@ -141,16 +150,24 @@ fn marks(alloc: Global, links: &Links<'_, '_>) -> Result<(Marks, Marks), OutOfMe
     Ok((points, procedures))
 }
 
+// How many words a slice solves at once.
+fn width(wide: bool) -> u32
+    ensures { result ≡ width_of wide }
+{
+    if wide { WIDTH as u32 } else { 1 }
+}
+
 // All working memory of a slice.
 pub(crate) fn slice_words(
     alloc: Global,
+    problem: &Problem<'_, '_>,
     routes: &Routes<'_, '_>,
     lo: u32,
     hi: u32,
 ) -> Result<SliceWords, OutOfMemory>
     requires { lo ≤ hi }
     ensures { IfOk result (λ slice. (slice.points ≡ point_count routes.now.program) × (slice.procedures ≡ (directed_shape routes.now).procedures)
-        × (slice.lo ≡ lo) × (slice.hi ≡ hi)) }
+        × (slice.variables ≡ length problem.now.program.variable_names) × (slice.lo ≡ lo) × (slice.hi ≡ hi)) }
 {
     let links = routes.links();
     let points = links.points() as usize;
@@ -160,6 +177,8 @@ pub(crate) fn slice_words(
     let (one, one_brought) = blank_tables(alloc, single * points, single * procedures)?;
     let (many, many_brought) = blank_tables(alloc, several * points, several * procedures)?;
     let (dirty, callers) = marks(alloc, links)?;
+    let variables = problem.variables();
+    let dependence = problem.no_dependence(alloc, width(wide))?;
     Ok(SliceWords {
         lo,
         hi,
@@ -172,6 +191,8 @@ pub(crate) fn slice_words(
         many_brought,
         dirty,
         callers,
+        variables,
+        dependence,
     })
 }
 
@@ -237,8 +258,11 @@ impl SliceWords {
         ensures solved { AreSolved problem.now self.new }
     {
         let left = self.hi.div_ceil(64) - word;
+        // Its contract tells that there are few bits.
+        let _ = problem.bits();
+        problem.put_dependence(word, &mut self.dependence);
         if self.wide {
-            let frame = group_frame::<WIDTH>(problem, routes, effects, word);
+            let frame = group_frame::<WIDTH>(problem, routes, effects, &self.dependence, word);
             solve_group(
                 &frame,
                 self.many.as_mut_slice(),
@@ -253,7 +277,7 @@ impl SliceWords {
             self.until = word + left.min(WIDTH as u32);
             return self.until;
         }
-        let frame = group_frame::<1>(problem, routes, effects, word);
+        let frame = group_frame::<1>(problem, routes, effects, &self.dependence, word);
         solve_group(
             &frame,
             self.one.as_mut_slice(),

@@ -122,7 +122,7 @@ fn solve_words<'a, 'g, 'p>(
     requires tells { TellsBelow problem.now (64 * (lo / 64)) lo hi rows.now }
     ensures { IfOk result (λ _. IsLeastSolution problem.now lo hi rows.new) }
 {
-    let mut slice = slice_words(alloc, routes, lo, hi)?;
+    let mut slice = slice_words(alloc, problem, routes, lo, hi)?;
     let end = hi.div_ceil(64);
     let mut word = lo / 64;
     'words: while word < end {
@@ -308,7 +308,7 @@ impl<'g, 'p> Solver<'g, 'p> {
         ensures slice { IfOk result (λ slice. IsSliceOf self.now slice) }
         ensures range { IfOk result (λ slice. (slice.lo ≡ lo) × (slice.hi ≡ hi)) }
     {
-        slice_words(alloc, routes, lo, hi)
+        slice_words(alloc, &self.problem, routes, lo, hi)
     }
 
     /// Solves the words of a slice from one on, four or to the slice's end. Answers the word after the last one solved. It takes

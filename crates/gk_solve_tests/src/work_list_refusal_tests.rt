@@ -7,13 +7,13 @@ use std::test::Fail;
 use work_list::{Marks, Order, group};
 
 // The order in which these points are listed.
-fn order_of(alloc: Global, listed: [u16; 3]) -> Result<Order, AllocError> {
+fn order_of(alloc: Global, listed: [u32; 3]) -> Result<Order, AllocError> {
     Order::of(alloc, listed.to_vec(alloc)?)
 }
 
 fn order_again(
     alloc: Global,
-    listed: [u16; 3],
+    listed: [u32; 3],
     refused: &mut Refused,
 ) -> Result<Order, AllocError> {
     Ok(again!(*refused, "Order::of, or its list", order_of(alloc, listed)))
@@ -33,7 +33,7 @@ fn taken(
 // The points are taken in this order; where a call was refused, the test fails by its name.
 fn check_order<R: Abort + AllocGlobal>(
     rt: &R,
-    listed: [u16; 3],
+    listed: [u32; 3],
     want: [Option<usize>; 3],
 ) -> Result<(), Fail> {
     let mut refused = None;

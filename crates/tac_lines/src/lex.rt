@@ -3,6 +3,7 @@
 ghost use Rattle.std.specs.Prelude.{◌≡◌, ◌+◌, ◌<◌, ◌≤◌, ◌++◌, ℕ, List, Option, [], ◌∷◌, false, true, Some, None, length, drop, slice_range, IfOk, IfErr, OnOk, vec_len, map, IsTrue};
 ghost use Rattle.tac_lines.specs.LineFaults.{first_by_place, line_faults, inside_after as inside_behind};
 ghost use Rattle.tac_program.specs.Limits.{longest_text};
+ghost use Rattle.tac_program.specs.declared.limits.Limits.TheVariants.{Large};
 ghost use Rattle.tac_lines.specs.Forms.{has_form, proc_form, end_form};
 ghost use Rattle.tac_lines.specs.Tokens.{token_lines, rows};
 ghost use Rattle.tac_lines.specs.Text.{lines};
@@ -82,7 +83,7 @@ fn push_line(
 
 /// The lines of a text that have tokens, where no line has a fault; else the first fault.
 pub fn lex(alloc: Global, text: &[u8]) -> Result<Lexed, Stop>
-    requires { length text.now ≤ longest_text }
+    requires { length text.now ≤ longest_text Large }
     ensures lines { IfOk result (λ lexed. text_lines text.now lexed ≡ token_lines (rows text.now)) }
     ensures faultless { OnOk result (first_by_place (line_faults false (length text.now) (rows text.now)) ≡ None) }
     ensures fault { IfErr result (IfFault (λ f. first_by_place (line_faults false (length text.now) (rows text.now)) ≡ Some f)) }

@@ -32,9 +32,9 @@ pub enum RefusalKind {
     UnknownLabel,
     /// 10: a call of a name that no procedure has.
     UnknownProcedure,
-    /// 11: more than 1,048,576 bytes.
+    /// 11: more bytes than the limits allow, the standard ones 1,048,576.
     TextTooLong,
-    /// 12: more than 256 procedures.
+    /// 12: more procedures than the limits allow, the standard ones 256.
     TooManyProcedures,
     /// 13: a name that stands earlier in the same call.
     DuplicateCallee,

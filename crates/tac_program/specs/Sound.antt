@@ -5,6 +5,7 @@ use Rattle.tac_program.specs.Spelling.{is_name, keywords, unary_signs, binary_si
 use Rattle.tac_program.specs.Names.{is_one_of}
 use Rattle.tac_program.specs.Programs.{Procedure, Program, LabelsRise}
 use Rattle.tac_program.specs.Limits.{largest_number, longest_name, longest_text, most_procedures}
+use Rattle.tac_program.specs.declared.limits.Limits.TheVariants.{Large}
 use Rattle.tac_program.specs.declared.program.Op.{Op}
 use Rattle.tac_program.specs.declared.program.Operand.{Operand}
 use Rattle.tac_program.specs.declared.program.Operand.TheVariants.{Variable, Number}
@@ -117,8 +118,8 @@ pub record IsSound (p : Program) : Type 0 where
   pub numbered : NumberedByPlace (λ q. q.name) p.procedures
   -- each procedure has a name
   pub named : length p.procedure_names ≡ length p.procedures
-  -- there are no more procedures than a program may have
-  pub few : length p.procedures ≤ most_procedures
+  -- there are no more procedures than a large program may have
+  pub few : length p.procedures ≤ most_procedures Large
   -- one of them is called `main`
   pub main : Contains p.procedure_names (codes "main")
   -- each name of a procedure is one of the language
@@ -129,9 +130,9 @@ pub record IsSound (p : Program) : Type 0 where
   pub variables_lawful : All IsLawfulName p.variable_names
   -- no two variables have one name
   pub variables_differ : AllDiffer p.variable_names
-  -- the statements, the labels and the variables are no more than the bytes of a text
-  pub statements_few : sum_by (λ q. length q.statements) p.procedures ≤ longest_text
-  pub labels_few : sum_by (λ q. length q.labels) p.procedures ≤ longest_text
-  pub variables_few : length p.variable_names ≤ longest_text
+  -- the statements, the labels and the variables are no more than the bytes of a large text
+  pub statements_few : sum_by (λ q. length q.statements) p.procedures ≤ longest_text Large
+  pub labels_few : sum_by (λ q. length q.labels) p.procedures ≤ longest_text Large
+  pub variables_few : length p.variable_names ≤ longest_text Large
   -- each procedure keeps to what is there
   pub procedures : All (IsSoundProcedure (length p.variable_names) (length p.procedures)) p.procedures

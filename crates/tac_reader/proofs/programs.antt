@@ -1,6 +1,7 @@
 pub mod BuiltWords
 pub mod FaultlessStatements
 pub mod LabelRuns
+pub mod LargeLimits
 pub mod ProcedureRuns
 pub mod ProgramSizes
 pub mod ReadSteps
@@ -11,3 +12,4 @@ pub mod SpelledStatements
 pub mod StatementRuns
 pub mod StatementWords
 pub mod VariableRuns
+pub mod WithinLimits

@@ -11,6 +11,8 @@ use Rattle.tac_lines.specs.declared.refusal.Refusal.{Refusal}
 use Rattle.tac_lines.specs.declared.refusal.RefusalKind.{RefusalKind}
 use Rattle.tac_lines.specs.declared.refusal.RefusalKind.TheVariants as kind
 use Rattle.tac_program.specs.Limits.{longest_text, most_procedures}
+use Rattle.tac_program.specs.declared.limits.Limits.{Limits}
+use Rattle.tac_program.specs.declared.limits.Limits.TheVariants.{Standard}
 use Rattle.tac_lines.specs.LineFaults.{at, first_by_place, line_faults}
 
 -- The tokens whose names stand earlier among them, and the tokens whose names are not among the known ones.
@@ -27,31 +29,40 @@ jumps_in s = flat_map jumps_of (statements_of s.body)
 abbrev pub callees_in : Section → List Token
 callees_in s = flat_map callees_of (statements_of s.body)
 
--- The faults of names, in the order in which they are looked for.
-abbrev pub name_faults : List Section → List Fault
-name_faults ss =
+-- The faults of names, in the order in which they are looked for; last the procedures that are more than the limits allow.
+abbrev pub name_faults : Limits → List Section → List Fault
+name_faults limits ss =
     repeated kind.DuplicateProcedure [] (titles ss)
     ++ flat_map (λ s. repeated kind.DuplicateLabel [] (labels_in s)) ss
     ++ flat_map (λ s. unknown kind.UnknownLabel (labels_in s) (jumps_in s)) ss
     ++ flat_map (λ s. unknown kind.UnknownProcedure (titles ss) (callees_in s)) ss
     ++ flat_map (λ s. flat_map (λ c. repeated kind.DuplicateCallee [] (callees_of c)) (statements_of s.body)) ss
     ++ (if is_one_of (codes "main") (names_in (titles ss)) then [] else at kind.NoMain 0)
-    ++ flat_map (λ t. at kind.TooManyProcedures t.start) (drop most_procedures (titles ss))
+    ++ flat_map (λ t. at kind.TooManyProcedures t.start) (drop (most_procedures limits) (titles ss))
 
 abbrev pub head_of : List Fault → Option Fault
 head_of [] = None
 head_of (f ∷ fs) = Some f
 
--- The fault that a text is refused for: its length first; then what a line shows, by place; then names.
-abbrev pub fault_of : List ℕ → Option Fault
-fault_of text =
-    elim (nat_lt longest_text (length text)) [
+-- The fault that a text is refused for within limits: its length first; then what a line shows, by place; then names.
+abbrev pub fault_within : Limits → List ℕ → Option Fault
+fault_within limits text =
+    elim (nat_lt (longest_text limits) (length text)) [
       | true ↦ Some (record { kind = kind.TextTooLong; place = 0 })
-      | false ↦ elim (first_by_place (line_faults false (length text) (rows text))) [ Some f ↦ Some f | None ↦ head_of (name_faults (sections text)) ]
+      | false ↦ elim (first_by_place (line_faults false (length text) (rows text))) [
+        | Some f ↦ Some f
+        | None ↦ head_of (name_faults limits (sections text))
+      ]
     ]
+
+abbrev pub fault_of : List ℕ → Option Fault
+fault_of = fault_within Standard
 
 abbrev pub refusal_at : List ℕ → Fault → Refusal
 refusal_at text f = record { kind = f.kind; line = line_after (take f.place text); column = column_after (take f.place text) }
 
+abbrev pub refusal_within : Limits → List ℕ → Option Refusal
+refusal_within limits text = option_map (refusal_at text) (fault_within limits text)
+
 abbrev pub refusal_of : List ℕ → Option Refusal
-refusal_of text = option_map (refusal_at text) (fault_of text)
+refusal_of = refusal_within Standard

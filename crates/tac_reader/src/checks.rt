@@ -20,10 +20,7 @@ ghost use Rattle.tac_lines.specs.declared.refusal.RefusalKind.TheVariants.{Dupli
 use crate::section::{Section, labels, line_cells, section_cells};
 use std::alloc::{AllocError, Global};
 use tac_lines::{Fault, RefusalKind, Role, Stop, Token};
-use tac_program::{NameSeeds, NameTable};
-
-/// The most procedures that a program may have.
-const MOST_PROCEDURES: usize = 256;
+use tac_program::{Limits, NameSeeds, NameTable};
 
 /// Puts the tokens' names last in the table, where each is new there. Fails with the fault of the first
 /// that is not, at its token; the table then has the names before it too.
@@ -313,15 +310,17 @@ pub fn check_main(procedures: &NameTable) -> Option<Fault>
     }
 }
 
-/// The fault `TooManyProcedures` at the name of the 257th procedure, where there is one.
-pub fn check_count(sections: &[Section<'_>]) -> Option<Fault>
-    ensures { (text : List ℕ) → result ≡ head_of (flat_map (λ t. at TooManyProcedures t.start) (drop most_procedures (titles_of (sections_view text sections.now)))) }
+/// The fault `TooManyProcedures` at the name of the first procedure beyond those that the limits allow,
+/// where there is one.
+pub fn check_count(sections: &[Section<'_>], limits: Limits) -> Option<Fault>
+    ensures { (text : List ℕ) → result ≡ head_of (flat_map (λ t. at TooManyProcedures t.start) (drop (most_procedures limits) (titles_of (sections_view text sections.now)))) }
 {
-    if sections.len() <= MOST_PROCEDURES {
+    let most = limits.procedures() as usize;
+    if sections.len() <= most {
         return None;
     }
     Some(Fault {
         kind: RefusalKind::TooManyProcedures,
-        place: sections[MOST_PROCEDURES].title.start,
+        place: sections[most].title.start,
     })
 }

@@ -3,11 +3,12 @@
 
 ghost use Rattle.std.specs.Prelude.{◌≡◌, [], ◌∷◌, ◌++◌, codes, None};
 ghost use Rattle.tac_reader.specs.Examples.{refused, procedures_before, word_from, numbered_example};
-ghost use Rattle.tac_reader.specs.Faults.{refusal_of};
+ghost use Rattle.tac_reader.specs.Faults.{refusal_of, refusal_within};
 ghost use Rattle.tac_program.specs.Listings.{listing_of};
 ghost use Rattle.tac_reader.specs.Parses.{program_of};
 ghost use Rattle.tac_program.specs.Sound.{IsSound, IsSoundStatement};
 ghost use Rattle.tac_lines.specs.Tokens.{row_from, name, number, fixed};
+ghost use Rattle.tac_program.specs.declared.limits.Limits.TheVariants.{Large};
 ghost use Rattle.tac_program.specs.declared.program.Op.TheVariants.{Less, Plus, Tilde};
 ghost use Rattle.tac_program.specs.declared.program.Operand.TheVariants.{Variable, Number};
 ghost use Rattle.tac_program.specs.declared.program.StmtKind.TheVariants.{Copy, Unary, Binary, Goto, IfCompare, Call};
@@ -109,6 +110,7 @@ pub fn limits()
     ensures name_of_65 { refusal_of (codes "proc main\naaaaaaaaaaaaaaaaaaaaaaaaaaaaaaaaaaaaaaaaaaaaaaaaaaaaaaaaaaaaaaaaa = 1\nend\n") ≡ refused NameTooLong 2 1 }
     ensures procedures_256 { refusal_of (codes "proc main\nend\n" ++ procedures_before 255 []) ≡ None }
     ensures procedures_257 { refusal_of (codes "proc main\nend\n" ++ procedures_before 256 []) ≡ refused TooManyProcedures 513 6 }
+    ensures procedures_257_within_large { refusal_within Large (codes "proc main\nend\n" ++ procedures_before 256 []) ≡ None }
 {}
 
 /// The tokens of a line are the longest that begin at their places.

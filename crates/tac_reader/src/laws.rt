@@ -1,6 +1,7 @@
 //! Laws of the definitions: each is the clause of a function without a body.
 
-ghost use Rattle.tac_reader.specs.Laws.{ListingsReadBack, ProgramsAreSound, SignsDiffer, SignsTellOperators, StatementsAreSpelled, StatementsKeepTheirWords};
+ghost use Rattle.tac_reader.specs.Laws.{LargeLimitsAcceptMore, ListingsReadBack, ProgramsAreSound, ProgramsAreWithin};
+ghost use Rattle.tac_reader.specs.Laws.{SignsDiffer, SignsTellOperators, StatementsAreSpelled, StatementsKeepTheirWords};
 
 /// Each of the operators is told by its sign, and no two have one sign.
 pub fn signs_tell_operators()
@@ -19,13 +20,25 @@ pub fn programs_are_sound()
     ensures { ProgramsAreSound }
 {}
 
+/// The program of a text that is not refused has no more procedures than the limits allow that the
+/// text is read by.
+pub fn programs_are_within()
+    ensures { ProgramsAreWithin }
+{}
+
+/// A text that is accepted within the standard limits is accepted within the large ones, and its
+/// program is the same.
+pub fn large_limits_accept_more()
+    ensures { LargeLimitsAcceptMore }
+{}
+
 /// The bytes of a statement's span have its tokens and nothing else.
 pub fn statements_are_spelled()
     ensures { StatementsAreSpelled }
 {}
 
 /// The listing of a text's program, where it is within the limit of a text, is a text of the same
-/// program but for spans.
+/// program but for spans. It is accepted within the limits that the text is.
 pub fn listings_read_back()
     ensures { ListingsReadBack }
 {}

@@ -14,9 +14,9 @@ mod procedure;
 mod reader;
 mod section;
 
-pub use reader::read;
+pub use reader::{read, read_within};
 pub use tac_lines::{OutOfMemory, ReadFault, Refusal, RefusalKind};
 pub use tac_program::{
-    Callees, Label, Op, Operand, Proc, Program, Span, Stmt, StmtKind, listing,
+    Callees, Label, Limits, Op, Operand, Proc, Program, Span, Stmt, StmtKind, listing,
     write_binary_expression, write_unary_expression,
 };

@@ -1,7 +1,7 @@
 // A text to its program, or to its refusal.
 
 ghost use Rattle.std.specs.Prelude.{◌≡◌, ◌+◌, ◌<◌, ◌≤◌, ◌^◌, Some, None, length, map, take, IfOk, IfErr, OnOk};
-ghost use Rattle.tac_reader.specs.Faults.{fault_of, head_of, name_faults, refusal_of, refusal_at};
+ghost use Rattle.tac_reader.specs.Faults.{fault_within, head_of, name_faults, refusal_of, refusal_at, refusal_within};
 ghost use Rattle.tac_program.specs.Limits.{longest_text};
 ghost use Rattle.tac_lines.specs.code.Lexed.{IfFault};
 ghost use Rattle.tac_reader.specs.Parses.{names_in, program_of};
@@ -19,10 +19,7 @@ use crate::section::{Section, sections};
 use std::alloc::Global;
 use tac_lines::lex::lex;
 use tac_lines::{Fault, Lines, ReadFault, Refusal, RefusalKind, Stop};
-use tac_program::{NameSeeds, NameTable, Program};
-
-/// The longest text, in bytes.
-const LONGEST_TEXT: usize = 1_048_576;
+use tac_program::{Limits, NameSeeds, NameTable, Program};
 
 /// The line of the place behind these bytes.
 fn line_of(before: &[u8]) -> u32
@@ -75,11 +72,12 @@ fn check_names(
     seeds: &mut NameSeeds<'_>,
     text: &[u8],
     sections: &[Section<'_>],
+    limits: Limits,
 ) -> Result<(NameTable, Vec<NameTable>), Stop>
-    ensures faultless { OnOk result (head_of (name_faults (sections_view text.now sections.now)) ≡ None) }
+    ensures faultless { OnOk result (head_of (name_faults limits (sections_view text.now sections.now)) ≡ None) }
     ensures procedures { IfOk result (λ names. names.0 ≡ names_in (titles (sections_view text.now sections.now))) }
     ensures labels { IfOk result (λ names. (names.1).items ≡ map (λ s. names_in (labels_in s)) (sections_view text.now sections.now)) }
-    ensures fault { IfErr result (IfFault (λ f. head_of (name_faults (sections_view text.now sections.now)) ≡ Some f)) }
+    ensures fault { IfErr result (IfFault (λ f. head_of (name_faults limits (sections_view text.now sections.now)) ≡ Some f)) }
 {
     let procedures = check_procedures(alloc, seeds, text, sections)?;
     let labels = check_labels(alloc, seeds, text, sections)?;
@@ -87,21 +85,21 @@ fn check_names(
     check_callees(alloc, text, sections, &procedures)?;
     check_repeated_callees(alloc, text, sections)?;
     refuse(check_main(&procedures))?;
-    refuse(check_count(sections))?;
+    refuse(check_count(sections, limits))?;
     Ok((procedures, labels))
 }
 
-/// The program of a text of no more than the longest, or its first fault.
-fn read_checked(alloc: Global, text: &[u8]) -> Result<Program, Stop>
-    requires { length text.now ≤ longest_text }
-    ensures accepted { OnOk result (fault_of text.now ≡ None) }
+/// The program of a text no longer than the limits allow, or its first fault.
+fn read_checked(alloc: Global, text: &[u8], limits: Limits) -> Result<Program, Stop>
+    requires { length text.now ≤ longest_text limits }
+    ensures accepted { OnOk result (fault_within limits text.now ≡ None) }
     ensures program { IfOk result (λ p. p ≡ program_of text.now) }
-    ensures fault { IfErr result (IfFault (λ f. fault_of text.now ≡ Some f)) }
+    ensures fault { IfErr result (IfFault (λ f. fault_within limits text.now ≡ Some f)) }
 {
     let lexed = lex(alloc, text)?;
     let mut seeds = NameSeeds::of(text);
     let sections = sections(alloc, Lines::of(&lexed))?;
-    let (procedures, labels) = check_names(alloc, &mut seeds, text, &sections)?;
+    let (procedures, labels) = check_names(alloc, &mut seeds, text, &sections, limits)?;
     let (variables, occurrences) = variables(alloc, &mut seeds, text, &sections)?;
     Ok(program(
         alloc,
@@ -124,14 +122,26 @@ pub fn read(alloc: Global, text: &[u8]) -> Result<Program, ReadFault>
     ensures program { IfOk result (λ p. p ≡ program_of text.now) }
     ensures refused { IfErr result (IfRefused (λ r. refusal_of text.now ≡ Some r)) }
 {
-    if text.len() > LONGEST_TEXT {
+    read_within(alloc, text, Limits::Standard)
+}
+
+/// Reads a program as `read` does, within these limits.
+///
+/// The limits say how long the text may be and how many procedures it may have. A text that two of
+/// them accept has the same program within both.
+pub fn read_within(alloc: Global, text: &[u8], limits: Limits) -> Result<Program, ReadFault>
+    ensures accepted { OnOk result (refusal_within limits text.now ≡ None) }
+    ensures program { IfOk result (λ p. p ≡ program_of text.now) }
+    ensures refused { IfErr result (IfRefused (λ r. refusal_within limits text.now ≡ Some r)) }
+{
+    if text.len() > limits.text() as usize {
         return Err(ReadFault::Refused(Refusal {
             kind: RefusalKind::TextTooLong,
             line: 1,
             column: 1,
         }));
     }
-    match read_checked(alloc, text) {
+    match read_checked(alloc, text, limits) {
         Ok(program) => Ok(program),
         Err(Stop::Fault(fault)) => Err(ReadFault::Refused(located(text, fault))),
         Err(Stop::OutOfMemory) => Err(ReadFault::OutOfMemory),

@@ -3,7 +3,7 @@ ghost use Rattle.tac_reader.specs.Parses.{program_of};
 
 use std::alloc::{AllocError, Global};
 use std::process::Abort;
-use tac_reader::{Label, Program, ReadFault, Span, Stmt, listing, read};
+use tac_reader::{Label, Limits, Program, ReadFault, Span, Stmt, listing, read, read_within};
 use worked_programs::spacing::TEXT as SPACING;
 use worked_programs::{listed, recursion, refused, smallest};
 
@@ -36,13 +36,26 @@ fn listed(alloc: Global, text: &[u8]) -> Result<Vec<u8>, ReadFault> {
     }
 }
 
+/// The same within the large limits.
+fn listed_within_large(alloc: Global, text: &[u8]) -> Result<Vec<u8>, ReadFault> {
+    match read_within(alloc, text, Limits::Large) {
+        Ok(program) => listed_program(alloc, &program),
+        Err(fault) => Err(fault),
+    }
+}
+
 /// The listing of a program, or the message of why the text is none.
-fn answer(alloc: Global, text: &[u8]) -> Result<String, AllocError> {
-    match listed(alloc, text) {
+fn told(alloc: Global, listed: Result<Vec<u8>, ReadFault>) -> Result<String, AllocError> {
+    match listed {
         Ok(listed) => String::from_utf8_lossy(alloc, listed.as_slice()),
         Err(ReadFault::OutOfMemory) => Err(AllocError),
         Err(fault) => fault.to_string(alloc),
     }
+}
+
+/// What is told of a text that is read.
+fn answer(alloc: Global, text: &[u8]) -> Result<String, AllocError> {
+    told(alloc, listed(alloc, text))
 }
 
 /// The one comparison of texts, since each that is written out is proved again. It tells what was tried, and its row.
@@ -279,6 +292,66 @@ fn counts_procedures_and_bytes(rt: HostRuntime) -> Result<(), AllocError> {
     );
     check_lines(&rt, alloc, 1_048_562, "proc main\nend\n")?;
     check_lines(&rt, alloc, 1_048_563, "1:1: refusal 11: TextTooLong")
+}
+
+/// Within the large limits the text has this answer.
+fn check_within_large(
+    rt: &impl Abort,
+    alloc: Global,
+    text: &[u8],
+    want: &str,
+) -> Result<(), AllocError> {
+    let answer = told(alloc, listed_within_large(alloc, text))?;
+    same(rt, "large limits", text.len(), answer.as_str(), want);
+    Ok(())
+}
+
+/// The procedure `main` and this many others are the listing of their own program within the large limits.
+fn check_procedures_within_large(
+    rt: &impl Abort,
+    alloc: Global,
+    others: u32,
+) -> Result<(), AllocError> {
+    let text = procedures(alloc, others)?;
+    check_within_large(rt, alloc, text.as_bytes(), text.as_str())
+}
+
+#[test]
+fn counts_procedures_within_large_limits(rt: HostRuntime) -> Result<(), AllocError> {
+    let alloc = rt.alloc();
+    check_procedures_within_large(&rt, alloc, 256)?;
+    check_procedures_within_large(&rt, alloc, 16_383)?;
+    // Each procedure is two lines.
+    let over = procedures(alloc, 16_384)?;
+    check_within_large(
+        &rt,
+        alloc,
+        over.as_bytes(),
+        "32769:6: refusal 12: TooManyProcedures",
+    )
+}
+
+/// This many blanks.
+fn blanks(alloc: Global, count: usize) -> Result<Vec<u8>, AllocError> {
+    vec![in alloc; b' '; count]
+}
+
+/// Within the large limits this many blanks have this answer.
+fn check_blanks(
+    rt: &impl Abort,
+    alloc: Global,
+    count: usize,
+    want: &str,
+) -> Result<(), AllocError> {
+    check_within_large(rt, alloc, blanks(alloc, count)?.as_slice(), want)
+}
+
+#[test]
+fn counts_bytes_within_large_limits(rt: HostRuntime) -> Result<(), AllocError> {
+    let alloc = rt.alloc();
+    let lines = lines_behind(alloc, 1_048_563)?;
+    check_within_large(&rt, alloc, lines.as_bytes(), "proc main\nend\n")?;
+    check_blanks(&rt, alloc, 67_108_865, "1:1: refusal 11: TextTooLong")
 }
 
 const LISTED: &[(&[u8], &str)] = &[

@@ -1,6 +1,7 @@
 -- What is known of a text whose program has a graph.
 use Rattle.std.proofs.Common.{◌≡◌, ℕ, List, None, subst, Some}
 use Rattle.flow_graph.specs.Limits.{HasFewBits, HasFewPoints}
+use Rattle.tac_program.specs.declared.limits.Limits.TheVariants.{Standard}
 use Rattle.flow_graph.specs.declared.analysis.Analysis.{Analysis}
 use Rattle.tac_reader.specs.Faults.{refusal_of}
 use Rattle.tac_program.specs.Programs.{Program}
@@ -10,9 +11,9 @@ use Rattle.tacflow_c.specs.Statuses.{HasGraph, IsBadTable, analysis_of}
 use Rattle.tacflow_c.specs.declared.fault.Fault.{Fault}
 use Rattle.tacflow_c.specs.declared.fault.Fault.TheVariants as fault
 
-pub has_graph : (text : List ℕ) (program : Program) → program ≡ program_of text → refusal_of text ≡ None → HasFewPoints program → HasFewBits program → HasGraph text
+pub has_graph : (text : List ℕ) (program : Program) → program ≡ program_of text → refusal_of text ≡ None → HasFewPoints Standard program → HasFewBits Standard program → HasGraph text
 has_graph text program is accepted points bits =
-    (accepted, subst HasFewPoints is points, subst HasFewBits is bits)
+    (accepted, subst (HasFewPoints Standard) is points, subst (HasFewBits Standard) is bits)
 
 pub facts_of_text : (text : List ℕ) (program : Program) (number : ℕ) (analysis : Analysis) (lo hi : ℕ) (flags words : List ℕ) → program ≡ program_of text
     → HasGraph text → analysis_of number ≡ Some analysis → AreFactsOf program analysis lo hi flags words → AreFactsOfText text number lo hi flags words

@@ -2,6 +2,7 @@
 use Rattle.std.specs.Prelude.{◌≡◌, ℕ, ◌<◌, ◌*◌, ◌⊎◌, ◌==◌, if◌then◌else◌, List, Option, Some, None, Result, Ok, Err}
 use Rattle.bit_rows.specs.Words.{word_count}
 use Rattle.flow_graph.specs.Limits.{HasFewBits, HasFewPoints, HasManyBits, HasManyPoints}
+use Rattle.tac_program.specs.declared.limits.Limits.TheVariants.{Standard}
 use Rattle.flow_graph.specs.Points.{point_count}
 use Rattle.flow_graph.specs.Universes.{bits}
 use Rattle.flow_graph.specs.declared.analysis.Analysis.{Analysis}
@@ -21,12 +22,12 @@ refusal_place refusal = record { number = number_of_kind refusal.kind; line = re
 
 -- The text is a program whose graph is within its limits.
 abbrev pub HasGraph : List ℕ → Type 0
-HasGraph text = (refusal_of text ≡ None) × HasFewPoints (program_of text) × HasFewBits (program_of text)
+HasGraph text = (refusal_of text ≡ None) × HasFewPoints Standard (program_of text) × HasFewBits Standard (program_of text)
 
 -- a program has no graph for this cause; want of memory is no fact of it
 abbrev pub IsOverLimit : Program → Fault → Type 0
-IsOverLimit program fault.TooManyPoints = HasManyPoints program
-IsOverLimit program fault.TooManyBits = HasManyBits program
+IsOverLimit program fault.TooManyPoints = HasManyPoints Standard program
+IsOverLimit program fault.TooManyBits = HasManyBits Standard program
 IsOverLimit program fault.OutOfMemory = Unit {0}
 IsOverLimit program _ = ⊥
 
@@ -39,8 +40,8 @@ IsUnread text _ = ⊥
 -- why a text has no program and no graph
 abbrev pub IsFaultOf : List ℕ → Fault → Type 0
 IsFaultOf text (fault.Refused refusal) = refusal_of text ≡ Some refusal
-IsFaultOf text fault.TooManyPoints = (refusal_of text ≡ None) × HasManyPoints (program_of text)
-IsFaultOf text fault.TooManyBits = (refusal_of text ≡ None) × HasManyBits (program_of text)
+IsFaultOf text fault.TooManyPoints = (refusal_of text ≡ None) × HasManyPoints Standard (program_of text)
+IsFaultOf text fault.TooManyBits = (refusal_of text ≡ None) × HasManyBits Standard (program_of text)
 IsFaultOf text fault.OutOfMemory = Unit {0}
 IsFaultOf text _ = ⊥
 

@@ -2,6 +2,7 @@
 
 ghost use Rattle.std.specs.Prelude.{◌≡◌, IfOk, IfErr, OnOk, None};
 ghost use Rattle.flow_graph.specs.Limits.{HasFewBits, HasFewPoints};
+ghost use Rattle.tac_program.specs.declared.limits.Limits.TheVariants.{Standard};
 ghost use Rattle.tac_reader.specs.Faults.{refusal_of};
 ghost use Rattle.tac_reader.specs.Parses.{program_of as program_in};
 ghost use Rattle.tacflow_c.specs.Statuses.{IsOverLimit, IsUnread};
@@ -29,8 +30,8 @@ pub(crate) fn program_of(alloc: Global, text: &[u8]) -> Result<Program, Fault>
 /// The graph of a program.
 pub(crate) fn graph_of<'p>(alloc: Global, program: &'p Program) -> Result<Graph<'p>, Fault>
     ensures graph { IfOk result (λ graph. graph ≡ program.now) }
-    ensures few_points { OnOk result (HasFewPoints program.now) }
-    ensures few_bits { OnOk result (HasFewBits program.now) }
+    ensures few_points { OnOk result (HasFewPoints Standard program.now) }
+    ensures few_bits { OnOk result (HasFewBits Standard program.now) }
     ensures fault { IfErr result (IsOverLimit program.now) }
 {
     match Graph::build(alloc, program) {

@@ -1,5 +1,5 @@
 //! `tacview`: reads a program of three-address code, and writes its flow graph with what holds at its points, for Graphviz or as
-//! lines of JSON.
+//! lines of JSON, or the report on it.
 #![tactic(auto)]
 
 use flow_runs::{tell_line, tell_no_words, tell_words};

@@ -9,7 +9,7 @@ use Rattle.clap.specs.declared.error.Error.{Error}
 use Rattle.clap.specs.declared.error.kind.ErrorKind.TheVariants.{InvalidValue, OutOfMemory}
 use Rattle.flow_runs.specs.Words.{AreKindsOf}
 use Rattle.view_commands.specs.Commands.{AnswersWords, NamesOptions, facts_kinds, knows_facts, tacview_command}
-use Rattle.view_commands.specs.Kinds.{formats}
+use Rattle.view_commands.specs.Kinds.{formats, sizes}
 use Rattle.view_commands.specs.declared.options.Options.{Options}
 
 -- an error of facts that are known is want of memory
@@ -25,15 +25,18 @@ unless_taken P (Ok options) Q told = tt
 unless_taken P (Err e) Q told = λ _. told
 
 -- where `clap` has taken the words, the facts decide
-pub answered : (words : List Text) (values : Bor (List PossibleValue)) → AreKindsOf formats values.now → (r : Result Options Error) (rows : List Row)
-    → rows ≡ matches_of (tacview_command values) words → IfOk r (NamesOptions rows) → FailsBy (facts_kinds rows) r
-    → fault_of (tacview_command values) words ≡ [] → AnswersWords words r
-answered words values are r rows is named fails faultless = record {
+pub answered : (words : List Text) (values bounds : Bor (List PossibleValue)) → AreKindsOf formats values.now → AreKindsOf sizes bounds.now
+    → (r : Result Options Error) (rows : List Row) → rows ≡ matches_of (tacview_command values bounds) words
+    → IfOk r (NamesOptions rows) → FailsBy (facts_kinds rows) r
+    → fault_of (tacview_command values bounds) words ≡ [] → AnswersWords words r
+answered words values bounds are_formats are_limits r rows is named fails faultless = record {
   values = values;
-  are_formats = are;
+  bounds = bounds;
+  are_formats = are_formats;
+  are_limits = are_limits;
   named = subst (λ (x : List Row). IfOk r (NamesOptions x)) is named;
   refused = unless_taken _ r _ (subst (λ (x : List Row). IfErr r (λ e. knows_facts x ≡ true → kind_of e ≡ OutOfMemory)) is (known_refused rows r fails));
-  faults = subst (λ (k : Kinds). FailsBy (or_else k (facts_kinds (matches_of (tacview_command values) words))) r) (sym faultless)
+  faults = subst (λ (k : Kinds). FailsBy (or_else k (facts_kinds (matches_of (tacview_command values bounds) words))) r) (sym faultless)
       (subst (λ (x : List Row). FailsBy (facts_kinds x) r) is fails);
 }
 
@@ -43,12 +46,15 @@ earlier [] next e (inl memory) = inl memory
 earlier [] next e (inr none) = absurd none
 earlier (k ∷ ks) next e has = has
 
-pub refused : (words : List Text) (values : Bor (List PossibleValue)) → AreKindsOf formats values.now → (e : Error)
-    → (takes (tacview_command values) words ≡ true → kind_of e ≡ OutOfMemory) → HasKind (fault_of (tacview_command values) words) e
+pub refused : (words : List Text) (values bounds : Bor (List PossibleValue)) → AreKindsOf formats values.now → AreKindsOf sizes bounds.now
+    → (e : Error) → (takes (tacview_command values bounds) words ≡ true → kind_of e ≡ OutOfMemory)
+    → HasKind (fault_of (tacview_command values bounds) words) e
     → AnswersWords words (Err e)
-refused words values are e passes has = record {
+refused words values bounds are_formats are_limits e passes has = record {
   values = values;
-  are_formats = are;
+  bounds = bounds;
+  are_formats = are_formats;
+  are_limits = are_limits;
   named = tt;
   refused = λ taken _. passes taken;
   faults = earlier _ _ e has;

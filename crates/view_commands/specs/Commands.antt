@@ -10,22 +10,23 @@ use Rattle.clap.specs.declared.builder.possible_value.PossibleValue.{PossibleVal
 use Rattle.clap.specs.declared.error.Error.{Error}
 use Rattle.clap.specs.declared.error.kind.ErrorKind.TheVariants.{InvalidValue, OutOfMemory}
 use Rattle.flow_runs.specs.Words.{AreKindsOf, NamesNumber, kind_rule, number_rule}
-use Rattle.view_commands.specs.Kinds.{facts_asked, facts_named, format_named, formats}
+use Rattle.view_commands.specs.Kinds.{facts_asked, facts_named, format_named, formats, limits_named, sizes}
 use Rattle.view_commands.specs.declared.options.Options.{Options}
 
 -- `--NAME TEXT`, any text, with no default.
 abbrev pub text_rule : Text → Rule
 text_rule name = record (new_rule name) { long = Some name; value_names = 1; action = Some Set }
 
--- `tacview [--format KIND] [--facts LIST] [--procedure NAME]`, and behind them `[--workers N] [--cut N]`
+-- `tacview [--format KIND] [--facts LIST] [--procedure NAME]`, and behind them `[--limits SIZE] [--workers N] [--cut N]`
 abbrev pub view_command : Bor (List PossibleValue) → App
 view_command values =
     with_rule (with_rule (with_rule (new_app (codes "tacview"))
     (kind_rule (codes "format") (codes "dot") values)) (text_rule (codes "facts"))) (text_rule (codes "procedure"))
 
-abbrev pub tacview_command : Bor (List PossibleValue) → App
-tacview_command values =
-    with_rule (with_rule (view_command values) (number_rule (codes "workers") (codes "1") 64)) (number_rule (codes "cut") (codes "64") 4096)
+abbrev pub tacview_command : Bor (List PossibleValue) → Bor (List PossibleValue) → App
+tacview_command values bounds =
+    with_rule (with_rule (with_rule (view_command values) (kind_rule (codes "limits") (codes "standard") bounds))
+    (number_rule (codes "workers") (codes "1") 64)) (number_rule (codes "cut") (codes "64") 4096)
 
 -- The name of the procedure that is asked for.
 abbrev pub name_asked : Options → Option (List ℕ)
@@ -36,6 +37,7 @@ pub record NamesOptions (rows : List Row) (options : Options) : Type 0 where
   pub named_format : option_and_then format_named (first_of (codes "format") rows) ≡ Some options.format
   pub named_facts : facts_asked options.format (first_of (codes "facts") rows) ≡ Some options.facts
   pub named_procedure : name_asked options ≡ first_of (codes "procedure") rows
+  pub named_limits : option_and_then limits_named (first_of (codes "limits") rows) ≡ Some options.limits
   pub named_workers : NamesNumber rows (codes "workers") options.workers
   pub named_cut : NamesNumber rows (codes "cut") options.cut
 
@@ -48,11 +50,14 @@ abbrev pub facts_kinds : List Row → Kinds
 facts_kinds rows = if knows_facts rows then [] else InvalidValue ∷ []
 
 -- What is answered to the words: the options that the command's matches name, or an error. The
--- command holds the formats by reference, and where they lie is left open.
+-- command holds the words of formats and of limits by reference, and where they lie is left open.
 pub record AnswersWords (words : List Text) (answer : Result Options Error) : Type 0 where
   pub values : Bor (List PossibleValue)
+  pub bounds : Bor (List PossibleValue)
   pub are_formats : AreKindsOf formats values.now
-  pub named : IfOk answer (NamesOptions (matches_of (tacview_command values) words))
-  pub refused : IfErr answer (λ e. takes (tacview_command values) words ≡ true
-      → knows_facts (matches_of (tacview_command values) words) ≡ true → kind_of e ≡ OutOfMemory)
-  pub faults : FailsBy (or_else (fault_of (tacview_command values) words) (facts_kinds (matches_of (tacview_command values) words))) answer
+  pub are_limits : AreKindsOf sizes bounds.now
+  pub named : IfOk answer (NamesOptions (matches_of (tacview_command values bounds) words))
+  pub refused : IfErr answer (λ e. takes (tacview_command values bounds) words ≡ true
+      → knows_facts (matches_of (tacview_command values bounds) words) ≡ true → kind_of e ≡ OutOfMemory)
+  pub faults : FailsBy (or_else (fault_of (tacview_command values bounds) words)
+      (facts_kinds (matches_of (tacview_command values bounds) words))) answer

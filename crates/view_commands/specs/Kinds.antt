@@ -1,18 +1,28 @@
--- The words of the formats and of the facts.
+-- The words of the formats, of the limits and of the facts.
 use Rattle.std.specs.Prelude.{◌==◌, ℕ, Bool, true, false, List, [], ◌∷◌, Option, None, Some, bytes_eq, codes, if◌then◌else◌}
 use Rattle.std.specs.List.{list_all, list_any, slice_split}
 use Rattle.flow_runs.specs.Words.{kind_named}
 use Rattle.flow_views.specs.declared.view.Chosen.{Chosen}
+use Rattle.tac_program.specs.declared.limits.Limits.{Limits}
+use Rattle.tac_program.specs.declared.limits.Limits.TheVariants.{Standard, Large}
 use Rattle.view_commands.specs.declared.options.Format.{Format}
 use Rattle.view_commands.specs.declared.options.Format.TheVariants as format
 
 -- Each format with its word.
 abbrev pub formats : List (List ℕ × Format)
-formats = (codes "dot", format.Dot) ∷ (codes "json", format.Json) ∷ []
+formats = (codes "dot", format.Dot) ∷ (codes "json", format.Json) ∷ (codes "report", format.Report) ∷ []
 
 -- The format that a word names.
 abbrev pub format_named : List ℕ → Option Format
 format_named = kind_named formats
+
+-- The limits with their words.
+abbrev pub sizes : List (List ℕ × Limits)
+sizes = (codes "standard", Standard) ∷ (codes "large", Large) ∷ []
+
+-- The limits that a word names.
+abbrev pub limits_named : List ℕ → Option Limits
+limits_named = kind_named sizes
 
 abbrev pub no_facts : Chosen
 no_facts = record { reach = false; live = false; avail = false; busy = false }
@@ -47,10 +57,11 @@ facts_named list =
     else (if bytes_eq list (codes "all") then Some all_facts
     else (if list_all is_fact (words_in list) then Some (chosen_in list) else None))
 
--- The facts that are shown where no list says which.
+-- The facts that are shown where no list says which. A report shows none.
 abbrev pub facts_by_format : Format → Chosen
 facts_by_format format.Dot = no_facts
 facts_by_format format.Json = all_facts
+facts_by_format format.Report = no_facts
 
 -- The facts that are asked for, by a list or by none.
 abbrev pub facts_asked : Format → Option (List ℕ) → Option Chosen

@@ -1,6 +1,7 @@
 -- What is shown of a program.
 use Rattle.std.specs.Prelude.{◌≡◌, ℕ, List, Option, None, Some, slice_get}
 use Rattle.tac_program.specs.Programs.{Program}
+use Rattle.flow_texts.specs.Reports.{IsReport, ListsSafely}
 use Rattle.flow_views.specs.Dots.{IsDot}
 use Rattle.flow_views.specs.Json.{IsJson}
 use Rattle.flow_views.specs.declared.view.Chosen.{Chosen}
@@ -22,10 +23,11 @@ abbrev pub LacksProcedure : Option (List ℕ) → Program → Type 0
 LacksProcedure None program = ⊥
 LacksProcedure (Some name) program = (number : ℕ) → ¬ (HasProcedure program name number)
 
--- The text of each format.
+-- The text of each format. A report is of the whole program whatever the view, and its dead assignments are safe to delete.
 abbrev pub IsText : Format → Program → View → List ℕ → Type 0
 IsText format.Dot program view out = IsDot program view out
 IsText format.Json program view out = IsJson program view out
+IsText format.Report program view out = IsReport program out × ListsSafely program out
 
 -- What is written of a program: the text of this format, with these facts, of the procedures that are asked for.
 pub record IsShown (format : Format) (facts : Chosen) (name : Option (List ℕ)) (program : Program) (out : List ℕ) : Type 0 where

@@ -69,12 +69,12 @@ pub(crate) fn facts_of(list: &str) -> Option<Chosen>
     }
 }
 
-/// The facts that are shown where no list says which: none in a graph, all in lines of JSON.
+/// The facts that are shown where no list says which: none in a graph and in a report, all in lines of JSON.
 pub(crate) fn facts_by(format: Format) -> Chosen
     ensures { result ≡ facts_by_format format }
 {
     match format {
-        Format::Dot => NONE,
+        Format::Dot | Format::Report => NONE,
         Format::Json => ALL,
     }
 }

@@ -1,5 +1,5 @@
 //! What `tacview` does with its words and its streams: a program's flow graph with what holds at its points, for Graphviz or as
-//! lines of JSON.
+//! lines of JSON, or the report on it.
 #![tactic(auto)]
 
 mod facts;

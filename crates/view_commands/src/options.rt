@@ -5,6 +5,7 @@ ghost use Rattle.flow_team.specs.Ranges.{AreInRange};
 
 use flow_runs::are_in_range;
 use flow_views::Chosen;
+use tac_program::Limits;
 
 /// Which text is written.
 #[derive(Clone, Copy, Debug, PartialEq, Eq)]
@@ -13,6 +14,8 @@ pub enum Format {
     Dot,
     /// Lines of JSON.
     Json,
+    /// The report on the whole program.
+    Report,
 }
 
 /// What to show, by how many workers, in slices of how many bits.
@@ -22,11 +25,13 @@ pub struct Options {
     pub workers: u32,
     /// The width of a slice, 1 to 4,096 bits.
     pub cut: u32,
+    /// How large the text and its program may be.
+    pub limits: Limits,
     /// Which text is written.
     pub format: Format,
-    /// Which analyses' facts stand in it.
+    /// Which analyses' facts stand in it. A report is the same for all of them.
     pub facts: Chosen,
-    /// The name of the one procedure that is shown; without it all are.
+    /// The name of the one procedure that is shown; without it all are. A report is of all anyway.
     pub procedure: Option<String>,
     pub ghost in_range: { AreInRange workers cut },
 }
@@ -37,17 +42,20 @@ impl Options {
     pub fn new(
         workers: u32,
         cut: u32,
+        limits: Limits,
         format: Format,
         facts: Chosen,
         procedure: Option<String>,
     ) -> Option<Options>
         ensures answered { IsSome result ↔ AreInRange workers cut }
-        ensures options { IfSome result (λ options. (options.workers ≡ workers) × (options.cut ≡ cut) × (options.format ≡ format) × (options.facts ≡ facts) × (options.procedure ≡ procedure)) }
+        ensures options { IfSome result (λ options. (options.workers ≡ workers) × (options.cut ≡ cut) × (options.limits ≡ limits)
+            × (options.format ≡ format) × (options.facts ≡ facts) × (options.procedure ≡ procedure)) }
     {
         if are_in_range(workers, cut) {
             Some(Options {
                 workers,
                 cut,
+                limits,
                 format,
                 facts,
                 procedure,

@@ -13,15 +13,15 @@ use std::alloc::Global;
 use std::thread::Threads;
 use text_pieces::{Sink, Source};
 
-/// Pulls the text until the source has ended or 1,048,577 bytes are in hand, makes the text of the options' format of it, with the
-/// facts and of the procedures that they name, pushes that and nothing else, in pieces of 65,536 bytes, and flushes. All that it
-/// needs memory for it has before the first push. The facts are found by the options' workers, in slices of their width; what is
-/// written is the same for all of these.
+/// Pulls the text until the source has ended or one byte more is in hand than the options' limits allow, makes the text of the
+/// options' format of it, with the facts and of the procedures that they name, pushes that and nothing else, in pieces of 65,536
+/// bytes, and flushes. All that it needs memory for it has before the first push. The facts are found by the options' workers, in
+/// slices of their width; what is written is the same for all of these.
 ///
 /// The condition: the source has not ended, and both counts of faults are below `u32::MAX`.
 ///
-/// - `Refused`: the text is no program. `Graph`: it is one, but has too many points (21) or bits (22). `NoProcedure`: it is one, but
-///   no procedure of it has the name that the options ask for.
+/// - `Refused`: the text is no program within the limits. `Graph`: it is one, but has too many points (21) or bits (22) for them.
+///   `NoProcedure`: it is one, but no procedure of it has the name that the options ask for.
 /// - `OutOfMemory`: memory was refused.
 /// - `Read`: a pull was answered by a fault. `Write`: a push or the flush was; a beginning of what
 ///   is to be shown was pushed. After every other fault nothing was.
@@ -35,15 +35,17 @@ pub fn run<R: Threads + Sync, S: Source, K: Sink>(
     requires running { S.ended source.old ≡ false }
     requires source_below { S.faults source.old < 2 ^ 32 - 1 }
     requires sink_below { K.faults sink.old < 2 ^ 32 - 1 }
-    ensures written { OnOk result (WritesAnswer true (IsShown options.now.format options.now.facts (name_asked options.now))
+    ensures written { OnOk result (WritesAnswer options.now.limits true (IsShown options.now.format options.now.facts (name_asked options.now))
         (S.remaining source.old) (S.remaining source.new) (S.ended source.new) (K.contents sink.old) (K.contents sink.new)) }
     ensures flushed { OnOk result (K.flushed sink.new ≡ true) }
-    ensures refused { IfErr result (WhereRefused (PullsRefused (S.remaining source.old) (S.remaining source.new) (S.ended source.new))) }
-    ensures no_graph { IfErr result (WhereNoGraph (PullsOverLimit true
+    ensures refused { IfErr result (WhereRefused (PullsRefused options.now.limits
         (S.remaining source.old) (S.remaining source.new) (S.ended source.new))) }
-    ensures no_procedure { IfErr result (WhereNoProcedure (PullsNoProcedure (LacksProcedure (name_asked options.now))
+    ensures no_graph { IfErr result (WhereNoGraph (PullsOverLimit options.now.limits true
         (S.remaining source.old) (S.remaining source.new) (S.ended source.new))) }
-    ensures beginning { IfErr result (WhereWrite (WritesBeginning true (IsShown options.now.format options.now.facts (name_asked options.now))
+    ensures no_procedure { IfErr result (WhereNoProcedure (PullsNoProcedure options.now.limits (LacksProcedure (name_asked options.now))
+        (S.remaining source.old) (S.remaining source.new) (S.ended source.new))) }
+    ensures beginning { IfErr result (WhereWrite (WritesBeginning options.now.limits true
+        (IsShown options.now.format options.now.facts (name_asked options.now))
         (S.remaining source.old) (S.remaining source.new) (S.ended source.new) (K.contents sink.old) (K.contents sink.new))) }
     ensures unwritten { IfErr result (UnlessWrite (Keeps (K.contents sink.old) (K.contents sink.new))) }
     ensures source_faults { S.faults source.new ≡ S.faults source.old + read_faults_in result }

@@ -14,12 +14,12 @@ ghost use Rattle.view_commands.specs.Views.{HasProcedure, IsShown, IsText, Lacks
 
 use crate::options::{Format, Options};
 use flow_graph::Graph;
-use flow_runs::{Fault, Shown, graph_of, push_text};
+use flow_runs::{Fault, Shown, graph_of, push_report, push_text};
 use flow_texts::{ReportAnswers, Tables};
 use flow_views::{DotText, JsonText, View};
 use std::alloc::Global;
 use std::thread::Threads;
-use tac_program::Program;
+use tac_program::{Limits, Program};
 use text_pieces::Sink;
 
 // The number of the procedure of this name.
@@ -101,32 +101,51 @@ fn push_json<K: Sink>(
     push_text(alloc, &text, sink)
 }
 
-// Writes the text of a format, with tables and answers that are not owned here, so that no way out drops them.
-fn push_view<K: Sink>(
+// Writes the graph for Graphviz. The graph is not owned here, and the tables where they are made.
+fn dot_of_graph<R: Threads + Sync, K: Sink>(
+    rt: &R,
     alloc: Global,
     graph: &Graph<'_>,
-    tables: &Tables,
-    answers: &ReportAnswers,
-    format: Format,
     view: View,
+    options: &Options,
     sink: &mut K,
 ) -> Result<(), Fault>
-    requires tables { AreTablesOf graph.now tables.now }
-    requires answers { TellReport graph.now answers.now }
+    requires threads { IsSync R.row }
     requires below { K.faults sink.old < 2 ^ 32 - 1 }
     requires there { IfSome view.procedure (λ number. number < length graph.now.procedure_names) }
-    ensures delivers { Delivers (IsText format graph.now view) (K.contents sink.old) (K.contents sink.new) result }
+    ensures delivers { Delivers (λ out. IsDot graph.now view out) (K.contents sink.old) (K.contents sink.new) result }
     ensures flushed { OnOk result (K.flushed sink.new ≡ true) }
     ensures fault { IfErr result (OfProgram (λ _. ⊥) ⊥) }
     ensures faults { K.faults sink.new ≡ K.faults sink.old + write_faults_in result }
 {
-    match format {
-        Format::Dot => push_dot(alloc, graph, tables, answers, view, sink),
-        Format::Json => push_json(alloc, graph, tables, answers, view, sink),
-    }
+    let tables = Tables::of(rt, alloc, graph, options.workers, options.cut)?;
+    let answers = ReportAnswers::of_tables(alloc, graph, &tables)?;
+    push_dot(alloc, graph, &tables, &answers, view, sink)
 }
 
-// Writes what the options ask for of a graph. The graph is not owned here, and the tables where they are made.
+// Writes the lines of JSON. The graph is not owned here, and the tables where they are made.
+fn json_of_graph<R: Threads + Sync, K: Sink>(
+    rt: &R,
+    alloc: Global,
+    graph: &Graph<'_>,
+    view: View,
+    options: &Options,
+    sink: &mut K,
+) -> Result<(), Fault>
+    requires threads { IsSync R.row }
+    requires below { K.faults sink.old < 2 ^ 32 - 1 }
+    requires there { IfSome view.procedure (λ number. number < length graph.now.procedure_names) }
+    ensures delivers { Delivers (λ out. IsJson graph.now view out) (K.contents sink.old) (K.contents sink.new) result }
+    ensures flushed { OnOk result (K.flushed sink.new ≡ true) }
+    ensures fault { IfErr result (OfProgram (λ _. ⊥) ⊥) }
+    ensures faults { K.faults sink.new ≡ K.faults sink.old + write_faults_in result }
+{
+    let tables = Tables::of(rt, alloc, graph, options.workers, options.cut)?;
+    let answers = ReportAnswers::of_tables(alloc, graph, &tables)?;
+    push_json(alloc, graph, &tables, &answers, view, sink)
+}
+
+// Writes what the options ask for of a graph. A report wants no tables.
 fn view_of_graph<R: Threads + Sync, K: Sink>(
     rt: &R,
     alloc: Global,
@@ -143,9 +162,11 @@ fn view_of_graph<R: Threads + Sync, K: Sink>(
     ensures fault { IfErr result (OfProgram (λ _. ⊥) ⊥) }
     ensures faults { K.faults sink.new ≡ K.faults sink.old + write_faults_in result }
 {
-    let tables = Tables::of(rt, alloc, graph, options.workers, options.cut)?;
-    let answers = ReportAnswers::of_tables(alloc, graph, &tables)?;
-    push_view(alloc, graph, &tables, &answers, options.format, view, sink)
+    match options.format {
+        Format::Dot => dot_of_graph(rt, alloc, graph, view, options, sink),
+        Format::Json => json_of_graph(rt, alloc, graph, view, options, sink),
+        Format::Report => push_report(rt, alloc, graph, options.workers, options.cut, sink),
+    }
 }
 
 // Writes what the options ask for of this program, but for the procedure, which is found.
@@ -160,21 +181,28 @@ fn show_view<R: Threads + Sync, K: Sink>(
     requires threads { IsSync R.row }
     requires below { K.faults sink.old < 2 ^ 32 - 1 }
     requires there { IfSome view.procedure (λ number. number < length program.now.procedure_names) }
-    ensures delivers { Delivers (λ out. HasFewPoints program.now × HasFewBits program.now × IsText options.now.format program.now view out) (K.contents sink.old) (K.contents sink.new) result }
+    ensures delivers { Delivers (λ out. HasFewPoints options.now.limits program.now × HasFewBits options.now.limits program.now
+        × IsText options.now.format program.now view out) (K.contents sink.old) (K.contents sink.new) result }
     ensures flushed { OnOk result (K.flushed sink.new ≡ true) }
-    ensures fault { IfErr result (OfProgram (IsOverLimit program.now) ⊥) }
+    ensures fault { IfErr result (OfProgram (IsOverLimit options.now.limits program.now) ⊥) }
     ensures faults { K.faults sink.new ≡ K.faults sink.old + write_faults_in result }
 {
-    let graph = graph_of(alloc, program)?;
+    let graph = graph_of(alloc, program, options.limits)?;
     view_of_graph(rt, alloc, &graph, view, options, sink)
 }
 
 impl Shown for Options {
+    ghost limits = { λ options. options.limits };
+
     ghost needs_graph = { λ _. true };
 
     ghost is_shown = { λ options. IsShown options.format options.facts (name_asked options) };
 
     ghost lacks = { λ options. LacksProcedure (name_asked options) };
+
+    fn limits(&self) -> Limits {
+        self.limits
+    }
 
     fn show<R: Threads + Sync, K: Sink>(
         &self,

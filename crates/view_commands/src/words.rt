@@ -6,7 +6,7 @@ ghost use Rattle.clap.specs.Words.{FailsBy, app_of, first_of, found_of, rows_of,
 ghost use Rattle.flow_runs.specs.Words.{AreKindsOf, kind_rule};
 ghost use Rattle.flow_runs.specs.code.Matches.{HoldsKind};
 ghost use Rattle.view_commands.specs.Commands.{AnswersWords, NamesOptions, facts_kinds, knows_facts, tacview_command, text_rule, view_command};
-ghost use Rattle.view_commands.specs.Kinds.{facts_asked, format_named, formats as known_formats};
+ghost use Rattle.view_commands.specs.Kinds.{facts_asked, format_named, formats as known_formats, limits_named, sizes as known_sizes};
 ghost use Rattle.view_commands.specs.code.Matches.{HoldsOptions};
 
 use crate::facts::{facts_by, facts_of};
@@ -17,12 +17,13 @@ use clap::{Arg, ArgAction, ArgMatches, Command, Error};
 use flow_runs::{cut_option, kind_word, number_of, workers_option};
 use flow_views::Chosen;
 use std::alloc::{AllocError, Global};
+use tac_program::Limits;
 
 const ABOUT: &str =
-    "Reads a program of three-address code from standard input, and writes its flow graph to standard output, with what holds at its points.";
+    "Reads a program of three-address code from standard input, and writes its flow graph to standard output, with what holds at its points, or the report on it.";
 
 const AFTER_HELP: &str =
-    "Examples:\n  tacview < program.tac | dot -Tsvg > program.svg\n  tacview --format json --facts reach,live --procedure main < program.tac\n\nExit status:\n  0  it was written, or help was asked for\n  1  the text was refused, the procedure is not there, or reading, writing or memory failed; standard error has one line on it\n  2  the words were refused";
+    "Examples:\n  tacview < program.tac | dot -Tsvg > program.svg\n  tacview --format json --facts reach,live --procedure main < program.tac\n  tacview --format report --limits large < program.tac\n\nExit status:\n  0  it was written, or help was asked for\n  1  the text was refused, the procedure is not there, or reading, writing or memory failed; standard error has one line on it\n  2  the words were refused";
 
 const NO_FACTS: &str =
     "the value of '--facts <LIST>' is none, all, or words of reach, live, avail and busy with commas between them";
@@ -33,16 +34,43 @@ fn format_of(word: &str) -> Option<Format>
     match word {
         "dot" => Some(Format::Dot),
         "json" => Some(Format::Json),
+        "report" => Some(Format::Report),
         _ => None,
     }
 }
 
-fn formats<'a>() -> [PossibleValue<'a>; 2]
+fn formats<'a>() -> [PossibleValue<'a>; 3]
     ensures { AreKindsOf known_formats result }
 {
     [
         PossibleValue::new("dot").help("A graph for Graphviz"),
         PossibleValue::new("json").help("Lines of JSON, one object a line"),
+        PossibleValue::new("report").help(
+            "The report of tacflow, of the whole program whatever --facts and --procedure say",
+        ),
+    ]
+}
+
+fn limits_of(word: &str) -> Option<Limits>
+    ensures { result ≡ limits_named word.now }
+{
+    match word {
+        "standard" => Some(Limits::Standard),
+        "large" => Some(Limits::Large),
+        _ => None,
+    }
+}
+
+fn sizes<'a>() -> [PossibleValue<'a>; 2]
+    ensures { AreKindsOf known_sizes result }
+{
+    [
+        PossibleValue::new("standard").help(
+            "A text of 1,048,576 bytes, 256 procedures, 16,384 points, 4,096 bits in each analysis",
+        ),
+        PossibleValue::new("large").help(
+            "A text of 67,108,864 bytes, 16,384 procedures, 1,048,576 points, 131,072 variables, as many expressions",
+        ),
     ]
 }
 
@@ -83,6 +111,19 @@ fn procedure_option<'a>(alloc: Global) -> Arg<'a>
         .help("The one procedure to show; without it all are")
 }
 
+fn limits_option<'a>(alloc: Global, sizes: &'a [PossibleValue<'a>]) -> Arg<'a>
+    ensures rule { rule_of result ≡ kind_rule (codes "limits") (codes "standard") sizes.entry }
+    ensures own { result.global ≡ false }
+{
+    Arg::new(alloc, "limits")
+        .long("limits")
+        .value_name("SIZE")
+        .action(ArgAction::Set)
+        .value_parser(sizes)
+        .default_value("standard")
+        .help("How large the text and its program may be")
+}
+
 // The command with the options that say what is shown.
 fn view_command<'a>(
     alloc: Global,
@@ -98,10 +139,15 @@ fn view_command<'a>(
         .arg(procedure_option(alloc))
 }
 
-fn command<'a>(alloc: Global, formats: &'a [PossibleValue<'a>]) -> Result<Command<'a>, AllocError>
-    ensures { IfOk result (λ c. app_of c ≡ tacview_command formats.entry) }
+fn command<'a>(
+    alloc: Global,
+    formats: &'a [PossibleValue<'a>],
+    sizes: &'a [PossibleValue<'a>],
+) -> Result<Command<'a>, AllocError>
+    ensures { IfOk result (λ c. app_of c ≡ tacview_command formats.entry sizes.entry) }
 {
     view_command(alloc, formats)?
+        .arg(limits_option(alloc, sizes))?
         .arg(workers_option(alloc))?
         .arg(cut_option(alloc))
 }
@@ -112,6 +158,14 @@ fn format_by(matches: &ArgMatches<'_>) -> Format
     ensures { option_and_then format_named (first_of (codes "format") (rows_of (found_of matches.now))) ≡ Some result }
 {
     format_of(kind_word(matches, "format")).unwrap()
+}
+
+// The limits that were found.
+fn limits_by(matches: &ArgMatches<'_>) -> Limits
+    requires { HoldsKind known_sizes (rows_of (found_of matches.now)) (codes "limits") }
+    ensures { option_and_then limits_named (first_of (codes "limits") (rows_of (found_of matches.now))) ≡ Some result }
+{
+    limits_of(kind_word(matches, "limits")).unwrap()
 }
 
 // The facts that were asked for. None where the list that was found names no facts.
@@ -142,12 +196,13 @@ fn options_of(alloc: Global, matches: &ArgMatches<'_>) -> Result<Option<Options>
 {
     let workers = number_of(matches, "workers");
     let cut = number_of(matches, "cut");
+    let limits = limits_by(matches);
     let format = format_by(matches);
     let Some(facts) = facts_found(matches, format) else {
         return Ok(None);
     };
     let procedure = procedure_found(alloc, matches)?;
-    Ok(Options::new(workers, cut, format, facts, procedure))
+    Ok(Options::new(workers, cut, limits, format, facts, procedure))
 }
 
 // The options that the matches name, or an error of the command where the list of facts names no facts.
@@ -168,16 +223,17 @@ fn named_options(
 
 impl Options {
     /// The options that the program's words name, of which the first is the program's own name:
-    /// `tacview [--format KIND] [--facts LIST] [--procedure NAME] [--workers N] [--cut N]`. Without an option stands its default:
-    /// `dot`, no facts for it and all for `json`, all procedures, 1 and 64.
+    /// `tacview [--format KIND] [--facts LIST] [--procedure NAME] [--limits SIZE] [--workers N] [--cut N]`. Without an option stands
+    /// its default: `dot`, no facts for it and all for `json`, all procedures, `standard`, 1 and 64.
     ///
-    /// Refuses words that the command does not take, a number outside its range, a word that is no format and a list that names
-    /// no facts among them, and a call for help; or memory was refused.
+    /// Refuses words that the command does not take, a number outside its range, a word that is no format or no limits and a list
+    /// that names no facts among them, and a call for help; or memory was refused.
     pub fn from_words<'a>(alloc: Global, words: &'a [&'a str]) -> Result<Options, Error>
         ensures { AnswersWords (map (λ w. w.now) words.entry.now) result }
     {
         let formats = formats();
-        let mut command = command(alloc, formats.as_slice())?;
+        let sizes = sizes();
+        let mut command = command(alloc, formats.as_slice(), sizes.as_slice())?;
         let words: &[&str] = words;
         match command.try_get_matches_from_mut(words) {
             Ok(matches) => named_options(alloc, &mut command, &matches),

@@ -3,6 +3,8 @@
 #![tactic(auto)]
 
 #[cfg(test)]
+mod limit_tests;
+#[cfg(test)]
 mod refusal_tests;
 #[cfg(test)]
 mod tacview_tests;

@@ -1,7 +1,8 @@
 // Runs of `tacview` where memory is refused, as `refusal_probes` has it.
 
 use crate::tacview_tests::{
-    Asked, F_GRAPH, GRAPH, GRAPH_OF_F, LINES, SMALL_GRAPH, SMALL_LINES, options, run_to_page,
+    Asked, F_GRAPH, GRAPH, GRAPH_OF_F, LINES, REPORT, SMALL_GRAPH, SMALL_LINES, options,
+    run_to_page,
 };
 use failing_streams::blank_page;
 use flow_runs::Fault;
@@ -10,7 +11,7 @@ use std::process::Abort;
 use std::test::Fail;
 use std::thread::Threads;
 use view_commands::Options;
-use worked_programs::{TEAMS, recursion, small};
+use worked_programs::{TEAMS, call_between, recursion, small};
 
 // The answer to a text.
 fn check_view<R: Threads + Sync + Abort + AllocGlobal>(
@@ -36,6 +37,7 @@ const VIEWS: &[(&str, Asked<'static>, &str)] = &[
     (small::TEXT, GRAPH, SMALL_GRAPH),
     (small::TEXT, LINES, SMALL_LINES),
     (recursion::TEXT, GRAPH_OF_F, F_GRAPH),
+    (call_between::TEXT, REPORT, call_between::REPORT),
 ];
 
 #[test]

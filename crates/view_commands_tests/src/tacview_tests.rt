@@ -10,12 +10,12 @@ use std::io::{ErrorKind, Read};
 use std::process::Abort;
 use std::test::Fail;
 use std::thread::Threads;
+use tac_program::Limits;
 use text_pieces::{FromRead, ToWrite};
 use view_commands::{Format, Options, line_of, run};
-use worked_programs::series::repeated;
-use worked_programs::{ALONE, TEAMS, recursion, small};
+use worked_programs::{ALONE, TEAMS, call_between, recursion, small};
 
-const NONE: Chosen = Chosen {
+pub(crate) const NONE: Chosen = Chosen {
     reach: false,
     live: false,
     avail: false,
@@ -39,20 +39,30 @@ const REACH: Chosen = Chosen {
 // What is asked of a program.
 #[derive(Clone, Copy)]
 pub(crate) struct Asked<'a> {
-    format: Format,
-    facts: Chosen,
-    procedure: Option<&'a str>,
+    pub(crate) limits: Limits,
+    pub(crate) format: Format,
+    pub(crate) facts: Chosen,
+    pub(crate) procedure: Option<&'a str>,
 }
 
 pub(crate) const GRAPH: Asked<'static> = Asked {
+    limits: Limits::Standard,
     format: Format::Dot,
     facts: NONE,
     procedure: None,
 };
 
 pub(crate) const LINES: Asked<'static> = Asked {
+    limits: Limits::Standard,
     format: Format::Json,
     facts: ALL,
+    procedure: None,
+};
+
+pub(crate) const REPORT: Asked<'static> = Asked {
+    limits: Limits::Standard,
+    format: Format::Report,
+    facts: NONE,
     procedure: None,
 };
 
@@ -62,7 +72,14 @@ pub(crate) fn options(alloc: Global, asked: Asked<'_>, team: (u32, u32)) -> Opti
         Some(name) => Some(String::from_str(alloc, name).ok()?),
         None => None,
     };
-    Options::new(team.0, team.1, asked.format, asked.facts, procedure)
+    Options::new(
+        team.0,
+        team.1,
+        asked.limits,
+        asked.format,
+        asked.facts,
+        procedure,
+    )
 }
 
 // What comes of a run from the reader to the page.
@@ -111,7 +128,7 @@ fn check_team<R: Abort>(rt: &R, got: &[u8], wanted: &[u8], team: (u32, u32)) {
 }
 
 // The reader's text is answered so by this team, where a write takes so many bytes at most.
-fn check_by<R: Threads + Sync + Abort + AllocGlobal, D: Read + Drop>(
+pub(crate) fn check_by<R: Threads + Sync + Abort + AllocGlobal, D: Read + Drop>(
     rt: &R,
     reader: D,
     piece: usize,
@@ -151,6 +168,9 @@ pub(crate) const SMALL_GRAPH: &str =
 pub(crate) const SMALL_LINES: &str =
     "{\"type\":\"program\",\"points\":2,\"procedures\":[\"main\"],\"variables\":[\"x\"],\"definitions\":2,\"expressions\":0}\n{\"type\":\"point\",\"point\":0,\"procedure\":\"main\",\"place\":0,\"line\":2,\"first\":14,\"last\":18,\"statement\":\"x = 1\",\"edges\":[{\"kind\":\"step\",\"to\":1}],\"reach\":{\"path\":true,\"bits\":[0],\"names\":[\"x@entry\"]},\"live\":{\"path\":true,\"bits\":[],\"names\":[]},\"avail\":{\"path\":true,\"bits\":[],\"names\":[]},\"busy\":{\"path\":true,\"bits\":[],\"names\":[]}}\n{\"type\":\"point\",\"point\":1,\"procedure\":\"main\",\"place\":1,\"line\":null,\"first\":null,\"last\":null,\"statement\":null,\"edges\":[],\"reach\":{\"path\":true,\"bits\":[1],\"names\":[\"x@2\"]},\"live\":{\"path\":true,\"bits\":[],\"names\":[]},\"avail\":{\"path\":true,\"bits\":[],\"names\":[]},\"busy\":{\"path\":true,\"bits\":[],\"names\":[]}}\n{\"type\":\"remark\",\"point\":0,\"line\":2,\"first\":14,\"last\":18,\"kind\":\"dead\",\"variable\":\"x\"}\n";
 
+const SMALL_REPORT: &str =
+    "points 2, variables 1, definitions 2, expressions 0\n2: assignment to x is dead\n";
+
 const RECURSION_GRAPH: &str =
     "digraph \"tacflow\" {\n  graph [fontname=\"monospace\", labeljust=l];\n  node [shape=box, fontname=\"monospace\", fontsize=11];\n  edge [fontname=\"monospace\", fontsize=10];\n  subgraph \"cluster_0\" {\n    label=\"main\";\n    0 [label=\"2: x = 1\\l\"];\n    1 [label=\"3: call f\\l\"];\n    2 [label=\"4: print x\\l\"];\n    3 [label=\"end of main\\l\"];\n  }\n  subgraph \"cluster_1\" {\n    label=\"f\";\n    4 [label=\"7: if x goto L\\l\"];\n    5 [label=\"8: call f\\l\"];\n    6 [label=\"9: x = 2\\l\"];\n    7 [label=\"end of f\\l\"];\n  }\n  0 -> 1;\n  1 -> 4 [style=dashed, label=\"call 3\"];\n  2 -> 3;\n  4 -> 5;\n  4 -> 7;\n  5 -> 4 [style=dashed, label=\"call 8\"];\n  6 -> 7;\n  7 -> 2 [style=dashed, label=\"return 3\"];\n  7 -> 6 [style=dashed, label=\"return 8\"];\n}\n";
 
@@ -175,6 +195,9 @@ const WHOLE_PROGRAMS: &[(&str, Asked<'static>, &str)] = &[
     (small::TEXT, GRAPH, SMALL_GRAPH),
     (small::TEXT, LINES, SMALL_LINES),
     (recursion::TEXT, GRAPH, RECURSION_GRAPH),
+    (small::TEXT, REPORT, SMALL_REPORT),
+    (recursion::TEXT, REPORT, recursion::REPORT),
+    (call_between::TEXT, REPORT, call_between::REPORT),
 ];
 
 #[test]
@@ -184,27 +207,39 @@ fn whole_programs(rt: HostRuntime) -> Result<(), Fail> {
 
 // What is asked of `f` or of `main` alone.
 pub(crate) const GRAPH_OF_F: Asked<'static> = Asked {
+    limits: Limits::Standard,
     format: Format::Dot,
     facts: REACH,
     procedure: Some("f"),
 };
 
 const LINES_OF_F: Asked<'static> = Asked {
+    limits: Limits::Standard,
     format: Format::Json,
     facts: NONE,
     procedure: Some("f"),
 };
 
 const GRAPH_OF_MAIN: Asked<'static> = Asked {
+    limits: Limits::Standard,
     format: Format::Dot,
     facts: NONE,
     procedure: Some("main"),
+};
+
+// A report is of the whole program all the same.
+const REPORT_OF_P: Asked<'static> = Asked {
+    limits: Limits::Standard,
+    format: Format::Report,
+    facts: ALL,
+    procedure: Some("p"),
 };
 
 const ONE_PROCEDURE: &[(&str, Asked<'static>, &str)] = &[
     (recursion::TEXT, GRAPH_OF_F, F_GRAPH),
     (recursion::TEXT, LINES_OF_F, F_LINES),
     (small::TEXT, GRAPH_OF_MAIN, SMALL_GRAPH),
+    (call_between::TEXT, REPORT_OF_P, call_between::REPORT),
 ];
 
 #[test]
@@ -227,8 +262,9 @@ const NO_PROCEDURES: &[(&str, &str)] = &[
 #[test]
 fn procedures_that_are_not_there(rt: HostRuntime) -> Result<(), Fail> {
     for (name, line) in NO_PROCEDURES {
-        for format in &[Format::Dot, Format::Json] {
+        for format in &[Format::Dot, Format::Json, Format::Report] {
             let asked = Asked {
+                limits: Limits::Standard,
                 format: *format,
                 facts: NONE,
                 procedure: Some(name),
@@ -242,6 +278,7 @@ fn procedures_that_are_not_there(rt: HostRuntime) -> Result<(), Fail> {
 const REFUSED_TEXTS: &[(&str, Asked<'static>, &str)] = &[
     ("", GRAPH, "tacview: 1:1: refusal 6: NoMain\n"),
     ("", LINES, "tacview: 1:1: refusal 6: NoMain\n"),
+    ("", REPORT, "tacview: 1:1: refusal 6: NoMain\n"),
     (
         "proc main\nx =\nend\n",
         GRAPH,
@@ -270,16 +307,8 @@ fn refused_texts(rt: HostRuntime) -> Result<(), Fail> {
 }
 
 #[test]
-fn programs_over_the_limits(rt: HostRuntime) -> Result<(), Fail> {
-    let text = repeated(rt.alloc(), "proc main\n", "skip\n", 16_384, "end\n")?;
-    let line = "tacview: refusal 21: TooManyPoints\n";
-    check_by(&rt, text.as_bytes(), usize::MAX, GRAPH, ALONE, line)?;
-    check_by(&rt, text.as_bytes(), usize::MAX, LINES, ALONE, line)
-}
-
-#[test]
 fn faults_of_readers(rt: HostRuntime) -> Result<(), Fail> {
-    for asked in &[GRAPH, LINES] {
+    for asked in &[GRAPH, LINES, REPORT] {
         for left in 0..small::TEXT.len() {
             let reader = Pieces {
                 rest: small::TEXT.as_bytes(),
@@ -325,6 +354,9 @@ fn faults_of_writers(rt: HostRuntime) -> Result<(), Fail> {
     for left in &[0, 1, 100, SMALL_LINES.len() - 1] {
         check_writer(&rt, LINES, SMALL_LINES, *left)?;
     }
+    for left in &[0, 1, 60, SMALL_REPORT.len() - 1] {
+        check_writer(&rt, REPORT, SMALL_REPORT, *left)?;
+    }
     Ok(())
 }
 
@@ -362,10 +394,12 @@ const OUT_OF_RANGE: &[(u32, u32)] = &[(0, 64), (65, 64), (1, 0), (1, 4097), (u32
 #[test]
 fn ranges_of_options(rt: HostRuntime) {
     for (workers, cut) in IN_RANGE {
-        assert!(rt; Options::new(*workers, *cut, Format::Dot, NONE, None).is_some());
+        let options = Options::new(*workers, *cut, Limits::Large, Format::Dot, NONE, None);
+        assert!(rt; options.is_some());
     }
     for (workers, cut) in OUT_OF_RANGE {
-        assert!(rt; Options::new(*workers, *cut, Format::Dot, NONE, None).is_none());
+        let options = Options::new(*workers, *cut, Limits::Large, Format::Dot, NONE, None);
+        assert!(rt; options.is_none());
     }
 }
 
@@ -385,6 +419,14 @@ fn procedure_by(alloc: Global, words: &[&str]) -> Result<Option<String>, error::
     }
 }
 
+// The limits that the words name, or the kind of the error.
+fn limits_by(alloc: Global, words: &[&str]) -> Result<Limits, error::ErrorKind> {
+    match Options::from_words(alloc, words) {
+        Ok(options) => Ok(options.limits),
+        Err(error) => Err(error.kind()),
+    }
+}
+
 const ALL_WORDS: &[&str] = &[
     "tacview",
     "--workers=64",
@@ -394,6 +436,7 @@ const ALL_WORDS: &[&str] = &[
     "--procedure",
     "f",
     "--facts=all",
+    "--limits=large",
 ];
 
 #[test]
@@ -402,11 +445,22 @@ fn words_that_are_taken(rt: HostRuntime) -> Result<(), Fail> {
     assert!(rt; workers == 1 && cut == 64 && format == Format::Dot && facts == NONE);
     let (_, _, format, facts) = named_by(rt.alloc(), &["tacview", "--format", "json"])?;
     assert!(rt; facts == ALL && format == Format::Json);
+    let (_, _, format, facts) = named_by(rt.alloc(), &["tacview", "--format", "report"])?;
+    assert!(rt; facts == NONE && format == Format::Report);
     let (workers, cut, _, facts) = named_by(rt.alloc(), ALL_WORDS)?;
     assert!(rt; workers == 64 && cut == 4096 && facts == ALL);
     assert!(rt; procedure_by(rt.alloc(), &["tacview"])?.is_none());
     let name = procedure_by(rt.alloc(), ALL_WORDS)?.ok_or("a name")?;
     assert_eq!(rt; name.as_str(), "f");
+    Ok(())
+}
+
+#[test]
+fn limits_that_are_named(rt: HostRuntime) -> Result<(), Fail> {
+    assert!(rt; limits_by(rt.alloc(), &["tacview"])? == Limits::Standard);
+    assert!(rt; limits_by(rt.alloc(), &["tacview", "--limits", "standard"])? == Limits::Standard);
+    assert!(rt; limits_by(rt.alloc(), &["tacview", "--limits", "large"])? == Limits::Large);
+    assert!(rt; limits_by(rt.alloc(), ALL_WORDS)? == Limits::Large);
     Ok(())
 }
 
@@ -450,6 +504,10 @@ const REFUSED_WORDS: &[[&str; 3]] = &[
     ["tacview", "--cut", "4097"],
     ["tacview", "--format", "svg"],
     ["tacview", "--format", "Dot"],
+    ["tacview", "--format", "reports"],
+    ["tacview", "--limits", "small"],
+    ["tacview", "--limits", "Large"],
+    ["tacview", "--limits=large", "--limits=large"],
     ["tacview", "--facts", ""],
     ["tacview", "--facts", "reach,"],
     ["tacview", "--facts", "reach live"],

@@ -4,7 +4,7 @@ use Rattle.std.proofs.lemmas.Bool.{cases_eq, cases_lt}
 use Rattle.std.proofs.lemmas.Nat.{and_le_l, one_shl}
 use Rattle.std.proofs.lemmas.List.{length-replicate, get_or-replicate, get_or_past, get_or_default, get_or-set_same, get_or-set_other, get_or-map, length-map, ext_get_or}
 use Rattle.std.proofs.Math.ListN.{length-set}
-use Rattle.std.proofs.lemmas.Nat.Bits.{bit_at_set_same, bit_at_set_other, bit_at_clear_same, bit_at_clear_other, bit_at-trailing_zeros, bit_at_ones, bit_at_ones_above}
+use Rattle.std.proofs.lemmas.Nat.Bits.{shr_and_one, bit_at_set_same, bit_at_set_other, bit_at_clear_same, bit_at_clear_other, bit_at-trailing_zeros, bit_at_ones, bit_at_ones_above}
 use Rattle.std.specs.Int.{bit_not, w64, trailing_zeros}
 use Rattle.std.specs.Int.RustNames.{bit_or}
 use lib.Bits.{bit_and}
@@ -183,7 +183,7 @@ takes words ranks r read x are order marked is low rank =
     )
 
 -- words of zeros are a set of no points
-pub blank : (words : List ℕ) (bits : ℕ) → bits ≤ 2 ^ 16 → bits ≤ 64 * length words → 64 * length words < bits + 64 → ((k : ℕ) → k < length words → get_or words k 0 ≡ 0) → AreMarkWords bits words
+pub blank : (words : List ℕ) (bits : ℕ) → bits ≤ 2 ^ 31 → bits ≤ 64 * length words → 64 * length words < bits + 64 → ((k : ℕ) → k < length words → get_or words k 0 ≡ 0) → AreMarkWords bits words
 blank words bits few room full zero = record { few = few; room = room; full = full; above = λ r high. clear_words words zero r }
 
 pub blank_marks : (words ranks : List ℕ) → ((k : ℕ) → k < length words → get_or words k 0 ≡ 0) → marks_of words ranks ≡ replicate (length ranks) false
@@ -240,3 +240,8 @@ pub full_marks : (words ranks : List ℕ) → IsOrder ranks → AreFull (length 
 full_marks words ranks order full =
     same_marks words ranks (replicate (length ranks) true) (length-replicate (length ranks) true)
     (λ x low. get_or-replicate (length ranks) x true false low ∙ sym (full.0 (get_or ranks x 0) (order.in_range x low)))
+
+-- the bit that is read from a word at a rank
+pub word_has : (words : List ℕ) (r word : ℕ) → word ≡ get_or words (r / 64) 0 → nat_eq (bit_and (word / 2 ^ (r % 64)) 1) 1 ≡ is_marked_in words r
+unfolding has_bit is_marked_in
+word_has words r word is = ap (λ x. nat_eq x 1) (shr_and_one word (r % 64)) ∙ ap (λ w. has_bit w (r % 64)) is

@@ -1,5 +1,5 @@
 // A set of points, kept in words of 64 bits by their ranks, from which one is taken at a time.
-ghost use Rattle.std.specs.Prelude.{◌≡◌, ℕ, ◌+◌, ◌*◌, ◌<◌, ◌≤◌, ◌^◌, IfOk, MatchOption, IfSome, false, true, length, replicate, slice_index, slice_set};
+ghost use Rattle.std.specs.Prelude.{◌≡◌, ℕ, ◌+◌, ◌*◌, ◌<◌, ◌≤◌, ◌^◌, IfOk, MatchOption, IfSome, false, true, length, replicate, slice_index, slice_index_or, slice_set};
 ghost use Rattle.work_list.specs.Marks.{IsMarked, AreClear};
 ghost use Rattle.work_list.specs.Tables.MarkWords.{AreFull, is_marked_in};
 
@@ -47,7 +47,7 @@ impl Drop for Marks {
 // The first marked rank from one on, in its word and the words behind it, if it is below a limit.
 #[inline(always)]
 fn first_marked(words: &[u64], from: usize, to: usize) -> Option<usize>
-    requires few { length words.now ≤ 1024 }
+    requires few { length words.now ≤ 2 ^ 25 }
     ensures { IfSome result (λ rank. is_marked_in words.now rank ≡ true) }
 {
     let mut mask = u64::MAX << (from % 64);
@@ -64,7 +64,7 @@ fn first_marked(words: &[u64], from: usize, to: usize) -> Option<usize>
 
 // The lowest marked rank of all.
 fn lowest_marked(words: &[u64]) -> Option<usize>
-    requires few { length words.now ≤ 1024 }
+    requires few { length words.now ≤ 2 ^ 25 }
     ensures { MatchOption result
         ((k : ℕ) → k < length words.now → slice_index words.now k ≡ 0)
         (λ rank. is_marked_in words.now rank ≡ true) }
@@ -80,7 +80,7 @@ fn lowest_marked(words: &[u64]) -> Option<usize>
 
 // A marked rank in the first of these places that has one, else the lowest of all.
 fn marked_elsewhere(words: &[u64], places: &[(usize, usize)]) -> Option<usize>
-    requires few { length words.now ≤ 1024 }
+    requires few { length words.now ≤ 2 ^ 25 }
     ensures { MatchOption result
         ((k : ℕ) → k < length words.now → slice_index words.now k ≡ 0)
         (λ rank. is_marked_in words.now rank ≡ true) }
@@ -97,7 +97,7 @@ fn marked_elsewhere(words: &[u64], places: &[(usize, usize)]) -> Option<usize>
 // behind this whole, and before it.
 #[inline(always)]
 fn next_marked(words: &[u64], from: usize, part: Ranks, whole: Ranks) -> Option<usize>
-    requires few { length words.now ≤ 1024 }
+    requires few { length words.now ≤ 2 ^ 25 }
     ensures { MatchOption result
         ((k : ℕ) → k < length words.now → slice_index words.now k ≡ 0)
         (λ rank. is_marked_in words.now rank ≡ true) }
@@ -147,6 +147,17 @@ impl Marks {
         ensures { result ≡ length self.now }
     {
         self.order.points()
+    }
+
+    /// Whether a point is in the set.
+    #[inline(always)]
+    pub fn contains(&self, point: usize) -> bool
+        requires { point < length self.now }
+        ensures { result ≡ slice_index_or self.now point false }
+    {
+        let rank = self.order.rank(point);
+        let word = self.words[rank / 64];
+        (word >> (rank % 64)) & 1 == 1
     }
 
     /// Puts a point into the set.

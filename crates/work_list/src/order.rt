@@ -36,8 +36,8 @@ impl Ranks {
 /// whole. Order, parts and wholes are free: they bear on the time alone.
 #[derive(Drop)]
 pub struct Order {
-    ranks: Vec<u16>,
-    points: Vec<u16>,
+    ranks: Vec<u32>,
+    points: Vec<u32>,
     part_ends: Vec<u32>,
     whole_ends: Vec<u32>,
 }
@@ -54,7 +54,7 @@ impl Model for Order {
 }
 
 // Whether each number leads, by the one list and then the other, back to itself.
-fn leads_back(there: &[u16], back: &[u16]) -> bool
+fn leads_back(there: &[u32], back: &[u32]) -> bool
     ensures { OnTrue result (LeadsBack there.now back.now) }
 {
     for (from, to) in there.iter().enumerate() {
@@ -67,35 +67,35 @@ fn leads_back(there: &[u16], back: &[u16]) -> bool
 }
 
 // Writes to each place its number.
-fn write_numbers(places: &mut [u16])
-    requires { length places.old ≤ 2 ^ 16 }
+fn write_numbers(places: &mut [u32])
+    requires { length places.old ≤ 2 ^ 31 }
     ensures { (k : ℕ) → k < length places.new → slice_index places.new k ≡ k }
 {
     for number in 0..places.len() {
-        places[number] = number as u16;
+        places[number] = number as u32;
     }
 }
 
 // The numbers below a count.
-fn numbers_below(alloc: Global, count: u32) -> Result<Vec<u16>, OutOfMemory>
-    requires { count ≤ 2 ^ 16 }
+fn numbers_below(alloc: Global, count: u32) -> Result<Vec<u32>, OutOfMemory>
+    requires { count ≤ 2 ^ 31 }
     ensures { IfOk result (λ numbers. (length numbers.items ≡ count)
         × ((k : ℕ) → k < count → slice_index numbers.items k ≡ k)) }
 {
-    let mut numbers = vec![in alloc; 0u16; count as usize]?;
+    let mut numbers = vec![in alloc; 0u32; count as usize]?;
     write_numbers(numbers.as_mut_slice());
     Ok(numbers)
 }
 
 // The rank of each of the points that are listed; 0 for one that is not.
-fn ranks_of(alloc: Global, points: &[u16]) -> Result<Vec<u16>, OutOfMemory>
-    requires { length points.now ≤ 2 ^ 16 }
+fn ranks_of(alloc: Global, points: &[u32]) -> Result<Vec<u32>, OutOfMemory>
+    requires { length points.now ≤ 2 ^ 31 }
     ensures { IfOk result (λ ranks. length ranks.items ≡ length points.now) }
 {
-    let mut ranks = vec![in alloc; 0u16; points.len()]?;
+    let mut ranks = vec![in alloc; 0u32; points.len()]?;
     for (rank, point) in points.iter().enumerate() {
         if let Some(place) = ranks.get_mut(*point as usize) {
-            *place = rank as u16;
+            *place = rank as u32;
         }
     }
     Ok(ranks)
@@ -115,7 +115,7 @@ fn ranks_around(ends: &[u32], rank: usize, points: usize) -> Ranks {
 impl Order {
     /// The order of the numbers below a count, each of which is its own rank.
     pub fn numbers(alloc: Global, count: u32) -> Result<Order, OutOfMemory>
-        requires { count ≤ 2 ^ 16 }
+        requires { count ≤ 2 ^ 31 }
         ensures { IfOk result (λ order. (length order ≡ count) × ((k : ℕ) → k < count → slice_index order k ≡ k)) }
     {
         let numbers = numbers_below(alloc, count)?;
@@ -128,8 +128,8 @@ impl Order {
     }
 
     /// The order in which the points are listed, if each number below their count is; else that of the numbers.
-    pub fn of(alloc: Global, points: Vec<u16>) -> Result<Order, OutOfMemory>
-        requires { length points.items ≤ 2 ^ 16 }
+    pub fn of(alloc: Global, points: Vec<u32>) -> Result<Order, OutOfMemory>
+        requires { length points.items ≤ 2 ^ 31 }
         ensures { IfOk result (λ order. length order ≡ length points.items) }
     {
         let ranks = ranks_of(alloc, points.as_slice())?;

@@ -1,6 +1,6 @@
 -- What the statement at a point does with the bits of an analysis: it has at most two bits of its own, and it touches those
 -- that depend on the variable that it writes. Gen and kill are made of the two.
-use Rattle.std.specs.Prelude.{◌≡◌, ◌<◌, ◌≤◌, ℕ, ◌*◌, ◌/◌, Bool, true, false, not, ◌&&◌, ◌||◌, List, IfSome, length, get_or, Option, Some, None, option_map, slice_get, unwrap_or, nat_eq}
+use Rattle.std.specs.Prelude.{◌≡◌, ◌<◌, ℕ, ◌+◌, ◌*◌, ◌/◌, ◌%◌, Bool, true, false, not, ◌&&◌, ◌||◌, List, IfSome, length, get_or, Option, Some, None, option_map, slice_get, unwrap_or, nat_eq}
 use Rattle.tac_program.specs.Programs.{Program}
 use Rattle.flow_graph.specs.code.BitTables.{table_has}
 use Rattle.flow_graph.specs.Points.{point_count}
@@ -75,17 +75,15 @@ pub record AreEffects (program : Program) (analysis : Analysis) (effects : List 
   pub count : length effects ≡ point_count program
   pub each : (point : ℕ) (d : Effect) → point < point_count program → IsEffect program analysis point (get_or effects point d)
 
--- the bits that depend on each variable
-pub record IsDependence (program : Program) (analysis : Analysis) (words : List ℕ) (width : ℕ) : Type 0 where
-  pub wide : bits program analysis ≤ 64 * width
+-- of the bits of so many words from one on, those that depend on each variable
+pub record IsDependence (program : Program) (analysis : Analysis) (first : ℕ) (words : List ℕ) (width : ℕ) : Type 0 where
   pub count : length words ≡ length program.variable_names * width
-  pub each : (variable bit : ℕ) → variable < length program.variable_names → bit < bits program analysis
-      → table_has words width variable bit ≡ depends program analysis variable bit
+  pub each : (variable bit : ℕ) → variable < length program.variable_names → bit < 64 * width → 64 * first + bit < bits program analysis
+      → table_has words width variable bit ≡ depends program analysis variable (64 * first + bit)
 
--- the words of 64 bits in which some bit depends on each variable
-pub record AreDependenceWords (program : Program) (analysis : Analysis) (words : List ℕ) (width : ℕ) : Type 0 where
-  pub few : bits program analysis ≤ 64 * 64
+-- the words of 64 bits in which some bit depends on each variable: word w at place w % 64
+pub record AreDependentWords (program : Program) (analysis : Analysis) (words : List ℕ) (width : ℕ) : Type 0 where
   pub one : width ≡ 1
   pub count : length words ≡ length program.variable_names * width
   pub each : (variable bit : ℕ) → variable < length program.variable_names → bit < bits program analysis
-      → depends program analysis variable bit ≡ true → table_has words width variable (bit / 64) ≡ true
+      → depends program analysis variable bit ≡ true → table_has words width variable (bit / 64 % 64) ≡ true

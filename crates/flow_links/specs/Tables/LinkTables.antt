@@ -3,6 +3,7 @@ use Rattle.std.specs.Prelude.{◌≡◌, ℕ, ◌<◌, ◌≤◌, Bool, List, le
 use Rattle.flow_graph.specs.Analyses.{is_backward}
 use Rattle.flow_graph.specs.Problems.{may_shape, MayForm}
 use Rattle.flow_graph.specs.Limits.{HasFewPoints}
+use Rattle.tac_program.specs.declared.limits.Limits.TheVariants.{Large}
 use Rattle.flow_graph.specs.Paths.{Shape}
 use Rattle.flow_graph.specs.Points.{point_count}
 use Rattle.flow_links.specs.Shapes.{IsNumbered}
@@ -24,9 +25,9 @@ shape_of_form form = may_shape form.program form.analysis
 pub record AreTables (form : MayForm) (backward : Bool) (root : ℕ) (entries exits procedures step_starts steps call_starts : List ℕ) (calls : List CallLink)
     (caller_starts callers site_starts : List ℕ) (sites : List SiteLink) (order call_order : List ℕ) : Type 0 where
   pub same_direction : backward ≡ is_backward form.analysis
-  pub few : HasFewPoints form.program
+  pub few : HasFewPoints Large form.program
   pub numbered : IsNumbered (shape_of_form form) (is_backward form.analysis) (point_count form.program)
-  pub few_procedures : (shape_of_form form).procedures ≤ 256
+  pub few_procedures : (shape_of_form form).procedures ≤ 16384
   pub root_is : root ≡ (shape_of_form form).root_procedure
   pub entries_are : AreEach entries (shape_of_form form).procedures (shape_of_form form).entry
   pub exits_are : AreEach exits (shape_of_form form).procedures (shape_of_form form).exit

@@ -2,6 +2,7 @@
 use Rattle.std.specs.Prelude.{◌≡◌, ◌↔◌, ℕ, ◌<◌, ◌++◌, Bool, true, false, List, [], filter, flat_map, length, get_or, codes}
 use Rattle.flow_graph.specs.Analyses.{shape_of}
 use Rattle.flow_graph.specs.Limits.{HasFewPoints}
+use Rattle.tac_program.specs.declared.limits.Limits.TheVariants.{Large}
 use Rattle.flow_graph.specs.Points.{point_count}
 use Rattle.flow_graph.specs.Runs.{IsDoubtful}
 use Rattle.flow_graph.specs.Universes.{bits}
@@ -26,7 +27,7 @@ pub record TellDoubtful (program : Program) (doubtful : List Bool) : Type 0 wher
 -- those of the program's expressions.
 pub record AreFindings (found : Findings) : Type 0 where
   pub sound : IsSound found.graph.now
-  pub few : HasFewPoints found.graph.now
+  pub few : HasFewPoints Large found.graph.now
   pub answers : TellReport found.graph.now found.answers.now
   pub doubts : length found.doubtful.items ≡ point_count found.graph.now
   pub expressions : AreTexts (bit_text found.graph.now Avail) (bits found.graph.now Avail) found.expressions.texts

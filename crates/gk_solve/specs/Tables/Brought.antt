@@ -37,7 +37,9 @@ IsBroughtClosedAt group paths summaries table edge = (w : ℕ) → w < group.wid
 
 -- a part of a visit of a procedure adds to what is brought
 abbrev pub BroughtSpreads : {W : ℕ} → Group → List Bool → List (Summary W) → List (List ℕ) → List Bool → List (List ℕ) → List Bool → Type 0
-BroughtSpreads group paths summaries = Spreads room_of_rows (BroughtGrows group.width) (IsBroughtClosedAt group paths summaries) (AreSoundBrought group) group.shape (source_procedure group.shape)
+BroughtSpreads group paths summaries =
+    Spreads room_of_rows (BroughtGrows group.width) (IsSettled (IsBroughtClosedAt group paths summaries) (source_procedure group.shape))
+    (AreSoundBrought group) group.shape
 
 -- the bits of a group's words are brought to a procedure
 abbrev pub AreBroughtOf : Group → List ℕ → ℕ → Type 0

@@ -54,11 +54,11 @@ source_procedure shape edge = shape.procedure_of (source_of edge)
 
 -- a part of a visit of a point sets flags of points
 abbrev pub ReachSpreads : Shape → Bool → List Bool → List Bool → List Bool → List Bool → Type 0
-ReachSpreads shape backward = Spreads unset_flags FlagsGrow (IsReachClosedAt shape backward) (AreSound (Reached shape)) shape source_of
+ReachSpreads shape backward = Spreads unset_flags FlagsGrow (IsSettled (IsReachClosedAt shape backward) source_of) (AreSound (Reached shape)) shape
 
 -- a part of a visit of a procedure sets flags of procedures
 abbrev pub EntrySpreads : Shape → List Bool → List Bool → List Bool → List Bool → List Bool → Type 0
-EntrySpreads shape reached = Spreads unset_flags FlagsGrow (IsEntryClosedAt shape reached) (AreSound (Entered shape)) shape (source_procedure shape)
+EntrySpreads shape reached = Spreads unset_flags FlagsGrow (IsSettled (IsEntryClosedAt shape reached) (source_procedure shape)) (AreSound (Entered shape)) shape
 
 -- each call of which a link tells is settled
 pub record IsCallSettled (shape : Shape) (backward : Bool) (at : ℕ) (flags dirty : List Bool) (link : CallLink) : Type 0 where

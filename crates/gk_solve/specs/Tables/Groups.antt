@@ -1,18 +1,18 @@
 -- A group of words side by side: the table of what is kept and made by point, and the table of what is brought by procedure.
-use Rattle.std.specs.Prelude.{◌≡◌, ◌<◌, ◌≤◌, ◌+◌, ◌*◌, ◌-◌, ◌^◌, ◌⊎◌, ℕ, Bool, true, false, not, ◌&&◌, ◌||◌, List, [], length, slice_index, slice_index_or, sum_by}
+use Rattle.std.specs.Prelude.{◌≡◌, ◌<◌, ◌≤◌, ◌+◌, ◌*◌, ◌-◌, ◌%◌, ◌^◌, ◌⊎◌, ℕ, Bool, true, false, not, ◌&&◌, ◌||◌, List, [], length, slice_index, slice_index_or, sum_by}
 use Rattle.bit_rows.specs.Words.{has_bit}
 use Rattle.flow_graph.specs.declared.edge.Edge.{Edge}
-use Rattle.flow_graph.specs.declared.edge.Edge.TheVariants.{Call}
+use Rattle.flow_graph.specs.declared.edge.Edge.TheVariants.{Step, Call, Ret}
 use Rattle.flow_graph.specs.Analyses.{is_backward}
 use Rattle.flow_graph.specs.Points.{point_count}
 use Rattle.flow_graph.specs.Problems.{MayForm}
-use Rattle.flow_graph.specs.Universes.{bits as bits_of}
+use Rattle.flow_graph.specs.code.Effects.{IsDependence}
 use Rattle.gk_solve.specs.Equations.{HasFlag}
-use Rattle.flow_graph.specs.Paths.{Shape, Transfer, IsEdge, source_of}
+use Rattle.flow_graph.specs.Paths.{Shape, Transfer, IsEdge}
 use Rattle.work_list.specs.Marks.{IsMarked}
 use Rattle.flow_links.specs.Shapes.{IsNumbered, after_site, directed_shape}
 use Rattle.gk_solve.specs.Tables.Flags.{AreExactly}
-use Rattle.gk_solve.specs.Tables.Visits.{IsSettled, Spreads}
+use Rattle.gk_solve.specs.Tables.Visits.{Spreads}
 use Rattle.gk_solve.specs.Tables.Words.{HasBit, WordsGrow, AreSoundWords, IsKeepClosedAt, IsMakeClosedAt, IsKept, IsMade, place_gens, place_kills, place_transfer}
 use Rattle.gk_solve.specs.declared.group_frame.GroupFrame.{GroupFrame}
 use Rattle.flow_links.specs.declared.link.CallLink.{CallLink}
@@ -72,18 +72,24 @@ IsSummaryClosedAt group paths table edge =
     → IsKeepClosedAt group.shape group.backward (group.transfer w) paths (kept_word table w) edge
     × IsMakeClosedAt group.shape group.backward (group.transfer w) paths (kept_word table w) (made_word table w) edge
 
+-- the points that an edge waits for: the one that it leaves, and of a call the exit of its callee too
+abbrev pub WaitsFor : Shape → Edge → ℕ → Type 0
+WaitsFor shape (Step x y) at = x ≡ at
+WaitsFor shape (Call site x y) at = (x ≡ at) ⊎ (shape.exit (shape.procedure_of y) ≡ at)
+WaitsFor shape (Ret site x y) at = ⊥
+
+-- both are closed under an edge, or a point that it waits for is still to be visited
+abbrev pub IsSummarySettled : {W : ℕ} → Group → List Bool → List (Summary W) → List Bool → Edge → Type 0
+IsSummarySettled group paths table dirty edge =
+    IsSummaryClosedAt group paths table edge ⊎ ((at : ℕ) × WaitsFor group.shape edge at × IsMarked dirty at)
+
 -- a part of a visit of a point adds to summaries
 abbrev pub SummarySpreads : {W : ℕ} → Group → List Bool → List (Summary W) → List Bool → List (Summary W) → List Bool → Type 0
-SummarySpreads group paths = Spreads room_of_summaries (SummariesGrow group.width) (IsSummaryClosedAt group paths) (AreSoundSummaries group) group.shape source_of
+SummarySpreads group paths = Spreads room_of_summaries (SummariesGrow group.width) (IsSummarySettled group paths) (AreSoundSummaries group) group.shape
 
--- a point, and the callers of an exit, are to be visited
-pub record IsWoken (shape : Shape) (dirty : List Bool) (at : ℕ) : Type 0 where
-  pub here : IsMarked dirty at
-  pub callers : (site x y : ℕ) → IsEdge shape (Call site x y) → shape.exit (shape.procedure_of y) ≡ at → IsMarked dirty x
-
--- The summary of each point is what it was, or it is the point that was added to, and is woken.
-abbrev pub AreSameBut : {W : ℕ} → Shape → ℕ → List (Summary W) → List (Summary W) → List Bool → Type 0
-AreSameBut shape at old new dirty_after = (x : ℕ) → (summary_at new x ≡ summary_at old x) ⊎ ((x ≡ at) × IsWoken shape dirty_after at)
+-- The summary of each point is what it was, or it is the point that was added to, and is to be visited.
+abbrev pub AreSameBut : {W : ℕ} → ℕ → List (Summary W) → List (Summary W) → List Bool → Type 0
+AreSameBut at old new dirty_after = (x : ℕ) → (summary_at new x ≡ summary_at old x) ⊎ ((x ≡ at) × IsMarked dirty_after at)
 
 -- the bits of a group's words are of a family at a point
 abbrev pub AreOf : Group → ((ℕ → Transfer) → ℕ → ℕ → Type 0) → List ℕ → ℕ → Type 0
@@ -106,10 +112,10 @@ IsMadeAcross group x y before after = (w k : ℕ) → w < group.width → k < 64
 abbrev pub IsIdle : MayForm → ℕ → ℕ → Type 0
 IsIdle form point word = (k : ℕ) → k < 64 → (place_gens form point (64 * word + k) ≡ false) × (place_kills form point (64 * word + k) ≡ false)
 
--- The places of a point's word tell in which words its statement does something: in no others.
+-- The places of a point's word tell in which words its statement does something: word w at place w % 64, and in no others.
 pub record AreEffectWords (form : MayForm) (words : List ℕ) : Type 0 where
   pub count : length words ≡ point_count form.program
-  pub idle : (point word : ℕ) → point < point_count form.program → word < 64 → has_bit (slice_index words point) word ≡ false → IsIdle form point word
+  pub idle : (point word : ℕ) → point < point_count form.program → has_bit (slice_index words point) (word % 64) ≡ false → IsIdle form point word
 
 -- What a frame of so many words holds: links and flags of the problem, and the words in which each statement does something.
 pub record IsGroupFrame (width : ℕ) (frame : GroupFrame) : Type 0 where
@@ -118,10 +124,12 @@ pub record IsGroupFrame (width : ℕ) (frame : GroupFrame) : Type 0 where
   pub path_count : length frame.paths.now ≡ point_count frame.links.now.program
   pub paths : AreExactly (HasFlag (directed_shape frame.links.now)) frame.paths.now
   pub effects : AreEffectWords frame.problem.now frame.effects.now
-  pub few : bits_of frame.problem.now.program frame.problem.now.analysis ≤ 4096
-  pub first : frame.first < 64
+  pub first : frame.first < 2 ^ 31
   pub narrow : width ≤ 8
-  pub mask : (w : ℕ) → w < width → frame.first + w < 64 → has_bit frame.mask (frame.first + w) ≡ true
+  pub mask : (w : ℕ) → w < width → has_bit frame.mask ((frame.first + w) % 64) ≡ true
+  pub dependence : IsDependence frame.problem.now.program frame.problem.now.analysis frame.first frame.dependence.now.words.items frame.dependence.now.width
+  pub row_first : frame.dependence.now.first ≡ frame.first
+  pub row_words : frame.dependence.now.width ≡ width
 
 -- the group of a frame
 abbrev pub group_of : GroupFrame → ℕ → Group
@@ -132,7 +140,12 @@ group_of frame width = record {
   transfer = λ w k. place_transfer frame.links.now.backward frame.problem.now (64 * (frame.first + w) + k);
 }
 
+-- each call from a point that is left at an exit is settled
+pub record IsCallerSettled {W : ℕ} (group : Group) (paths : List Bool) (exit : ℕ) (table : List (Summary W)) (dirty : List Bool) (x : ℕ) : Type 0 where
+  pub settled : (site y : ℕ) → IsEdge group.shape (Call site x y) → group.shape.exit (group.shape.procedure_of y) ≡ exit
+      → IsSummarySettled group paths table dirty (Call site x y)
+
 -- each call of which a link tells is settled
 pub record IsSummaryCallSettled {W : ℕ} (group : Group) (paths : List Bool) (at : ℕ) (table : List (Summary W)) (dirty : List Bool) (link : CallLink) : Type 0 where
   pub settled : (site y : ℕ) → IsEdge group.shape (Call site at y) → link.exit ≡ group.shape.exit (group.shape.procedure_of y) → link.after ≡ after_site group.backward site
-      → IsSettled (IsSummaryClosedAt group paths) source_of table dirty (Call site at y)
+      → IsSummarySettled group paths table dirty (Call site at y)

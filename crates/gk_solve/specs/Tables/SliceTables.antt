@@ -1,20 +1,18 @@
 -- How a slice's tables stand for its words.
-use Rattle.std.specs.Prelude.{◌≡◌, ◌≤◌, ◌+◌, ◌*◌, ◌/◌, ℕ, Bool, false, List, length, map, if◌then◌else◌}
+use Rattle.std.specs.Prelude.{◌≡◌, ◌≤◌, ◌+◌, ◌*◌, ◌/◌, ℕ, false, List, length, map, if◌then◌else◌}
 use Rattle.gk_solve.specs.Solved.{SliceTable}
+use Rattle.gk_solve.specs.Tables.Widths.{width_of}
 use Rattle.gk_solve.specs.declared.slice_words.SliceWords.TheInside.{Inside}
 
 -- the solved words of each point: they stand in the place of what is made, in the table that the slice uses
 abbrev pub words_of : Inside → List (List ℕ)
 words_of slice = if slice.wide then map (λ summary. summary.made) slice.many.items else map (λ summary. summary.made) slice.one.items
 
--- how many words it solves at once
-abbrev pub width_of : Bool → ℕ
-width_of wide = if wide then 4 else 1
-
 abbrev pub view_of : Inside → SliceTable
 view_of slice = record {
   points = length slice.dirty;
   procedures = length slice.callers;
+  variables = slice.variables;
   lo = slice.lo;
   hi = slice.hi;
   from = slice.from;
@@ -30,3 +28,5 @@ pub record IsSliceWords (slice : Inside) : Type 0 where
   pub ordered : slice.from ≤ slice.until
   pub few : slice.until ≤ slice.from + width_of slice.wide
   pub narrow : slice.wide ≡ false → slice.hi ≤ 64 * (slice.lo / 64) + 64
+  pub rows : length slice.dependence.words.items ≡ slice.variables * slice.dependence.width
+  pub row_words : slice.dependence.width ≡ width_of slice.wide

@@ -3,9 +3,10 @@ use Rattle.std.proofs.Common.{◌≡◌, ℕ, ◌<◌, ◌≤◌, Bool, true, fa
 use Rattle.std.proofs.lemmas.Bool.{lt-ltb, le-ltb}
 use Rattle.tac_lines.specs.Tokens.{rows}
 use Rattle.tac_reader.specs.Sections.{sections}
-use Rattle.tac_reader.specs.Faults.{head_of, fault_of, name_faults}
+use Rattle.tac_reader.specs.Faults.{head_of, fault_within, name_faults}
 use Rattle.tac_lines.specs.LineFaults.{first_by_place, line_faults}
 use Rattle.tac_program.specs.Limits.{longest_text}
+use Rattle.tac_program.specs.declared.limits.Limits.{Limits}
 use Rattle.tac_lines.specs.declared.fault.Fault.{Fault}
 use Rattle.tac_lines.specs.declared.refusal.RefusalKind.TheVariants as kind
 
@@ -53,14 +54,19 @@ main_some g h f k = head-front g h f k
 told : Bool → Option Fault → Option Fault → Option Fault
 told long line names = elim long as (λ _. Option Fault) [ true ↦ Some (record { kind = kind.TextTooLong; place = 0 }) | false ↦ elim line as (λ _. Option Fault) [ Some f ↦ Some f | None ↦ names ] ]
 
-pub too_long : (text : List ℕ) → longest_text < length text → fault_of text ≡ Some (record { kind = kind.TextTooLong; place = 0 })
+pub too_long : (limits : Limits) (text : List ℕ) → longest_text limits < length text
+    → fault_within limits text ≡ Some (record { kind = kind.TextTooLong; place = 0 })
 unfolding told
-too_long text h = ap (λ b. told b (first_by_place (line_faults false (length text) (rows text))) (head_of (name_faults (sections text)))) (lt-ltb longest_text (length text) h)
+too_long limits text h =
+    ap (λ b. told b (first_by_place (line_faults false (length text) (rows text))) (head_of (name_faults limits (sections text))))
+    (lt-ltb (longest_text limits) (length text) h)
 
-pub line_fault : (text : List ℕ) (f : Fault) → length text ≤ longest_text → first_by_place (line_faults false (length text) (rows text)) ≡ Some f → fault_of text ≡ Some f
+pub line_fault : (limits : Limits) (text : List ℕ) (f : Fault) → length text ≤ longest_text limits
+    → first_by_place (line_faults false (length text) (rows text)) ≡ Some f → fault_within limits text ≡ Some f
 unfolding told
-line_fault text f h e = λ i. told (le-ltb longest_text (length text) h i) (e i) (head_of (name_faults (sections text)))
+line_fault limits text f h e = λ i. told (le-ltb (longest_text limits) (length text) h i) (e i) (head_of (name_faults limits (sections text)))
 
-pub name_fault : (text : List ℕ) → length text ≤ longest_text → first_by_place (line_faults false (length text) (rows text)) ≡ None → fault_of text ≡ head_of (name_faults (sections text))
+pub name_fault : (limits : Limits) (text : List ℕ) → length text ≤ longest_text limits
+    → first_by_place (line_faults false (length text) (rows text)) ≡ None → fault_within limits text ≡ head_of (name_faults limits (sections text))
 unfolding told
-name_fault text h e = λ i. told (le-ltb longest_text (length text) h i) (e i) (head_of (name_faults (sections text)))
+name_fault limits text h e = λ i. told (le-ltb (longest_text limits) (length text) h i) (e i) (head_of (name_faults limits (sections text)))

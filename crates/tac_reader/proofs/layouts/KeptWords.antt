@@ -29,13 +29,13 @@ module _ (text : List ℕ) (names : Names) where
       (λ line h. kept (behind_labels line) h.statement) body good))
 
 pub statements_keep_their_words : StatementsKeepTheirWords
-statements_keep_their_words text accepted =
+statements_keep_their_words limits text accepted =
     let procedures : List (List ℕ) = names_in (titles (sections text)) in
     let variables : List (List ℕ) = variables_in (sections text) in
     let Kept : Section → Type 0 = λ s. All (KeepsItsWords text (names_for procedures variables s)) (statements_of s.body) in
     All-from_recursion Kept (sections text)
     (each-weaker (SectionGood procedures variables) Kept (λ s good. lines_kept text (names_for procedures variables s) s.body good.body)
-    (sections text) (sections_good text accepted))
+    (sections text) (sections_good limits text accepted))
 
 pub signs_differ : SignsDiffer
 signs_differ o p same = sym (sign_operator o) ∙ ap (λ s. operator_of (fixed s)) same ∙ sign_operator p

@@ -5,9 +5,10 @@ use Rattle.tac_lines.specs.Tokens.{Word, fixed, Token, Row, rows, token_lines, u
 use Rattle.tac_lines.specs.Forms.{labels_of, behind_labels}
 use Rattle.tac_reader.specs.Sections.{Section, sections, sections_in, titles}
 use Rattle.tac_reader.specs.Parses.{names_in, variables_in, each_once, program_of}
-use Rattle.tac_reader.specs.Faults.{name_faults, head_of, refusal_of, refusal_at}
+use Rattle.tac_reader.specs.Faults.{name_faults, head_of, refusal_within, refusal_at}
 use Rattle.tac_lines.specs.LineFaults.{line_faults, first_by_place}
 use Rattle.tac_program.specs.Limits.{longest_text}
+use Rattle.tac_program.specs.declared.limits.Limits.{Limits}
 use Rattle.tac_program.specs.Listings.{listing_of}
 use Rattle.tac_reader.specs.Laws.{SameButSpans, ListingsReadBack}
 use Rattle.tac_program.proofs.lists.Elements.{each-append}
@@ -58,7 +59,8 @@ bare_rows (row ∷ others) h = go row.tokens h.0 (bare_rows others h.1) where
   go (t ∷ ts) k e = λ i. erased_words (t ∷ ts) i ∷ e i
 
 -- A text that is read as the lines of the sections of another has the same cores, and no faults either.
-module _ (text listing : List ℕ) (accepted : refusal_of text ≡ None) (reads : ReadsLines listing (section_lines (sections text))) where
+module _ (limits : Limits) (text listing : List ℕ) (accepted : refusal_within limits text ≡ None)
+    (reads : ReadsLines listing (section_lines (sections text))) where
   abbrev ss : List Section
   ss = sections text
 
@@ -66,7 +68,7 @@ module _ (text listing : List ℕ) (accepted : refusal_of text ≡ None) (reads 
   us = sections listing
 
   good : Each (SectionGood (names_in (titles (sections text))) (variables_in (sections text))) (sections text)
-  good = sections_good text accepted
+  good = sections_good limits text accepted
 
   same_cores : map core (sections listing) ≡ map core (sections text)
   same_cores =
@@ -75,12 +77,13 @@ module _ (text listing : List ℕ) (accepted : refusal_of text ≡ None) (reads 
       ∙ ap (λ ls. map core (sections_in ls)) (bare_rows rs (subst (Each HasSome) (sym (reads.words 0)) (lines_some ss)) ∙ ap bare_lines (reads.words 0))
       ∙ cores_listed (names_in (titles ss)) (variables_in ss) ss good
 
-  not_refused : length listing ≤ longest_text → refusal_of listing ≡ None
+  not_refused : length listing ≤ longest_text limits → refusal_within limits listing ≡ None
   not_refused h =
       let lines_none : line_faults false (length listing) (rows listing) ≡ [] =
       no_line_faults false (length listing) (rows listing) (reads.whole 0) (subst (LinesFine false) (sym (reads.words 0)) (sections_lines_fine (names_in (titles ss)) (variables_in ss) ss good)) in
-      let names_none : name_faults us ≡ [] = no_faults_by_core ss us same_cores (none_head (name_faults (sections text)) (no_faults text (none_refused text accepted)).names) in
-      ap (option_map (refusal_at listing)) (name_fault listing h (ap first_by_place lines_none) ∙ ap head_of names_none)
+      let faultless = no_faults limits text (none_refused limits text accepted) in
+      let names_none : name_faults limits us ≡ [] = no_faults_by_core limits ss us same_cores (none_head (name_faults limits ss) faultless.names) in
+      ap (option_map (refusal_at listing)) (name_fault limits listing h (ap first_by_place lines_none) ∙ ap head_of names_none)
 
   same_program : SameButSpans (program_of listing) (program_of text)
   same_program =
@@ -95,12 +98,13 @@ module _ (text listing : List ℕ) (accepted : refusal_of text ≡ None) (reads 
       }
 
 pub listings_read_back : ListingsReadBack
-listings_read_back text accepted short =
+listings_read_back limits text accepted short =
     let ss : List Section = sections text in
     let procedures : List (List ℕ) = names_in (titles ss) in
     let variables : List (List ℕ) = variables_in ss in
-    let reads : ReadsLines (listing_of (program_of text)) (section_lines ss) = listing_reads text procedures variables ss 0 [] refl refl (sections_good text accepted) in
+    let reads : ReadsLines (listing_of (program_of text)) (section_lines ss) =
+    listing_reads text procedures variables ss 0 [] refl refl (sections_good limits text accepted) in
     record {
-      accepted = not_refused text (listing_of (program_of text)) accepted reads short;
-      same = same_program text (listing_of (program_of text)) accepted reads;
+      accepted = not_refused limits text (listing_of (program_of text)) accepted reads short;
+      same = same_program limits text (listing_of (program_of text)) accepted reads;
     }

@@ -7,9 +7,10 @@ use Rattle.tac_reader.specs.Parses.{program_of, procedures_from, names_in, varia
 use Rattle.tac_lines.specs.code.Lexed.{text_lines, IfFault}
 use Rattle.tac_lines.specs.code.Ranges.{range_view, range_views}
 use Rattle.tac_lines.specs.code.Views.{tokens_view}
-use Rattle.tac_reader.specs.Faults.{head_of, fault_of, repeated, name_faults}
+use Rattle.tac_reader.specs.Faults.{head_of, fault_within, repeated, name_faults}
 use Rattle.tac_lines.specs.LineFaults.{first_by_place, line_faults}
 use Rattle.tac_program.specs.Limits.{longest_text}
+use Rattle.tac_program.specs.declared.limits.Limits.{Limits}
 use Rattle.tac_lines.specs.declared.refusal.RefusalKind.TheVariants as kind
 use Rattle.tac_reader.proofs.known_names.NameFaults.{first_1, name_fault}
 use Rattle.tac_lines.specs.declared.fault.Stop.{Stop}
@@ -32,13 +33,18 @@ program_is text ss procedures variables e f g = λ i.
     let vars : List (List ℕ) = (g ∙ ap variables_in e) i in
     record { procedures = procedures_from text names vars 0 all; procedure_names = names; variable_names = vars }
 
-pub procedure_fault : (ss : List Section) (s : Stop) → IfFault (λ f. head_of (repeated kind.DuplicateProcedure [] (titles ss)) ≡ Some f) s → IfFault (λ f. head_of (name_faults ss) ≡ Some f) s
-procedure_fault ss (stop.Fault f) h = first_1 (repeated kind.DuplicateProcedure [] (titles ss)) _ _ _ _ _ _ f h
-procedure_fault ss stop.OutOfMemory h = tt
+pub procedure_fault : (limits : Limits) (ss : List Section) (s : Stop)
+    → IfFault (λ f. head_of (repeated kind.DuplicateProcedure [] (titles ss)) ≡ Some f) s → IfFault (λ f. head_of (name_faults limits ss) ≡ Some f) s
+procedure_fault limits ss (stop.Fault f) h = first_1 (repeated kind.DuplicateProcedure [] (titles ss)) _ _ _ _ _ _ f h
+procedure_fault limits ss stop.OutOfMemory h = tt
 
-pub text_fault : (text : List ℕ) (ss : List Section) (s : Stop) → length text ≤ longest_text → first_by_place (line_faults false (length text) (rows text)) ≡ None → ss ≡ sections text → IfFault (λ f. head_of (name_faults ss) ≡ Some f) s → IfFault (λ f. fault_of text ≡ Some f) s
-text_fault text ss (stop.Fault f) small none e h = name_fault text small none ∙ ap (λ x. head_of (name_faults x)) (sym e) ∙ h
-text_fault text ss stop.OutOfMemory small none e h = tt
+pub text_fault : (limits : Limits) (text : List ℕ) (ss : List Section) (s : Stop) → length text ≤ longest_text limits
+    → first_by_place (line_faults false (length text) (rows text)) ≡ None → ss ≡ sections text
+    → IfFault (λ f. head_of (name_faults limits ss) ≡ Some f) s → IfFault (λ f. fault_within limits text ≡ Some f) s
+text_fault limits text ss (stop.Fault f) small none e h = name_fault limits text small none ∙ ap (λ x. head_of (name_faults limits x)) (sym e) ∙ h
+text_fault limits text ss stop.OutOfMemory small none e h = tt
 
-pub no_fault : (text : List ℕ) (ss : List Section) → length text ≤ longest_text → first_by_place (line_faults false (length text) (rows text)) ≡ None → ss ≡ sections text → head_of (name_faults ss) ≡ None → fault_of text ≡ None
-no_fault text ss small none e h = name_fault text small none ∙ ap (λ x. head_of (name_faults x)) (sym e) ∙ h
+pub no_fault : (limits : Limits) (text : List ℕ) (ss : List Section) → length text ≤ longest_text limits
+    → first_by_place (line_faults false (length text) (rows text)) ≡ None → ss ≡ sections text → head_of (name_faults limits ss) ≡ None
+    → fault_within limits text ≡ None
+no_fault limits text ss small none e h = name_fault limits text small none ∙ ap (λ x. head_of (name_faults limits x)) (sym e) ∙ h

@@ -11,9 +11,11 @@ use Rattle.tac_lines.specs.Forms.{labels_of, behind_labels, paired, in_slot, cel
 use Rattle.tac_reader.specs.Sections.{Section, sections, titles, statements_of, labels_in, only_name, variables_of}
 use Rattle.tac_program.specs.Programs.{Procedure, Program}
 use Rattle.tac_reader.specs.Parses.{names_in, statement_of, label_places, labels_from, procedure_of, procedures_from, variables_in, program_of}
-use Rattle.tac_reader.specs.Faults.{repeated, unknown, jumps_in, callees_in, name_faults, head_of, fault_of, refusal_of, refusal_at}
+use Rattle.tac_reader.specs.Faults.{repeated, unknown, jumps_in, callees_in, name_faults, head_of, fault_within, refusal_within, refusal_at}
 use Rattle.tac_lines.specs.LineFaults.{at, first_by_place, line_faults}
 use Rattle.tac_program.specs.Limits.{longest_text, most_procedures}
+use Rattle.tac_program.specs.declared.limits.Limits.{Limits}
+use Rattle.tac_program.specs.declared.limits.Limits.TheVariants.{Large}
 use Rattle.tac_reader.specs.Laws.{ProgramsAreSound}
 use Rattle.tac_program.specs.Sound.{IsLawfulName, IsSoundStatement, IsSoundProcedure, IsSound}
 use Rattle.tac_lines.specs.declared.fault.Fault.{Fault}
@@ -29,6 +31,7 @@ use Rattle.tac_reader.proofs.lines.FaultlessLines.{Sound, IsFaultlessSection, ro
 use Rattle.tac_reader.proofs.programs.FaultlessStatements.{IsFaultlessStatement, statements_faultless, all_labels_lawful}
 use Rattle.tac_reader.proofs.programs.ProgramSizes.{AreFew, sections_few, total, total_is}
 use Rattle.tac_reader.proofs.programs.SoundStatements.{NamesAreKnown, statement_sound}
+use Rattle.tac_reader.proofs.programs.LargeLimits.{procedures_within_large, text_within_large}
 use Rattle.tac_reader.proofs.programs.ReadSteps.{program_is}
 
 -- Labels and procedures are numbered on from a number.
@@ -109,7 +112,7 @@ module _ (text : List ℕ) (procedures variables : List (List ℕ)) where
     name_is a b f = let same : a ≡ b = cc in ap (λ x. x.name) (sym same)
   procedures_numbered n (s ∷ ss) (suc k) p e = omega (arith, procedures_numbered (suc n) ss k p e)
 
-  length-procedures_from : (n : ℕ) (ss : List Section) → length (procedures_from text procedures variables n ss) ≡ length ss
+  pub length-procedures_from : (n : ℕ) (ss : List Section) → length (procedures_from text procedures variables n ss) ≡ length ss
   length-procedures_from n [] = refl
   length-procedures_from n (s ∷ ss) = ap suc (length-procedures_from (suc n) ss)
 
@@ -189,11 +192,11 @@ sections_lawful all variables [] f h v = tt
 sections_lawful all variables (s ∷ ss) f h v = (section_lawful all variables s f.0 h.0 v.0, sections_lawful all variables ss f.1 h.1 v.1)
 
 -- What the absence of faults of names says of all sections.
-record NoNameFaults (ss : List Section) : Type 0 where
+record NoNameFaults (limits : Limits) (ss : List Section) : Type 0 where
   procedures : repeated kind.DuplicateProcedure [] (titles ss) ≡ []
   each : Each (HasNoFault ss) ss
   main : Known (names_in (titles ss)) (codes "main")
-  few : length (titles ss) ≤ most_procedures
+  few : length (titles ss) ≤ most_procedures limits
 
 no_faults_each : (all ss : List Section) → Each (λ s. repeated kind.DuplicateLabel [] (labels_in s) ≡ []) ss → Each (λ s. unknown kind.UnknownLabel (labels_in s) (jumps_in s) ≡ []) ss → Each (λ s. unknown kind.UnknownProcedure (titles all) (callees_in s) ≡ []) ss → Each (λ s. flat_map (λ c. repeated kind.DuplicateCallee [] (callees_of c)) (statements_of s.body) ≡ []) ss → Each (HasNoFault all) ss
 no_faults_each all [] b c d e = tt
@@ -209,15 +212,15 @@ none_dropped n ts e = go (drop n ts) refl e where
   go [] f k = let none : length ts - n ≡ 0 = sym (length-drop n ts) ∙ ap length f in omega (arith, none)
   go (u ∷ us) f k = absurd (cc k)
 
-no_name_faults : (ss : List Section) → name_faults ss ≡ [] → NoNameFaults ss
-no_name_faults ss e =
+no_name_faults : (limits : Limits) (ss : List Section) → name_faults limits ss ≡ [] → NoNameFaults limits ss
+no_name_faults limits ss e =
     let a : List Fault = repeated kind.DuplicateProcedure [] (titles ss) in
     let b : List Fault = flat_map (λ s. repeated kind.DuplicateLabel [] (labels_in s)) ss in
     let c : List Fault = flat_map (λ s. unknown kind.UnknownLabel (labels_in s) (jumps_in s)) ss in
     let d : List Fault = flat_map (λ s. unknown kind.UnknownProcedure (titles ss) (callees_in s)) ss in
     let f : List Fault = flat_map (λ s. flat_map (λ c. repeated kind.DuplicateCallee [] (callees_of c)) (statements_of s.body)) ss in
     let g : List Fault = (if is_one_of (codes "main") (names_in (titles ss)) then [] else at kind.NoMain 0) in
-    let h : List Fault = flat_map (λ t. at kind.TooManyProcedures t.start) (drop most_procedures (titles ss)) in
+    let h : List Fault = flat_map (λ t. at kind.TooManyProcedures t.start) (drop (most_procedures limits) (titles ss)) in
     let none_6 : a ++ b ++ c ++ d ++ f ++ g ≡ [] = no_left (a ++ b ++ c ++ d ++ f ++ g) h e in
     let none_5 : a ++ b ++ c ++ d ++ f ≡ [] = no_left (a ++ b ++ c ++ d ++ f) g none_6 in
     let none_4 : a ++ b ++ c ++ d ≡ [] = no_left (a ++ b ++ c ++ d) f none_5 in
@@ -231,7 +234,7 @@ no_name_faults ss e =
           (no_parts (λ s. unknown kind.UnknownProcedure (titles ss) (callees_in s)) ss (no_right (a ++ b ++ c) d none_4))
           (no_parts (λ s. flat_map (λ c. repeated kind.DuplicateCallee [] (callees_of c)) (statements_of s.body)) ss (no_right (a ++ b ++ c ++ d) f none_5));
       main = main_known (is_one_of (codes "main") (names_in (titles ss))) (no_right (a ++ b ++ c ++ d ++ f) g none_6);
-      few = none_dropped most_procedures (titles ss) (no_right (a ++ b ++ c ++ d ++ f ++ g) h e);
+      few = none_dropped (most_procedures limits) (titles ss) (no_right (a ++ b ++ c ++ d ++ f ++ g) h e);
     }
 
 -- The program of sections without faults.
@@ -261,9 +264,10 @@ all_variables_lawful ss h =
     (each-weaker IsFaultlessSection (λ s. Each L (flat_map variables_of (statements_of s.body)))
     (λ s k. each-flat_map L variables_of (statements_of s.body) (each-weaker IsFaultlessStatement (λ ts. Each L (variables_of ts)) variables_lawful (statements_of s.body) (statements_faultless s.body k.lines))) ss h)))
 
-sections_sound : (text : List ℕ) (ss : List Section) → Each IsFaultlessSection ss → NoNameFaults ss → AreFew longest_text ss → IsSound (program_in text ss)
+sections_sound : (limits : Limits) (text : List ℕ) (ss : List Section) → Each IsFaultlessSection ss → NoNameFaults limits ss
+    → AreFew (longest_text Large) ss → IsSound (program_in text ss)
 unfolding program_in
-sections_sound text ss f h few =
+sections_sound limits text ss f h few =
     let procedures : List (List ℕ) = names_in (titles ss) in
     let variables : List (List ℕ) = variables_in ss in
     let ps : List Procedure = procedures_from text procedures variables 0 ss in
@@ -271,7 +275,7 @@ sections_sound text ss f h few =
     record {
       numbered = λ k p e. procedures_numbered text procedures variables 0 ss k p e ∙ (let zero_on : 0 + k ≡ k = omega arith in zero_on);
       named = size;
-      few = omega (arith, h.few, size, length-map (titles ss) spelling_of);
+      few = omega (arith, h.few, procedures_within_large limits, size, length-map (titles ss) spelling_of);
       main = known_contained procedures (codes "main") h.main;
       procedures_lawful = All-from_recursion IsLawfulName procedures (each-map IsLawfulName spelling_of (titles ss) (each-map (λ t. IsLawfulName (spelling_of t)) (λ s. s.title) ss (each-weaker IsFaultlessSection (λ s. IsLawfulName (spelling_of s.title)) (λ s k. k.title) ss f)));
       procedures_differ = all_differ procedures (none_repeated kind.DuplicateProcedure [] (titles ss) h.procedures).differ;
@@ -285,57 +289,77 @@ sections_sound text ss f h few =
     }
 
 -- What a text without a fault shows.
-pub record HasNoFaults (text : List ℕ) : Type 0 where
-  pub short : length text ≤ longest_text
+pub record HasNoFaults (limits : Limits) (text : List ℕ) : Type 0 where
+  pub short : length text ≤ longest_text limits
   pub lines : first_by_place (line_faults false (length text) (rows text)) ≡ None
-  pub names : head_of (name_faults (sections text)) ≡ None
+  pub names : head_of (name_faults limits (sections text)) ≡ None
 
-pub no_faults : (text : List ℕ) → fault_of text ≡ None → HasNoFaults text
-no_faults text e = by_length (nat_lt longest_text (length text)) refl e where
-  by_line : (o : Option Fault) → length text ≤ longest_text → first_by_place (line_faults false (length text) (rows text)) ≡ o → (elim o as (λ _. Option Fault) [ Some f ↦ Some f | None ↦ head_of (name_faults (sections text)) ]) ≡ None → HasNoFaults text
+pub no_faults : (limits : Limits) (text : List ℕ) → fault_within limits text ≡ None → HasNoFaults limits text
+no_faults limits text e = by_length (nat_lt (longest_text limits) (length text)) refl e where
+  by_line : (o : Option Fault) → length text ≤ longest_text limits → first_by_place (line_faults false (length text) (rows text)) ≡ o
+      → (elim o as (λ _. Option Fault) [ Some f ↦ Some f | None ↦ head_of (name_faults limits (sections text)) ]) ≡ None → HasNoFaults limits text
   by_line (Some f) short k h = absurd (cc h)
   by_line None short k h = record { short = short; lines = k; names = h }
 
-  by_length : (b : Bool) → nat_lt longest_text (length text) ≡ b → (elim b as (λ _. Option Fault) [
+  by_length : (b : Bool) → nat_lt (longest_text limits) (length text) ≡ b → (elim b as (λ _. Option Fault) [
     | true ↦ Some (record { kind = kind.TextTooLong; place = 0 })
-    | false ↦ elim (first_by_place (line_faults false (length text) (rows text))) as (λ _. Option Fault) [ Some f ↦ Some f | None ↦ head_of (name_faults (sections text)) ]
-  ]) ≡ None → HasNoFaults text
+    | false ↦ elim (first_by_place (line_faults false (length text) (rows text))) as (λ _. Option Fault) [
+      | Some f ↦ Some f
+      | None ↦ head_of (name_faults limits (sections text))
+    ]
+  ]) ≡ None → HasNoFaults limits text
   by_length true t h = absurd (cc h)
-  by_length false t h = by_line (first_by_place (line_faults false (length text) (rows text))) (ltb-false longest_text (length text) t) refl h
+  by_length false t h =
+      by_line (first_by_place (line_faults false (length text) (rows text))) (ltb-false (longest_text limits) (length text) t) refl h
 
 pub none_head : (fs : List Fault) → head_of fs ≡ None → fs ≡ []
 none_head [] e = refl
 none_head (f ∷ fs) e = absurd (cc e)
 
 -- Its sections.
-text_faultless : (text : List ℕ) → HasNoFaults text → Each IsFaultlessSection (sections text)
-text_faultless text h =
+text_faultless : (limits : Limits) (text : List ℕ) → HasNoFaults limits text → Each IsFaultlessSection (sections text)
+text_faultless limits text h =
     sections_faultless false (token_lines (rows text)) (lines_faultless false (length text) (rows text) (rows_spelled 0 (lines text)) (none_first (line_faults false (length text) (rows text)) h.lines))
 
-text_names : (text : List ℕ) → HasNoFaults text → NoNameFaults (sections text)
-text_names text h = no_name_faults (sections text) (none_head (name_faults (sections text)) h.names)
+text_names : (limits : Limits) (text : List ℕ) → HasNoFaults limits text → NoNameFaults limits (sections text)
+text_names limits text h = no_name_faults limits (sections text) (none_head (name_faults limits (sections text)) h.names)
 
-pub text_lawful : (text : List ℕ) → HasNoFaults text → Each (IsLawfulSection (names_in (titles (sections text))) (variables_in (sections text))) (sections text)
-text_lawful text h = let ss : List Section = sections text in sections_lawful ss (variables_in ss) ss (text_faultless text h) (text_names text h).each (variables_known ss)
+-- It has no more procedures than the limits allow.
+pub text_few : (limits : Limits) (text : List ℕ) → HasNoFaults limits text → length (titles (sections text)) ≤ most_procedures limits
+text_few limits text h = (text_names limits text h).few
+
+pub text_lawful : (limits : Limits) (text : List ℕ) → HasNoFaults limits text
+    → Each (IsLawfulSection (names_in (titles (sections text))) (variables_in (sections text))) (sections text)
+text_lawful limits text h =
+    let ss : List Section = sections text in
+    sections_lawful ss (variables_in ss) ss (text_faultless limits text h) (text_names limits text h).each (variables_known ss)
 
 -- The program of a text without a fault is sound.
-faultless_sound : (text : List ℕ) → fault_of text ≡ None → IsSound (program_of text)
+faultless_sound : (limits : Limits) (text : List ℕ) → fault_within limits text ≡ None → IsSound (program_of text)
 unfolding program_in
-faultless_sound text e =
-    let h = no_faults text e in
+faultless_sound limits text e =
+    let h = no_faults limits text e in
     let few = sections_few text in
-    sections_sound text (sections text) (text_faultless text h) (text_names text h)
-    (record { statements = omega (arith, few.statements, h.short); labels = omega (arith, few.labels, h.short); variables = omega (arith, few.variables, h.short) })
+    let short : length text ≤ longest_text Large = text_within_large limits (length text) h.short in
+    sections_sound limits text (sections text) (text_faultless limits text h) (text_names limits text h)
+    (record {
+      statements = omega (arith, few.statements, short);
+      labels = omega (arith, few.labels, short);
+      variables = omega (arith, few.variables, short);
+    })
 
 -- The same of what the code makes of the text's sections.
-pub program_sound : (text : List ℕ) (ss : List Section) (procedures variables : List (List ℕ)) → ss ≡ sections text → procedures ≡ names_in (titles ss) → variables ≡ variables_in ss → fault_of text ≡ None → IsSound (record { procedures = procedures_from text procedures variables 0 ss; procedure_names = procedures; variable_names = variables })
-program_sound text ss procedures variables e f g none = subst IsSound (sym (program_is text ss procedures variables e f g)) (faultless_sound text none)
+pub program_sound : (limits : Limits) (text : List ℕ) (ss : List Section) (procedures variables : List (List ℕ)) → ss ≡ sections text
+    → procedures ≡ names_in (titles ss) → variables ≡ variables_in ss → fault_within limits text ≡ None
+    → IsSound (record { procedures = procedures_from text procedures variables 0 ss; procedure_names = procedures; variable_names = variables })
+program_sound limits text ss procedures variables e f g none =
+    subst IsSound (sym (program_is text ss procedures variables e f g)) (faultless_sound limits text none)
 
-pub none_refused : (text : List ℕ) → refusal_of text ≡ None → fault_of text ≡ None
-none_refused text e = go (fault_of text) e where
+pub none_refused : (limits : Limits) (text : List ℕ) → refusal_within limits text ≡ None → fault_within limits text ≡ None
+none_refused limits text e = go (fault_within limits text) e where
   go : (o : Option Fault) → option_map (refusal_at text) o ≡ None → o ≡ None
   go None k = refl
   go (Some f) k = absurd (cc k)
 
 pub programs_are_sound : ProgramsAreSound
-programs_are_sound text e = faultless_sound text (none_refused text e)
+programs_are_sound limits text e = faultless_sound limits text (none_refused limits text e)

@@ -9,6 +9,7 @@ use Rattle.tac_reader.specs.Parses.{names_in}
 use Rattle.tac_reader.specs.Faults.{repeated, unknown, jumps_in, callees_in, name_faults}
 use Rattle.tac_lines.specs.LineFaults.{at}
 use Rattle.tac_program.specs.Limits.{most_procedures}
+use Rattle.tac_program.specs.declared.limits.Limits.{Limits}
 use Rattle.tac_lines.specs.declared.fault.Fault.{Fault}
 use Rattle.tac_lines.specs.declared.refusal.RefusalKind.{RefusalKind}
 use Rattle.tac_lines.specs.declared.refusal.RefusalKind.TheVariants as kind
@@ -53,15 +54,15 @@ no_main-erased names = go (is_one_of (codes "main") names) where
   go false = refl
 
 -- The faults of names, by cores.
-abbrev core_faults : List Core → List Fault
-core_faults cs =
+abbrev core_faults : Limits → List Core → List Fault
+core_faults limits cs =
     repeated kind.DuplicateProcedure [] (core_titles cs)
     ++ flat_map (λ c. repeated kind.DuplicateLabel [] c.labels) cs
     ++ flat_map (λ c. unknown kind.UnknownLabel c.labels (flat_map jumps_of c.statements)) cs
     ++ flat_map (λ c. unknown kind.UnknownProcedure (core_titles cs) (flat_map callees_of c.statements)) cs
     ++ flat_map (λ c. flat_map (λ ts. repeated kind.DuplicateCallee [] (callees_of ts)) c.statements) cs
     ++ no_main (names_in (core_titles cs))
-    ++ too_many (drop most_procedures (core_titles cs))
+    ++ too_many (drop (most_procedures limits) (core_titles cs))
 
 map_seven : {A B : Type 0} (f : A → B) (a b c d e g h : List A) → map f (a ++ b ++ c ++ d ++ e ++ g ++ h) ≡ map f a ++ map f b ++ map f c ++ map f d ++ map f e ++ map f g ++ map f h
 map_seven f a b c d e g h =
@@ -76,8 +77,8 @@ map_seven f a b c d e g h =
 through : (f : List Token → List Token) → ((ts : List Token) → f (all_erased ts) ≡ all_erased (f ts)) → (s : Section) → all_erased (flat_map f (statements_of s.body)) ≡ flat_map f (core s).statements
 through f e s = flat_map-through erased f all_erased f (λ ts. sym (e ts)) (statements_of s.body)
 
-faults-erased : (ss : List Section) → map nowhere (name_faults ss) ≡ core_faults (map core ss)
-faults-erased ss =
+faults-erased : (limits : Limits) (ss : List Section) → map nowhere (name_faults limits ss) ≡ core_faults limits (map core ss)
+faults-erased limits ss =
     map_seven nowhere
     (repeated kind.DuplicateProcedure [] (titles ss))
     (flat_map (λ s. repeated kind.DuplicateLabel [] (labels_in s)) ss)
@@ -85,7 +86,7 @@ faults-erased ss =
     (flat_map (λ s. unknown kind.UnknownProcedure (titles ss) (callees_in s)) ss)
     (flat_map (λ s. flat_map (λ c. repeated kind.DuplicateCallee [] (callees_of c)) (statements_of s.body)) ss)
     (no_main (names_in (titles ss)))
-    (too_many (drop most_procedures (titles ss)))
+    (too_many (drop (most_procedures limits) (titles ss)))
     ∙ (λ i. a i ++ b i ++ c i ++ d i ++ e i ++ g i ++ h i)
   where
     ts : List Token
@@ -113,13 +114,17 @@ faults-erased ss =
     g : map nowhere (no_main (names_in (titles ss))) ≡ no_main (names_in (core_titles (map core ss)))
     g = no_main-erased (names_in (titles ss)) ∙ ap no_main (sym (names_erased (titles ss)) ∙ ap names_in (titles-erased ss))
 
-    h : map nowhere (too_many (drop most_procedures (titles ss))) ≡ too_many (drop most_procedures (core_titles (map core ss)))
-    h = too_many-erased (drop most_procedures (titles ss)) ∙ ap too_many (sym (drop-map erased most_procedures (titles ss)) ∙ ap (drop most_procedures) (titles-erased ss))
+    h : map nowhere (too_many (drop (most_procedures limits) (titles ss))) ≡ too_many (drop (most_procedures limits) (core_titles (map core ss)))
+    h =
+        too_many-erased (drop (most_procedures limits) (titles ss))
+        ∙ ap too_many (sym (drop-map erased (most_procedures limits) (titles ss)) ∙ ap (drop (most_procedures limits)) (titles-erased ss))
 
 none_mapped : (fs : List Fault) → map nowhere fs ≡ [] → fs ≡ []
 none_mapped [] e = refl
 none_mapped (f ∷ fs) e = absurd (cc e)
 
 -- Sections with the same cores have both no faults of names, or both some.
-pub no_faults_by_core : (ss us : List Section) → map core us ≡ map core ss → name_faults ss ≡ [] → name_faults us ≡ []
-no_faults_by_core ss us e h = none_mapped (name_faults us) (faults-erased us ∙ ap core_faults e ∙ sym (faults-erased ss) ∙ ap (map nowhere) h)
+pub no_faults_by_core : (limits : Limits) (ss us : List Section) → map core us ≡ map core ss → name_faults limits ss ≡ [] → name_faults limits us ≡ []
+no_faults_by_core limits ss us e h =
+    none_mapped (name_faults limits us)
+    (faults-erased limits us ∙ ap (core_faults limits) e ∙ sym (faults-erased limits ss) ∙ ap (map nowhere) h)

@@ -6,7 +6,8 @@ use Rattle.tac_lines.specs.Forms.{Slot, fills, label, key, has_form, label_form,
 use Rattle.tac_reader.specs.Sections.{Section, sections, titles, only_name}
 use Rattle.tac_reader.specs.Parses.{names_in, names_for, variables_in}
 use Rattle.tac_program.specs.Names.{Names}
-use Rattle.tac_reader.specs.Faults.{refusal_of}
+use Rattle.tac_reader.specs.Faults.{refusal_within}
+use Rattle.tac_program.specs.declared.limits.Limits.{Limits}
 use Rattle.tac_lines.specs.declared.form.Form.{Form}
 use Rattle.tac_lines.proofs.tokens.Longest.{and_parts}
 use Rattle.tac_program.proofs.lists.Elements.{each-weaker, each-from_flat_map}
@@ -78,8 +79,10 @@ section_good procedures variables s h =
       body = lines_good names s.body (h.faultless).lines (each-from_flat_map (NamesAreKnown names) (λ line. unless_empty (behind_labels line)) s.body h.known);
     }
 
-pub sections_good : (text : List ℕ) → refusal_of text ≡ None → Each (SectionGood (names_in (titles (sections text))) (variables_in (sections text))) (sections text)
-sections_good text h =
+pub sections_good : (limits : Limits) (text : List ℕ) → refusal_within limits text ≡ None
+    → Each (SectionGood (names_in (titles (sections text))) (variables_in (sections text))) (sections text)
+sections_good limits text h =
     let procedures : List (List ℕ) = names_in (titles (sections text)) in
     let variables : List (List ℕ) = variables_in (sections text) in
-    each-weaker (IsLawfulSection procedures variables) (SectionGood procedures variables) (section_good procedures variables) (sections text) (text_lawful text (no_faults text (none_refused text h)))
+    each-weaker (IsLawfulSection procedures variables) (SectionGood procedures variables) (section_good procedures variables) (sections text)
+    (text_lawful limits text (no_faults limits text (none_refused limits text h)))

@@ -12,7 +12,7 @@ marks_of words ranks = map (is_marked_in words) ranks
 
 -- the words have room for so many bits and for no further word, and no bit behind them is set
 pub record AreMarkWords (bits : ℕ) (words : List ℕ) : Type 0 where
-  pub few : bits ≤ 2 ^ 16
+  pub few : bits ≤ 2 ^ 31
   pub room : bits ≤ 64 * length words
   pub full : 64 * length words < bits + 64
   pub above : (x : ℕ) → bits ≤ x → is_marked_in words x ≡ false

@@ -7,7 +7,7 @@ LeadsBack there back = (k : ℕ) → k < length there → (slice_index there k <
 
 -- each list is the other's inverse
 pub record AreInverse (ranks points : List ℕ) : Type 0 where
-  pub few : length ranks ≤ 2 ^ 16
+  pub few : length ranks ≤ 2 ^ 31
   pub same : length points ≡ length ranks
   pub there : LeadsBack ranks points
   pub back : LeadsBack points ranks

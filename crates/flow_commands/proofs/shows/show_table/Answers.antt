@@ -2,6 +2,7 @@ use Rattle.std.proofs.Common.{subst}
 use Rattle.flow_texts.specs.Tables.{IsTableText}
 use Rattle.tac_program.specs.Programs.{Program}
 use Rattle.flow_runs.specs.Runs.{IsOverLimit}
+use Rattle.tac_program.specs.declared.limits.Limits.TheVariants.{Standard}
 use Rattle.flow_runs.proofs.Deliveries.{delivers_as, no_graph_fault}
 use Rattle.flow_commands.proofs.shows.show_table.Goals as goal
 
@@ -13,4 +14,4 @@ returns-clause-delivers g c =
     c.table_of_graph.ensures.delivers
 
 pub returns-clause-fault : goal.returns-clause-fault
-returns-clause-fault g c = no_graph_fault (IsOverLimit c.args.program.now) ⊥ c.table_of_graph.result c.table_of_graph.ensures.fault
+returns-clause-fault g c = no_graph_fault (IsOverLimit Standard c.args.program.now) ⊥ c.table_of_graph.result c.table_of_graph.ensures.fault

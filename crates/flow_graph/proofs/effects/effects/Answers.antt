@@ -13,7 +13,7 @@ use Rattle.flow_graph.proofs.effects.effects.Goals.{in-Some, in-None}
 
 pub overflow_add-number : goal.overflow_add-number
 overflow_add-number c =
-    let few : length c.args.graph.now.variable_names ≤ 4096 = c.bits-number.ensures.few Live in
+    let few : length c.args.graph.now.variable_names ≤ 131072 = c.bits-number.ensures.few Live in
     let below : c.loop-point.number + 1 < 4294967296 = omega (arith, few, c.loop-point.invariant.few, c.points-point-end.ensures) in
     search rules
 

@@ -1,12 +1,10 @@
-use Rattle.std.proofs.Common.{◌≡◌, ◌<◌, ◌+◌, true, false, arith, subst, sym, ap, ◌∙◌}
+use Rattle.std.proofs.Common.{◌≡◌, ◌<◌, ◌+◌, false, arith, subst, sym, ◌∙◌}
 use Rattle.flow_graph.specs.Analyses.{is_backward}
-use Rattle.flow_graph.specs.Problems.{may_shape}
 use Rattle.flow_graph.specs.Points.{point_count}
 use Rattle.flow_links.specs.Shapes.{after_site}
-use Rattle.flow_links.proofs.ListLemmas.{after_low, exit_low}
+use Rattle.flow_links.proofs.ListLemmas.{after_low}
 use Rattle.flow_links.proofs.ShapeLemmas.{in_range, ends, procedure_low, link_is_call}
 use Rattle.flow_links.proofs.values.link_of.Goals as goal
-use Rattle.flow_links.proofs.values.link_of.Goals.{then-reverses, else-reverses}
 
 pub procedure-requires : goal.procedure-requires
 procedure-requires c = (ends (in_range c.args.problem.now.program c.args.problem.now.analysis c.procedures.ensures.sound c.points.ensures.few) c.args.edge _ c.requires c.in-Call.is).1
@@ -25,30 +23,3 @@ overflow_add-after c =
     let next : c.in-Call.site + 1 < point_count c.args.problem.now.program = subst (λ b. after_site b c.in-Call.site < point_count c.args.problem.now.program) forward low in
     let few = range.few in
     omega (arith, next, few)
-
-pub overflow_cast-result : goal.overflow_cast-result
-overflow_cast-result c =
-    let range = (in_range c.args.problem.now.program c.args.problem.now.analysis c.procedures.ensures.sound c.points.ensures.few) in
-    let low = exit_low range.numbered c.in-Call.site _ _ (link_is_call range c.args.edge c.requires c.in-Call.is) in
-    let few = range.few in
-    let is : c.exit-exit.result ≡ (may_shape c.args.problem.now.program c.args.problem.now.analysis).exit ((may_shape c.args.problem.now.program c.args.problem.now.analysis).procedure_of c.in-Call.to) =
-    c.exit-exit.ensures ∙ ap (may_shape c.args.problem.now.program c.args.problem.now.analysis).exit (c.procedure.ensures ∙ sym (range.procedure_is c.in-Call.to)) in
-    omega (arith, low, few, is)
-
-pub overflow_cast-result-in-Call : goal.overflow_cast-result-in-Call
-overflow_cast-result-in-Call c =
-    let range = (in_range c.args.problem.now.program c.args.problem.now.analysis c.procedures.ensures.sound c.points.ensures.few) in
-    let low = after_low range.numbered c.in-Call.site _ _ (link_is_call range c.args.edge c.requires c.in-Call.is) in
-    let few = range.few in
-    elim c.if-reverses.branch [
-      | then-reverses w ↦
-          let back : is_backward c.args.problem.now.analysis ≡ true = sym c.reverses.ensures ∙ w.if-reverses.true in
-          let at : c.in-Call.site < point_count c.args.problem.now.program = subst (λ b. after_site b c.in-Call.site < point_count c.args.problem.now.program) back low in
-          let is = w.after-is in
-          omega (arith, at, is, few)
-      | else-reverses w ↦
-          let forward : is_backward c.args.problem.now.analysis ≡ false = sym c.reverses.ensures ∙ w.if-reverses.false in
-          let at : c.in-Call.site + 1 < point_count c.args.problem.now.program = subst (λ b. after_site b c.in-Call.site < point_count c.args.problem.now.program) forward low in
-          let is = w.after-is in
-          omega (arith, at, is, few)
-    ]

@@ -1,4 +1,4 @@
-use Rattle.std.proofs.Common.{◌≡◌, ◌*◌, ◌≤◌, length}
+use Rattle.std.proofs.Common.{◌≡◌, ◌*◌, ◌^◌, ◌<◌, length}
 use Rattle.flow_team.specs.Asks.{AreAsksOf}
 use Rattle.flow_texts.specs.code.Reported.{AreAsked}
 use Rattle.flow_texts.proofs.report_asks.report_asks.Given as goal
@@ -6,7 +6,7 @@ use Rattle.flow_texts.proofs.report_asks.report_asks.Given as goal
 abbrev pub invariant-loop-point : goal.invariant-loop-point
 invariant-loop-point l = record {
   asks : AreAsksOf l.graph l.asks.items;
-  few : length l.asks.items ≤ 68 * l.point;
+  few : 64 * length l.asks.items < 2 ^ 32;
   count : length l.places.items ≡ l.point;
   asked : AreAsked l.graph l.asks.items l.places.items;
 }

@@ -5,7 +5,7 @@ use Rattle.flow_links.specs.Shapes.{directed_shape}
 use Rattle.gk_solve.specs.Tables.Brought.{IsBroughtClosedAt, brought_word}
 use Rattle.gk_solve.specs.Tables.Flags.{source_procedure}
 use Rattle.gk_solve.specs.Tables.Groups.{group_of, kept_word, made_word}
-use Rattle.gk_solve.proofs.Visits.{visit_falls, visit_settles, all_closed}
+use Rattle.gk_solve.proofs.Visits.{visit_falls, visit_settles_from, all_closed}
 use Rattle.gk_solve.proofs.WordEdges.{all_brought}
 use Rattle.gk_solve.proofs.bring.brought.Goals as goal
 
@@ -15,7 +15,8 @@ visits-smaller g c = visit_falls c.visits.brought c.visits.dirty c.visit.new.bro
 pub visits-preserved : goal.visits-preserved
 visits-preserved g c = record {
   count = c.visit.ensures.spreads.count ∙ (ap length c.in-Some.ensures.1 ∙ (length-set c.visits.dirty c.in-Some.procedure false ∙ c.visits.invariant.count));
-  settled = visit_settles c.visits.brought c.visits.dirty c.visit.new.brought c.take.new.self c.visit.new.dirty c.in-Some.procedure c.in-Some.ensures.1 c.visit.ensures.spreads c.visit.ensures.settled c.visits.invariant.settled;
+  settled = visit_settles_from (IsBroughtClosedAt (group_of c.args.frame.now g.row.W) c.args.frame.now.paths.now c.args.table.now)
+      (source_procedure (directed_shape c.args.frame.now.links.now)) c.visits.brought c.visits.dirty c.visit.new.brought c.take.new.self c.visit.new.dirty c.in-Some.procedure c.in-Some.ensures.1 c.visit.ensures.spreads c.visit.ensures.settled c.visits.invariant.settled;
   root = λ w k inside low has. c.visit.ensures.spreads.grows w inside _ k (c.visits.invariant.root w k inside low has);
   sound = c.visit.ensures.spreads.sound c.visits.invariant.sound;
 }

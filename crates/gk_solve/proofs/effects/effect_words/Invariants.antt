@@ -1,4 +1,4 @@
-use Rattle.std.proofs.Common.{◌≡◌, ◌<◌, ℕ, false, length, get_or}
+use Rattle.std.proofs.Common.{◌≡◌, ◌<◌, ◌%◌, ℕ, false, length, get_or}
 use Rattle.bit_rows.specs.Words.{has_bit}
 use Rattle.gk_solve.specs.Tables.Groups.{IsIdle}
 use Rattle.gk_solve.proofs.effects.effect_words.Given as goal
@@ -6,5 +6,5 @@ use Rattle.gk_solve.proofs.effects.effect_words.Given as goal
 abbrev pub invariant-loop-point : goal.invariant-loop-point
 invariant-loop-point l = record {
   count : length l.words.items ≡ l.point;
-  idle : (point word : ℕ) → point < l.point → word < 64 → has_bit (get_or l.words.items point 0) word ≡ false → IsIdle l.problem point word;
+  idle : (point word : ℕ) → point < l.point → has_bit (get_or l.words.items point 0) (word % 64) ≡ false → IsIdle l.problem point word;
 }

@@ -8,7 +8,7 @@ use Rattle.flow_links.specs.Shapes.{directed_shape}
 use Rattle.gk_solve.specs.Tables.Flags.{IsEntryClosedAt, IsFlagged, source_procedure}
 use Rattle.gk_solve.specs.Tables.Visits.{IsSettled}
 use Rattle.gk_solve.proofs.FlagVisits.{all_entered, flag_within}
-use Rattle.gk_solve.proofs.Visits.{visit_falls, visit_settles, settled_but, all_closed}
+use Rattle.gk_solve.proofs.Visits.{visit_falls, visit_settles_from, settled_but, all_closed}
 use Rattle.gk_solve.proofs.enter.entered.Goals as goal
 
 -- an edge that leaves a procedure without a flag is closed
@@ -61,7 +61,7 @@ visits-preserved-then-flags-procedure c =
     let spreads = c.visit.ensures.spreads in
     record {
       count = spreads.count ∙ (ap length c.in-Some.ensures.1 ∙ (length-set c.visits.dirty c.in-Some.procedure false ∙ c.visits.invariant.count));
-      settled = visit_settles c.visits.flags c.visits.dirty c.visit.new.flags c.take.new.self c.visit.new.dirty c.in-Some.procedure c.in-Some.ensures.1 spreads c.visit.ensures.settled c.visits.invariant.settled;
+      settled = visit_settles_from (IsEntryClosedAt (directed_shape c.args.links.now) c.args.reached.now) (source_procedure (directed_shape c.args.links.now)) c.visits.flags c.visits.dirty c.visit.new.flags c.take.new.self c.visit.new.dirty c.in-Some.procedure c.in-Some.ensures.1 spreads c.visit.ensures.settled c.visits.invariant.settled;
       root = spreads.grows _ c.visits.invariant.root;
       sound = spreads.sound c.visits.invariant.sound;
     }

@@ -1,10 +1,11 @@
 use Rattle.std.proofs.lemmas.List.{get_or-replicate, length-replicate}
-use Rattle.std.proofs.Common.{ap, length, false, ◌∙◌, Bool, List, true, get_or, inr, arith}
+use Rattle.std.proofs.Common.{ap, length, false, ◌∙◌, Bool, List, true, get_or, arith}
 use Rattle.std.proofs.Math.ListN.{length-set}
 use Rattle.flow_graph.specs.Paths.{source_of}
 use Rattle.flow_links.specs.Shapes.{directed_shape}
-use Rattle.gk_solve.specs.Tables.Groups.{IsSummaryClosedAt, group_of, kept_word, made_word}
-use Rattle.gk_solve.proofs.Visits.{visit_falls, visit_settles, all_closed}
+use Rattle.gk_solve.specs.Tables.Groups.{WaitsFor, group_of, kept_word, made_word}
+use Rattle.gk_solve.proofs.SummaryVisits.{all_wait, none_waits, waits_but}
+use Rattle.gk_solve.proofs.Visits.{visit_falls, visit_settles}
 use Rattle.gk_solve.proofs.WordEdges.{all_kept, all_made}
 use Rattle.gk_solve.proofs.group.kept_and_made.Goals as goal
 
@@ -14,7 +15,10 @@ visits-smaller g c = visit_falls c.visits.table c.visits.dirty c.visit.new.table
 pub visits-preserved : goal.visits-preserved
 visits-preserved g c = record {
   count = c.visit.ensures.spreads.count ∙ (ap length c.in-Some.ensures.1 ∙ (length-set c.visits.dirty c.in-Some.at false ∙ c.visits.invariant.count));
-  settled = visit_settles c.visits.table c.visits.dirty c.visit.new.table c.take.new.self c.visit.new.dirty c.in-Some.at c.in-Some.ensures.1 c.visit.ensures.spreads c.visit.ensures.settled c.visits.invariant.settled;
+  settled =
+      visit_settles (λ edge. WaitsFor (directed_shape c.args.frame.now.links.now) edge c.in-Some.at) c.visits.table c.visits.dirty c.visit.new.table c.take.new.self
+      c.visit.new.dirty c.in-Some.at c.in-Some.ensures.1 c.visit.ensures.spreads
+      (waits_but (group_of c.args.frame.now g.row.W) c.args.frame.now.paths.now c.visits.table c.visits.dirty c.in-Some.at) c.visit.ensures.settled c.visits.invariant.settled;
   entries = λ p w k below inside low. (c.visit.ensures.spreads.grows w inside).0 _ k (c.visits.invariant.entries p w k below inside low);
   sound = c.visit.ensures.spreads.sound c.visits.invariant.sound;
 }
@@ -23,7 +27,7 @@ pub returns-clause-complete : goal.returns-clause-complete
 returns-clause-complete g c w x k inside low flag =
     let group = group_of c.args.frame.now g.row.W in
     let is = c.requires.frame in
-    let closed = all_closed (IsSummaryClosedAt group c.args.frame.now.paths.now) (directed_shape c.args.frame.now.links.now) source_of c.visits.table c.visits.dirty c.visits.invariant.settled c.in_default.ensures.0 in (
+    let closed = none_waits group c.args.frame.now.paths.now c.visits.table c.visits.dirty c.visits.invariant.settled c.in_default.ensures.0 in (
       all_kept is.numbered (group.transfer w) c.args.frame.now.paths.now is.paths (kept_word c.visits.table w) (λ edge there. (closed edge there w inside).0) k low
           (λ p within. c.visits.invariant.entries p w k within inside low) x flag,
       all_made is.numbered (group.transfer w) c.args.frame.now.paths.now is.paths (kept_word c.visits.table w) (made_word c.visits.table w) (λ edge there. (closed edge there w inside).0) (λ edge there. (closed edge there w inside).1) k low
@@ -33,9 +37,10 @@ returns-clause-complete g c w x k inside low flag =
 pub visits-init : goal.visits-init
 visits-init g c = record {
   count = ap length c.mark_all.ensures ∙ (length-replicate (length c.args.dirty.now) true ∙ c.requires.dirty_count);
-  settled = λ edge there.
+  settled = all_wait (group_of c.args.frame.now g.row.W) c.args.frame.now.paths.now c.begin.new.table c.mark_all.new.self (λ edge there.
       let low = (c.requires.frame.numbered.edge_in_range edge there).0 in
-      inr (ap (λ (d : List Bool). get_or d (source_of edge) false) c.mark_all.ensures ∙ get_or-replicate (length c.args.dirty.now) (source_of edge) true false (omega (arith, low, c.requires.dirty_count)));
+      ap (λ (d : List Bool). get_or d (source_of edge) false) c.mark_all.ensures
+      ∙ get_or-replicate (length c.args.dirty.now) (source_of edge) true false (omega (arith, low, c.requires.dirty_count)));
   entries = c.begin.ensures.entries;
   sound = c.begin.ensures.sound;
 }

@@ -1,10 +1,9 @@
 use Rattle.std.proofs.Common.{get_or, arith, ◌∙◌}
 use Rattle.std.proofs.lemmas.List.Elements.{Contains-get_or}
 use Rattle.flow_graph.specs.declared.edge.Edge.TheVariants.{Step}
-use Rattle.flow_graph.specs.Paths.{IsEdge, source_of}
+use Rattle.flow_graph.specs.Paths.{IsEdge}
 use Rattle.flow_links.specs.Shapes.{directed_shape}
-use Rattle.gk_solve.specs.Tables.Groups.{IsSummaryClosedAt, group_of}
-use Rattle.gk_solve.specs.Tables.Visits.{IsSettled}
+use Rattle.gk_solve.specs.Tables.Groups.{IsSummarySettled, group_of}
 use Rattle.gk_solve.proofs.Listed.{each_listed, listed_more}
 use Rattle.gk_solve.proofs.SummaryVisits.{has_size, summaries_on}
 use Rattle.gk_solve.proofs.Visits.{spreads_more}
@@ -22,13 +21,13 @@ loop-to-preserved g c =
     record {
       spreads = spreads_more (summaries_on g.row.W) _ _ _ _ _ _ c.loop-to.invariant.spreads c.visit_step.ensures.spreads;
       done = listed_more (λ y. IsEdge shape (Step c.args.at y))
-          (λ y. IsSettled (IsSummaryClosedAt (group_of c.args.frame.now g.row.W) c.args.frame.now.paths.now) source_of c.loop-to.table c.loop-to.dirty (Step c.args.at y))
-          (λ y. IsSettled (IsSummaryClosedAt (group_of c.args.frame.now g.row.W) c.args.frame.now.paths.now) source_of c.visit_step.new.table c.visit_step.new.dirty (Step c.args.at y))
+          (λ y. IsSummarySettled (group_of c.args.frame.now g.row.W) c.args.frame.now.paths.now c.loop-to.table c.loop-to.dirty (Step c.args.at y))
+          (λ y. IsSummarySettled (group_of c.args.frame.now g.row.W) c.args.frame.now.paths.now c.visit_step.new.table c.visit_step.new.dirty (Step c.args.at y))
           c.steps_from-steps.result.now c.loop-to.to-index 0 c.loop-to-test.true (λ y there. (c.steps_from-steps.ensures.listed y).0 there)
           (λ y there before. c.visit_step.ensures.spreads.settled (Step c.args.at y) there before) c.loop-to.invariant.done c.visit_step.ensures.settled;
     }
 
 pub returns-clause-settled : goal.returns-clause-settled
 returns-clause-settled g c y there =
-    each_listed (λ y. IsSettled (IsSummaryClosedAt (group_of c.args.frame.now g.row.W) c.args.frame.now.paths.now) source_of c.loop-to.table c.loop-to.dirty (Step c.args.at y))
+    each_listed (λ y. IsSummarySettled (group_of c.args.frame.now g.row.W) c.args.frame.now.paths.now c.loop-to.table c.loop-to.dirty (Step c.args.at y))
     c.steps_from-steps.result.now 0 c.loop-to.to-index (omega arith) (λ j below. c.loop-to.invariant.done j 0 below) y ((c.steps_from-steps.ensures.listed y).1 there)

@@ -6,7 +6,7 @@ use Rattle.flow_links.specs.Shapes.{directed_shape}
 use Rattle.flow_graph.specs.Paths.{Shape, source_of}
 use Rattle.gk_solve.specs.Tables.Flags.{IsFlagged, IsReachClosedAt}
 use Rattle.gk_solve.proofs.FlagVisits.{all_reached}
-use Rattle.gk_solve.proofs.Visits.{visit_falls, visit_settles, all_closed}
+use Rattle.gk_solve.proofs.Visits.{visit_falls, visit_settles_from, all_closed}
 use Rattle.gk_solve.proofs.reach.reached.Goals as goal
 
 -- an edge that leaves a point without a flag is closed
@@ -41,7 +41,7 @@ visits-preserved c =
     let spreads = c.visit.ensures.spreads in
     record {
       count = spreads.count ∙ (ap length c.in-Some.ensures.1 ∙ (length-set c.visits.dirty c.in-Some.at false ∙ c.visits.invariant.count));
-      settled = visit_settles c.visits.flags c.visits.dirty c.visit.new.flags c.take.new.self c.visit.new.dirty c.in-Some.at c.in-Some.ensures.1 spreads c.visit.ensures.settled c.visits.invariant.settled;
+      settled = visit_settles_from (IsReachClosedAt (directed_shape c.args.links.now) c.args.links.now.backward) source_of c.visits.flags c.visits.dirty c.visit.new.flags c.take.new.self c.visit.new.dirty c.in-Some.at c.in-Some.ensures.1 spreads c.visit.ensures.settled c.visits.invariant.settled;
       entries = λ p low. spreads.grows _ (c.visits.invariant.entries p low);
       sound = spreads.sound c.visits.invariant.sound;
     }

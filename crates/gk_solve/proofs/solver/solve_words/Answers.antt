@@ -12,10 +12,11 @@ words-init c =
       slice = record {
         points = made.0 ∙ ap (λ (l : LinkedProgram). point_count l.program) c.requires.routes;
         procedures = made.1 ∙ ap (λ (l : LinkedProgram). (directed_shape l).procedures) c.requires.routes;
-        ordered = omega (arith, made.2, made.3, c.requires.ordered);
-        within = omega (arith, made.3, c.requires.within);
+        variables = made.2;
+        ordered = omega (arith, made.3, made.4, c.requires.ordered);
+        within = omega (arith, made.4, c.requires.within);
       };
-      range = (made.2, made.3);
+      range = (made.3, made.4);
       tells = c.requires.tells;
     }
 

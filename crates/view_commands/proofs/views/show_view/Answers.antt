@@ -13,4 +13,5 @@ returns-clause-delivers g c =
     c.view_of_graph.ensures.delivers
 
 pub returns-clause-fault : goal.returns-clause-fault
-returns-clause-fault g c = no_graph_fault (IsOverLimit c.args.program.now) ⊥ c.view_of_graph.result c.view_of_graph.ensures.fault
+returns-clause-fault g c =
+    no_graph_fault (IsOverLimit c.args.options.now.limits c.args.program.now) ⊥ c.view_of_graph.result c.view_of_graph.ensures.fault

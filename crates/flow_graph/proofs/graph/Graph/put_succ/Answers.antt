@@ -21,7 +21,7 @@ put_returns-requires g c =
     let below : c.args.point < point_count c.self.inside.points = subst (λ (p : Program). c.args.point < point_count p) (sym c.self.view_is) c.requires.point in
     let same : c.place-procedure.result.procedure ≡ procedure_at c.self.inside.points c.args.point = ap (λ (at : Place). at.procedure) c.place-procedure.ensures in
     let sites = reads_sites c.self.inside.points c.self.inside.sites.items c.args.point c.place-procedure.result.procedure c.index.result.now c.as_slice.result.now c.self.invariant.4 below same c.index.ensures c.as_slice.ensures in
-    let few : point_count c.self.inside.points ≤ 16384 = c.count.ensures.few in
+    let few : point_count c.self.inside.points ≤ 1048576 = c.count.ensures.few in
     λ k d inside. omega (arith, sites.few k d inside, few)
 
 pub returns-in-None : goal.returns-in-None

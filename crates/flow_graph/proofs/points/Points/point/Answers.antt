@@ -10,6 +10,6 @@ overflow_add-result c =
     let within : c.args.place ≤ end_place c.self.inside.program.now c.args.procedure = subst (λ (p : Program). c.args.place ≤ end_place p c.args.procedure) (sym c.self.view_is) c.requires.place in
     let fits : c.index.result.now + c.args.place < point_count c.self.inside.program.now =
     point_fits c.self.inside.program.now c.self.inside.firsts.items c.args.procedure c.args.place c.index.result.now c.self.invariant.1 there within c.index.ensures in
-    let few : point_count c.self.inside.program.now ≤ 16384 = c.self.invariant.0 in
+    let few : point_count c.self.inside.program.now ≤ 1048576 = c.self.invariant.0 in
     let below : c.index.result.now + c.args.place < 4294967296 = omega arith in
     search rules

@@ -1,8 +1,7 @@
-use Rattle.std.proofs.Common.{◌*◌, ◌<◌, ◌≤◌, sym, subst, arith}
+use Rattle.std.proofs.Common.{◌<◌, sym, subst}
 use Rattle.flow_graph.specs.code.Effects.{IsEffect}
 use Rattle.flow_graph.specs.Points.{point_count}
 use Rattle.flow_graph.specs.Problems.{MayForm}
-use Rattle.flow_graph.specs.Universes.{bits}
 use Rattle.flow_graph.specs.declared.effect.Effect.{Effect}
 use Rattle.flow_graph.proofs.bits.EffectWords.{affected_word}
 use Rattle.flow_graph.proofs.problem.Problem.effect_words.Goals as goal
@@ -15,6 +14,5 @@ returns c bit below affected =
     let kept : IsEffect c.self.inside.graph.now c.self.inside.analysis c.args.point effect =
     subst (λ (e : Effect). IsEffect c.self.inside.graph.now c.self.inside.analysis c.args.point e) (sym c.index-effect.ensures) (c.self.invariant.0.each c.args.point effect there) in
     let known : IsEffect form.program form.analysis c.args.point effect = subst (λ (f : MayForm). IsEffect f.program f.analysis c.args.point effect) c.self.view_is kept in
-    let few : bits form.program form.analysis ≤ 64 * 64 = subst (λ (f : MayForm). bits f.program f.analysis ≤ 64 * 64) c.self.view_is c.self.invariant.2.few in
     affected_word form.program form.analysis c.args.point bit effect c.word_mark.result c.word_mark-2.result c.touched_words.result known
-    c.word_mark.ensures c.word_mark-2.ensures (c.touched_words.ensures bit below) (omega (arith, few, below)) affected
+    c.word_mark.ensures c.word_mark-2.ensures (c.touched_words.ensures bit below) affected

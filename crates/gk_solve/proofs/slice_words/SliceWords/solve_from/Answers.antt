@@ -10,6 +10,9 @@ use Rattle.gk_solve.proofs.Slices.{written_over}
 use Rattle.gk_solve.proofs.SolvedWords.{solved_by_frame}
 use Rattle.gk_solve.proofs.slice_words.SliceWords.solve_from.Goals as goal
 
+pub put_dependence-requires-clause-first : goal.put_dependence-requires-clause-first
+put_dependence-requires-clause-first c = omega (arith, c.requires.word, c.requires.slice.within, c.bits.ensures.count, c.bits.ensures.most)
+
 pub solve_group-requires : goal.solve_group-requires
 solve_group-requires c =
     let form = c.args.problem.now in
@@ -74,6 +77,8 @@ returns-then-self-clause-solved c =
       many_brought = with_items c.self.inside.many_brought c.solve_group.new.brought_words;
       dirty = c.solve_group.new.dirty;
       callers = c.solve_group.new.callers;
+      variables = c.self.inside.variables;
+      dependence = c.put_dependence.new.table;
     } in
     solved_by_frame form frame 4 (point_count frame.links.now.program) c.solve_group.new.table (view_of inside) c.group_frame-frame.ensures.frame c.group_frame-frame.ensures.problem c.group_frame-frame.ensures.first (omega (arith, hi, c.requires.slice.within))
     (ap (λ (b : Bool). if b then map (λ (s : Summary 4). s.made) (with_items c.self.inside.many c.solve_group.new.table).items else map (λ (s : Summary 1). s.made) c.self.inside.one.items) c.if-self.true ∙ ap (map (λ (s : Summary 4). s.made)) (written_over c.self.inside.many.len c.solve_group.new.table c.self.inside.many.items c.self.inside.many.ok.0 (c.solve_group.auto.table ∙ ap length c.as_mut_slice.ensures.value))) (omega (arith, c.min.ensures)) (omega (arith, points, c.solve_group.ensures.dirty)) c.solve_group.ensures.solutions
@@ -98,6 +103,8 @@ returns-clause-solved c =
       many_brought = c.self.inside.many_brought;
       dirty = c.solve_group-2.new.dirty;
       callers = c.solve_group-2.new.callers;
+      variables = c.self.inside.variables;
+      dependence = c.put_dependence.new.table;
     } in
     solved_by_frame form frame 1 (point_count frame.links.now.program) c.solve_group-2.new.table (view_of inside) c.group_frame-frame-2.ensures.frame c.group_frame-frame-2.ensures.problem c.group_frame-frame-2.ensures.first (omega (arith, hi, c.requires.slice.within))
     (ap (λ (b : Bool). if b then map (λ (s : Summary 4). s.made) c.self.inside.many.items else map (λ (s : Summary 1). s.made) (with_items c.self.inside.one c.solve_group-2.new.table).items) c.if-self.false ∙ ap (map (λ (s : Summary 1). s.made)) (written_over c.self.inside.one.len c.solve_group-2.new.table c.self.inside.one.items c.self.inside.one.ok.0 (c.solve_group-2.auto.table ∙ ap length c.as_mut_slice-2.ensures.value))) (omega arith) (omega (arith, points, c.solve_group-2.ensures.dirty)) c.solve_group-2.ensures.solutions

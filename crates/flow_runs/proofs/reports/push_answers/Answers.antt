@@ -1,7 +1,7 @@
 use Rattle.std.proofs.Common.{List, ℕ, sym, subst}
 use Rattle.flow_texts.specs.Reports.{IsReport, ListsSafely}
 use Rattle.flow_runs.proofs.Deliveries.{delivers_as}
-use Rattle.flow_commands.proofs.shows.push_report.Goals as goal
+use Rattle.flow_runs.proofs.reports.push_answers.Goals as goal
 
 pub returns-clause-delivers : goal.returns-clause-delivers
 returns-clause-delivers g c =

@@ -2,17 +2,12 @@ use Rattle.std.proofs.Common.{◌≤◌, length, ap, arith}
 use Rattle.std.proofs.lemmas.Grind.{common_steps}
 use Rattle.tac_program.specs.Programs.{Program}
 use Rattle.flow_graph.specs.Universes.{Live}
-use Rattle.flow_graph.proofs.effects.dependence.Goals as goal
+use Rattle.flow_graph.proofs.effects.dependent_words.Goals as goal
 
 pub blank-requires-clause-rows : goal.blank-requires-clause-rows
 blank-requires-clause-rows c =
-    let few : length c.args.graph.now.variable_names ≤ 4096 = c.bits-bits.ensures.few Live in
+    let few : length c.args.graph.now.variable_names ≤ 131072 = c.bits-bits.ensures.few Live in
     omega (arith, few, c.variables-rows.ensures, ap (λ (p : Program). length p.variable_names) c.program.ensures)
 
 pub loop-bit-preserved : goal.loop-bit-preserved
 loop-bit-preserved c = grind (arith, common_steps)
-
-pub blank-requires-2-clause-rows : goal.blank-requires-2-clause-rows
-blank-requires-2-clause-rows c =
-    let few : length c.args.graph.now.variable_names ≤ 4096 = c.bits-bits.ensures.few Live in
-    omega (arith, few, c.variables-rows.ensures, ap (λ (p : Program). length p.variable_names) c.program.ensures)

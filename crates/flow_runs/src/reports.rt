@@ -1,0 +1,61 @@
+// The report of a graph, which programs write.
+
+ghost use Rattle.std.specs.Prelude.{◌≡◌, ◌+◌, ◌-◌, ◌^◌, ◌<◌, IfErr, OnOk, true};
+ghost use Rattle.std.specs.Thread.{IsSync};
+ghost use Rattle.flow_team.specs.Ranges.{AreInRange};
+ghost use Rattle.flow_texts.specs.Reports.{IsReport, ListsSafely};
+ghost use Rattle.flow_texts.specs.code.Reported.{TellReport};
+ghost use Rattle.flow_runs.specs.Faults.{Delivers, OfProgram, write_faults_in};
+
+use crate::fault::Fault;
+use crate::parts::push_text;
+use flow_graph::Graph;
+use flow_texts::{ReportAnswers, ReportText};
+use std::alloc::Global;
+use std::thread::Threads;
+use text_pieces::Sink;
+
+// Pushes the report of a graph out of answers. They are not owned here, so that no way out drops them.
+fn push_answers<K: Sink>(
+    alloc: Global,
+    graph: &Graph<'_>,
+    answers: &ReportAnswers,
+    sink: &mut K,
+) -> Result<(), Fault>
+    requires answers { TellReport graph.now answers.now }
+    requires below { K.faults sink.old < 2 ^ 32 - 1 }
+    ensures delivers { Delivers (λ out. IsReport graph.now out × ListsSafely graph.now out) (K.contents sink.old) (K.contents sink.new) result }
+    ensures flushed { OnOk result (K.flushed sink.new ≡ true) }
+    ensures fault { IfErr result (OfProgram (λ _. ⊥) ⊥) }
+    ensures faults { K.faults sink.new ≡ K.faults sink.old + write_faults_in result }
+{
+    let text = ReportText::of(alloc, graph, answers)?;
+    push_text(alloc, &text, sink)
+}
+
+/// Pushes the report of a graph and nothing else, and flushes. What it tells is found by so many workers, in slices of so many bits, with no
+/// tables; it is the same for all of these.
+///
+/// The conditions: 1 to 64 workers, and 1 to 4,096 bits; the sink's count of faults is below `u32::MAX`.
+///
+/// - `OutOfMemory`: memory was refused. Nothing was pushed.
+/// - `Write`: a push or the flush was answered by a fault. A beginning of the report was pushed.
+pub fn push_report<R: Threads + Sync, K: Sink>(
+    rt: &R,
+    alloc: Global,
+    graph: &Graph<'_>,
+    workers: u32,
+    cut: u32,
+    sink: &mut K,
+) -> Result<(), Fault>
+    requires threads { IsSync R.row }
+    requires range { AreInRange workers cut }
+    requires below { K.faults sink.old < 2 ^ 32 - 1 }
+    ensures delivers { Delivers (λ out. IsReport graph.now out × ListsSafely graph.now out) (K.contents sink.old) (K.contents sink.new) result }
+    ensures flushed { OnOk result (K.flushed sink.new ≡ true) }
+    ensures fault { IfErr result (OfProgram (λ _. ⊥) ⊥) }
+    ensures faults { K.faults sink.new ≡ K.faults sink.old + write_faults_in result }
+{
+    let answers = ReportAnswers::of(rt, alloc, graph, workers, cut)?;
+    push_answers(alloc, graph, &answers, sink)
+}
