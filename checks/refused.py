@@ -37,7 +37,7 @@ TEXTS = [
 WORDS = {
     "tacflow": [f"--show {kind}" for kind in ("report", "list", "reach", "live", "avail", "busy")],
     "tacview": [
-        *("--format dot", "--format dot --facts all", "--format json", "--format json --procedure main", "--format report --limits large"),
+        *("--format dot", "--format dot --facts all", "--format json", "--format json --procedure main", "--format report"),
     ],
 }
 WORKERS = (1, 3)
