@@ -38,7 +38,7 @@ fn push_answers<K: Sink>(
 ///
 /// The conditions: 1 to 64 workers, and 1 to 4,096 bits; the sink's count of faults is below `u32::MAX`.
 ///
-/// - `OutOfMemory`: memory was refused. Nothing was pushed.
+/// - `OutOfMemory`: memory was refused, or of a program beyond the standard limits some 2^26 words or more are asked. Nothing was pushed.
 /// - `Write`: a push or the flush was answered by a fault. A beginning of the report was pushed.
 pub fn push_report<R: Threads + Sync, K: Sink>(
     rt: &R,

@@ -37,7 +37,8 @@ impl Model for ReportAnswers {
 impl ReportAnswers {
     /// What a report asks of a graph, answered by so many workers, in slices of so many bits.
     ///
-    /// The condition: 1 to 64 workers, and 1 to 4,096 bits. Fails only where memory runs out.
+    /// The condition: 1 to 64 workers, and 1 to 4,096 bits. Fails where memory runs out, and for some 2^26 asks and more, which only a
+    /// program beyond the standard limits has.
     pub fn of<R: Threads + Sync>(
         rt: &R,
         alloc: Global,
@@ -55,7 +56,7 @@ impl ReportAnswers {
         }
     }
 
-    /// What a report asks of a graph, answered on the calling thread. Fails only where memory runs out.
+    /// What a report asks of a graph, answered on the calling thread. Fails as [`of`](ReportAnswers::of) does.
     pub fn here(alloc: Global, graph: &Graph<'_>) -> Result<ReportAnswers, OutOfMemory>
         ensures { IfOk result (TellReport graph.now) }
     {

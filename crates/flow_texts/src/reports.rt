@@ -220,7 +220,7 @@ fn whole_report(
 
 /// The report on a program, made whole: that of `ReportText`, of what the tables answer.
 ///
-/// The condition: they are tables of this graph. Its room grows by doubling; fails only where memory runs out.
+/// The condition: they are tables of this graph. Its room grows by doubling; fails as [`ReportAnswers`] do.
 pub fn report(alloc: Global, graph: &Graph<'_>, tables: &Tables) -> Result<Vec<u8>, OutOfMemory>
     requires { AreTablesOf graph.now tables.now }
     ensures report { IfOk result (λ text. IsReport graph.now text.items) }
@@ -230,7 +230,7 @@ pub fn report(alloc: Global, graph: &Graph<'_>, tables: &Tables) -> Result<Vec<u
     whole_report(alloc, graph, &answers)
 }
 
-/// The report on a program, made whole, of what is found on the calling thread. Its room grows by doubling; fails only where memory runs out.
+/// The report on a program, made whole, of what is found on the calling thread. Its room grows by doubling; fails as [`ReportAnswers`] do.
 pub fn report_here(alloc: Global, graph: &Graph<'_>) -> Result<Vec<u8>, OutOfMemory>
     ensures report { IfOk result (λ text. IsReport graph.now text.items) }
     ensures safe { IfOk result (λ text. ListsSafely graph.now text.items) }

@@ -221,7 +221,7 @@ pub fn solve_counted(
 ///
 /// It is the least solution of the summary equations, one set of equations for each bit (Kildall 1973; summaries of procedures:
 /// Reps, Horwitz, Sagiv 1995). Several words of 64 bits are solved at once. A point is visited again only where what is kept or
-/// made there changed, a call site where its callee's exit changed, and a procedure where what is brought to it changed.
+/// made there changed, a call gone over again where its callee's exit changed, and a procedure where what is brought to it changed.
 ///
 /// A caller who solves a problem slice by slice makes a [`Solver`] once.
 pub fn solve(
