@@ -2,7 +2,7 @@
 
 import inspect
 
-from . import hard, large, small, texts
+from . import hard, large, small, texts, whole
 from .writing import Fault
 
 GROUPS = [
@@ -10,6 +10,7 @@ GROUPS = [
     ("programs that are laid out against a solver", hard.SHAPES),
     ("long texts that are hard on a reader", texts.SHAPES),
     ("small programs", small.SHAPES),
+    ("texts for the large limits of tacview", whole.SHAPES),
 ]
 POSITIVE = {"points", "bits", "procedures", "variables", "statements", "heads", "period", "size"}
 ALL = {name: maker for _, shapes in GROUPS for name, maker in shapes.items()}

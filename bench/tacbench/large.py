@@ -12,7 +12,7 @@ class Skeleton:
 
     def __init__(self, points, bits, procedures, variables, seed):
         need(procedures >= 1 and points >= 2 * procedures, "a procedure takes two points: fewer procedures or more points")
-        need(procedures <= 256, "a program has at most 256 procedures")
+        need(procedures <= 16384, "a program has at most 16,384 procedures, and within the standard limits 256")
         need(bits >= 2, "two definitions are needed")
         self.random = random.Random(seed)
         self.bits = bits

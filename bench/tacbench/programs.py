@@ -40,40 +40,35 @@ def launcher_environment():
     return environment
 
 
-def sources_sum():
-    """What the sources hold, counted as the script `./tacflow` does."""
-    count = ("find crates.txt crates/*/src crates/*/specs crates/*/proofs -type f | LC_ALL=C sort | tr '\\n' '\\0'"
-             " | xargs -0 cksum | cksum")
-    return subprocess.run(["sh", "-c", count], cwd=ROOT, stdout=subprocess.PIPE, check=True).stdout.decode().strip()
-
-
-def proved_program():
-    """The program that $TACFLOW names, or the one that was proved and built from the sources as they are."""
-    named = os.environ.get("TACFLOW")
+def proved_program(name):
+    """The program that $TACFLOW or $TACVIEW names, or the one that was proved and built from the sources as they are."""
+    variable = name.upper()
+    named = os.environ.get(variable)
     if named:
         if not os.access(named, os.X_OK):
-            raise Unready("TACFLOW names %s, which is no program" % named)
+            raise Unready("%s names %s, which is no program" % (variable, named))
         return os.path.abspath(named)
-    out = ROOT / "crates" / "tacflow" / "out"
-    mark = out / "launched"
-    if not os.access(out / "tacflow", os.X_OK) or not mark.exists():
-        raise Unready("tacflow is not proved and built: ./tacflow --prove does that; or TACFLOW=PATH names another program")
-    if mark.read_text().split("\n")[0].strip() != sources_sum():
-        raise Unready("tacflow was built from other sources: ./tacflow --help proves and builds it; or TACFLOW=PATH names another program")
-    return str(out / "tacflow")
+    told = subprocess.run([str(ROOT / name), "--version"], stdout=subprocess.PIPE, stderr=subprocess.DEVNULL).stdout
+    if b", proved with " not in told:
+        raise Unready("%s is not proved and built: ./%s --prove does that; or %s=PATH names another program" % (name, name, variable))
+    return str(ROOT / "crates" / name / "out" / name)
 
 
 def tacflow():
-    return Program("tacflow", proved_program(), environment=launcher_environment())
+    return Program("tacflow", proved_program("tacflow"), environment=launcher_environment())
 
 
-def build_plain(target="native"):
+def tacview():
+    return Program("tacview", proved_program("tacview"), environment=launcher_environment())
+
+
+def build_plain(target="native", large=False):
     """Compiles the plain program for this machine, or for any of its kind, and gives the folder of the programs."""
     if shutil.which("cargo") is None:
         raise Unready("cargo, which compiles the plain program, is not on the path")
-    folder = OUT / ("plain-" + target)
+    folder = OUT / ("plain-" + target + ("-large" if large else ""))
     environment = dict(os.environ, RUSTFLAGS="-C target-cpu=" + TARGETS[target])
-    command = ["cargo", "build", "--release", "--offline", "--quiet", "--target-dir", str(folder)]
+    command = ["cargo", "build", "--release", "--offline", "--quiet", "--target-dir", str(folder), *(["--features", "large"] if large else [])]
     built = subprocess.run(command, cwd=BENCH / "plain", env=environment, stdout=subprocess.PIPE, stderr=subprocess.STDOUT)
     if built.returncode != 0:
         log = OUT / "plain.log"
@@ -82,8 +77,9 @@ def build_plain(target="native"):
     return folder / "release"
 
 
-def plain(target="native"):
-    return Program("plain", build_plain(target) / "tacflow-plain", environment=launcher_environment())
+def plain(target="native", large=False):
+    """The plain program; `large` takes what `tacview --limits large` takes."""
+    return Program("plain", build_plain(target, large) / "tacflow-plain", environment=launcher_environment())
 
 
 def other(word):

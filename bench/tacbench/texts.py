@@ -10,6 +10,23 @@ LETTERS = "abcdefghijklmnopqrstuvwxyzABCDEFGHIJKLMNOPQRSTUVWXYZ"
 SIGNS = LETTERS + "_0123456789"
 
 
+def width(size, least):
+    """How many digits number the names of a text, which may be longer than the standard limits allow."""
+    return least if size <= LIMIT else least + 1
+
+
+def filled(head, pieces, tail, size):
+    """As many pieces as fit."""
+    room = size - len(head) - len(tail)
+    made = []
+    for piece in pieces:
+        room -= len(piece)
+        if room < 0:
+            break
+        made.append(piece)
+    return head + "".join(made) + tail
+
+
 def repeated(head, line, tail, size):
     """As many lines as fit; `line` makes each by its number, all of one length."""
     count = (size - len(head) - len(tail)) // len(line(0))
@@ -29,7 +46,8 @@ def labels(size=LIMIT):
 
 def labels_in_a_row(size=LIMIT):
     """labels, all on one line"""
-    return repeated("proc main\n", lambda number: "n%06d:" % number, "\nend\n", size)
+    digits = width(size, 6)
+    return repeated("proc main\n", lambda number: "n%0*d:" % (digits, number), "\nend\n", size)
 
 
 def variables(size=LIMIT):
@@ -49,9 +67,10 @@ def jumps(size=LIMIT):
 
 def far_jumps(size=LIMIT):
     """jumps to labels, the first to the last and so on"""
-    count = (size - 20) // len("n000000:goto n000000\n")
+    digits = width(size, 6)
+    count = (size - 20) // len("n:goto n\n" + 2 * digits * "0")
     need(count >= 1, "so few bytes are too few for this text")
-    lines = ["n%06d:goto n%06d\n" % (number, count - 1 - number) for number in range(count)]
+    lines = ["n%0*d:goto n%0*d\n" % (digits, number, digits, count - 1 - number) for number in range(count)]
     return "proc main\n" + "".join(lines) + "end\n"
 
 
@@ -128,16 +147,17 @@ def unknown_label(size=LIMIT):
 
 
 def procedures(size=LIMIT):
-    """more procedures than a program may have, refused at the 257th"""
-    return repeated("proc main\nend\n", lambda number: "proc n%06d\nend\n" % number, "", size)
+    """more procedures than a program may have, refused at the first that is too many"""
+    digits = width(size, 6)
+    return repeated("proc main\nend\n", lambda number: "proc n%0*d\nend\n" % (digits, number), "", size)
 
 
-def by_factor(factor):
+def by_factor(factor, size):
     """Names that are one under hash * factor + byte: pairs of signs that are so, one after the other."""
     second = next((sign for sign in SIGNS if chr(ord(sign) + factor) in SIGNS), None)
     need(second is not None, "there is no such pair of signs for this factor")
     pairs = ("b" + second, "a" + chr(ord(second) + factor))
-    return ("".join(choice) for choice in itertools.product(pairs, repeat=15))
+    return ("".join(choice) for choice in itertools.product(pairs, repeat=15 if size <= LIMIT else 21))
 
 
 def by_fnv(bits):
@@ -163,17 +183,9 @@ def by_fnv(bits):
 
 def colliding(size=LIMIT, hash=31, as_labels=0):
     """variables that fall together under hash * 31 + byte (hash=31, as in Java; 33 as well), or under FNV-1a (hash=0); as_labels=1: labels"""
-    names = by_fnv(12) if hash == 0 else by_factor(hash)
+    names = by_fnv(12) if hash == 0 else by_factor(hash, size)
     line = "%s:\n" if as_labels else "print %s\n"
-    head, tail, lines = "proc main\n", "end\n", []
-    room = size - len(head) - len(tail)
-    for name in names:
-        text = line % name
-        if len(text) > room:
-            break
-        room -= len(text)
-        lines.append(text)
-    return head + "".join(lines) + tail
+    return filled("proc main\n", (line % name for name in names), "end\n", size)
 
 
 SHAPES = {"labels": labels, "labels-in-a-row": labels_in_a_row, "variables": variables, "long-names": long_names, "jumps": jumps,

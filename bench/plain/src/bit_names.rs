@@ -59,7 +59,7 @@ impl BitNames {
         for number in 0..program.procedures.len() {
             for statement in &program.statements[program.statements_of(number)] {
                 let next = self.starts.len();
-                if statement.evaluates() && usize::from(graph.effects[point].expression) == next {
+                if statement.evaluates() && graph.effects[point].expression as usize == next {
                     self.begin();
                     value(program, statement, |bytes| self.text.extend_from_slice(bytes));
                 }

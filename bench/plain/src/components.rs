@@ -32,7 +32,7 @@ struct Components<'c> {
 }
 
 impl Components<'_> {
-    /// At most 256 calls deep, as there are at most so many procedures.
+    /// As many calls deep as there are procedures: at most 256, or 16,384 within the large limits.
     fn visit(&mut self, procedure: u32) {
         let at = procedure as usize;
         self.number[at] = self.counter;

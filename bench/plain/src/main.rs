@@ -7,6 +7,7 @@ mod facts;
 mod fault;
 mod flow;
 mod graph;
+mod limits;
 mod listing;
 
 mod names;
@@ -24,6 +25,7 @@ mod words;
 use facts::{Findings, Flows, Sets};
 use fault::Fault;
 use graph::Graph;
+use limits::TEXT_LIMIT;
 use options::{Options, Show, Words};
 use output::Output;
 use program::Program;
@@ -57,8 +59,8 @@ fn main() -> ExitCode {
 }
 
 fn run(options: &Options) -> Result<(), Fault> {
-    let mut text = Vec::with_capacity(reader::TEXT_LIMIT + 2);
-    io::stdin().lock().take(reader::TEXT_LIMIT as u64 + 1).read_to_end(&mut text).map_err(|_| Fault::Read)?;
+    let mut text = Vec::with_capacity(TEXT_LIMIT + 2);
+    io::stdin().lock().take(TEXT_LIMIT as u64 + 1).read_to_end(&mut text).map_err(|_| Fault::Read)?;
     let program = reader::read(&text).map_err(|refused| Fault::of_text(&text, refused))?;
     let mut output = Output::standard().map_err(|_| Fault::Write)?;
     let written = match options.show {

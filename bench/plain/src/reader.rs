@@ -1,12 +1,11 @@
 //! From a text to its program, in one pass over its tokens.
 
 use crate::fault::{Refusal, Refused};
+use crate::limits::{PROCEDURE_LIMIT, TEXT_LIMIT};
 use crate::names::{Names, Secret};
 use crate::program::{Form, Label, Operand, Operator, Procedure, Program, Statement};
 use crate::tokens::{Keyword, Token, Tokens};
 
-pub const TEXT_LIMIT: usize = 1 << 20;
-const PROCEDURE_LIMIT: usize = 256;
 const CALLEE_LIMIT: u8 = 8;
 const NOWHERE: u32 = u32::MAX;
 

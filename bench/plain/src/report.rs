@@ -3,6 +3,7 @@
 use crate::bit_names::BitNames;
 use crate::facts::{COMPUTED, DEAD, Findings, Flows, UNSET_FIRST, UNSET_SECOND};
 use crate::graph::{Graph, NONE};
+use crate::limits::BIT_LIMIT;
 use crate::output::{Decimal, Output};
 use crate::program::{Form, Program, Statement};
 use crate::transfer::Analysis;
@@ -143,7 +144,7 @@ impl<'w> ReportWriter<'w> {
         let remarks = self.findings.remarks[point];
         self.unset(statement, remarks)?;
         if remarks & COMPUTED != 0 {
-            let name = self.expressions.name(usize::from(graph.effects[point].expression)).to_vec();
+            let name = self.expressions.name(graph.effects[point].expression as usize).to_vec();
             self.line(&name, b" is already computed")?;
         }
         if let Some(test) = busy {
@@ -167,7 +168,7 @@ impl<'w> ReportWriter<'w> {
     }
 
     fn busy(&mut self, test: usize, expressions: usize) -> io::Result<()> {
-        let mut words = [0; 64];
+        let mut words = [0; BIT_LIMIT / 64];
         let words = &mut words[..expressions.div_ceil(64)];
         self.findings.busy.copy(test, words);
         for (place, word) in words.iter().enumerate() {

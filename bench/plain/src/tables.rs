@@ -2,7 +2,8 @@
 
 use crate::bit_names::{BitNames, SKIPPED};
 use crate::facts::{Flows, Sets};
-use crate::graph::{Graph, NO_BIT};
+use crate::graph::Graph;
+use crate::limits::{Bit, NO_BIT};
 use crate::output::{Decimal, Output};
 use crate::program::Program;
 use crate::transfer::Analysis;
@@ -16,7 +17,7 @@ struct TableWriter<'w> {
     analysis: Analysis,
     names: BitNames,
     /// Of each variable the bits that its assignments kill.
-    kills: Vec<Vec<u16>>,
+    kills: Vec<Vec<Bit>>,
     words: usize,
     /// The set that was written last, and its text.
     last: Vec<u64>,
@@ -46,15 +47,15 @@ pub fn write(program: &Program, graph: &Graph, flows: &Flows, sets: &Sets, analy
     Ok(())
 }
 
-fn kills(graph: &Graph, analysis: Analysis) -> Vec<Vec<u16>> {
+fn kills(graph: &Graph, analysis: Analysis) -> Vec<Vec<Bit>> {
     let mut kills = vec![Vec::new(); graph.variables];
     for bit in 0..analysis.bits(graph) {
         match analysis {
-            Analysis::Reach | Analysis::Unset => kills[graph.defined(bit)].push(bit as u16),
-            Analysis::Live => kills[bit].push(bit as u16),
+            Analysis::Reach | Analysis::Unset => kills[graph.defined(bit)].push(bit as Bit),
+            Analysis::Live => kills[bit].push(bit as Bit),
             Analysis::Available | Analysis::Busy => {
                 for variable in graph.operands(bit).into_iter().filter(|variable| *variable != NO_BIT) {
-                    kills[usize::from(variable)].push(bit as u16);
+                    kills[variable as usize].push(bit as Bit);
                 }
             }
         }
@@ -87,14 +88,14 @@ impl TableWriter<'_> {
 
     fn apply(&self, point: usize, bits: &mut [u64]) {
         let effect = &self.graph.effects[point];
-        if let Some(kills) = self.kills.get(usize::from(effect.write)) {
+        if let Some(kills) = self.kills.get(effect.write as usize) {
             for bit in kills {
-                bits[usize::from(*bit) / 64] &= !(1 << (bit % 64));
+                bits[*bit as usize / 64] &= !(1 << (bit % 64));
             }
         }
-        let mut set = |bit: u16| {
+        let mut set = |bit: Bit| {
             if bit != NO_BIT {
-                bits[usize::from(bit) / 64] |= 1 << (bit % 64);
+                bits[bit as usize / 64] |= 1 << (bit % 64);
             }
         };
         match self.analysis {

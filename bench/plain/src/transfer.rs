@@ -1,6 +1,7 @@
 //! What statements do to a group of bits in the may form of each analysis (`docs/ANALYSES.md`, "One form for all four").
 
-use crate::graph::{Effect, Graph, NO_BIT};
+use crate::graph::{Effect, Graph};
+use crate::limits::{Bit, NO_BIT};
 use crate::words::{Effects, Words};
 
 #[derive(Clone, Copy, PartialEq, Eq)]
@@ -57,8 +58,8 @@ pub struct Group<const N: usize> {
 impl<const N: usize> Group<N> {
     /// The place of a bit in the group, if it lies there.
     #[inline(always)]
-    pub fn place(self, bit: u16) -> Option<usize> {
-        let place = usize::from(bit).wrapping_sub(self.first);
+    pub fn place(self, bit: Bit) -> Option<usize> {
+        let place = (bit as usize).wrapping_sub(self.first);
         (place < 64 * N && bit != NO_BIT).then_some(place)
     }
 }
@@ -68,7 +69,7 @@ pub struct Unset<const N: usize>(pub Group<N>);
 impl<const N: usize> Group<N> {
     #[inline(always)]
     fn has_any(self, effect: &Effect) -> bool {
-        let has = |bit: u16| usize::from(bit).wrapping_sub(self.first) < 64 * N;
+        let has = |bit: Bit| (bit as usize).wrapping_sub(self.first) < 64 * N;
         has(effect.write) | has(effect.uses[0]) | has(effect.uses[1])
     }
 }
@@ -112,7 +113,7 @@ impl<const N: usize> Transfer<N> for Live<N> {
 
 /// Of each variable the bits of a group that its assignments kill.
 pub struct Kills<const N: usize> {
-    number: Vec<u16>,
+    number: Vec<Bit>,
     words: Vec<Words<N>>,
 }
 
@@ -122,7 +123,7 @@ impl<const N: usize> Kills<N> {
         let end = analysis.bits(graph).min(group.first + 64 * N);
         for bit in group.first..end {
             if analysis == Analysis::Reach {
-                kills.add(graph.defined(bit) as u16, bit - group.first);
+                kills.add(graph.defined(bit) as Bit, bit - group.first);
             } else {
                 graph.operands(bit).into_iter().for_each(|variable| kills.add(variable, bit - group.first));
             }
@@ -130,19 +131,19 @@ impl<const N: usize> Kills<N> {
         kills
     }
 
-    fn add(&mut self, variable: u16, bit: usize) {
-        let Some(number) = self.number.get_mut(usize::from(variable)) else { return };
+    fn add(&mut self, variable: Bit, bit: usize) {
+        let Some(number) = self.number.get_mut(variable as usize) else { return };
         if *number == NO_BIT {
-            *number = self.words.len() as u16;
+            *number = self.words.len() as Bit;
             self.words.push(Words::NONE);
         }
-        self.words[usize::from(*number)].set(bit);
+        self.words[*number as usize].set(bit);
     }
 
     #[inline(always)]
-    fn of(&self, variable: u16) -> Option<&Words<N>> {
-        let number = *self.number.get(usize::from(variable))?;
-        self.words.get(usize::from(number))
+    fn of(&self, variable: Bit) -> Option<&Words<N>> {
+        let number = *self.number.get(variable as usize)?;
+        self.words.get(number as usize)
     }
 }
 
