@@ -58,7 +58,7 @@ CALLS = {
     },
     "slice_board_tests": {"Board::open, its rows or its cut"},
     "tac_reader_tests": {"read", "listing", "write_unary_expression", "write_binary_expression"},
-    "text_pieces_tests": {"deliver", "pull_all"},
+    "text_pieces_tests": {"deliver", "pull_all", "pull_all, a longer block"},
     "view_commands_tests": {"run of tacview"},
 }
 # The same of single tests of a job of three slices: by one worker each slice is left in some run, by two some slice is.

@@ -13,12 +13,74 @@ static void expect(const char *what, int wanted, int got) {
     }
 }
 
+/* Three points, two variables, three definitions, one expression. */
+static const char text[] = "proc main\n  x = y + 1\n  print x\nend\n";
+static const char no_program[] = "proc main\n  x = = 1\nend\n";
+static const size_t length = sizeof text - 1;
+static tacflow_place place = {7, 7, 7};
+
+/* What is live at points from..until: room for so many flags and words. */
+static int live_at(uint32_t from, uint32_t until, uint8_t *flags, size_t flag_count, uint64_t *words, size_t word_count) {
+    return tacflow_facts_within(TACFLOW_STANDARD, text, length, TACFLOW_LIVE, from, until, 0, 2, flags, flag_count, words, word_count, &place);
+}
+
+/* Ranges of points: bad ones, and what is told of good ones. */
+static void ranges_of_points(void) {
+    uint8_t flags[4];
+    uint64_t words[4], before[4];
+    memset(words, 0x55, sizeof words), memset(before, 0x55, sizeof before), memset(flags, 9, sizeof flags);
+    expect("points turned round", TACFLOW_BAD_RANGE, live_at(2, 1, flags, 1, words, 1));
+    expect("points too far", TACFLOW_BAD_RANGE, live_at(0, 4, flags, 4, words, 4));
+    expect("no such points", TACFLOW_BAD_RANGE, live_at(4, 4, NULL, 0, NULL, 0));
+    expect("from behind the end", TACFLOW_BAD_RANGE, live_at(4, TACFLOW_ALL_POINTS, NULL, 0, NULL, 0));
+    expect("room for all points", TACFLOW_BAD_ROOM, live_at(1, 3, flags, 3, words, 3));
+    expect("room for a point less", TACFLOW_BAD_ROOM, live_at(1, TACFLOW_ALL_POINTS, flags, 1, words, 1));
+    if (memcmp(words, before, sizeof words) || flags[0] != 9) wrong = puts("bad points: something was written") || 1;
+    expect("two points", TACFLOW_OK, live_at(1, 3, flags, 2, words, 2));
+    if (words[0] != 1 || words[1] != 0 || words[2] != before[2] || flags[0] != 1 || flags[1] != 1 || flags[2] != 9)
+        wrong = puts("two points: others than by hand") || 1;
+    memset(words, 0x55, sizeof words);
+    expect("the last two points", TACFLOW_OK, live_at(1, TACFLOW_ALL_POINTS, flags, 2, words, 2));
+    if (words[0] != 1 || words[1] != 0 || words[2] != before[2]) wrong = puts("the last two points: others than by hand") || 1;
+    expect("no points of all", TACFLOW_OK, live_at(3, 3, NULL, 0, NULL, 0));
+    expect("one point within the large limits", TACFLOW_OK,
+           tacflow_facts_within(TACFLOW_LARGE, text, length, TACFLOW_REACH, 2, 3, 1, 3, flags, 1, words, 1, &place));
+    if (words[0] != 6 || flags[0] != 1) wrong = puts("one point within the large limits: others than by hand") || 1;
+}
+
+/* There are two limits, 0 and 1. The same is told of a text that is no program, and of no analysis. */
+static void no_limits(void) {
+    tacflow_sizes_of_program sizes;
+    tacflow_point points[3];
+    tacflow_definition definitions[3];
+    tacflow_expression expression;
+    size_t ends[2], size = 7;
+    char shown[128];
+    uint8_t flags[3];
+    uint64_t words[3], before[3];
+    memset(&sizes, 0x55, sizeof sizes), memset(words, 0x55, sizeof words), memset(before, 0x55, sizeof before);
+    memset(flags, 9, sizeof flags), memset(shown, '.', sizeof shown);
+    place.number = 7;
+    for (int limits = -1; limits <= 2; limits += 3) {
+        expect("sizes within no limits", TACFLOW_BAD_LIMITS, tacflow_sizes_within(limits, text, length, &sizes, &place));
+        expect("no program within no limits", TACFLOW_BAD_LIMITS,
+               tacflow_sizes_within(limits, no_program, sizeof no_program - 1, &sizes, &place));
+        expect("points within no limits", TACFLOW_BAD_LIMITS, tacflow_points_within(limits, text, length, points, 3, &place));
+        expect("definitions within no limits", TACFLOW_BAD_LIMITS, tacflow_definitions_within(limits, text, length, definitions, 3, &place));
+        expect("expressions within no limits", TACFLOW_BAD_LIMITS, tacflow_expressions_within(limits, text, length, &expression, 1, &place));
+        expect("procedures within no limits", TACFLOW_BAD_LIMITS,
+               tacflow_procedures_within(limits, text, length, ends, 1, shown, sizeof shown, &place));
+        expect("variables within no limits", TACFLOW_BAD_LIMITS,
+               tacflow_variables_within(limits, text, length, ends, 2, shown, sizeof shown, &place));
+        expect("a listing within no limits", TACFLOW_BAD_LIMITS, tacflow_listing_within(limits, text, length, shown, 5, &size, &place));
+        expect("a report within no limits", TACFLOW_BAD_LIMITS, tacflow_report_within(limits, text, length, shown, sizeof shown, &size, &place));
+        expect("facts within no limits", TACFLOW_BAD_LIMITS, tacflow_facts_within(limits, text, length, 4, 2, 1, 0, 2, flags, 3, words, 3, &place));
+    }
+    if (sizes.points != 0x55555555 || memcmp(words, before, sizeof words) || flags[0] != 9 || shown[0] != '.' || place.number != 7 || size != 7)
+        wrong = puts("no limits: something was written") || 1;
+}
+
 int main(void) {
-    /* Three points, two variables, three definitions, one expression. */
-    static const char text[] = "proc main\n  x = y + 1\n  print x\nend\n";
-    static const char no_program[] = "proc main\n  x = = 1\nend\n";
-    const size_t length = sizeof text - 1;
-    tacflow_place place = {7, 7, 7};
     tacflow_sizes_of_program sizes;
     tacflow_point points[4];
     tacflow_definition definitions[4];
@@ -89,5 +151,7 @@ int main(void) {
     if (size != sizeof report - 1 || memcmp(shown, report, size) || shown[size] != '.') wrong = puts("a report: other than by hand") || 1;
     expect("a report of no program", TACFLOW_REFUSED, tacflow_report(no_program, sizeof no_program - 1, shown, sizeof shown, &size, &place));
     expect("no size", TACFLOW_BAD_POINTER, tacflow_report(text, length, shown, sizeof shown, NULL, &place));
+    ranges_of_points();
+    no_limits();
     return wrong;
 }

@@ -41,7 +41,7 @@ static int call_expressions(void) { return tacflow_expressions(text, length, exp
 static int call_procedures(void) { return tacflow_procedures(text, length, ends, 2, names, sizeof names, &place); }
 static int call_variables(void) { return tacflow_variables(text, length, ends, 2, names, sizeof names, &place); }
 static int call_facts(void) { return tacflow_facts(text, length, TACFLOW_BUSY, 0, 2, flags, 8, words, 8, &place); }
-
+static int call_large_facts(void) { return tacflow_facts_within(TACFLOW_LARGE, text, length, TACFLOW_BUSY, 4, 8, 0, 2, flags, 4, words, 4, &place); }
 static int call_listing(void) { return tacflow_listing(text, length, shown, sizeof shown, &size, &place); }
 static int call_report(void) { return tacflow_report(text, length, shown, sizeof shown, &size, &place); }
 
@@ -73,7 +73,7 @@ int main(void) {
         && keeps("definitions", call_definitions, definitions, sizeof definitions)
         && keeps("expressions", call_expressions, expressions, sizeof expressions)
         && keeps("procedures", call_procedures, names, sizeof names) && keeps("variables", call_variables, names, sizeof names)
-        && keeps("facts", call_facts, words, sizeof words)
+        && keeps("facts", call_facts, words, sizeof words) && keeps("facts within the large limits", call_large_facts, words, sizeof words)
         && keeps("listing", call_listing, shown, sizeof shown) && keeps("report", call_report, shown, sizeof shown);
     return !kept;
 }

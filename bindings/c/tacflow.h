@@ -6,12 +6,18 @@
  * proved, but short.
  *
  * All memory is the caller's. Texts, names and spans are counted in bytes; lines and columns from 1; all other numbers from 0.
- * A call that takes room takes a pointer and how many elements it points to, and wants exactly as many as there are, but for bytes
- * of names and of texts, where there may be more. tacflow_sizes tells how many. After a status other than TACFLOW_OK nothing was
- * written, but the place of a refusal, and the size of a text for which there was too little room.
+ * A range a..b has the numbers from a up to b - 1.
+ * A call that takes room takes a pointer and how many elements it points to, and wants exactly as many as are asked for, but for
+ * bytes of names and of texts, where there may be more. tacflow_sizes tells how many there are. After a status other than TACFLOW_OK
+ * nothing was written, but the place of a refusal, and the size of a text for which there was too little room.
+ *
+ * Each call stands here twice: with its own name it keeps to the standard limits, and with _within at the name's end its first argument
+ * says which limits (enum tacflow_limits). A program within the standard limits is answered the same within the large ones. A number of
+ * no limits is told before anything else but a null pointer.
  *
  * Calls may be made by several threads at once, each with room of its own. The program's malloc, realloc and free are called.
- * Link with libtacflow_c.a and the kit's heap.c (bindings/check shows how). */
+ * Link with libtacflow.a, which needs the C library alone: bindings/build makes it in bindings/lib, and where it is installed
+ * pkg-config --libs tacflow has it. */
 #ifndef TACFLOW_H
 #define TACFLOW_H
 
@@ -28,11 +34,20 @@ enum tacflow_status {
     TACFLOW_REFUSED = 1,          /* the text is no program: the place says why and where */
     TACFLOW_OUT_OF_MEMORY = 2,    /* memory was refused */
     TACFLOW_BAD_ANALYSIS = 3,     /* there is no analysis of this number */
-    TACFLOW_BAD_RANGE = 4,        /* lo..hi are no bits of the analysis */
+    TACFLOW_BAD_RANGE = 4,        /* lo..hi are no bits of the analysis, or the points none of the program */
     TACFLOW_BAD_ROOM = 5,         /* the room is not as large as the answer */
     TACFLOW_BAD_POINTER = 6,      /* a pointer is null */
-    TACFLOW_TOO_MANY_POINTS = 21, /* the program has more than 16,384 points */
-    TACFLOW_TOO_MANY_BITS = 22    /* some analysis has more than 4,096 bits */
+    TACFLOW_BAD_LIMITS = 7,       /* there are no limits of this number */
+    TACFLOW_TOO_MANY_POINTS = 21, /* the program has more points than the limits allow: standard 16,384, large 1,048,576 */
+    TACFLOW_TOO_MANY_BITS = 22    /* some analysis has more bits than the limits allow: standard 4,096, large: see tacflow_limits */
+};
+
+/* How large a text and its program may be. Too long a text is refused with number 11, too many procedures with number 12; points and bits
+ * have statuses of their own. */
+enum tacflow_limits {
+    TACFLOW_STANDARD = 0, /* 1 MiB of text, 256 procedures, 16,384 points, 4,096 bits in each analysis */
+    TACFLOW_LARGE = 1     /* 64 MiB of text, 16,384 procedures, 1,048,576 points, 131,072 variables and as many expressions; definitions
+                           * have no limit of their own */
 };
 
 /* The analyses. The bits of reach are definitions, those of live variables, those of avail and busy expressions. */
@@ -69,7 +84,11 @@ typedef struct {
     uint32_t end;
 } tacflow_point;
 
+/* No point has this number. */
 #define TACFLOW_NO_POINT UINT32_MAX
+
+/* Stands for the end of all points, where a range of points ends. */
+#define TACFLOW_ALL_POINTS UINT32_MAX
 
 /* A definition: its variable, and the point of its statement, or TACFLOW_NO_POINT for the value at the beginning. */
 typedef struct {
@@ -100,16 +119,20 @@ typedef struct {
 #define TACFLOW_LONGEST_NAME 64
 
 /* The proved calls: no pointer may be null, also where it points to no element. */
-uint32_t tacflow_c_sizes(const uint8_t *text, size_t length, tacflow_sizes_of_program *sizes, tacflow_place *place);
-uint32_t tacflow_c_points(const uint8_t *text, size_t length, tacflow_point *points, size_t count, tacflow_place *place);
-uint32_t tacflow_c_definitions(const uint8_t *text, size_t length, tacflow_definition *definitions, size_t count, tacflow_place *place);
-uint32_t tacflow_c_expressions(const uint8_t *text, size_t length, tacflow_expression *expressions, size_t count, tacflow_place *place);
-uint32_t tacflow_c_procedures(const uint8_t *text, size_t length, size_t *ends, size_t count, uint8_t *bytes, size_t room, tacflow_place *place);
-uint32_t tacflow_c_variables(const uint8_t *text, size_t length, size_t *ends, size_t count, uint8_t *bytes, size_t room, tacflow_place *place);
-uint32_t tacflow_c_listing(const uint8_t *text, size_t length, uint8_t *bytes, size_t room, size_t *size, tacflow_place *place);
-uint32_t tacflow_c_report(const uint8_t *text, size_t length, uint8_t *bytes, size_t room, size_t *size, tacflow_place *place);
-uint32_t tacflow_c_facts(const uint8_t *text, size_t length, uint32_t analysis, uint32_t lo, uint32_t hi, uint8_t *flags, size_t flag_count,
-                         uint64_t *words, size_t word_count, tacflow_place *place);
+uint32_t tacflow_c_sizes(const uint8_t *text, size_t length, uint32_t limits, tacflow_sizes_of_program *sizes, tacflow_place *place);
+uint32_t tacflow_c_points(const uint8_t *text, size_t length, uint32_t limits, tacflow_point *points, size_t count, tacflow_place *place);
+uint32_t tacflow_c_definitions(const uint8_t *text, size_t length, uint32_t limits, tacflow_definition *definitions, size_t count,
+                               tacflow_place *place);
+uint32_t tacflow_c_expressions(const uint8_t *text, size_t length, uint32_t limits, tacflow_expression *expressions, size_t count,
+                               tacflow_place *place);
+uint32_t tacflow_c_procedures(const uint8_t *text, size_t length, uint32_t limits, size_t *ends, size_t count, uint8_t *bytes, size_t room,
+                              tacflow_place *place);
+uint32_t tacflow_c_variables(const uint8_t *text, size_t length, uint32_t limits, size_t *ends, size_t count, uint8_t *bytes, size_t room,
+                             tacflow_place *place);
+uint32_t tacflow_c_listing(const uint8_t *text, size_t length, uint32_t limits, uint8_t *bytes, size_t room, size_t *size, tacflow_place *place);
+uint32_t tacflow_c_report(const uint8_t *text, size_t length, uint32_t limits, uint8_t *bytes, size_t room, size_t *size, tacflow_place *place);
+uint32_t tacflow_c_facts(const uint8_t *text, size_t length, uint32_t limits, uint32_t analysis, uint32_t first_point, uint32_t end_point,
+                         uint32_t lo, uint32_t hi, uint8_t *flags, size_t flag_count, uint64_t *words, size_t word_count, tacflow_place *place);
 
 /* Memory that a null pointer to no elements stands for. */
 static inline void *tacflow_some(const void *pointer, size_t count, void *nothing) {
@@ -117,59 +140,87 @@ static inline void *tacflow_some(const void *pointer, size_t count, void *nothin
 }
 
 /* How large a text's program is. */
-static inline int tacflow_sizes(const char *text, size_t length, tacflow_sizes_of_program *sizes, tacflow_place *place) {
+static inline int tacflow_sizes_within(int limits, const char *text, size_t length, tacflow_sizes_of_program *sizes, tacflow_place *place) {
     uint64_t nothing = 0;
     const uint8_t *bytes = (const uint8_t *)tacflow_some(text, length, &nothing);
     if (!bytes || !sizes || !place) return TACFLOW_BAD_POINTER;
-    return (int)tacflow_c_sizes(bytes, length, sizes, place);
+    return (int)tacflow_c_sizes(bytes, length, (uint32_t)limits, sizes, place);
+}
+
+static inline int tacflow_sizes(const char *text, size_t length, tacflow_sizes_of_program *sizes, tacflow_place *place) {
+    return tacflow_sizes_within(TACFLOW_STANDARD, text, length, sizes, place);
 }
 
 /* What each point is. count is the number of points. */
-static inline int tacflow_points(const char *text, size_t length, tacflow_point *points, size_t count, tacflow_place *place) {
+static inline int tacflow_points_within(int limits, const char *text, size_t length, tacflow_point *points, size_t count, tacflow_place *place) {
     uint64_t nothing = 0;
     const uint8_t *bytes = (const uint8_t *)tacflow_some(text, length, &nothing);
     points = (tacflow_point *)tacflow_some(points, count, &nothing);
     if (!bytes || !points || !place) return TACFLOW_BAD_POINTER;
-    return (int)tacflow_c_points(bytes, length, points, count, place);
+    return (int)tacflow_c_points(bytes, length, (uint32_t)limits, points, count, place);
+}
+
+static inline int tacflow_points(const char *text, size_t length, tacflow_point *points, size_t count, tacflow_place *place) {
+    return tacflow_points_within(TACFLOW_STANDARD, text, length, points, count, place);
 }
 
 /* What each definition is, by its bit. count is the number of definitions. */
-static inline int tacflow_definitions(const char *text, size_t length, tacflow_definition *definitions, size_t count, tacflow_place *place) {
+static inline int tacflow_definitions_within(int limits, const char *text, size_t length, tacflow_definition *definitions, size_t count,
+                                             tacflow_place *place) {
     uint64_t nothing = 0;
     const uint8_t *bytes = (const uint8_t *)tacflow_some(text, length, &nothing);
     definitions = (tacflow_definition *)tacflow_some(definitions, count, &nothing);
     if (!bytes || !definitions || !place) return TACFLOW_BAD_POINTER;
-    return (int)tacflow_c_definitions(bytes, length, definitions, count, place);
+    return (int)tacflow_c_definitions(bytes, length, (uint32_t)limits, definitions, count, place);
+}
+
+static inline int tacflow_definitions(const char *text, size_t length, tacflow_definition *definitions, size_t count, tacflow_place *place) {
+    return tacflow_definitions_within(TACFLOW_STANDARD, text, length, definitions, count, place);
 }
 
 /* What each expression is, by its bit. count is the number of expressions. */
-static inline int tacflow_expressions(const char *text, size_t length, tacflow_expression *expressions, size_t count, tacflow_place *place) {
+static inline int tacflow_expressions_within(int limits, const char *text, size_t length, tacflow_expression *expressions, size_t count,
+                                             tacflow_place *place) {
     uint64_t nothing = 0;
     const uint8_t *bytes = (const uint8_t *)tacflow_some(text, length, &nothing);
     expressions = (tacflow_expression *)tacflow_some(expressions, count, &nothing);
     if (!bytes || !expressions || !place) return TACFLOW_BAD_POINTER;
-    return (int)tacflow_c_expressions(bytes, length, expressions, count, place);
+    return (int)tacflow_c_expressions(bytes, length, (uint32_t)limits, expressions, count, place);
+}
+
+static inline int tacflow_expressions(const char *text, size_t length, tacflow_expression *expressions, size_t count, tacflow_place *place) {
+    return tacflow_expressions_within(TACFLOW_STANDARD, text, length, expressions, count, place);
 }
 
 /* The names of the procedures, one after the other, and where each ends: name n stands at ends[n - 1]..ends[n], the first from 0.
  * count is the number of procedures, and 64 bytes for each are always room enough. What is left of the bytes stays as it is. */
-static inline int tacflow_procedures(const char *text, size_t length, size_t *ends, size_t count, char *names, size_t room, tacflow_place *place) {
+static inline int tacflow_procedures_within(int limits, const char *text, size_t length, size_t *ends, size_t count, char *names, size_t room,
+                                            tacflow_place *place) {
     uint64_t nothing = 0;
     const uint8_t *bytes = (const uint8_t *)tacflow_some(text, length, &nothing);
     ends = (size_t *)tacflow_some(ends, count, &nothing);
     names = (char *)tacflow_some(names, room, &nothing);
     if (!bytes || !ends || !names || !place) return TACFLOW_BAD_POINTER;
-    return (int)tacflow_c_procedures(bytes, length, ends, count, (uint8_t *)names, room, place);
+    return (int)tacflow_c_procedures(bytes, length, (uint32_t)limits, ends, count, (uint8_t *)names, room, place);
+}
+
+static inline int tacflow_procedures(const char *text, size_t length, size_t *ends, size_t count, char *names, size_t room, tacflow_place *place) {
+    return tacflow_procedures_within(TACFLOW_STANDARD, text, length, ends, count, names, room, place);
 }
 
 /* The same of the variables. */
-static inline int tacflow_variables(const char *text, size_t length, size_t *ends, size_t count, char *names, size_t room, tacflow_place *place) {
+static inline int tacflow_variables_within(int limits, const char *text, size_t length, size_t *ends, size_t count, char *names, size_t room,
+                                           tacflow_place *place) {
     uint64_t nothing = 0;
     const uint8_t *bytes = (const uint8_t *)tacflow_some(text, length, &nothing);
     ends = (size_t *)tacflow_some(ends, count, &nothing);
     names = (char *)tacflow_some(names, room, &nothing);
     if (!bytes || !ends || !names || !place) return TACFLOW_BAD_POINTER;
-    return (int)tacflow_c_variables(bytes, length, ends, count, (uint8_t *)names, room, place);
+    return (int)tacflow_c_variables(bytes, length, (uint32_t)limits, ends, count, (uint8_t *)names, room, place);
+}
+
+static inline int tacflow_variables(const char *text, size_t length, size_t *ends, size_t count, char *names, size_t room, tacflow_place *place) {
+    return tacflow_variables_within(TACFLOW_STANDARD, text, length, ends, count, names, room, place);
 }
 
 /* How many words each point has in the facts of the bits lo..hi. */
@@ -177,37 +228,60 @@ static inline size_t tacflow_words(uint32_t lo, uint32_t hi) {
     return (size_t)(hi / 64 + (hi % 64 != 0)) - lo / 64;
 }
 
-/* The facts of an analysis on the bits lo..hi: for each point a flag, 1 where some valid path leads to it (for live and busy: from it to
- * the end of main) and else 0, and its words, the points one after the other. Bit b of lo..hi is in the set of point p exactly where
- * bit b % 64 of words[p * tacflow_words(lo, hi) + b / 64 - lo / 64] is 1; all other places are 0. flag_count is the number of points,
- * word_count that number times tacflow_words(lo, hi). Several threads may each ask for a range of their own. */
-static inline int tacflow_facts(const char *text, size_t length, int analysis, uint32_t lo, uint32_t hi, uint8_t *flags, size_t flag_count,
-                                uint64_t *words, size_t word_count, tacflow_place *place) {
+/* The facts of an analysis at the points first_point..end_point, on the bits lo..hi: for each of these points a flag, 1 where some valid
+ * path leads to it (for live and busy: from it to the end of main) and else 0, and its words, the points one after the other. Of point p
+ * row p - first_point tells: flags[row], and bit b of lo..hi is in the set exactly where bit b % 64 of
+ * words[row * tacflow_words(lo, hi) + b / 64 - lo / 64] is 1; all other places are 0. flag_count is the number of these points, end_point
+ * less first_point, and word_count that number times tacflow_words(lo, hi).
+ *
+ * first_point <= end_point <= the number of points, for which TACFLOW_ALL_POINTS stands; lo <= hi <= the number of the analysis's bits;
+ * else TACFLOW_BAD_RANGE. A procedure's points stand one after the other, procedures in the order of the text, so that a range has those
+ * of one procedure. Each call finds the facts of all points, whichever it is asked for: fewer
+ * points need less room, and fewer bits less time too. Several threads may each ask for a range of bits of their own. The words of
+ * all points and bits of the largest programs would have 144 GiB. */
+static inline int tacflow_facts_within(int limits, const char *text, size_t length, int analysis, uint32_t first_point, uint32_t end_point,
+                                       uint32_t lo, uint32_t hi, uint8_t *flags, size_t flag_count, uint64_t *words, size_t word_count,
+                                       tacflow_place *place) {
     uint64_t nothing = 0;
     const uint8_t *bytes = (const uint8_t *)tacflow_some(text, length, &nothing);
     flags = (uint8_t *)tacflow_some(flags, flag_count, &nothing);
     words = (uint64_t *)tacflow_some(words, word_count, &nothing);
     if (!bytes || !flags || !words || !place) return TACFLOW_BAD_POINTER;
-    return (int)tacflow_c_facts(bytes, length, (uint32_t)analysis, lo, hi, flags, flag_count, words, word_count, place);
+    return (int)tacflow_c_facts(bytes, length, (uint32_t)limits, (uint32_t)analysis, first_point, end_point, lo, hi, flags, flag_count, words,
+                                word_count, place);
+}
+
+/* The same at all points: flag_count is the number of points. */
+static inline int tacflow_facts(const char *text, size_t length, int analysis, uint32_t lo, uint32_t hi, uint8_t *flags, size_t flag_count,
+                                uint64_t *words, size_t word_count, tacflow_place *place) {
+    return tacflow_facts_within(TACFLOW_STANDARD, text, length, analysis, 0, TACFLOW_ALL_POINTS, lo, hi, flags, flag_count, words, word_count, place);
 }
 
 /* The program in one layout, as `tacflow --show list` writes it, and how many bytes that has. Where there is room for fewer, the status is
  * TACFLOW_BAD_ROOM and size alone is written; so a call with no room tells how much is needed. What is left of the room stays as it is. */
-static inline int tacflow_listing(const char *text, size_t length, char *bytes, size_t room, size_t *size, tacflow_place *place) {
+static inline int tacflow_listing_within(int limits, const char *text, size_t length, char *bytes, size_t room, size_t *size, tacflow_place *place) {
     uint64_t nothing = 0;
     const uint8_t *from = (const uint8_t *)tacflow_some(text, length, &nothing);
     bytes = (char *)tacflow_some(bytes, room, &nothing);
     if (!from || !bytes || !size || !place) return TACFLOW_BAD_POINTER;
-    return (int)tacflow_c_listing(from, length, (uint8_t *)bytes, room, size, place);
+    return (int)tacflow_c_listing(from, length, (uint32_t)limits, (uint8_t *)bytes, room, size, place);
+}
+
+static inline int tacflow_listing(const char *text, size_t length, char *bytes, size_t room, size_t *size, tacflow_place *place) {
+    return tacflow_listing_within(TACFLOW_STANDARD, text, length, bytes, room, size, place);
 }
 
 /* The report, as `tacflow` writes it, in the same way. It is made on the calling thread. */
-static inline int tacflow_report(const char *text, size_t length, char *bytes, size_t room, size_t *size, tacflow_place *place) {
+static inline int tacflow_report_within(int limits, const char *text, size_t length, char *bytes, size_t room, size_t *size, tacflow_place *place) {
     uint64_t nothing = 0;
     const uint8_t *from = (const uint8_t *)tacflow_some(text, length, &nothing);
     bytes = (char *)tacflow_some(bytes, room, &nothing);
     if (!from || !bytes || !size || !place) return TACFLOW_BAD_POINTER;
-    return (int)tacflow_c_report(from, length, (uint8_t *)bytes, room, size, place);
+    return (int)tacflow_c_report(from, length, (uint32_t)limits, (uint8_t *)bytes, room, size, place);
+}
+
+static inline int tacflow_report(const char *text, size_t length, char *bytes, size_t room, size_t *size, tacflow_place *place) {
+    return tacflow_report_within(TACFLOW_STANDARD, text, length, bytes, room, size, place);
 }
 
 #ifdef __cplusplus

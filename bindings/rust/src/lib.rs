@@ -36,6 +36,16 @@ pub enum Analysis {
     Busy = 3,
 }
 
+/// How large a text and its program may be. A program within the standard limits is answered the same within the large ones.
+#[derive(Clone, Copy, Debug, PartialEq, Eq, Hash)]
+pub enum Limits {
+    /// 1 MiB of text, 256 procedures, 16,384 points, 4,096 bits in each analysis.
+    Standard = 0,
+    /// 64 MiB of text, 16,384 procedures, 1,048,576 points, 131,072 variables and as many expressions; definitions have no limit of
+    /// their own.
+    Large = 1,
+}
+
 /// Why there is no answer.
 #[derive(Clone, Copy, Debug, PartialEq, Eq)]
 pub enum Error {
@@ -48,11 +58,11 @@ pub enum Error {
         /// The column, in bytes.
         column: u32,
     },
-    /// The program has more than 16,384 points.
+    /// The program has more points than the limits allow.
     TooManyPoints,
-    /// Some analysis of the program has more than 4,096 bits.
+    /// Some analysis of the program has more bits than the limits allow.
     TooManyBits,
-    /// The range is no range of the analysis's bits.
+    /// The bits are none of the analysis, or the points none of the program.
     BadRange,
     /// Memory was refused.
     OutOfMemory,
@@ -64,7 +74,7 @@ impl fmt::Display for Error {
             Error::Refused { number, line, column } => write!(f, "{line}:{column}: refusal {number}"),
             Error::TooManyPoints => f.write_str("the program has too many points"),
             Error::TooManyBits => f.write_str("an analysis of the program has too many bits"),
-            Error::BadRange => f.write_str("the range is none of the analysis's bits"),
+            Error::BadRange => f.write_str("the range is none of the analysis's bits, or of the program's points"),
             Error::OutOfMemory => f.write_str("out of memory"),
         }
     }
@@ -149,6 +159,7 @@ fn definition(raw: raw::RawDefinition) -> Definition {
 #[derive(Clone, Debug)]
 pub struct Program {
     text: Vec<u8>,
+    limits: Limits,
     sizes: Sizes,
     points: Vec<Point>,
     procedures: Vec<String>,
@@ -158,21 +169,32 @@ pub struct Program {
 }
 
 impl Program {
-    /// Reads a program.
+    /// Reads a program within the standard limits.
     ///
     /// # Errors
     ///
-    /// `Refused` where the text is no program; `TooManyPoints` or `TooManyBits` where it is one beyond the limits.
+    /// `Refused` where the text is no program; `TooManyPoints` or `TooManyBits` where it is one beyond the limits; `OutOfMemory` where
+    /// memory was refused.
     pub fn read(text: impl Into<Vec<u8>>) -> Result<Program, Error> {
+        Program::within(text, Limits::Standard)
+    }
+
+    /// Reads a program within these limits, and its facts, its listing and its report are those within them.
+    ///
+    /// # Errors
+    ///
+    /// As those of [`Program::read`].
+    pub fn within(text: impl Into<Vec<u8>>, limits: Limits) -> Result<Program, Error> {
         let text = text.into();
-        let sizes = raw::sizes(&text)?;
+        let sizes = raw::sizes(&text, limits)?;
         Ok(Program {
+            limits,
             sizes,
-            points: raw::points(&text, sizes.points)?,
-            procedures: raw::procedures(&text, sizes.procedures)?,
-            variables: raw::variables(&text, sizes.variables)?,
-            definitions: raw::definitions(&text, sizes.definitions)?.into_iter().map(definition).collect(),
-            expressions: raw::expressions(&text, sizes.expressions)?.into_iter().map(expression).collect(),
+            points: raw::points(&text, limits, sizes.points)?,
+            procedures: raw::procedures(&text, limits, sizes.procedures)?,
+            variables: raw::variables(&text, limits, sizes.variables)?,
+            definitions: raw::definitions(&text, limits, sizes.definitions)?.into_iter().map(definition).collect(),
+            expressions: raw::expressions(&text, limits, sizes.expressions)?.into_iter().map(expression).collect(),
             text,
         })
     }
@@ -180,6 +202,11 @@ impl Program {
     /// The text.
     pub fn text(&self) -> &[u8] {
         &self.text
+    }
+
+    /// The limits within which it was read.
+    pub fn limits(&self) -> Limits {
+        self.limits
     }
 
     /// How large it is.
@@ -190,6 +217,12 @@ impl Program {
     /// The points, procedures in the order of the text and in each the places upwards.
     pub fn points(&self) -> &[Point] {
         &self.points
+    }
+
+    /// The points of a procedure, which stand one after the other; none where there is no such procedure.
+    pub fn points_of(&self, procedure: u32) -> Range<u32> {
+        let before = |number| self.points.partition_point(|point| point.procedure < number) as u32;
+        before(procedure)..before(procedure.saturating_add(1))
     }
 
     /// The names of the procedures, by number.
@@ -227,7 +260,7 @@ impl Program {
     ///
     /// `OutOfMemory` where memory was refused.
     pub fn listing(&self) -> Result<Vec<u8>, Error> {
-        raw::listing(&self.text)
+        raw::listing(&self.text, self.limits)
     }
 
     /// The report, as `tacflow` writes it.
@@ -236,7 +269,7 @@ impl Program {
     ///
     /// `OutOfMemory` where memory was refused.
     pub fn report(&self) -> Result<Vec<u8>, Error> {
-        raw::report(&self.text)
+        raw::report(&self.text, self.limits)
     }
 
     /// The facts of an analysis.
@@ -255,24 +288,33 @@ impl Program {
     ///
     /// `BadRange` where the bits are none of the analysis; `OutOfMemory` where memory was refused.
     pub fn facts_of(&self, analysis: Analysis, bits: Range<u32>) -> Result<Table, Error> {
-        if bits.end < bits.start || self.bits(analysis) < bits.end {
+        self.facts_at(0..self.sizes.points, analysis, bits)
+    }
+
+    /// The facts of an analysis at some of the points and on some of its bits. What is found is that of all points, but the table has
+    /// room for these alone.
+    ///
+    /// # Errors
+    ///
+    /// `BadRange` where the points are none of the program or the bits none of the analysis; `OutOfMemory` where memory was refused.
+    pub fn facts_at(&self, points: Range<u32>, analysis: Analysis, bits: Range<u32>) -> Result<Table, Error> {
+        let are_points = points.start <= points.end && points.end <= self.sizes.points;
+        if !are_points || bits.end < bits.start || self.bits(analysis) < bits.end {
             return Err(Error::BadRange);
         }
         let width = bits.end.div_ceil(64) as usize - bits.start as usize / 64;
-        let mut table = Table {
-            flags: vec![0; self.points.len()],
-            words: vec![0; self.points.len() * width],
-            width,
-            bits,
-        };
-        raw::facts(&self.text, analysis, table.bits.start, table.bits.end, &mut table.flags, &mut table.words)?;
+        let mut table =
+            Table { flags: vec![0; points.len()], words: vec![0; points.len() * width], width, points, bits };
+        let (at, on) = (table.points.clone(), table.bits.clone());
+        raw::facts(&self.text, self.limits, analysis, at, on, &mut table.flags, &mut table.words)?;
         Ok(table)
     }
 }
 
-/// Facts: for each point whether it has a valid path, and which bits hold there.
+/// Facts: for each of some points whether it has a valid path, and which bits hold there.
 #[derive(Clone, Debug)]
 pub struct Table {
+    points: Range<u32>,
     bits: Range<u32>,
     flags: Vec<u8>,
     words: Vec<u64>,
@@ -280,6 +322,17 @@ pub struct Table {
 }
 
 impl Table {
+    // Where a point stands among those of the table.
+    fn row(&self, point: u32) -> usize {
+        assert!(self.points.contains(&point), "the table has no point {point}");
+        (point - self.points.start) as usize
+    }
+
+    /// The points of which it tells.
+    pub fn points(&self) -> Range<u32> {
+        self.points.clone()
+    }
+
     /// The bits of which it tells.
     pub fn bits(&self) -> Range<u32> {
         self.bits.clone()
@@ -289,18 +342,18 @@ impl Table {
     ///
     /// # Panics
     ///
-    /// Where there is no such point.
+    /// Where the table has no such point.
     pub fn has_path(&self, point: u32) -> bool {
-        self.flags[point as usize] == 1
+        self.flags[self.row(point)] == 1
     }
 
     /// The words of a point's set. Bit b stands in word `b / 64 - bits().start / 64`, at place `b % 64`.
     ///
     /// # Panics
     ///
-    /// Where there is no such point.
+    /// Where the table has no such point.
     pub fn words(&self, point: u32) -> &[u64] {
-        let start = point as usize * self.width;
+        let start = self.row(point) * self.width;
         &self.words[start..start + self.width]
     }
 
@@ -308,7 +361,7 @@ impl Table {
     ///
     /// # Panics
     ///
-    /// Where there is no such point.
+    /// Where the table has no such point.
     pub fn contains(&self, point: u32, bit: u32) -> bool {
         let words = self.words(point);
         self.bits.contains(&bit) && words[(bit / 64 - self.bits.start / 64) as usize] >> (bit % 64) & 1 == 1
@@ -318,7 +371,7 @@ impl Table {
     ///
     /// # Panics
     ///
-    /// Where there is no such point.
+    /// Where the table has no such point.
     pub fn set(&self, point: u32) -> Set<'_> {
         Set { words: self.words(point), word: 0, first: self.bits.start / 64 }.started()
     }

@@ -1,6 +1,7 @@
 //! A small program, with values by hand.
 
-use tacflow::{Analysis, Definition, Error, Expression, Operand, Program};
+use std::fmt::Write;
+use tacflow::{Analysis, Definition, Error, Expression, Limits, Operand, Program};
 
 const TEXT: &str = "proc main\n  x = y + 1\n  print x\nend\n";
 
@@ -40,6 +41,54 @@ fn a_range_of_bits() {
     assert!(!table.contains(1, 2), "a bit outside the range");
     assert_eq!(program.facts_of(Analysis::Reach, 1..4).err(), Some(Error::BadRange));
     assert_eq!(program.facts_of(Analysis::Live, 0..0).expect("no bits").set(0).count(), 0);
+}
+
+#[test]
+fn a_range_of_points() {
+    let program = Program::within(TEXT, Limits::Large).expect("a program");
+    assert_eq!(program.limits(), Limits::Large);
+    let table = program.facts_at(1..3, Analysis::Reach, 0..3).expect("facts");
+    assert_eq!(table.points(), 1..3);
+    assert!(table.has_path(1) && table.set(1).eq([1, 2]) && table.set(2).eq([1, 2]));
+    assert_eq!(program.facts_at(1..4, Analysis::Reach, 0..3).err(), Some(Error::BadRange));
+    assert_eq!(program.facts_at(4..4, Analysis::Reach, 0..3).err(), Some(Error::BadRange));
+    assert_eq!(program.facts_at(0..3, Analysis::Reach, 0..4).err(), Some(Error::BadRange));
+    assert_eq!(program.facts_at(3..3, Analysis::Live, 0..2).expect("no points").points().len(), 0);
+    assert_eq!((program.points_of(0), program.points_of(1)), (0..3, 3..3));
+}
+
+// main calls each of 300 procedures, and each sets its own variable by the next one and prints it.
+fn large_text() -> String {
+    let mut text = String::from("proc main\n");
+    (0..300).for_each(|n| writeln!(text, "  call p{n}").expect("a line"));
+    text += "end\n";
+    for n in 0..300 {
+        writeln!(text, "proc p{n}\n  v{n} = v{} * {n}", (n + 1) % 300).expect("a line");
+        (0..98).for_each(|_| writeln!(text, "  print v{n}").expect("a line"));
+        text += "end\n";
+    }
+    text
+}
+
+#[test]
+fn within_the_large_limits() {
+    let refused = Program::read(large_text()).err();
+    assert_eq!(refused, Some(Error::Refused { number: 12, line: 26_058, column: 6 }), "the 257th procedure");
+    let program = Program::within(large_text(), Limits::Large).expect("a program");
+    assert_eq!(program.sizes().points, 301 + 300 * 100);
+    for analysis in [Analysis::Reach, Analysis::Live, Analysis::Avail, Analysis::Busy] {
+        let all = program.facts(analysis).expect("all facts");
+        for procedure in [0, 150, 300] {
+            let points = program.points_of(procedure);
+            let some = program.facts_at(points.clone(), analysis, 0..program.bits(analysis)).expect("some facts");
+            assert_eq!(some.points(), points);
+            for point in points {
+                assert_eq!((some.has_path(point), some.words(point)), (all.has_path(point), all.words(point)));
+            }
+        }
+    }
+    assert!(program.report().expect("a report").starts_with(b"points 30301, variables 300, definitions 600, expressions 300\n"));
+    assert!(program.listing().expect("a listing").starts_with(b"proc main\n  call p0\n"));
 }
 
 #[test]

@@ -1,5 +1,6 @@
 -- Slices of a universe of bits.
-use Rattle.std.proofs.Common.{◌≡◌, ℕ, zero, suc, ◌+◌, ◌-◌, ◌*◌, ◌<◌, ◌≤◌, min, Bool, cond, List, [], ◌∷◌, ◌++◌, length, get_or, refl, sym, ap, ap₂, ◌∙◌, subst, inl, inr, arith, add-one}
+use Rattle.std.proofs.Common.{◌≡◌, ℕ, zero, suc, ◌+◌, ◌-◌, ◌*◌, ◌<◌, ◌≤◌, min, Bool, cond, List, [], ◌∷◌, ◌++◌, length, get_or, refl, sym, ap, ap₂}
+use Rattle.std.proofs.Common.{◌∙◌, subst, inl, inr, arith, add-one}
 use Rattle.std.proofs.lemmas.List.{get_or_append_left, get_or_push, length_push}
 use Rattle.std.proofs.lemmas.Bool.{cases_lt, cases_eq, cases_order, ne_eqb}
 use Rattle.bit_rows.specs.Slices.{Slices, CoverBits, IsEvenCut, ArePlaces, start_of, end_of, cut_at}
@@ -25,7 +26,8 @@ pub record EvenTo (bits width : ℕ) (ends : List ℕ) (end : ℕ) : Type 0 wher
 pub EvenTo-none : (bits width : ℕ) → EvenTo bits width [] 0
 EvenTo-none bits width = record { each = λ s h. absurd (omega arith); below = λ s h. absurd (omega arith); reached = omega arith }
 
-pub EvenTo-more : (bits width : ℕ) (ends : List ℕ) (end next : ℕ) → EvenTo bits width ends end → end < bits → next ≡ end + min width (bits - end) → EvenTo bits width (ends ++ next ∷ []) next
+pub EvenTo-more : (bits width : ℕ) (ends : List ℕ) (end next : ℕ) → EvenTo bits width ends end → end < bits → next ≡ end + min width (bits - end)
+    → EvenTo bits width (ends ++ next ∷ []) next
 EvenTo-more bits width ends end next so_far more is_next =
     let n : ℕ = length ends in
     let here : end ≡ length ends * width = omega (arith, so_far.reached) in
@@ -84,9 +86,11 @@ PlacesTo-none bits places = record {
   last_is = refl;
 }
 
-pub PlacesTo-more : (bits : ℕ) (places : List ℕ) (n last place : ℕ) → PlacesTo bits places n last → place ≡ get_or places n 0 → last < place → place < bits → PlacesTo bits places (n + 1) place
+pub PlacesTo-more : (bits : ℕ) (places : List ℕ) (n last place : ℕ) → PlacesTo bits places n last → place ≡ get_or places n 0 → last < place
+    → place < bits → PlacesTo bits places (n + 1) place
 PlacesTo-more bits places n last place so_far is_place above under =
-    let at : (k : ℕ) → n ≤ k → k < n + 1 → get_or places k 0 ≡ place = λ k low high. let same : k ≡ n = omega arith in ap (λ i. get_or places i 0) same ∙ sym is_place in
+    let at : (k : ℕ) → n ≤ k → k < n + 1 → get_or places k 0 ≡ place = λ k low high. let same : k ≡ n = omega arith in
+    ap (λ i. get_or places i 0) same ∙ sym is_place in
     record {
       rising = λ j k order within. elim (cases_lt k n) [
         | inl before ↦ so_far.rising j k order before
@@ -108,15 +112,19 @@ PlacesTo-more bits places n last place so_far is_place above under =
     }
 
 -- a place that is not above the last one breaks the order
-not_rising : (bits : ℕ) (places : List ℕ) (n last place : ℕ) → last ≡ get_or (0 ∷ places) n 0 → place ≡ get_or places n 0 → n < length places → place ≤ last → ArePlaces bits places → ⊥
+not_rising : (bits : ℕ) (places : List ℕ) (n last place : ℕ) → last ≡ get_or (0 ∷ places) n 0 → place ≡ get_or places n 0 → n < length places
+    → place ≤ last → ArePlaces bits places → ⊥
 not_rising bits places zero last place is_last is_place within low good = omega (arith, is_last, is_place, good.positive 0 within)
-not_rising bits places (suc n) last place is_last is_place within low good = omega (arith, is_last, is_place, good.rising n (suc n) (omega arith) within)
+not_rising bits places (suc n) last place is_last is_place within low good =
+    omega (arith, is_last, is_place, good.rising n (suc n) (omega arith) within)
 
-pub not_places_below : (bits : ℕ) (places : List ℕ) (n last place : ℕ) → PlacesTo bits places n last → place ≡ get_or places n 0 → n < length places → place ≤ last → ArePlaces bits places → ⊥
+pub not_places_below : (bits : ℕ) (places : List ℕ) (n last place : ℕ) → PlacesTo bits places n last → place ≡ get_or places n 0 → n < length places
+    → place ≤ last → ArePlaces bits places → ⊥
 not_places_below bits places n last place so_far is_place within low good =
     not_rising bits places n last place so_far.last_is is_place within low good
 
-pub not_places_above : (bits : ℕ) (places : List ℕ) (n place : ℕ) → place ≡ get_or places n 0 → n < length places → bits ≤ place → ArePlaces bits places → ⊥
+pub not_places_above : (bits : ℕ) (places : List ℕ) (n place : ℕ) → place ≡ get_or places n 0 → n < length places → bits ≤ place
+    → ArePlaces bits places → ⊥
 not_places_above bits places n place is_place within high good = omega (arith, is_place, good.below n within)
 
 pub ArePlaces-all : (bits : ℕ) (places : List ℕ) (n last : ℕ) → PlacesTo bits places n last → length places ≤ n → ArePlaces bits places

@@ -1,5 +1,6 @@
 -- Which words gain a place when one list of words is put into another.
-use Rattle.std.proofs.Common.{◌≡◌, ℕ, ◌+◌, ◌-◌, ◌^◌, ◌<◌, ◌≤◌, Bool, true, false, not, ◌&&◌, ◌||◌, eqb, MatchBool, List, [], ◌∷◌, zero, suc, length, get_or, replicate, refl, sym, ap, ap₂, ◌∙◌, subst, inl, inr, arith, bit_and, bit_or, w64}
+use Rattle.std.proofs.Common.{◌≡◌, ℕ, ◌+◌, ◌-◌, ◌^◌, ◌<◌, ◌≤◌, Bool, true, false, not, ◌&&◌, ◌||◌, eqb, MatchBool, List, [], ◌∷◌, zero, suc, length}
+use Rattle.std.proofs.Common.{get_or, replicate, refl, sym, ap, ap₂, ◌∙◌, subst, inl, inr, arith, bit_and, bit_or, w64}
 use Rattle.std.specs.Int.{bit_not}
 use Rattle.std.proofs.lemmas.Nat.{le_or_l, le_or_r, and_le_l}
 use Rattle.std.proofs.lemmas.List.{ext_get_or, get_or_past, get_or-replicate}
@@ -38,7 +39,8 @@ zero_left x y e = omega (arith, le_or_l x y)
 pub zero_right : (x y : ℕ) → bit_or x y ≡ 0 → y ≡ 0
 zero_right x y e = omega (arith, le_or_r x y)
 
-pub Tells-more : {old source : List ℕ} {at gained : ℕ} → Tells old source at gained → (word : ℕ) → word ≡ gain old source at → Tells old source (at + 1) (bit_or gained word)
+pub Tells-more : {old source : List ℕ} {at gained : ℕ} → Tells old source at gained → (word : ℕ) → word ≡ gain old source at
+    → Tells old source (at + 1) (bit_or gained word)
 Tells-more {old} {source} {at} {gained} so_far word made = record {
   none = λ clear. or_zero gained word (so_far.none (λ k below. clear k (omega arith))) (made ∙ clear at (omega arith));
   zero = λ e k below. elim (cases_lt k at) [
@@ -59,7 +61,8 @@ LanesTell-none old source = record {
   zero = λ _ k below. absurd (omega arith);
 }
 
-module _ {old source : List ℕ} {at : ℕ} {gained : List ℕ} (so_far : LanesTell old source at gained) (eight : length gained ≡ 8) (lanes : List ℕ) (lanes_eight : length lanes ≡ 8) (made : (j : ℕ) → j < 8 → get_or lanes j 0 ≡ gain old source (at + j)) where
+module _ {old source : List ℕ} {at : ℕ} {gained : List ℕ} (so_far : LanesTell old source at gained) (eight : length gained ≡ 8) (lanes : List ℕ)
+    (lanes_eight : length lanes ≡ 8) (made : (j : ℕ) → j < 8 → get_or lanes j 0 ≡ gain old source (at + j)) where
   at_lane : (j : ℕ) → j < 8 → get_or (zip2 bit_or gained lanes) j 0 ≡ bit_or (get_or gained j 0) (get_or lanes j 0)
   at_lane j within = get_or-zip2 bit_or gained lanes j 0 0 0 (omega (arith, eight)) (omega (arith, lanes_eight))
 
@@ -75,7 +78,8 @@ module _ {old source : List ℕ} {at : ℕ} {gained : List ℕ} (so_far : LanesT
   pub LanesTell-more : LanesTell old source (at + 8) (zip2 bit_or gained lanes)
   LanesTell-more = record {
     none = λ clear j. elim (cases_lt j 8) [
-      | inl within ↦ at_lane j within ∙ or_zero (get_or gained j 0) (get_or lanes j 0) (so_far.none (λ k below. clear k (omega arith)) j) (made j within ∙ clear (at + j) (omega arith))
+      | inl within ↦ at_lane j within ∙ or_zero (get_or gained j 0) (get_or lanes j 0) (so_far.none (λ k below. clear k (omega arith)) j)
+          (made j within ∙ clear (at + j) (omega arith))
       | inr past ↦ past_lanes j past
     ];
     zero = λ all k below. elim (cases_lt k at) [
@@ -83,7 +87,8 @@ module _ {old source : List ℕ} {at : ℕ} {gained : List ℕ} (so_far : LanesT
       | inr above ↦
           let there : k ≡ at + (k - at) = omega arith in
           let within : k - at < 8 = omega arith in
-          ap (gain old source) there ∙ sym (made (k - at) within) ∙ zero_right (get_or gained (k - at) 0) (get_or lanes (k - at) 0) (sym (at_lane (k - at) within) ∙ all (k - at))
+          ap (gain old source) there ∙ sym (made (k - at) within)
+          ∙ zero_right (get_or gained (k - at) 0) (get_or lanes (k - at) 0) (sym (at_lane (k - at) within) ∙ all (k - at))
     ];
   }
 
@@ -119,7 +124,8 @@ cases_gain true false e = refl
 cases_gain false true e = absurd (false≢true (sym e))
 cases_gain false false e = refl
 
-module _ (old source new : List ℕ) (same_length : length new ≡ length old) (old_fits : (k : ℕ) → get_or old k 0 < 2 ^ 64) (new_fits : (k : ℕ) → get_or new k 0 < 2 ^ 64) (places : CombinesPlaces ◌||◌ old source new) where
+module _ (old source new : List ℕ) (same_length : length new ≡ length old) (old_fits : (k : ℕ) → get_or old k 0 < 2 ^ 64)
+    (new_fits : (k : ℕ) → get_or new k 0 < 2 ^ 64) (places : CombinesPlaces ◌||◌ old source new) where
   gain_bit : (k i : ℕ) → i < 64 → has_bit (gain old source k) i ≡ (has_bit (get_or source k 0) i && not (has_bit (get_or old k 0) i))
   gain_bit k i within =
       has_bit-and (get_or source k 0) (bit_not w64 (get_or old k 0)) i
@@ -136,15 +142,19 @@ module _ (old source new : List ℕ) (same_length : length new ≡ length old) (
   -- where each place is as it was, no word gained one
   no_gain_from_same : ((k : ℕ) → get_or source k 0 < 2 ^ 64) → SamePlaces old new → NoGain old source (length old)
   no_gain_from_same source_fits same k below =
-      same_words (gain old source k) 0 (omega (arith, and_le_l (get_or source k 0) (bit_not w64 (get_or old k 0)), source_fits k)) (omega arith) (λ i within.
+      same_words (gain old source k) 0 (omega (arith, and_le_l (get_or source k 0) (bit_not w64 (get_or old k 0)), source_fits k)) (omega arith)
+      (λ i within.
       let present : k < length new = omega (arith, same_length) in
       gain_bit k i within
       ∙ cases_gain (has_bit (get_or old k 0) i) (has_bit (get_or source k 0) i) (sym (places k i present within) ∙ same k i present within)
       ∙ sym (has_bit-zero i))
 
-  pub changed_from_gain : ((k : ℕ) → get_or source k 0 < 2 ^ 64) → (gained : ℕ) → Tells old source (length old) gained → MatchBool (not (eqb gained 0)) (¬ SamePlaces old new) (new ≡ old)
+  pub changed_from_gain : ((k : ℕ) → get_or source k 0 < 2 ^ 64) → (gained : ℕ) → Tells old source (length old) gained
+      → MatchBool (not (eqb gained 0)) (¬ SamePlaces old new) (new ≡ old)
   changed_from_gain source_fits gained told =
       elim (cases_Bool (eqb gained 0)) [
-        | inl none ↦ subst (λ (b : Bool). MatchBool (not b) (¬ SamePlaces old new) (new ≡ old)) (sym none) (same_from_no_gain (told.zero (eqb-true gained 0 none)))
-        | inr some ↦ subst (λ (b : Bool). MatchBool (not b) (¬ SamePlaces old new) (new ≡ old)) (sym some) (λ same. eqb-false gained 0 some (told.none (no_gain_from_same source_fits same)))
+        | inl none ↦ subst (λ (b : Bool). MatchBool (not b) (¬ SamePlaces old new) (new ≡ old)) (sym none)
+            (same_from_no_gain (told.zero (eqb-true gained 0 none)))
+        | inr some ↦ subst (λ (b : Bool). MatchBool (not b) (¬ SamePlaces old new) (new ≡ old)) (sym some)
+            (λ same. eqb-false gained 0 some (told.none (no_gain_from_same source_fits same)))
       ]

@@ -1,9 +1,11 @@
 -- What each operation on sets does to the range and to each bit.
-use Rattle.std.proofs.Common.{◌≡◌, ℕ, ◌-◌, ◌/◌, ◌%◌, ◌<◌, ◌≤◌, Bool, true, false, not, ◌&&◌, ◌||◌, List, eqb, refl, sym, ap, ap₂, ◌∙◌, inl, inr, arith}
+use Rattle.std.proofs.Common.{◌≡◌, ℕ, ◌-◌, ◌/◌, ◌%◌, ◌<◌, ◌≤◌, Bool, true, false, not, ◌&&◌, ◌||◌, List, eqb, refl, sym, ap, ap₂, ◌∙◌, inl, inr}
+use Rattle.std.proofs.Common.{arith}
 use Rattle.std.proofs.lemmas.List.FromFn.{length-map-range_with_len}
 use Rattle.std.proofs.lemmas.Bool.{cases_lt}
 use Rattle.bit_rows.specs.Words.{has_bit, masks_have}
-use Rattle.bit_rows.specs.RowSet.{RowSet, HasRange, hi_of, contains, set_of, empty_set, full_set, with_bit, with_word, with_words, part_of, union, intersection, difference, complement}
+use Rattle.bit_rows.specs.RowSet.{RowSet, HasRange, hi_of, contains, set_of, empty_set, full_set, with_bit, with_word, with_words, part_of, union}
+use Rattle.bit_rows.specs.RowSet.{intersection, difference, complement}
 use Rattle.bit_rows.proofs.RowSets.{lo-set_of, hi_of-set_of, contains-set_of, contains-below, contains-above, ordered_range}
 
 -- ---- ranges
@@ -62,7 +64,8 @@ outside_set_of lo hi f b outside = elim (cases_lt b lo) [
 ]
 
 -- a set made from a test that is false outside the range has the bits at which the test is true
-pub contains-set_of_any : (lo hi : ℕ) (f : ℕ → Bool) → ((b : ℕ) → b < lo → f b ≡ false) → ((b : ℕ) → hi ≤ b → f b ≡ false) → (b : ℕ) → contains (set_of lo hi f) b ≡ f b
+pub contains-set_of_any : (lo hi : ℕ) (f : ℕ → Bool) → ((b : ℕ) → b < lo → f b ≡ false) → ((b : ℕ) → hi ≤ b → f b ≡ false) → (b : ℕ)
+    → contains (set_of lo hi f) b ≡ f b
 contains-set_of_any lo hi f below above b = elim (cases_lt b lo) [
   | inl under ↦ outside_set_of lo hi f b (λ range. omega (arith, range, under)) ∙ sym (below b under)
   | inr low ↦ elim (cases_lt b hi) [
@@ -87,12 +90,14 @@ pub contains-with_bit : (s : RowSet) (b c : ℕ) → s.lo ≤ c → c < hi_of s 
 unfolding with_bit
 contains-with_bit s b c low high = contains-set_of s.lo (hi_of s) (λ d. contains s d || eqb d b) c low high
 
-pub contains-with_word : (s : RowSet) (w mask c : ℕ) → s.lo ≤ c → c < hi_of s → contains (with_word s w mask) c ≡ (contains s c || (eqb (c / 64) w && has_bit mask (c % 64)))
+pub contains-with_word : (s : RowSet) (w mask c : ℕ) → s.lo ≤ c → c < hi_of s
+    → contains (with_word s w mask) c ≡ (contains s c || (eqb (c / 64) w && has_bit mask (c % 64)))
 unfolding with_word
 contains-with_word s w mask c low high =
     contains-set_of s.lo (hi_of s) (λ d. contains s d || (eqb (d / 64) w && has_bit mask (d % 64))) c low high
 
-pub contains-with_words : (s : RowSet) (first : ℕ) (masks : List ℕ) (c : ℕ) → s.lo ≤ c → c < hi_of s → contains (with_words s first masks) c ≡ (contains s c || masks_have masks first (c / 64) (c % 64))
+pub contains-with_words : (s : RowSet) (first : ℕ) (masks : List ℕ) (c : ℕ) → s.lo ≤ c → c < hi_of s
+    → contains (with_words s first masks) c ≡ (contains s c || masks_have masks first (c / 64) (c % 64))
 unfolding with_words
 contains-with_words s first masks c low high =
     contains-set_of s.lo (hi_of s) (λ b. contains s b || masks_have masks first (b / 64) (b % 64)) c low high

@@ -30,20 +30,23 @@ set_at-with_set_same t point s within = get_or-set_same t.sets point s (empty_se
 pub set_at-with_set_other : (t : RowTable) (point other : ℕ) (s : RowSet) → (other ≡ point → ⊥) → set_at (with_set t point s) other ≡ set_at t other
 set_at-with_set_other t point other s apart = get_or-set_other t.sets point other s (empty_set t.lo t.hi) apart
 
-pub IsUniform-with_set : (t : RowTable) (point : ℕ) (s : RowSet) → IsUniform t → point < length t.flags → HasRange s t.lo t.hi → IsUniform (with_set t point s)
+pub IsUniform-with_set : (t : RowTable) (point : ℕ) (s : RowSet) → IsUniform t → point < length t.flags → HasRange s t.lo t.hi
+    → IsUniform (with_set t point s)
 IsUniform-with_set t point s uniform within range = record {
   ordered = uniform.ordered;
   count = length-set t.sets point s ∙ uniform.count;
   ranges = λ other. elim (cases_eq other point) [
     | inl same ↦
-        let there : set_at (with_set t point s) other ≡ s = ap (set_at (with_set t point s)) same ∙ set_at-with_set_same t point s (omega (arith, within, uniform.count)) in
+        let there : set_at (with_set t point s) other ≡ s =
+        ap (set_at (with_set t point s)) same ∙ set_at-with_set_same t point s (omega (arith, within, uniform.count)) in
         subst (λ (u : RowSet). HasRange u t.lo t.hi) (sym there) range
     | inr apart ↦ subst (λ (u : RowSet). HasRange u t.lo t.hi) (sym (set_at-with_set_other t point other s apart)) (uniform.ranges other)
   ];
 }
 
 -- a point's set, made into another of its own range, leaves the table uniform
-pub IsUniform-replaced : (t : RowTable) (point : ℕ) (row s : RowSet) → IsUniform t → point < length t.flags → row ≡ set_at t point → HasRange s row.lo (hi_of row) → IsUniform (with_set t point s)
+pub IsUniform-replaced : (t : RowTable) (point : ℕ) (row s : RowSet) → IsUniform t → point < length t.flags → row ≡ set_at t point
+    → HasRange s row.lo (hi_of row) → IsUniform (with_set t point s)
 IsUniform-replaced t point row s uniform within is_row range =
     let old = uniform.ranges point in
     IsUniform-with_set t point s uniform within (record {

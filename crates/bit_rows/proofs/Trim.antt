@@ -1,5 +1,6 @@
 -- The masks at both ends of a row's words.
-use Rattle.std.proofs.Common.{◌≡◌, ℕ, ◌+◌, ◌/◌, ◌<◌, Bool, true, false, ◌&&◌, List, length, get_or, set, refl, sym, ap, ap₂, ◌∙◌, inl, inr, bit_and, arith}
+use Rattle.std.proofs.Common.{◌≡◌, ℕ, ◌+◌, ◌/◌, ◌<◌, Bool, true, false, ◌&&◌, List, length, get_or, set, refl, sym, ap, ap₂, ◌∙◌, inl, inr, bit_and}
+use Rattle.std.proofs.Common.{arith}
 use Rattle.std.proofs.lemmas.List.{get_or-set_same, get_or-set_other, length-set}
 use Rattle.std.proofs.lemmas.Bool.{cases_eq}
 use Rattle.bit_rows.specs.Words.{has_bit, word_count, range_mask, IsTrimmed}
@@ -9,7 +10,8 @@ keep : (x y : Bool) → y ≡ true → x ≡ (x && y)
 keep x y e = elim x as (λ t. t ≡ (t && y)) [ true ↦ sym e | false ↦ refl ]
 
 -- the first word alone
-pub trim_one : (lo hi : ℕ) (words : List ℕ) (mask : ℕ) → length words ≡ 1 → mask ≡ range_mask lo hi (lo / 64) → IsTrimmed lo hi words (set words 0 (bit_and (get_or words 0 0) mask))
+pub trim_one : (lo hi : ℕ) (words : List ℕ) (mask : ℕ) → length words ≡ 1 → mask ≡ range_mask lo hi (lo / 64)
+    → IsTrimmed lo hi words (set words 0 (bit_and (get_or words 0 0) mask))
 trim_one lo hi words mask single is_mask k i present within =
     let only : k ≡ 0 = omega (arith, present, length-set words 0 (bit_and (get_or words 0 0) mask), single) in
     let here : lo / 64 ≡ lo / 64 + k = omega arith in
@@ -19,8 +21,10 @@ trim_one lo hi words mask single is_mask k i present within =
     ∙ ap₂ (λ (j m : ℕ). has_bit (get_or words j 0) i && has_bit m i) (sym only) (is_mask ∙ ap (range_mask lo hi) here)
 
 -- the first word and the last: those between lie in the range as a whole
-module _ (lo hi : ℕ) (words : List ℕ) (last first_mask last_mask : ℕ) (count : length words ≡ word_count lo hi) (at_end : length words ≡ last + 1) (several : 0 < last) (is_first : first_mask ≡ range_mask lo hi (lo / 64)) (is_last : last_mask ≡ range_mask lo hi (lo / 64 + last)) where
-  pub trim_both : IsTrimmed lo hi words (set (set words 0 (bit_and (get_or words 0 0) first_mask)) last (bit_and (get_or (set words 0 (bit_and (get_or words 0 0) first_mask)) last 0) last_mask))
+module _ (lo hi : ℕ) (words : List ℕ) (last first_mask last_mask : ℕ) (count : length words ≡ word_count lo hi) (at_end : length words ≡ last + 1)
+    (several : 0 < last) (is_first : first_mask ≡ range_mask lo hi (lo / 64)) (is_last : last_mask ≡ range_mask lo hi (lo / 64 + last)) where
+  pub trim_both : IsTrimmed lo hi words (set (set words 0 (bit_and (get_or words 0 0) first_mask)) last
+      (bit_and (get_or (set words 0 (bit_and (get_or words 0 0) first_mask)) last 0) last_mask))
   trim_both k i present within =
       let x : ℕ = bit_and (get_or words 0 0) first_mask in
       let y : ℕ = bit_and (get_or (set words 0 (bit_and (get_or words 0 0) first_mask)) last 0) last_mask in

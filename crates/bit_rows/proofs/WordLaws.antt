@@ -1,5 +1,6 @@
 -- From the words of a set to the set and back.
-use Rattle.std.proofs.Common.{◌≡◌, ℕ, ◌+◌, ◌*◌, ◌/◌, ◌%◌, ◌^◌, ◌<◌, Bool, true, false, not, ◌&&◌, ◌||◌, refl, sym, ap, ap₂, ◌∙◌, inl, inr, bit_and, bit_or, w64, arith}
+use Rattle.std.proofs.Common.{◌≡◌, ℕ, ◌+◌, ◌*◌, ◌/◌, ◌%◌, ◌^◌, ◌<◌, Bool, true, false, not, ◌&&◌, ◌||◌, refl, sym, ap, ap₂, ◌∙◌, inl, inr, bit_and}
+use Rattle.std.proofs.Common.{bit_or, w64, arith}
 use Rattle.std.specs.Int.{bit_not}
 use Rattle.std.proofs.lemmas.Bool.{cases_lt, both_ways, and_right}
 use Rattle.bit_rows.specs.Words.{has_bit, range_mask, MaskLiesWithin}
@@ -13,7 +14,8 @@ pub same_word : (s : RowSet) (w a b : ℕ) → IsWordOf s w a → IsWordOf s w b
 same_word s w a b p q a_fits b_fits = same_words a b a_fits b_fits (λ i within. p i within ∙ sym (q i within))
 
 -- a set is determined by its range and its words
-pub same_from_words : (s t : RowSet) → HasRange s t.lo (hi_of t) → (word : ℕ → ℕ) → ((w : ℕ) → IsWordOf s w (word w)) → ((w : ℕ) → IsWordOf t w (word w)) → s ≡ t
+pub same_from_words : (s t : RowSet) → HasRange s t.lo (hi_of t) → (word : ℕ → ℕ) → ((w : ℕ) → IsWordOf s w (word w))
+    → ((w : ℕ) → IsWordOf t w (word w)) → s ≡ t
 same_from_words s t range word p q = same_from_contains s t range (λ b low high.
     let place : b % 64 < 64 = omega arith in
     let back : 64 * (b / 64) + b % 64 ≡ b = omega arith in
@@ -50,7 +52,8 @@ and_true true = refl
 and_true false = refl
 
 -- the complement turns a word round within the range
-pub IsWordOf-complement : (s : RowSet) (w a : ℕ) → IsWordOf s w a → a < 2 ^ 64 → IsWordOf (complement s) w (bit_and (bit_not w64 a) (range_mask s.lo (hi_of s) w))
+pub IsWordOf-complement : (s : RowSet) (w a : ℕ) → IsWordOf s w a → a < 2 ^ 64
+    → IsWordOf (complement s) w (bit_and (bit_not w64 a) (range_mask s.lo (hi_of s) w))
 IsWordOf-complement s w a p fits i within =
     has_bit-and (bit_not w64 a) (range_mask s.lo (hi_of s) w) i
     ∙ elim (cases_lt (64 * w + i) s.lo) [

@@ -1,8 +1,10 @@
 -- Loops that change a list of words in place, from the front on.
-use Rattle.std.proofs.Common.{◌≡◌, ℕ, ◌+◌, ◌-◌, ◌^◌, ◌<◌, ◌≤◌, max, min, leb, Bool, true, false, not, ◌&&◌, ◌||◌, List, length, get_or, set, map, refl, sym, ap, ap₂, ◌∙◌, inl, inr, arith, bit_and, bit_or, w64}
+use Rattle.std.proofs.Common.{◌≡◌, ℕ, ◌+◌, ◌-◌, ◌^◌, ◌<◌, ◌≤◌, max, min, leb, Bool, true, false, not, ◌&&◌, ◌||◌, List, length, get_or, set, map}
+use Rattle.std.proofs.Common.{refl, sym, ap, ap₂, ◌∙◌, inl, inr, arith, bit_and, bit_or, w64}
 use Rattle.std.specs.Int.{bit_not}
 use lib.Lanes.{chunk, put_chunk, zip2}
-use Rattle.std.proofs.lemmas.Simd.{length-chunk, get_or-chunk, get_or-put_chunk_below, get_or-put_chunk_at, get_or-put_chunk_above, get_or-zip2, length-zip2}
+use Rattle.std.proofs.lemmas.Simd.{length-chunk, get_or-chunk, get_or-put_chunk_below, get_or-put_chunk_at, get_or-put_chunk_above, get_or-zip2}
+use Rattle.std.proofs.lemmas.Simd.{length-zip2}
 use Rattle.std.proofs.lemmas.Nat.{and_le_l, or_lt}
 use Rattle.std.proofs.lemmas.List.{get_or-set_same, get_or-set_other, get_or-map, length-map, get_or_past}
 use Rattle.std.proofs.lemmas.Bool.{cases_eq, cases_lt, and_left, and_right, lt-leb, le-leb}
@@ -39,9 +41,11 @@ minus_acts = record {
 pub flip_acts : ActsAs (λ x _. bit_not w64 x) (λ bit _. not bit)
 flip_acts = record { fits = λ x y p q. omega arith; places = λ x y i p q within. has_bit-not x i p within }
 
-module _ {op : ℕ → ℕ → ℕ} {f : Bool → Bool → Bool} (acts : ActsAs op f) {old source : List ℕ} {at : ℕ} {now : List ℕ} (so_far : IsDoneTo f old source at now) (source_fits : (k : ℕ) → get_or source k 0 < 2 ^ 64) where
+module _ {op : ℕ → ℕ → ℕ} {f : Bool → Bool → Bool} (acts : ActsAs op f) {old source : List ℕ} {at : ℕ} {now : List ℕ}
+    (so_far : IsDoneTo f old source at now) (source_fits : (k : ℕ) → get_or source k 0 < 2 ^ 64) where
   -- word k made of what stands there now, which is what stood there, has the places of f
-  made_at : (word k i : ℕ) → at ≤ k → i < 64 → word ≡ op (get_or now k 0) (get_or source k 0) → has_bit word i ≡ f (has_bit (get_or old k 0) i) (has_bit (get_or source k 0) i)
+  made_at : (word k i : ℕ) → at ≤ k → i < 64 → word ≡ op (get_or now k 0) (get_or source k 0)
+      → has_bit word i ≡ f (has_bit (get_or old k 0) i) (has_bit (get_or source k 0) i)
   made_at word k i above within made =
       ap (λ w. has_bit w i) made
       ∙ acts.places (get_or now k 0) (get_or source k 0) i (so_far.fits k) (source_fits k) within
@@ -51,7 +55,8 @@ module _ {op : ℕ → ℕ → ℕ} {f : Bool → Bool → Bool} (acts : ActsAs 
   fits_at word k made = omega (arith, made, acts.fits (get_or now k 0) (get_or source k 0) (so_far.fits k) (source_fits k))
 
   -- one more word
-  pub IsDoneTo-more : (word : ℕ) → at < length now → word ≡ op (get_or now at 0) (get_or source at 0) → IsDoneTo f old source (at + 1) (set now at word)
+  pub IsDoneTo-more : (word : ℕ) → at < length now → word ≡ op (get_or now at 0) (get_or source at 0)
+      → IsDoneTo f old source (at + 1) (set now at word)
   IsDoneTo-more word present made = record {
     done = λ k i below within. elim (cases_eq k at) [
       | inl here ↦
@@ -69,7 +74,8 @@ module _ {op : ℕ → ℕ → ℕ} {f : Bool → Bool → Bool} (acts : ActsAs 
   }
 
   -- eight more words
-  module _ (lanes : List ℕ) (room : at + 8 ≤ length now) (eight : length lanes ≡ 8) (made : (j : ℕ) → j < 8 → get_or lanes j 0 ≡ op (get_or now (at + j) 0) (get_or source (at + j) 0)) where
+  module _ (lanes : List ℕ) (room : at + 8 ≤ length now) (eight : length lanes ≡ 8)
+      (made : (j : ℕ) → j < 8 → get_or lanes j 0 ≡ op (get_or now (at + j) 0) (get_or source (at + j) 0)) where
     at_lane : (k : ℕ) → at ≤ k → k < at + 8 → get_or (put_chunk at now lanes) k 0 ≡ op (get_or now k 0) (get_or source k 0)
     at_lane k above below =
         let there : k ≡ at + (k - at) = omega arith in
@@ -98,17 +104,20 @@ module _ {op : ℕ → ℕ → ℕ} {f : Bool → Bool → Bool} (acts : ActsAs 
     }
 
 -- the lanes of an operator on two loads
-pub zip_lane : (op : ℕ → ℕ → ℕ) (xs ys : List ℕ) (at : ℕ) → at + 8 ≤ length xs → at + 8 ≤ length ys → (j : ℕ) → j < 8 → get_or (zip2 op (chunk at 8 xs) (chunk at 8 ys)) j 0 ≡ op (get_or xs (at + j) 0) (get_or ys (at + j) 0)
+pub zip_lane : (op : ℕ → ℕ → ℕ) (xs ys : List ℕ) (at : ℕ) → at + 8 ≤ length xs → at + 8 ≤ length ys → (j : ℕ) → j < 8
+    → get_or (zip2 op (chunk at 8 xs) (chunk at 8 ys)) j 0 ≡ op (get_or xs (at + j) 0) (get_or ys (at + j) 0)
 zip_lane op xs ys at room_x room_y j within =
     get_or-zip2 op (chunk at 8 xs) (chunk at 8 ys) j 0 0 0 (omega (arith, length-chunk at 8 xs room_x)) (omega (arith, length-chunk at 8 ys room_y))
     ∙ ap₂ op (get_or-chunk at 8 xs j 0 within) (get_or-chunk at 8 ys j 0 within)
 
-pub length_zip_lanes : (op : ℕ → ℕ → ℕ) (xs ys : List ℕ) (at : ℕ) → at + 8 ≤ length xs → at + 8 ≤ length ys → length (zip2 op (chunk at 8 xs) (chunk at 8 ys)) ≡ 8
+pub length_zip_lanes : (op : ℕ → ℕ → ℕ) (xs ys : List ℕ) (at : ℕ) → at + 8 ≤ length xs → at + 8 ≤ length ys
+    → length (zip2 op (chunk at 8 xs) (chunk at 8 ys)) ≡ 8
 length_zip_lanes op xs ys at room_x room_y =
     length-zip2 op (chunk at 8 xs) (chunk at 8 ys) (length-chunk at 8 xs room_x ∙ sym (length-chunk at 8 ys room_y)) ∙ length-chunk at 8 xs room_x
 
 -- the lanes of an operator on one load
-pub map_lane : (op : ℕ → ℕ) (xs : List ℕ) (at : ℕ) → at + 8 ≤ length xs → (j : ℕ) → j < 8 → get_or (map op (chunk at 8 xs)) j 0 ≡ op (get_or xs (at + j) 0)
+pub map_lane : (op : ℕ → ℕ) (xs : List ℕ) (at : ℕ) → at + 8 ≤ length xs → (j : ℕ) → j < 8
+    → get_or (map op (chunk at 8 xs)) j 0 ≡ op (get_or xs (at + j) 0)
 map_lane op xs at room j within =
     get_or-map op (chunk at 8 xs) j 0 0 (omega (arith, length-chunk at 8 xs room)) ∙ ap op (get_or-chunk at 8 xs j 0 within)
 
@@ -162,7 +171,8 @@ module _ (base : ℕ) (old : List ℕ) (first : ℕ) (masks : List ℕ) where
     left = λ k above. get_or-set_other now (w - base) k word 0 (omega arith) ∙ so_far.left k (omega arith);
   }
 
-  pub IsAddedTo-all : (w : ℕ) (now : List ℕ) → IsAddedTo base old first masks w now → length now ≡ length old → max first base ≤ w → min (first + length masks) (base + length old) ≤ w → AddsPlaces base old first masks now
+  pub IsAddedTo-all : (w : ℕ) (now : List ℕ) → IsAddedTo base old first masks w now → length now ≡ length old → max first base ≤ w
+      → min (first + length masks) (base + length old) ≤ w → AddsPlaces base old first masks now
   IsAddedTo-all w now so_far count from all = λ k i present within. elim (cases_lt (base + k) w) [
     | inl below ↦ so_far.done k i below within
     | inr above ↦

@@ -1,5 +1,6 @@
 ghost use Rattle.std.specs.Prelude.{◌≡◌, ◌≢◌, ℕ, ◌+◌, ◌*◌, ◌<◌, ◌≤◌, length, slice_index, IsOk, IfOk, MatchBool};
-ghost use Rattle.bit_rows.specs.RowSet.{HasRange, IsWordOf, hi_of, contains, with_bit, with_word, with_words, empty_set, full_set, part_of, union, intersection, difference, complement};
+ghost use Rattle.bit_rows.specs.RowSet.{HasRange, IsWordOf, hi_of, contains, with_bit, with_word, with_words, empty_set, full_set, part_of, union};
+ghost use Rattle.bit_rows.specs.RowSet.{intersection, difference, complement};
 ghost use Rattle.bit_rows.specs.Words.{word_count, MaskLiesWithin};
 
 use crate::OutOfMemory;

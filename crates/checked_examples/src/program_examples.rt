@@ -4,10 +4,15 @@ ghost use Rattle.std.specs.Prelude.{◌≡◌, true, false, Some, None, [], ◌�
 ghost use Rattle.flow_graph.specs.Analyses.{main_procedure, shape_of};
 ghost use Rattle.flow_graph.specs.Problems.{may_shape, may_transfer};
 ghost use Rattle.flow_graph.specs.Edges.{edges_from};
-ghost use Rattle.flow_graph.specs.Examples.{two_calls, earlier_definition, later_definition, recursive_procedure, inner_definition, recursive_main, only_definition, value_at_entry, endless_callee, sum_expression, two_prints, live_first, endless_loop, live_in_loop, several_callees, outer_definition, inner_of_first, one_call, uncalled_caller};
+ghost use Rattle.flow_graph.specs.Examples.{two_calls, earlier_definition, later_definition, recursive_procedure, inner_definition, recursive_main};
+ghost use Rattle.flow_graph.specs.Examples.{only_definition, value_at_entry, endless_callee, sum_expression, two_prints, live_first, endless_loop};
+ghost use Rattle.flow_graph.specs.Examples.{live_in_loop, several_callees, outer_definition, inner_of_first, one_call, uncalled_caller};
 ghost use Rattle.flow_graph.specs.Paths.{root, final};
 ghost use Rattle.flow_graph.specs.Points.{points, point_count, place_of, point_of, entry_point, end_point, kind_at};
-ghost use Rattle.checked_examples.specs.ProgramExamples.{calls_twice, calls_itself, adds_to_itself, calls_endless, may_loop, calls_main, computes_twice, prints_between_calls, calls_either, calls_several, calls_once, uncalled_procedure_calls, main_comes_last, each_kind, repeats_expressions, gen_at, kill_at, boundary_of, IsShapeOf, IsTransferOf};
+ghost use Rattle.checked_examples.specs.ProgramExamples.{calls_twice, calls_itself, adds_to_itself, calls_endless, may_loop, calls_main};
+ghost use Rattle.checked_examples.specs.ProgramExamples.{computes_twice, prints_between_calls, calls_either, calls_several, calls_once};
+ghost use Rattle.checked_examples.specs.ProgramExamples.{uncalled_procedure_calls, main_comes_last, each_kind, repeats_expressions, gen_at, kill_at};
+ghost use Rattle.checked_examples.specs.ProgramExamples.{boundary_of, IsShapeOf, IsTransferOf};
 ghost use Rattle.flow_graph.specs.Universes.{definitions, expressions, evaluated_at, bits};
 ghost use Rattle.flow_graph.specs.declared.expression.Expr.TheVariants.{Unary, Binary};
 ghost use Rattle.flow_graph.specs.declared.analysis.Analysis.TheVariants.{Reach, Live, Avail, Busy};
@@ -86,36 +91,47 @@ pub fn number_examples()
     ensures of_two_variables { definitions adds_to_itself ≡ (0, None) ∷ (1, None) ∷ (0, Some 0) ∷ [] }
     ensures one_expression { expressions adds_to_itself ≡ Binary (Variable 0) Plus (Variable 1) ∷ [] }
     ensures how_many { map (bits computes_twice) (Reach ∷ Live ∷ Avail ∷ Busy ∷ []) ≡ 7 ∷ 4 ∷ 1 ∷ 1 ∷ [] }
-    ensures in_text_order { definitions computes_twice ≡ (0, None) ∷ (1, None) ∷ (2, None) ∷ (3, None) ∷ (0, Some 0) ∷ (3, Some 2) ∷ (1, Some 5) ∷ [] }
-    ensures each_once { expressions repeats_expressions ≡ Binary (Variable 1) Plus (Variable 2) ∷ Binary (Variable 2) Plus (Variable 1) ∷ Binary (Number 7) Minus (Variable 1) ∷ Unary Minus (Variable 1) ∷ [] }
-    ensures evaluated { map (evaluated_at repeats_expressions) (points repeats_expressions) ≡ Some 0 ∷ Some 1 ∷ Some 2 ∷ Some 2 ∷ Some 3 ∷ Some 0 ∷ None ∷ [] }
+    ensures in_text_order { definitions computes_twice ≡ (0, None) ∷ (1, None) ∷ (2, None) ∷ (3, None) ∷ (0, Some 0) ∷ (3, Some 2) ∷ (1, Some 5)
+        ∷ [] }
+    ensures each_once { expressions repeats_expressions ≡ Binary (Variable 1) Plus (Variable 2) ∷ Binary (Variable 2) Plus (Variable 1)
+        ∷ Binary (Number 7) Minus (Variable 1) ∷ Unary Minus (Variable 1) ∷ [] }
+    ensures evaluated { map (evaluated_at repeats_expressions) (points repeats_expressions) ≡ Some 0 ∷ Some 1 ∷ Some 2 ∷ Some 2 ∷ Some 3 ∷ Some 0
+        ∷ None ∷ [] }
 {}
 
 /// Definitions generated and killed by each kind of statement.
 pub fn reach_examples()
-    ensures generated { map (gen_at each_kind Reach) (points each_kind) ≡ (2 ∷ []) ∷ (3 ∷ []) ∷ (4 ∷ []) ∷ (5 ∷ []) ∷ (6 ∷ []) ∷ [] ∷ [] ∷ [] ∷ [] ∷ [] ∷ [] ∷ [] ∷ [] ∷ [] ∷ [] }
-    ensures killed { map (kill_at each_kind Reach) (points each_kind) ≡ (0 ∷ 3 ∷ 4 ∷ 5 ∷ 6 ∷ []) ∷ (0 ∷ 2 ∷ 4 ∷ 5 ∷ 6 ∷ []) ∷ (0 ∷ 2 ∷ 3 ∷ 5 ∷ 6 ∷ []) ∷ (0 ∷ 2 ∷ 3 ∷ 4 ∷ 6 ∷ []) ∷ (0 ∷ 2 ∷ 3 ∷ 4 ∷ 5 ∷ []) ∷ [] ∷ [] ∷ [] ∷ [] ∷ [] ∷ [] ∷ [] ∷ [] ∷ [] ∷ [] }
+    ensures generated { map (gen_at each_kind Reach) (points each_kind) ≡ (2 ∷ []) ∷ (3 ∷ []) ∷ (4 ∷ []) ∷ (5 ∷ []) ∷ (6 ∷ []) ∷ [] ∷ [] ∷ [] ∷ []
+        ∷ [] ∷ [] ∷ [] ∷ [] ∷ [] ∷ [] }
+    ensures killed { map (kill_at each_kind Reach) (points each_kind) ≡ (0 ∷ 3 ∷ 4 ∷ 5 ∷ 6 ∷ []) ∷ (0 ∷ 2 ∷ 4 ∷ 5 ∷ 6 ∷ []) ∷ (0 ∷ 2 ∷ 3 ∷ 5 ∷ 6 ∷ [])
+        ∷ (0 ∷ 2 ∷ 3 ∷ 4 ∷ 6 ∷ []) ∷ (0 ∷ 2 ∷ 3 ∷ 4 ∷ 5 ∷ []) ∷ [] ∷ [] ∷ [] ∷ [] ∷ [] ∷ [] ∷ [] ∷ [] ∷ [] ∷ [] }
     ensures boundary { boundary_of each_kind Reach ≡ 0 ∷ 1 ∷ [] }
 {}
 
 /// Variables read and written by each kind of statement.
 pub fn live_examples()
-    ensures generated { map (gen_at each_kind Live) (points each_kind) ≡ (1 ∷ []) ∷ (1 ∷ []) ∷ (0 ∷ 1 ∷ []) ∷ [] ∷ [] ∷ (0 ∷ []) ∷ (0 ∷ []) ∷ (0 ∷ 1 ∷ []) ∷ (1 ∷ []) ∷ [] ∷ [] ∷ [] ∷ [] ∷ [] ∷ [] }
-    ensures killed { map (kill_at each_kind Live) (points each_kind) ≡ (0 ∷ []) ∷ (0 ∷ []) ∷ (0 ∷ []) ∷ (0 ∷ []) ∷ (0 ∷ []) ∷ [] ∷ [] ∷ [] ∷ [] ∷ [] ∷ [] ∷ [] ∷ [] ∷ [] ∷ [] }
+    ensures generated { map (gen_at each_kind Live) (points each_kind) ≡ (1 ∷ []) ∷ (1 ∷ []) ∷ (0 ∷ 1 ∷ []) ∷ [] ∷ [] ∷ (0 ∷ []) ∷ (0 ∷ [])
+        ∷ (0 ∷ 1 ∷ []) ∷ (1 ∷ []) ∷ [] ∷ [] ∷ [] ∷ [] ∷ [] ∷ [] }
+    ensures killed { map (kill_at each_kind Live) (points each_kind) ≡ (0 ∷ []) ∷ (0 ∷ []) ∷ (0 ∷ []) ∷ (0 ∷ []) ∷ (0 ∷ []) ∷ [] ∷ [] ∷ [] ∷ [] ∷ []
+        ∷ [] ∷ [] ∷ [] ∷ [] ∷ [] }
     ensures boundary { boundary_of each_kind Live ≡ [] }
 {}
 
 /// Expressions made available, `-y`, `x + y` and `1 + 2`, and those with a written operand.
 pub fn avail_examples()
-    ensures generated { map (gen_at each_kind Avail) (points each_kind) ≡ [] ∷ (0 ∷ []) ∷ [] ∷ (2 ∷ []) ∷ [] ∷ [] ∷ [] ∷ [] ∷ [] ∷ [] ∷ [] ∷ [] ∷ [] ∷ [] ∷ [] }
-    ensures killed { map (kill_at each_kind Avail) (points each_kind) ≡ (1 ∷ []) ∷ (1 ∷ []) ∷ (1 ∷ []) ∷ (1 ∷ []) ∷ (1 ∷ []) ∷ [] ∷ [] ∷ [] ∷ [] ∷ [] ∷ [] ∷ [] ∷ [] ∷ [] ∷ [] }
+    ensures generated { map (gen_at each_kind Avail) (points each_kind) ≡ [] ∷ (0 ∷ []) ∷ [] ∷ (2 ∷ []) ∷ [] ∷ [] ∷ [] ∷ [] ∷ [] ∷ [] ∷ [] ∷ [] ∷ []
+        ∷ [] ∷ [] }
+    ensures killed { map (kill_at each_kind Avail) (points each_kind) ≡ (1 ∷ []) ∷ (1 ∷ []) ∷ (1 ∷ []) ∷ (1 ∷ []) ∷ (1 ∷ []) ∷ [] ∷ [] ∷ [] ∷ [] ∷ []
+        ∷ [] ∷ [] ∷ [] ∷ [] ∷ [] }
     ensures boundary { boundary_of each_kind Avail ≡ [] }
 {}
 
 /// Expressions evaluated, and those with a written operand that are not.
 pub fn busy_examples()
-    ensures generated { map (gen_at each_kind Busy) (points each_kind) ≡ [] ∷ (0 ∷ []) ∷ (1 ∷ []) ∷ (2 ∷ []) ∷ [] ∷ [] ∷ [] ∷ [] ∷ [] ∷ [] ∷ [] ∷ [] ∷ [] ∷ [] ∷ [] }
-    ensures killed { map (kill_at each_kind Busy) (points each_kind) ≡ (1 ∷ []) ∷ (1 ∷ []) ∷ [] ∷ (1 ∷ []) ∷ (1 ∷ []) ∷ [] ∷ [] ∷ [] ∷ [] ∷ [] ∷ [] ∷ [] ∷ [] ∷ [] ∷ [] }
+    ensures generated { map (gen_at each_kind Busy) (points each_kind) ≡ [] ∷ (0 ∷ []) ∷ (1 ∷ []) ∷ (2 ∷ []) ∷ [] ∷ [] ∷ [] ∷ [] ∷ [] ∷ [] ∷ [] ∷ []
+        ∷ [] ∷ [] ∷ [] }
+    ensures killed { map (kill_at each_kind Busy) (points each_kind) ≡ (1 ∷ []) ∷ (1 ∷ []) ∷ [] ∷ (1 ∷ []) ∷ (1 ∷ []) ∷ [] ∷ [] ∷ [] ∷ [] ∷ [] ∷ []
+        ∷ [] ∷ [] ∷ [] ∷ [] }
     ensures boundary { boundary_of each_kind Busy ≡ [] }
 {}
 

@@ -25,7 +25,8 @@ pub fn report_examples()
         ≡ codes "points 5, variables 3, definitions 4, expressions 1\n3: never reached\n" }
     ensures doubtful { report_of may_loop known_of_loop
         ≡ codes "points 6, variables 2, definitions 3, expressions 0\n3: c may be used before it is set\n" }
-    ensures very_busy { report_of (program_of (codes "proc main\nread b\nread c\nif c goto L\nx = b + c\nprint x\nreturn\nL: y = b + c\nprint y\nend\n")) known_of_branches
+    ensures very_busy { report_of
+        (program_of (codes "proc main\nread b\nread c\nif c goto L\nx = b + c\nprint x\nreturn\nL: y = b + c\nprint y\nend\n")) known_of_branches
         ≡ codes "points 9, variables 4, definitions 8, expressions 1\n4: b + c is very busy\n" }
 {}
 

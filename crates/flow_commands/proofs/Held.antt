@@ -43,7 +43,8 @@ as_built values = record {
   };
 }
 
-pub has_options : (values : Bor (List PossibleValue)) (a : App) → (a ≡ tacflow_command values) ⊎ (a ≡ built (tacflow_command values)) → HasOptions a values
+pub has_options : (values : Bor (List PossibleValue)) (a : App) → (a ≡ tacflow_command values) ⊎ (a ≡ built (tacflow_command values))
+    → HasOptions a values
 has_options values a is = elim is [
   | inl made ↦ subst (λ (b : App). HasOptions b values) (sym made) (as_made values)
   | inr made ↦ subst (λ (b : App). HasOptions b values) (sym made) (as_built values)

@@ -70,7 +70,8 @@ fn show_table<R: Threads + Sync, K: Sink>(
 ) -> Result<(), Fault>
     requires threads { IsSync R.row }
     requires below { K.faults sink.old < 2 ^ 32 - 1 }
-    ensures delivers { Delivers (λ out. HasFewPoints Standard program.now × HasFewBits Standard program.now × IsTableText program.now analysis out) (K.contents sink.old) (K.contents sink.new) result }
+    ensures delivers { Delivers (λ out. HasFewPoints Standard program.now × HasFewBits Standard program.now × IsTableText program.now analysis out)
+        (K.contents sink.old) (K.contents sink.new) result }
     ensures flushed { OnOk result (K.flushed sink.new ≡ true) }
     ensures fault { IfErr result (OfProgram (IsOverLimit Standard program.now) ⊥) }
     ensures faults { K.faults sink.new ≡ K.faults sink.old + write_faults_in result }
@@ -89,7 +90,8 @@ fn show_report<R: Threads + Sync, K: Sink>(
 ) -> Result<(), Fault>
     requires threads { IsSync R.row }
     requires below { K.faults sink.old < 2 ^ 32 - 1 }
-    ensures delivers { Delivers (λ out. HasFewPoints Standard program.now × HasFewBits Standard program.now × IsReport program.now out × ListsSafely program.now out) (K.contents sink.old) (K.contents sink.new) result }
+    ensures delivers { Delivers (λ out. HasFewPoints Standard program.now × HasFewBits Standard program.now × IsReport program.now out
+        × ListsSafely program.now out) (K.contents sink.old) (K.contents sink.new) result }
     ensures flushed { OnOk result (K.flushed sink.new ≡ true) }
     ensures fault { IfErr result (OfProgram (IsOverLimit Standard program.now) ⊥) }
     ensures faults { K.faults sink.new ≡ K.faults sink.old + write_faults_in result }

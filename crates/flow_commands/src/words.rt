@@ -18,7 +18,9 @@ const ABOUT: &str =
     "Reads a program of three-address code from standard input, and writes what is asked for to standard output.";
 
 const AFTER_HELP: &str =
-    "Examples:\n  tacflow < program.tac\n  tacflow --show live < program.tac\n\nExit status:\n  0  it was written, or help was asked for\n  1  the text was refused, or reading, writing or memory failed; standard error has one line on it\n  2  the words were refused";
+    "Examples:\n  tacflow < program.tac\n  tacflow --show live < program.tac\n\nExit status:\n  \
+    0  it was written, or help was asked for\n  \
+    1  the text was refused, or reading, writing or memory failed; standard error has one line on it\n  2  the words were refused";
 
 fn show_of(word: &str) -> Option<Show>
     ensures { result ≡ show_named word.now }

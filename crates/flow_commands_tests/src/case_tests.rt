@@ -97,7 +97,8 @@ const REPORTS: &[(&str, &str)] = &[
     ),
     (
         "proc main\ncall p | q\na = b + c\nend\nproc p\nskip\nend\nproc q\nL: goto L\nend\n",
-        "points 7, variables 3, definitions 4, expressions 1\n3: b may be used before it is set\n3: c may be used before it is set\n3: assignment to a is dead\n",
+        "points 7, variables 3, definitions 4, expressions 1\n3: b may be used before it is set\n\
+        3: c may be used before it is set\n3: assignment to a is dead\n",
     ),
     (
         "proc main\ncall p\nx = 2\nprint x\nend\nproc p\nx = 1\nend\n",
@@ -121,7 +122,8 @@ const REPORTS: &[(&str, &str)] = &[
     ),
     (
         adds_to_itself::TEXT,
-        "points 2, variables 2, definitions 3, expressions 1\n2: x may be used before it is set\n2: y may be used before it is set\n2: assignment to x is dead\n",
+        "points 2, variables 2, definitions 3, expressions 1\n2: x may be used before it is set\n\
+        2: y may be used before it is set\n2: assignment to x is dead\n",
     ),
     (
         callee_loops::TEXT,
@@ -138,7 +140,9 @@ const REPORTS: &[(&str, &str)] = &[
     (call_between::TEXT, call_between::REPORT),
     (
         "proc main\na = b + c\ncall p\nd = b + c\nend\nproc p\nskip\nend\n",
-        "points 6, variables 4, definitions 6, expressions 1\n2: b may be used before it is set\n2: c may be used before it is set\n2: assignment to a is dead\n4: b may be used before it is set\n4: c may be used before it is set\n4: b + c is already computed\n4: assignment to d is dead\n",
+        "points 6, variables 4, definitions 6, expressions 1\n2: b may be used before it is set\n\
+        2: c may be used before it is set\n2: assignment to a is dead\n\
+        4: b may be used before it is set\n4: c may be used before it is set\n4: b + c is already computed\n4: assignment to d is dead\n",
     ),
     (
         "proc main\nx = 9223372036854775807\nend\n",

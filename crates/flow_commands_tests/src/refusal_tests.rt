@@ -39,7 +39,9 @@ const CALL_BETWEEN_SHOWN: &[(Show, &str)] = &[
     ),
     (
         Show::Reach,
-        "main 0: a@entry, b@entry, c@entry, d@entry\nmain 1: b@entry, c@entry, d@entry, a@2\nmain 2: b@entry, c@entry, d@entry, a@2, b@8\nmain 3: b@entry, c@entry, a@2, d@4, b@8\np 0: b@entry, c@entry, d@entry, a@2\np 1: b@entry, c@entry, d@entry, a@2\np 2: b@entry, c@entry, d@entry, a@2, b@8\n",
+        "main 0: a@entry, b@entry, c@entry, d@entry\nmain 1: b@entry, c@entry, d@entry, a@2\n\
+        main 2: b@entry, c@entry, d@entry, a@2, b@8\nmain 3: b@entry, c@entry, a@2, d@4, b@8\n\
+        p 0: b@entry, c@entry, d@entry, a@2\np 1: b@entry, c@entry, d@entry, a@2\np 2: b@entry, c@entry, d@entry, a@2, b@8\n",
     ),
     (
         Show::Live,
@@ -63,7 +65,10 @@ const BOTH_BRANCHES_SHOWN: &[(Show, &str)] = &[
     ),
     (
         Show::Reach,
-        "main 0: b@entry, c@entry, x@entry, y@entry\nmain 1: c@entry, x@entry, y@entry, b@2\nmain 2: x@entry, y@entry, b@2, c@3\nmain 3: x@entry, y@entry, b@2, c@3\nmain 4: y@entry, b@2, c@3, x@5\nmain 5: y@entry, b@2, c@3, x@5\nmain 6: x@entry, y@entry, b@2, c@3\nmain 7: x@entry, b@2, c@3, y@8\nmain 8: x@entry, y@entry, b@2, c@3, x@5, y@8\n",
+        "main 0: b@entry, c@entry, x@entry, y@entry\nmain 1: c@entry, x@entry, y@entry, b@2\n\
+        main 2: x@entry, y@entry, b@2, c@3\nmain 3: x@entry, y@entry, b@2, c@3\n\
+        main 4: y@entry, b@2, c@3, x@5\nmain 5: y@entry, b@2, c@3, x@5\n\
+        main 6: x@entry, y@entry, b@2, c@3\nmain 7: x@entry, b@2, c@3, y@8\nmain 8: x@entry, y@entry, b@2, c@3, x@5, y@8\n",
     ),
     (
         Show::Live,

@@ -1,5 +1,6 @@
 -- A family that is the least one closed under a step with finitely many candidates is decided
-use Rattle.std.proofs.Common.{◌≡◌, ℕ, zero, suc, Bool, true, false, ◌&&◌, ◌||◌, nat_eq, List, [], ◌∷◌, length, Contains, ◌<◌, ◌≤◌, ◌⊎◌, inl, inr, refl, sym, ap, ◌∙◌, arith}
+use Rattle.std.proofs.Common.{◌≡◌, ℕ, zero, suc, Bool, true, false, ◌&&◌, ◌||◌, nat_eq, List, [], ◌∷◌, length, Contains, ◌<◌, ◌≤◌, ◌⊎◌, inl, inr}
+use Rattle.std.proofs.Common.{refl, sym, ap, ◌∙◌, arith}
 use Rattle.std.specs.List.{list_any}
 use Rattle.std.proofs.lemmas.List.Folds.{list_any_at}
 use Rattle.flow_graph.proofs.graphs.ExampleLemmas.{is_one_of}
@@ -82,7 +83,8 @@ module _ (Family : ℕ → Type 0) (step : (ℕ → Bool) → ℕ → Bool) (can
   -- one of these numbers that the step finds, and the others, or none
   Pick : (ℕ → Bool) → List ℕ → Type 0
   Pick found rest =
-      ((x : ℕ) × (others : List ℕ) × (step found x ≡ true) × (length others < length rest) × ((y : ℕ) → is_one_of rest y ≡ true → (y ≡ x) ⊎ (is_one_of others y ≡ true)))
+      ((x : ℕ) × (others : List ℕ) × (step found x ≡ true) × (length others < length rest)
+      × ((y : ℕ) → is_one_of rest y ≡ true → (y ≡ x) ⊎ (is_one_of others y ≡ true)))
       ⊎ ((y : ℕ) → is_one_of rest y ≡ true → step found y ≡ false)
 
   pick : (found : ℕ → Bool) (rest : List ℕ) → Pick found rest
@@ -94,12 +96,14 @@ module _ (Family : ℕ → Type 0) (step : (ℕ → Bool) → ℕ → Bool) (can
       first y true same inside = inl (nat_eq_is y x same)
       first y false same inside = inr inside
 
-      later : (x' : ℕ) (others : List ℕ) → ((y : ℕ) → is_one_of rest y ≡ true → (y ≡ x') ⊎ (is_one_of others y ≡ true)) → (y : ℕ) (same : Bool) → nat_eq y x ≡ same
+      later : (x' : ℕ) (others : List ℕ) → ((y : ℕ) → is_one_of rest y ≡ true → (y ≡ x') ⊎ (is_one_of others y ≡ true)) → (y : ℕ) (same : Bool)
+          → nat_eq y x ≡ same
           → (same || is_one_of rest y) ≡ true → (y ≡ x') ⊎ ((same || is_one_of others y) ≡ true)
       later x' others cover y true same inside = inr refl
       later x' others cover y false same inside = cover y inside
 
-      none_yet : step found x ≡ false → ((y : ℕ) → is_one_of rest y ≡ true → step found y ≡ false) → (y : ℕ) (same : Bool) → nat_eq y x ≡ same → (same || is_one_of rest y) ≡ true → step found y ≡ false
+      none_yet : step found x ≡ false → ((y : ℕ) → is_one_of rest y ≡ true → step found y ≡ false) → (y : ℕ) (same : Bool) → nat_eq y x ≡ same
+          → (same || is_one_of rest y) ≡ true → step found y ≡ false
       none_yet here none y true same inside = rw (nat_eq_is y x same) here
       none_yet here none y false same inside = none y inside
 
@@ -112,7 +116,8 @@ module _ (Family : ℕ → Type 0) (step : (ℕ → Bool) → ℕ → Bool) (can
   Covers found rest = (y : ℕ) → is_one_of candidates y ≡ true → (found y ≡ true) ⊎ (is_one_of rest y ≡ true)
 
   one_more : (found : ℕ → Bool) (rest : List ℕ) → ((y : ℕ) → found y ≡ true → Family y) → Covers found rest → Pick found rest
-      → ((more : ℕ → Bool) (others : List ℕ) → length others < length rest → ((y : ℕ) → more y ≡ true → Family y) → Covers more others → Test Family) → Test Family
+      → ((more : ℕ → Bool) (others : List ℕ) → length others < length rest → ((y : ℕ) → more y ≡ true → Family y) → Covers more others → Test Family)
+      → Test Family
   unfolding Pick Covers
   one_more found rest known cover (inr none) again = record { test = found; sound = known; complete = least found closed }
     where
@@ -143,8 +148,10 @@ module _ (Family : ℕ → Type 0) (step : (ℕ → Bool) → ℕ → Bool) (can
           go (inr left) = go' (among y left)
 
   search_all : (n : ℕ) (found : ℕ → Bool) (rest : List ℕ) → length rest ≤ n → ((y : ℕ) → found y ≡ true → Family y) → Covers found rest → Test Family
-  search_all zero found rest few known cover = one_more found rest known cover (pick found rest) (λ more others fewer knows covers. absurd (omega arith))
-  search_all (suc n) found rest few known cover = one_more found rest known cover (pick found rest) (λ more others fewer knows covers. search_all n more others (omega arith) knows covers)
+  search_all zero found rest few known cover =
+      one_more found rest known cover (pick found rest) (λ more others fewer knows covers. absurd (omega arith))
+  search_all (suc n) found rest few known cover =
+      one_more found rest known cover (pick found rest) (λ more others fewer knows covers. search_all n more others (omega arith) knows covers)
 
   pub least_test : Test Family
   unfolding Covers

@@ -3,7 +3,8 @@
 -- A step leads to where control may be after the statement in the same procedure. A call leads to the entry of each
 -- procedure that it lists, and from that procedure's end a return leads to the point after each call that lists it. No
 -- edge leads past a call (the supergraph of Reps, Horwitz, Sagiv 1995).
-use Rattle.std.specs.Prelude.{ℕ, suc, Bool, List, [], ◌∷◌, map, flat_map, Some, None, option_and_then, option_map, slice_get, unwrap_or, nat_eq, if◌then◌else◌}
+use Rattle.std.specs.Prelude.{ℕ, suc, Bool, List, [], ◌∷◌, map, flat_map, Some, None, option_and_then, option_map, slice_get, unwrap_or, nat_eq}
+use Rattle.std.specs.Prelude.{if◌then◌else◌}
 use Rattle.std.specs.List.{list_any}
 use Rattle.tac_program.specs.Programs.{Program}
 use Rattle.tac_program.specs.declared.program.StmtKind.{StmtKind}
@@ -15,7 +16,8 @@ use Rattle.flow_graph.specs.Points.{points, point_of, entry_point, end_point, pr
 -- the point that a label of a procedure stands for
 abbrev pub label_point : Program → ℕ → ℕ → ℕ
 label_point program procedure label =
-    point_of program procedure (unwrap_or (option_map (λ l. l.place) (option_and_then (λ p. slice_get p.labels label) (slice_get program.procedures procedure))) 0)
+    point_of program procedure
+    (unwrap_or (option_map (λ l. l.place) (option_and_then (λ p. slice_get p.labels label) (slice_get program.procedures procedure))) 0)
 
 -- to the next statement, or the end where there is none
 abbrev pub next_step : ℕ → List Edge

@@ -14,7 +14,8 @@ definition_at_entry others = record { gen = λ x y. false; kill = λ x y. list_a
 
 -- an expression in a backward problem: evaluated at these points, an operand assigned at the others
 abbrev pub expression_evaluated_at : List ℕ → List ℕ → Transfer
-expression_evaluated_at evaluated assigned = record { gen = λ x y. list_any (nat_eq x) evaluated; kill = λ x y. list_any (nat_eq x) assigned; boundary = false }
+expression_evaluated_at evaluated assigned =
+    record { gen = λ x y. list_any (nat_eq x) evaluated; kill = λ x y. list_any (nat_eq x) assigned; boundary = false }
 
 -- main: 0 a = 1, 1 call p, 2 print a, 3 a = 2, 4 call p, 5 print a, 6 its end; p: 7 skip, 8 its end
 abbrev pub two_calls : Shape

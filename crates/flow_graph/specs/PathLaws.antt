@@ -1,6 +1,8 @@
 -- What is proved of paths and of their values.
 use Rattle.std.specs.Prelude.{◌≡◌, ℕ, Bool, not, ◌&&◌, ◌||◌, List, [], ◌∷◌, ◌++◌, Some, ◌<◌, ◌↔◌}
-use Rattle.flow_graph.specs.Paths.{Edge, Step, Call, Ret, Shape, Transfer, IsEdge, IsPath, open_sites_after, IsValidPath, value_after, HasPath, SomePathHas, EveryPathHas, IsBackwardValidPath, value_before, HasBackwardPath, SomeBackwardPathHas, EveryBackwardPathHas}
+use Rattle.flow_graph.specs.Paths.{Edge, Step, Call, Ret, Shape, Transfer, IsEdge, IsPath, open_sites_after, IsValidPath, value_after, HasPath}
+use Rattle.flow_graph.specs.Paths.{SomePathHas, EveryPathHas, IsBackwardValidPath, value_before, HasBackwardPath, SomeBackwardPathHas}
+use Rattle.flow_graph.specs.Paths.{EveryBackwardPathHas}
 use Rattle.flow_graph.specs.Reversals.{reversed_path, reversed_shape, reversed_transfer, complemented_transfer}
 use Rattle.flow_graph.specs.WellFormed.{IsWellFormed, HasSameEdges, AgreesOnSteps}
 use Rattle.flow_graph.specs.MatchedPaths.{IsPathFromEntry, IsEnteringPath}

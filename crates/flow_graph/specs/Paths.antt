@@ -4,7 +4,8 @@
 -- may be left open at its end (interprocedurally valid paths: Reps, Horwitz, Sagiv 1995). Its value is the boundary taken
 -- through gen union (X minus kill), edge by edge (Aho, Lam, Sethi, Ullman, 2nd edition, 9.2 and 9.5). The meet over all
 -- valid paths asks whether some of them, or every one, has a bit in its value (Kildall 1973).
-use Rattle.std.specs.Prelude.{◌≡◌, ℕ, Bool, true, not, ◌&&◌, ◌||◌, List, [], ◌∷◌, Option, Some, None, option_and_then, IsSome, Contains, nat_eq, if◌then◌else◌}
+use Rattle.std.specs.Prelude.{◌≡◌, ℕ, Bool, true, not, ◌&&◌, ◌||◌, List, [], ◌∷◌, Option, Some, None, option_and_then, IsSome, Contains, nat_eq}
+use Rattle.std.specs.Prelude.{if◌then◌else◌}
 pub use Rattle.flow_graph.specs.declared.edge.Edge.{Edge}
 pub use Rattle.flow_graph.specs.declared.edge.Edge.TheVariants.{Step, Call, Ret}
 

@@ -30,13 +30,15 @@ may_transfer program analysis bit =
 -- boundary has it. (A must analysis is complemented.)
 abbrev pub may_gens : MayForm → ℕ → ℕ → Bool
 may_gens form point bit =
-    if is_must form.analysis then kills form.program form.analysis point bit && not (gens form.program form.analysis point bit) else gens form.program form.analysis point bit
+    if is_must form.analysis then kills form.program form.analysis point bit && not (gens form.program form.analysis point bit)
+    else gens form.program form.analysis point bit
 
 abbrev pub may_kills : MayForm → ℕ → ℕ → Bool
 may_kills form point bit = if is_must form.analysis then gens form.program form.analysis point bit else kills form.program form.analysis point bit
 
 abbrev pub may_boundary : MayForm → ℕ → Bool
-may_boundary form bit = if is_must form.analysis then not (is_in_boundary form.program form.analysis bit) else is_in_boundary form.program form.analysis bit
+may_boundary form bit =
+    if is_must form.analysis then not (is_in_boundary form.program form.analysis bit) else is_in_boundary form.program form.analysis bit
 
 -- A word of a set of bits: its place k is 1 exactly where bit 64 * word + k is there and is in the set.
 abbrev pub IsWordOf : (ℕ → Bool) → ℕ → ℕ → ℕ → Type 0

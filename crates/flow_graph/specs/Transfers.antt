@@ -8,7 +8,8 @@ use Rattle.tac_program.specs.declared.program.Operand.TheVariants.{Variable, Num
 use Rattle.tac_program.specs.declared.program.StmtKind.{StmtKind}
 use Rattle.tac_program.specs.declared.program.StmtKind.TheVariants as kind
 use Rattle.flow_graph.specs.Points.{kind_at}
-use Rattle.flow_graph.specs.Universes.{Expr, Unary, Binary, Analysis, Reach, Live, Avail, Busy, Definition, target_at, definitions, expression_at, expressions, same_expression}
+use Rattle.flow_graph.specs.Universes.{Expr, Unary, Binary, Analysis, Reach, Live, Avail, Busy, Definition, target_at, definitions, expression_at}
+use Rattle.flow_graph.specs.Universes.{expressions, same_expression}
 
 abbrev pub names_variable : ℕ → Operand → Bool
 names_variable x (Variable y) = nat_eq x y
@@ -60,7 +61,8 @@ is_made_at point d = unwrap_or (option_map (nat_eq point) d.1) false
 abbrev pub gens : Program → Analysis → ℕ → ℕ → Bool
 gens program Reach point bit = unwrap_or (option_map (is_made_at point) (slice_get (definitions program) bit)) false
 gens program Live point bit = reads program point bit
-gens program Avail point bit = unwrap_or (option_map (λ e. evaluates program point e && not (changes program point e)) (slice_get (expressions program) bit)) false
+gens program Avail point bit =
+    unwrap_or (option_map (λ e. evaluates program point e && not (changes program point e)) (slice_get (expressions program) bit)) false
 gens program Busy point bit = unwrap_or (option_map (evaluates program point) (slice_get (expressions program) bit)) false
 
 -- Whether it kills the bit.
@@ -69,10 +71,12 @@ gens program Busy point bit = unwrap_or (option_map (evaluates program point) (s
 --   available expressions: the expressions with the variable that it writes as an operand
 --   very busy expressions: those but for the one that it evaluates
 abbrev pub kills : Program → Analysis → ℕ → ℕ → Bool
-kills program Reach point bit = unwrap_or (option_map (λ d. writes program point d.0 && not (is_made_at point d)) (slice_get (definitions program) bit)) false
+kills program Reach point bit =
+    unwrap_or (option_map (λ d. writes program point d.0 && not (is_made_at point d)) (slice_get (definitions program) bit)) false
 kills program Live point bit = writes program point bit
 kills program Avail point bit = unwrap_or (option_map (changes program point) (slice_get (expressions program) bit)) false
-kills program Busy point bit = unwrap_or (option_map (λ e. changes program point e && not (evaluates program point e)) (slice_get (expressions program) bit)) false
+kills program Busy point bit =
+    unwrap_or (option_map (λ e. changes program point e && not (evaluates program point e)) (slice_get (expressions program) bit)) false
 
 -- Whether the boundary has the bit: the dummy definitions for reaching definitions, nothing for the others.
 abbrev pub is_in_boundary : Program → Analysis → ℕ → Bool

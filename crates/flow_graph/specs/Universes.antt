@@ -1,6 +1,7 @@
 -- What the bits of each analysis stand for, and how they are numbered: definitions for reaching definitions, variables for
 -- live variables, expressions for available and for very busy expressions (Aho, Lam, Sethi, Ullman, 2nd edition, 9.2 and 9.5).
-use Rattle.std.specs.Prelude.{ℕ, ◌<◌, Bool, IfSome, false, ◌&&◌, List, [], ◌∷◌, ◌++◌, map, flat_map, fold, length, Option, Some, None, option_and_then, position, nat_eq, if◌then◌else◌, bytes_eq}
+use Rattle.std.specs.Prelude.{ℕ, ◌<◌, Bool, IfSome, false, ◌&&◌, List, [], ◌∷◌, ◌++◌, map, flat_map, fold, length, Option, Some, None}
+use Rattle.std.specs.Prelude.{option_and_then, position, nat_eq, if◌then◌else◌, bytes_eq}
 use Rattle.std.specs.List.{list_any, range_with_len}
 use Rattle.tac_program.specs.Programs.{Program}
 use Rattle.tac_program.specs.Spelling.{sign_of}

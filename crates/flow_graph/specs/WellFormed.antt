@@ -9,8 +9,10 @@ pub record IsWellFormed (shape : Shape) : Type 0 where
   pub entry_inside : (procedure : ℕ) → procedure < shape.procedures → shape.procedure_of (shape.entry procedure) ≡ procedure
   pub exit_inside : (procedure : ℕ) → procedure < shape.procedures → shape.procedure_of (shape.exit procedure) ≡ procedure
   pub step_inside : (x y : ℕ) → IsEdge shape (Step x y) → shape.procedure_of x ≡ shape.procedure_of y
-  pub call_to_entry : (site x y : ℕ) → IsEdge shape (Call site x y) → (shape.procedure_of y < shape.procedures) × (y ≡ shape.entry (shape.procedure_of y))
-  pub return_from_exit : (site x y : ℕ) → IsEdge shape (Ret site x y) → (shape.procedure_of x < shape.procedures) × (x ≡ shape.exit (shape.procedure_of x))
+  pub call_to_entry : (site x y : ℕ) → IsEdge shape (Call site x y)
+      → (shape.procedure_of y < shape.procedures) × (y ≡ shape.entry (shape.procedure_of y))
+  pub return_from_exit : (site x y : ℕ) → IsEdge shape (Ret site x y)
+      → (shape.procedure_of x < shape.procedures) × (x ≡ shape.exit (shape.procedure_of x))
   pub site_inside : (site x y u z : ℕ) → IsEdge shape (Call site x y) → IsEdge shape (Ret site u z) → shape.procedure_of x ≡ shape.procedure_of z
 
 -- Two shapes agree in all that paths speak of: where they begin, where they end, and the edges, in whatever order.

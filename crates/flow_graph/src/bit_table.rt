@@ -49,7 +49,8 @@ impl BitTable {
         requires bit { bit / 64 < self.old.width }
         ensures width { self.new.width ≡ self.old.width }
         ensures count { length self.new.words.items ≡ length self.old.words.items }
-        ensures bits { (r b : ℕ) → b / 64 < self.old.width → table_has self.new.words.items self.new.width r b ≡ (table_has self.old.words.items self.old.width r b || (nat_eq r row && nat_eq b bit)) }
+        ensures bits { (r b : ℕ) → b / 64 < self.old.width → table_has self.new.words.items self.new.width r b
+            ≡ (table_has self.old.words.items self.old.width r b || (nat_eq r row && nat_eq b bit)) }
     {
         let at = row as usize * self.width + (bit / 64) as usize;
         self.words[at] |= 1 << (bit % 64);

@@ -182,7 +182,8 @@ fn mark(table: &mut BitTable, rows: u32, row: Option<u32>, bit: u32)
     requires bit { bit / 64 < table.old.width }
     ensures width { table.new.width ≡ table.old.width }
     ensures count { length table.new.words.items ≡ length table.old.words.items }
-    ensures bits { (r b : ℕ) → r < rows → b / 64 < table.old.width → table_has table.new.words.items table.new.width r b ≡ (table_has table.old.words.items table.old.width r b || (marks row r && nat_eq b bit)) }
+    ensures bits { (r b : ℕ) → r < rows → b / 64 < table.old.width → table_has table.new.words.items table.new.width r b
+        ≡ (table_has table.old.words.items table.old.width r b || (marks row r && nat_eq b bit)) }
 {
     match row {
         Some(row) => {

@@ -1,12 +1,17 @@
 //! Worked shapes: their paths, values and runs, each checked by computing it.
 
 ghost use Rattle.std.specs.Prelude.{◌≡◌, true, false, Some, None, [], ◌∷◌};
-ghost use Rattle.flow_graph.specs.Paths.{root, final, IsPath, open_sites_after, IsValidPath, value_after, value_before, open_sites_before, HasBackwardPath, SomeBackwardPathHas, IsBackwardValidPath};
+ghost use Rattle.flow_graph.specs.Paths.{root, final, IsPath, open_sites_after, IsValidPath, value_after, value_before, open_sites_before};
+ghost use Rattle.flow_graph.specs.Paths.{HasBackwardPath, SomeBackwardPathHas, IsBackwardValidPath};
 ghost use Rattle.flow_graph.specs.Reversals.{reversed_path, reversed_shape, reversed_transfer, complemented_transfer};
 ghost use Rattle.flow_graph.specs.WellFormed.{IsWellFormed};
 ghost use Rattle.flow_graph.specs.MatchedPaths.{IsMatchedPath};
 ghost use Rattle.flow_graph.specs.Runs.{IsDoubtful, IsRun, run_sites_after, ReadsBeforeWriting, CallsReturn, IsLiveness};
-ghost use Rattle.flow_graph.specs.Examples.{two_calls, earlier_definition, later_definition, right_return, wrong_return, two_prints, live_first, out_of_first_call, recursive_procedure, inner_definition, through_recursion, recursive_main, only_definition, value_at_entry, into_main, through_main, endless_callee, sum_expression, endless_loop, printed_in_loop, live_in_loop, several_callees, outer_definition, through_first_callee, through_second_callee, one_call, uncalled_caller};
+ghost use Rattle.flow_graph.specs.Examples.{two_calls, earlier_definition, later_definition, right_return, wrong_return, two_prints, live_first};
+ghost use Rattle.flow_graph.specs.Examples.{out_of_first_call, recursive_procedure, inner_definition, through_recursion, recursive_main};
+ghost use Rattle.flow_graph.specs.Examples.{only_definition, value_at_entry, into_main, through_main, endless_callee, sum_expression, endless_loop};
+ghost use Rattle.flow_graph.specs.Examples.{printed_in_loop, live_in_loop, several_callees, outer_definition, through_first_callee};
+ghost use Rattle.flow_graph.specs.Examples.{through_second_callee, one_call, uncalled_caller};
 ghost use Rattle.flow_graph.specs.declared.edge.Edge.TheVariants.{Step, Call, Ret};
 
 /// A path that returns to another site than that of the latest open call is a path, and is not valid.

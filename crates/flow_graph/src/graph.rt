@@ -69,8 +69,10 @@ impl Drop for Graph<'_> {
 
 /// Whether there are more definitions, variables or expressions than the limits allow.
 fn has_many_bits(limits: Limits, definitions: usize, variables: u32, expressions: usize) -> bool
-    ensures many { result ≡ true → (most_definitions limits < definitions) ⊎ ((most_variables limits < variables) ⊎ (most_expressions limits < expressions)) }
-    ensures few { result ≡ false → (definitions ≤ most_definitions limits) × (variables ≤ most_variables limits) × (expressions ≤ most_expressions limits) }
+    ensures many { result ≡ true
+        → (most_definitions limits < definitions) ⊎ ((most_variables limits < variables) ⊎ (most_expressions limits < expressions)) }
+    ensures few { result ≡ false
+        → (definitions ≤ most_definitions limits) × (variables ≤ most_variables limits) × (expressions ≤ most_expressions limits) }
 {
     if (limits.definitions() as usize) < definitions {
         return true;

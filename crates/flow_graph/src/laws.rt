@@ -1,7 +1,11 @@
 //! Laws of paths and runs: each is the clause of a function without a body.
 
-ghost use Rattle.flow_graph.specs.PathLaws.{ValidPathsReverse, ValuesReverse, MeetsReverse, ReversalUndoesItself, ReversedIsWellFormed, TransferComplement, ValuesComplement, MeetsComplement, ComplementOfReversed, MatchedReturnsLeaveTheirCallee, StepsJoin, CalleePathsJoin, CallsEnter, ValidPathsSplit, PathsCompose, FrontsAreValid, SameEdgesSamePaths, SameEdgesSameBackwardPaths};
-ghost use Rattle.flow_graph.specs.RunLaws.{ContinuationsAreRuns, FrontsOfRunsAreRuns, WhatFinishesIsNotDoubtful, UndoubtedFinishes, RunsExtend, UndoubtedRunsExtend, DeadIsSafe};
+ghost use Rattle.flow_graph.specs.PathLaws.{ValidPathsReverse, ValuesReverse, MeetsReverse, ReversalUndoesItself, ReversedIsWellFormed};
+ghost use Rattle.flow_graph.specs.PathLaws.{TransferComplement, ValuesComplement, MeetsComplement, ComplementOfReversed};
+ghost use Rattle.flow_graph.specs.PathLaws.{MatchedReturnsLeaveTheirCallee, StepsJoin, CalleePathsJoin, CallsEnter, ValidPathsSplit, PathsCompose};
+ghost use Rattle.flow_graph.specs.PathLaws.{FrontsAreValid, SameEdgesSamePaths, SameEdgesSameBackwardPaths};
+ghost use Rattle.flow_graph.specs.RunLaws.{ContinuationsAreRuns, FrontsOfRunsAreRuns, WhatFinishesIsNotDoubtful, UndoubtedFinishes, RunsExtend};
+ghost use Rattle.flow_graph.specs.RunLaws.{UndoubtedRunsExtend, DeadIsSafe};
 
 /// A backward valid path, walked backwards, is a forward valid path of the reversed problem, with the same value; and the
 /// reversed problem of a well-formed one is well formed.

@@ -28,7 +28,8 @@ fn target(edge: Edge) -> u32
 /// Puts the point that some edges leave last in the list of each point to which one leads.
 fn put_source(lists: &mut Vec<NumberList>, edges: &[Edge], source: u32) -> Result<(), AllocError>
     requires { All (λ edge. target_of edge < length (contents lists.old.items)) edges.now }
-    ensures { OnOk result (contents lists.new.items ≡ fold (λ known edge. with_last known (target_of edge) source) (contents lists.old.items) edges.now) }
+    ensures { OnOk result
+        (contents lists.new.items ≡ fold (λ known edge. with_last known (target_of edge) source) (contents lists.old.items) edges.now) }
 {
     for edge in edges {
         put_last(lists, target(*edge), source)?;

@@ -219,7 +219,8 @@ impl<'g, 'p> Problem<'g, 'p> {
     fn touched_words(&self, written: Option<u32>) -> u64
         requires { IfSome written (λ x. x < length self.now.program.variable_names) }
         ensures { (bit : ℕ) → bit < bits_of self.now.program self.now.analysis
-            → unwrap_or (option_map (λ x. depends self.now.program self.now.analysis x bit) written) false ≡ true → has_bit result (bit / 64 % 64) ≡ true }
+            → unwrap_or (option_map (λ x. depends self.now.program self.now.analysis x bit) written) false ≡ true
+            → has_bit result (bit / 64 % 64) ≡ true }
     {
         match written {
             None => 0,
@@ -231,7 +232,8 @@ impl<'g, 'p> Problem<'g, 'p> {
     /// for no bit of a word `w` with `w % 64` equal to `p`.
     pub fn effect_words(&self, point: u32) -> u64
         requires { point < point_count self.now.program }
-        ensures { (bit : ℕ) → bit < bits_of self.now.program self.now.analysis → IsAffected self.now point bit → has_bit result (bit / 64 % 64) ≡ true }
+        ensures { (bit : ℕ) → bit < bits_of self.now.program self.now.analysis → IsAffected self.now point bit
+            → has_bit result (bit / 64 % 64) ≡ true }
     {
         let effect = self.effects[point as usize];
         let own = word_mark(effect.first) | word_mark(effect.second);

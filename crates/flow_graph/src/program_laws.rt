@@ -1,6 +1,9 @@
 //! Laws of every program's graph and of its four problems: each is the clause of a function without a body.
 
-ghost use Rattle.flow_graph.specs.ProgramLaws.{PlacesHavePoints, PointsHavePlaces, EdgesJoinPoints, GraphsAreWellFormed, MayFormsAreWellFormed, CallsOfProgramsReturn, CallsReturnBehindSites, ReturnsHaveCallsAtSites, LiveIsLiveness, FlagsAreMayForms, MayTablesAreMayForms, MustTablesAreMayForms, DeadVariablesAreSafe, StepsHaveStatements, WordsTellBits, WordsAreTheirBits, DummiesComeFirst};
+ghost use Rattle.flow_graph.specs.ProgramLaws.{PlacesHavePoints, PointsHavePlaces, EdgesJoinPoints, GraphsAreWellFormed, MayFormsAreWellFormed};
+ghost use Rattle.flow_graph.specs.ProgramLaws.{CallsOfProgramsReturn, CallsReturnBehindSites, ReturnsHaveCallsAtSites, LiveIsLiveness};
+ghost use Rattle.flow_graph.specs.ProgramLaws.{FlagsAreMayForms, MayTablesAreMayForms, MustTablesAreMayForms, DeadVariablesAreSafe};
+ghost use Rattle.flow_graph.specs.ProgramLaws.{StepsHaveStatements, WordsTellBits, WordsAreTheirBits, DummiesComeFirst};
 
 /// Points and places are one to one.
 pub fn points_are_places()

@@ -45,7 +45,8 @@ fn callees<'p>(points: &Points<'p>, point: u32) -> &'p [u32]
 /// Puts a call site last in the list of each procedure that it may call.
 fn put_site(lists: &mut Vec<NumberList>, callees: &[u32], site: u32) -> Result<(), AllocError>
     requires { All (λ procedure. procedure < length (contents lists.old.items)) callees.now }
-    ensures { OnOk result (contents lists.new.items ≡ fold (λ known procedure. with_last known procedure site) (contents lists.old.items) callees.now) }
+    ensures { OnOk result
+        (contents lists.new.items ≡ fold (λ known procedure. with_last known procedure site) (contents lists.old.items) callees.now) }
 {
     for callee in callees {
         put_last(lists, *callee, site)?;

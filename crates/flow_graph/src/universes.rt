@@ -4,7 +4,8 @@ ghost use Rattle.std.specs.List.{range_with_len};
 ghost use Rattle.std.specs.Prelude.{◌≡◌, ◌<◌, ◌^◌, None, IfOk, OnOk, fold, length, map};
 ghost use Rattle.flow_graph.specs.code.Evaluated.{AreEvaluated, IsNumberOf};
 ghost use Rattle.flow_graph.specs.Points.{point_count};
-ghost use Rattle.flow_graph.specs.Universes.{definitions as definitions_of, expression_at, expression_of, expressions as expressions_of, noted, some_expression, target_at, defined_variable};
+ghost use Rattle.flow_graph.specs.Universes.{definitions as definitions_of, expression_at, expression_of, expressions as expressions_of, noted};
+ghost use Rattle.flow_graph.specs.Universes.{some_expression, target_at, defined_variable};
 
 use crate::expression::Expr;
 use crate::points::Points;

@@ -17,7 +17,8 @@ const GRAPHS: &[Row] = &[
     (
         THREE_CALLEES,
         Question::Edges,
-        "0: call 0-3 at 0 call 0-4 at 0 call 0-5 at 0\n1: call 1-4 at 1 call 1-3 at 1\n2:\n3: return 3-1 at 0 return 3-2 at 1\n4: return 4-1 at 0 return 4-2 at 1\n5: return 5-1 at 0\n",
+        "0: call 0-3 at 0 call 0-4 at 0 call 0-5 at 0\n1: call 1-4 at 1 call 1-3 at 1\n2:\n\
+        3: return 3-1 at 0 return 3-2 at 1\n4: return 4-1 at 0 return 4-2 at 1\n5: return 5-1 at 0\n",
     ),
     (
         JUMPS,
@@ -27,12 +28,18 @@ const GRAPHS: &[Row] = &[
     (
         recursion::TEXT,
         Question::Points,
-        "0: 0 of 0, line 2\n1: 1 of 0, line 3\n2: 2 of 0, line 4\n3: 3 of 0\n4: 0 of 1, line 7\n5: 1 of 1, line 8\n6: 2 of 1, line 9\n7: 3 of 1\n0 from 0\n1 from 4\n",
+        "0: 0 of 0, line 2\n1: 1 of 0, line 3\n2: 2 of 0, line 4\n3: 3 of 0\n4: 0 of 1, line 7\n\
+        5: 1 of 1, line 8\n6: 2 of 1, line 9\n7: 3 of 1\n0 from 0\n1 from 4\n",
     ),
     (
         EXPRESSIONS,
         Question::Numbers,
-        "3 variables\n0: 0 None\n1: 1 None\n2: 2 None\n3: 0 Some(0)\n4: 0 Some(1)\n5: 0 Some(2)\n6: 0 Some(3)\n7: 0 Some(4)\n8: 0 Some(5)\n9: 2 Some(6)\n0: Binary(Variable(1), Plus, Variable(2))\n1: Binary(Variable(2), Plus, Variable(1))\n2: Unary(Minus, Variable(1))\n3: Binary(Number(0), Minus, Variable(1))\n4: Binary(Variable(1), Minus, Number(7))\n5 very busy\n0: Some(0)\n1: Some(1)\n2: Some(2)\n3: Some(3)\n4: Some(4)\n5: Some(4)\n6: None\n7: None\n",
+        "3 variables\n0: 0 None\n1: 1 None\n2: 2 None\n3: 0 Some(0)\n4: 0 Some(1)\n5: 0 Some(2)\n\
+        6: 0 Some(3)\n7: 0 Some(4)\n8: 0 Some(5)\n9: 2 Some(6)\n\
+        0: Binary(Variable(1), Plus, Variable(2))\n1: Binary(Variable(2), Plus, Variable(1))\n\
+        2: Unary(Minus, Variable(1))\n3: Binary(Number(0), Minus, Variable(1))\n\
+        4: Binary(Variable(1), Minus, Number(7))\n5 very busy\n0: Some(0)\n1: Some(1)\n2: Some(2)\n\
+        3: Some(3)\n4: Some(4)\n5: Some(4)\n6: None\n7: None\n",
     ),
     (no_end::TEXT, Question::LeadsTo(&[3, 4]), " 0 1 3 4"),
     (no_end::TEXT, Question::LeadsTo(&[5]), " 0 1 2 5"),

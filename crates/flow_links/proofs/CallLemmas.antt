@@ -13,7 +13,8 @@ of_filter : (p : Edge → Bool) (edges : List Edge) (edge : Edge) → Contains (
 of_filter p [] edge there = there
 of_filter p (first ∷ rest) edge there = by_test (p first) refl there (λ later. of_filter p rest edge later)
   where
-    by_test : (b : Bool) → p first ≡ b → Contains (if b then first ∷ filter p rest else filter p rest) edge → (Contains (filter p rest) edge → Contains rest edge) → Contains (first ∷ rest) edge
+    by_test : (b : Bool) → p first ≡ b → Contains (if b then first ∷ filter p rest else filter p rest) edge
+        → (Contains (filter p rest) edge → Contains rest edge) → Contains (first ∷ rest) edge
     by_test true test at more =
         elim (Contains-cons first (filter p rest) edge at) [
           | inl same ↦ subst (Contains (first ∷ rest)) (sym same) (Contains-first first rest)
@@ -24,9 +25,11 @@ of_filter p (first ∷ rest) edge there = by_test (p first) refl there (λ later
 -- it leaves what passes its test
 in_filter : (p : Edge → Bool) (edges : List Edge) (edge : Edge) → Contains edges edge → p edge ≡ true → Contains (filter p edges) edge
 in_filter p [] edge there passes = there
-in_filter p (first ∷ rest) edge there passes = by_test (p first) refl (Contains-cons first rest edge there) (λ later. in_filter p rest edge later passes)
+in_filter p (first ∷ rest) edge there passes =
+    by_test (p first) refl (Contains-cons first rest edge there) (λ later. in_filter p rest edge later passes)
   where
-    by_test : (b : Bool) → p first ≡ b → (edge ≡ first) ⊎ Contains rest edge → (Contains rest edge → Contains (filter p rest) edge) → Contains (if b then first ∷ filter p rest else filter p rest) edge
+    by_test : (b : Bool) → p first ≡ b → (edge ≡ first) ⊎ Contains rest edge → (Contains rest edge → Contains (filter p rest) edge)
+        → Contains (if b then first ∷ filter p rest else filter p rest) edge
     by_test true test (inl same) more = subst (Contains (first ∷ filter p rest)) (sym same) (Contains-first first (filter p rest))
     by_test true test (inr later) more = Contains-later first (filter p rest) edge (more later)
     by_test false test (inl same) more = absurd (cc (sym test ∙ ap p (sym same) ∙ passes))
@@ -56,13 +59,16 @@ in_sites shape points (Call site x y) low = refl
 in_sites shape points (Ret site x y) low = absurd (omega (arith, low))
 
 -- where only calls stand in a list, that of the calls is that of all edges
-pub calls_listed : {Value : Type 0} {edges calls : List Edge} {key : Edge → ℕ} {value : Edge → Value} {count : ℕ} {starts : List ℕ} {items : List Value} → calls ≡ filter is_call edges
-    → ((edge : Edge) → key edge < count → is_call edge ≡ true) → AreListed calls key value count starts items → AreListed edges key value count starts items
+pub calls_listed : {Value : Type 0} {edges calls : List Edge} {key : Edge → ℕ} {value : Edge → Value} {count : ℕ} {starts : List ℕ}
+    {items : List Value} → calls ≡ filter is_call edges
+    → ((edge : Edge) → key edge < count → is_call edge ≡ true) → AreListed calls key value count starts items
+    → AreListed edges key value count starts items
 calls_listed {edges = edges} are only_calls listed = record {
   start_count = listed.start_count;
   rising = listed.rising;
   within = listed.within;
-  listed = λ edge there low. listed.listed edge (subst (λ (es : List Edge). Contains es edge) (sym are) (in_filter is_call edges edge there (only_calls edge low))) low;
+  listed = λ edge there low.
+      listed.listed edge (subst (λ (es : List Edge). Contains es edge) (sym are) (in_filter is_call edges edge there (only_calls edge low))) low;
   only = λ k j low place.
       let found = listed.only k j low place in
       (found.0, of_filter is_call edges found.0 (subst (λ (es : List Edge). Contains es found.0) are found.1), found.2, found.3);

@@ -17,13 +17,19 @@ use Rattle.flow_links.specs.declared.link.SiteLink.{SiteLink}
 use Rattle.flow_links.specs.declared.list_kind.ListKind.TheVariants.{Steps, Calls, Callers, Sites}
 
 -- values in the order of groups are listed by their keys
-module _ {Value : Type 0} (edges : List Edge) (key : Edge → ℕ) (value : Edge → Value) (count : ℕ) (starts places : List ℕ) (items : List Value) (groups : AreGroups (map key edges) (count + 1) starts places)
+module _ {Value : Type 0} (edges : List Edge) (key : Edge → ℕ) (value : Edge → Value) (count : ℕ) (starts places : List ℕ) (items : List Value)
+    (groups : AreGroups (map key edges) (count + 1) starts places)
     (are : items ≡ map (λ place. value (edge_at edges place)) (take (get_or starts count 0) places)) where
   last_within : get_or starts count 0 ≤ length places
-  last_within = let up = groups.rising count (count + 1) (omega arith) (omega arith) in let end = groups.within count (omega arith) in let size = groups.size in omega (arith, up, end, size)
+  last_within =
+      let up = groups.rising count (count + 1) (omega arith) (omega arith) in
+      let end = groups.within count (omega arith) in
+      let size = groups.size in
+      omega (arith, up, end, size)
 
   item_count : length items ≡ get_or starts count 0
-  item_count = ap length are ∙ (length-map (take (get_or starts count 0) places) (λ place. value (edge_at edges place)) ∙ length-take-le (get_or starts count 0) places last_within)
+  item_count = ap length are ∙ (length-map (take (get_or starts count 0) places) (λ place. value (edge_at edges place))
+      ∙ length-take-le (get_or starts count 0) places last_within)
 
   item_at : (j : ℕ) (d : Value) → j < get_or starts count 0 → get_or items j d ≡ value (edge_at edges (get_or places j 0))
   item_at j d low =
@@ -68,17 +74,21 @@ module _ {Value : Type 0} (edges : List Edge) (key : Edge → ℕ) (value : Edge
   }
 
 -- what stands in the list of one number
-module _ {Value : Type 0} {edges : List Edge} {key : Edge → ℕ} {value : Edge → Value} {count : ℕ} {starts : List ℕ} {items : List Value} (are : AreListed edges key value count starts items) (k : ℕ) (low : k < count) where
+module _ {Value : Type 0} {edges : List Edge} {key : Edge → ℕ} {value : Edge → Value} {count : ℕ} {starts : List ℕ} {items : List Value}
+    (are : AreListed edges key value count starts items) (k : ℕ) (low : k < count) where
   part_length : length (slice_range items (get_or starts k 0) (get_or starts (k + 1) 0)) ≡ get_or starts (k + 1) 0 - get_or starts k 0
   part_length =
       let end = are.within k low in
       let rest = length-drop (get_or starts k 0) items in
       length-take-le (get_or starts (k + 1) 0 - get_or starts k 0) (drop (get_or starts k 0) items) (omega (arith, end, rest))
 
-  part_at : (i : ℕ) (d : Value) → i < get_or starts (k + 1) 0 - get_or starts k 0 → get_or (slice_range items (get_or starts k 0) (get_or starts (k + 1) 0)) i d ≡ get_or items (get_or starts k 0 + i) d
-  part_at i d within = get_or-take (get_or starts (k + 1) 0 - get_or starts k 0) (drop (get_or starts k 0) items) i d within ∙ get_or-drop (get_or starts k 0) items i d
+  part_at : (i : ℕ) (d : Value) → i < get_or starts (k + 1) 0 - get_or starts k 0
+      → get_or (slice_range items (get_or starts k 0) (get_or starts (k + 1) 0)) i d ≡ get_or items (get_or starts k 0 + i) d
+  part_at i d within = get_or-take (get_or starts (k + 1) 0 - get_or starts k 0) (drop (get_or starts k 0) items) i d within
+      ∙ get_or-drop (get_or starts k 0) items i d
 
-  pub edge_of : (v : Value) → Contains (slice_range items (get_or starts k 0) (get_or starts (k + 1) 0)) v → (edge : Edge) × Contains edges edge × (key edge ≡ k) × (value edge ≡ v)
+  pub edge_of : (v : Value) → Contains (slice_range items (get_or starts k 0) (get_or starts (k + 1) 0)) v
+      → (edge : Edge) × Contains edges edge × (key edge ≡ k) × (value edge ≡ v)
   edge_of v there =
       let i : ℕ = there.0 in
       let inside = there.1 in
@@ -87,7 +97,8 @@ module _ {Value : Type 0} {edges : List Edge} {key : Edge → ℕ} {value : Edge
       let found = are.only k (get_or starts k 0 + i) low record { low = omega arith; high = omega (arith, within) } in
       (found.0, found.1, found.2, sym (found.3 v) ∙ (sym (part_at i v within) ∙ there.2))
 
-  pub value_of : (edge : Edge) → Contains edges edge → key edge ≡ k → Contains (slice_range items (get_or starts k 0) (get_or starts (k + 1) 0)) (value edge)
+  pub value_of : (edge : Edge) → Contains edges edge → key edge ≡ k
+      → Contains (slice_range items (get_or starts k 0) (get_or starts (k + 1) 0)) (value edge)
   value_of edge there is =
       let place = are.listed edge there (subst (λ n. n < count) (sym is) low) in
       let at_k : IsPlaceOf starts k place.0 = subst (λ n. IsPlaceOf starts n place.0) is place.1 in
@@ -106,7 +117,8 @@ pub read_at : (xs : List ℕ) (k at r : ℕ) → k ≡ at → at < length xs →
 read_at xs k at r same within is = is ∙ (ap (λ n. get_or xs n r) same ∙ get_or_default xs at r 0 within)
 
 -- the values of the first places
-pub same_values : {Value : Type 0} (value : ℕ → Value) (items : List Value) (end first : ℕ) (xs places : List ℕ) → items ≡ map value (take end xs) → end ≡ first → xs ≡ places → items ≡ map value (take first places)
+pub same_values : {Value : Type 0} (value : ℕ → Value) (items : List Value) (end first : ℕ) (xs places : List ℕ) → items ≡ map value (take end xs)
+    → end ≡ first → xs ≡ places → items ≡ map value (take first places)
 same_values value items end first xs places are same_end same_places = are ∙ λ i. map value (take (same_end i) (same_places i))
 
 -- the lists' meanings, of a part that has for each key exactly its edges' values
@@ -114,13 +126,16 @@ pub record IsPart {Value : Type 0} (edges : List Edge) (key : Edge → ℕ) (val
   pub only : (v : Value) → Contains list v → (edge : Edge) × Contains edges edge × (key edge ≡ k) × (value edge ≡ v)
   pub listed : (edge : Edge) → Contains edges edge → key edge ≡ k → Contains list (value edge)
 
-pub part_of : {Value : Type 0} {edges : List Edge} {key : Edge → ℕ} {value : Edge → Value} {count : ℕ} {starts : List ℕ} {items : List Value} → AreListed edges key value count starts items → (k : ℕ) → k < count
+pub part_of : {Value : Type 0} {edges : List Edge} {key : Edge → ℕ} {value : Edge → Value} {count : ℕ} {starts : List ℕ} {items : List Value}
+    → AreListed edges key value count starts items → (k : ℕ) → k < count
     → IsPart edges key value k (slice_range items (get_or starts k 0) (get_or starts (k + 1) 0))
 part_of are k low = record { only = edge_of are k low; listed = value_of are k low }
 
 -- the part of a list that is read
-pub part_read : {Value : Type 0} {edges : List Edge} {key : Edge → ℕ} {value : Edge → Value} {count : ℕ} {starts : List ℕ} {items : List Value} → AreListed edges key value count starts items
-    → (k from to : ℕ) (xs : List Value) → k < count → from ≡ get_or starts k from → to ≡ get_or starts (k + 1) to → xs ≡ items → IsPart edges key value k (slice_range xs from to)
+pub part_read : {Value : Type 0} {edges : List Edge} {key : Edge → ℕ} {value : Edge → Value} {count : ℕ} {starts : List ℕ} {items : List Value}
+    → AreListed edges key value count starts items
+    → (k from to : ℕ) (xs : List Value) → k < count → from ≡ get_or starts k from → to ≡ get_or starts (k + 1) to → xs ≡ items
+    → IsPart edges key value k (slice_range xs from to)
 part_read {edges = edges} {key = key} {value = value} {starts = starts} are k from to xs low from_is to_is same =
     let long = are.start_count in
     let first : from ≡ get_or starts k 0 = read_at starts k k from refl (omega (arith, long, low)) from_is in
@@ -132,21 +147,25 @@ abbrev seen_in : MayForm → Bool → LinkedProgram
 seen_in form backward = record { program = form.program; backward = backward }
 
 -- what holds of the program and the direction of a form holds of its links
-pub seen : (form : MayForm) (backward : Bool) (now : LinkedProgram) → backward ≡ is_backward form.analysis → record { program = form.program; backward = backward } ≡ now
+pub seen : (form : MayForm) (backward : Bool) (now : LinkedProgram) → backward ≡ is_backward form.analysis
+    → record { program = form.program; backward = backward } ≡ now
     → (P : LinkedProgram → Type 0) → P record { program = form.program; backward = is_backward form.analysis } → P now
 seen form backward now same is P holds = subst P (ap (λ (b : Bool). seen_in form b) (sym same) ∙ is) holds
 
-pub unseen : (form : MayForm) (backward : Bool) (now : LinkedProgram) → backward ≡ is_backward form.analysis → record { program = form.program; backward = backward } ≡ now
+pub unseen : (form : MayForm) (backward : Bool) (now : LinkedProgram) → backward ≡ is_backward form.analysis
+    → record { program = form.program; backward = backward } ≡ now
     → (P : LinkedProgram → Type 0) → P now → P record { program = form.program; backward = is_backward form.analysis }
 unseen form backward now same is P holds = subst P (sym (ap (λ (b : Bool). seen_in form b) (sym same) ∙ is)) holds
 
 module _ {shape : Shape} {backward : Bool} {points : ℕ} (numbered : IsNumbered shape backward points) where
-  is_step : (x y : ℕ) → x < points → (edge : Edge) → IsEdge shape edge → key_of Steps shape points edge ≡ x → step_target edge ≡ y → IsEdge shape (Step x y)
+  is_step : (x y : ℕ) → x < points → (edge : Edge) → IsEdge shape edge → key_of Steps shape points edge ≡ x → step_target edge ≡ y
+      → IsEdge shape (Step x y)
   is_step x y low (Step u v) there key_is value_is = subst (λ n. IsEdge shape (Step n y)) key_is (subst (λ n. IsEdge shape (Step u n)) value_is there)
   is_step x y low (Call site u v) there key_is value_is = absurd (omega (arith, low, key_is))
   is_step x y low (Ret site u v) there key_is value_is = absurd (omega (arith, low, key_is))
 
-  pub steps_are : (x : ℕ) → x < points → (list : List ℕ) → IsPart shape.edges (key_of Steps shape points) step_target x list → AreStepsFrom shape points x list
+  pub steps_are : (x : ℕ) → x < points → (list : List ℕ) → IsPart shape.edges (key_of Steps shape points) step_target x list
+      → AreStepsFrom shape points x list
   steps_are x low list part = record {
     in_range = λ k d within. (numbered.edge_in_range (Step x (get_or list k d)) (edge (get_or list k d) (All-contains_itself list k d within))).1;
     listed = λ y. (edge y, λ there. part.listed (Step x y) there refl);
@@ -155,10 +174,16 @@ module _ {shape : Shape} {backward : Bool} {points : ℕ} (numbered : IsNumbered
       edge : (y : ℕ) → Contains list y → IsEdge shape (Step x y)
       edge y there = let found = part.only y there in is_step x y low found.0 found.1 found.2 found.3
 
-  is_call_link : (x : ℕ) (link : CallLink) → x < points → (edge : Edge) → IsEdge shape edge → key_of Calls shape points edge ≡ x → call_link shape backward edge ≡ link → IsCallLink shape backward x link
+  is_call_link : (x : ℕ) (link : CallLink) → x < points → (edge : Edge) → IsEdge shape edge → key_of Calls shape points edge ≡ x
+      → call_link shape backward edge ≡ link → IsCallLink shape backward x link
   is_call_link x link low (Step u v) there key_is value_is = absurd (omega (arith, low, key_is))
-  is_call_link x link low (Call site u v) there key_is value_is =
-      (site, v, subst (λ n. IsEdge shape (Call site n v)) key_is there, sym (ap (λ (l : CallLink). l.exit) value_is), sym (ap (λ (l : CallLink). l.after) value_is))
+  is_call_link x link low (Call site u v) there key_is value_is = (
+    site,
+    v,
+    subst (λ n. IsEdge shape (Call site n v)) key_is there,
+    sym (ap (λ (l : CallLink). l.exit) value_is),
+    sym (ap (λ (l : CallLink). l.after) value_is),
+  )
   is_call_link x link low (Ret site u v) there key_is value_is = absurd (omega (arith, low, key_is))
 
   -- the exit of a call's callee, and the point after the call, are points
@@ -168,11 +193,14 @@ module _ {shape : Shape} {backward : Bool} {points : ℕ} (numbered : IsNumbered
   pub after_low : (site x y : ℕ) → IsEdge shape (Call site x y) → after_site backward site < points
   after_low site x y there = (numbered.edge_in_range _ ((numbered.one_return site x y (after_site backward site) there).1 refl)).1
 
-  pub calls_are : (x : ℕ) → x < points → (list : List CallLink) → IsPart shape.edges (key_of Calls shape points) (call_link shape backward) x list → AreCallsFrom shape backward points x list
+  pub calls_are : (x : ℕ) → x < points → (list : List CallLink) → IsPart shape.edges (key_of Calls shape points) (call_link shape backward) x list
+      → AreCallsFrom shape backward points x list
   calls_are x low list part = record {
     in_range = λ k d within.
-        let found = link (get_or list k d) (All-contains_itself list k d within) in
-        (subst (λ n. n < points) (sym found.3) (exit_low found.0 x found.1 found.2), subst (λ n. n < points) (sym found.4) (after_low found.0 x found.1 found.2));
+        let found = link (get_or list k d) (All-contains_itself list k d within) in (
+          subst (λ n. n < points) (sym found.3) (exit_low found.0 x found.1 found.2),
+          subst (λ n. n < points) (sym found.4) (after_low found.0 x found.1 found.2),
+        );
     listed = λ l. (link l, back l);
   }
     where
@@ -184,12 +212,14 @@ module _ {shape : Shape} {backward : Bool} {points : ℕ} (numbered : IsNumbered
           let same : call_link shape backward (Call is.0 x is.1) ≡ l = λ i. record { exit = sym is.3 i; after = sym is.4 i } in
           subst (λ v. Contains list v) same (part.listed (Call is.0 x is.1) is.2 refl)
 
-  is_caller : (exit x : ℕ) → exit < points → (edge : Edge) → IsEdge shape edge → key_of Callers shape points edge ≡ exit → call_source edge ≡ x → IsCallerOf shape exit x
+  is_caller : (exit x : ℕ) → exit < points → (edge : Edge) → IsEdge shape edge → key_of Callers shape points edge ≡ exit → call_source edge ≡ x
+      → IsCallerOf shape exit x
   is_caller exit x low (Step u v) there key_is value_is = absurd (omega (arith, low, key_is))
   is_caller exit x low (Call site u v) there key_is value_is = (site, v, subst (λ n. IsEdge shape (Call site n v)) value_is there, key_is)
   is_caller exit x low (Ret site u v) there key_is value_is = absurd (omega (arith, low, key_is))
 
-  pub callers_are : (exit : ℕ) → exit < points → (list : List ℕ) → IsPart shape.edges (key_of Callers shape points) call_source exit list → AreCallersOf shape points exit list
+  pub callers_are : (exit : ℕ) → exit < points → (list : List ℕ) → IsPart shape.edges (key_of Callers shape points) call_source exit list
+      → AreCallersOf shape points exit list
   callers_are exit low list part = record {
     in_range = λ k d within.
         let found = caller (get_or list k d) (All-contains_itself list k d within) in
@@ -200,18 +230,27 @@ module _ {shape : Shape} {backward : Bool} {points : ℕ} (numbered : IsNumbered
       caller : (x : ℕ) → Contains list x → IsCallerOf shape exit x
       caller x there = let found = part.only x there in is_caller exit x low found.0 found.1 found.2 found.3
 
-  is_site_link : (procedure : ℕ) (link : SiteLink) → procedure < shape.procedures → (edge : Edge) → IsEdge shape edge → key_of Sites shape points edge ≡ procedure → site_link shape edge ≡ link → IsSiteLink shape procedure link
+  is_site_link : (procedure : ℕ) (link : SiteLink) → procedure < shape.procedures → (edge : Edge) → IsEdge shape edge
+      → key_of Sites shape points edge ≡ procedure → site_link shape edge ≡ link → IsSiteLink shape procedure link
   is_site_link procedure link low (Step u v) there key_is value_is = absurd (omega (arith, low, key_is))
   is_site_link procedure link low (Call site u v) there key_is value_is =
-      let point : u ≡ link.point = ap (λ (l : SiteLink). l.point) value_is in
-      (site, v, subst (λ n. IsEdge shape (Call site n v)) point there, subst (λ n. shape.procedure_of n ≡ procedure) point key_is, sym (ap (λ (l : SiteLink). l.callee) value_is))
+      let point : u ≡ link.point = ap (λ (l : SiteLink). l.point) value_is in (
+        site,
+        v,
+        subst (λ n. IsEdge shape (Call site n v)) point there,
+        subst (λ n. shape.procedure_of n ≡ procedure) point key_is,
+        sym (ap (λ (l : SiteLink). l.callee) value_is),
+      )
   is_site_link procedure link low (Ret site u v) there key_is value_is = absurd (omega (arith, low, key_is))
 
-  pub sites_are : (procedure : ℕ) → procedure < shape.procedures → (list : List SiteLink) → IsPart shape.edges (key_of Sites shape points) (site_link shape) procedure list → AreSitesIn shape points procedure list
+  pub sites_are : (procedure : ℕ) → procedure < shape.procedures → (list : List SiteLink)
+      → IsPart shape.edges (key_of Sites shape points) (site_link shape) procedure list → AreSitesIn shape points procedure list
   sites_are procedure low list part = record {
     in_range = λ k d within.
-        let found = link (get_or list k d) (All-contains_itself list k d within) in
-        ((numbered.edge_in_range (Call found.0 (get_or list k d).point found.1) found.2).0, subst (λ n. n < shape.procedures) (sym found.4) (numbered.formed.call_to_entry found.0 (get_or list k d).point found.1 found.2).0);
+        let found = link (get_or list k d) (All-contains_itself list k d within) in (
+          (numbered.edge_in_range (Call found.0 (get_or list k d).point found.1) found.2).0,
+          subst (λ n. n < shape.procedures) (sym found.4) (numbered.formed.call_to_entry found.0 (get_or list k d).point found.1 found.2).0,
+        );
     listed = λ l. (link l, back l);
   }
     where

@@ -15,7 +15,8 @@ use Rattle.flow_graph.specs.ProgramLaws.{IsPlaced}
 use Rattle.flow_graph.specs.declared.analysis.Analysis.{Analysis}
 use Rattle.flow_graph.specs.Limits.{HasFewPoints}
 use Rattle.tac_program.specs.declared.limits.Limits.TheVariants.{Large}
-use Rattle.flow_graph.proofs.graphs.GraphLaws.{graphs_are_well_formed, edges_join_points, entry_in, end_in, calls_return_behind_sites, returns_have_calls_at_sites}
+use Rattle.flow_graph.proofs.graphs.GraphLaws.{graphs_are_well_formed, edges_join_points, entry_in, end_in, calls_return_behind_sites}
+use Rattle.flow_graph.proofs.graphs.GraphLaws.{returns_have_calls_at_sites}
 use Rattle.flow_graph.proofs.places.PointLemmas.{points_have_places}
 use Rattle.flow_graph.proofs.paths.Reversal.{edge_reversed, edge_back, reversed_is_well_formed}
 use Rattle.flow_links.specs.Tables.EdgeLists.{AreEdges, key_of, keys_of}
@@ -24,24 +25,29 @@ use Rattle.flow_links.specs.declared.list_kind.ListKind.TheVariants.{Steps, Call
 use Rattle.flow_links.specs.Shapes.{directed_shape, IsNumbered}
 
 -- the may form of each analysis has the shape of its direction
-pub may_shape_is_directed : (program : Program) (analysis : Analysis) → may_shape program analysis ≡ directed_shape record { program = program; backward = is_backward analysis }
+pub may_shape_is_directed : (program : Program) (analysis : Analysis)
+    → may_shape program analysis ≡ directed_shape record { program = program; backward = is_backward analysis }
 may_shape_is_directed program analysis = refl
 
-turned_in_range : (program : Program) (edge : Edge) → IsPlaced program (reversed_edge edge) → (source_of edge < point_count program) × (target_of edge < point_count program)
+turned_in_range : (program : Program) (edge : Edge) → IsPlaced program (reversed_edge edge)
+    → (source_of edge < point_count program) × (target_of edge < point_count program)
 turned_in_range program (Step x y) placed = (placed.target, placed.source)
 turned_in_range program (Call site x y) placed = (placed.target, placed.source)
 turned_in_range program (Ret site x y) placed = (placed.target, placed.source)
 
 -- what the shape of either direction has of the program
-pub same_procedures : (program : Program) (backward : Bool) → (directed_shape record { program = program; backward = backward }).procedures ≡ length program.procedures
+pub same_procedures : (program : Program) (backward : Bool)
+    → (directed_shape record { program = program; backward = backward }).procedures ≡ length program.procedures
 same_procedures program true = refl
 same_procedures program false = refl
 
-pub same_root : (program : Program) (backward : Bool) → (directed_shape record { program = program; backward = backward }).root_procedure ≡ main_procedure program
+pub same_root : (program : Program) (backward : Bool)
+    → (directed_shape record { program = program; backward = backward }).root_procedure ≡ main_procedure program
 same_root program true = refl
 same_root program false = refl
 
-pub same_procedure_of : (program : Program) (backward : Bool) (x : ℕ) → (directed_shape record { program = program; backward = backward }).procedure_of x ≡ procedure_at program x
+pub same_procedure_of : (program : Program) (backward : Bool) (x : ℕ)
+    → (directed_shape record { program = program; backward = backward }).procedure_of x ≡ procedure_at program x
 same_procedure_of program true x = refl
 same_procedure_of program false x = refl
 
@@ -64,7 +70,8 @@ module _ (program : Program) (sound : IsSound program) where
     entry_in_range = λ procedure there. (end_in program procedure there).below;
     exit_in_range = λ procedure there. (entry_in program procedure there).below;
     procedure_in_range = λ point below. (points_have_places program point below).procedure;
-    edge_in_range = λ edge is_edge. turned_in_range program edge (edges_join_points program sound (reversed_edge edge) (edge_back (shape_of program) edge is_edge));
+    edge_in_range = λ edge is_edge.
+        turned_in_range program edge (edges_join_points program sound (reversed_edge edge) (edge_back (shape_of program) edge is_edge));
     one_return = λ site x y z is_call.
         let law = returns_have_calls_at_sites program site y x z sound (edge_back (shape_of program) (Call site x y) is_call) in
         let first : ℕ = entry_point program (procedure_at program y) in (
@@ -74,7 +81,8 @@ module _ (program : Program) (sound : IsSound program) where
   }
 
   -- the shape of either direction is numbered
-  pub shapes_are_numbered : (backward : Bool) → IsNumbered (directed_shape record { program = program; backward = backward }) backward (point_count program)
+  pub shapes_are_numbered : (backward : Bool)
+      → IsNumbered (directed_shape record { program = program; backward = backward }) backward (point_count program)
   shapes_are_numbered true = reversal_is_numbered
   shapes_are_numbered false = graph_is_numbered
 
@@ -98,16 +106,24 @@ in_range program analysis sound few = record {
 }
 
 -- the ends of an edge
-pub ends : {program : Program} {analysis : Analysis} → AreInRange program analysis → (edge other : Edge) → IsEdge (may_shape program analysis) edge → edge ≡ other
+pub ends : {program : Program} {analysis : Analysis} → AreInRange program analysis → (edge other : Edge) → IsEdge (may_shape program analysis) edge
+    → edge ≡ other
     → (source_of other < point_count program) × (target_of other < point_count program)
-ends {program = program} {analysis = analysis} range edge other there is = range.numbered.edge_in_range other (subst (λ e. IsEdge (may_shape program analysis) e) is there)
+ends {program = program} {analysis = analysis} range edge other there is =
+    range.numbered.edge_in_range other (subst (λ e. IsEdge (may_shape program analysis) e) is there)
 
 -- the procedure of a point
-pub procedure_low : {program : Program} {analysis : Analysis} → AreInRange program analysis → (x : ℕ) → x < point_count program → procedure_at program x < length program.procedures
-procedure_low range x low = let is = range.procedure_is x in let inside = range.numbered.procedure_in_range x low in let count = range.procedures_are in omega (arith, is, inside, count)
+pub procedure_low : {program : Program} {analysis : Analysis} → AreInRange program analysis → (x : ℕ) → x < point_count program
+    → procedure_at program x < length program.procedures
+procedure_low range x low =
+    let is = range.procedure_is x in
+    let inside = range.numbered.procedure_in_range x low in
+    let count = range.procedures_are in
+    omega (arith, is, inside, count)
 
 -- the number at which an edge stands
-pub key_low : {program : Program} {analysis : Analysis} → AreInRange program analysis → (kind : ListKind) (edge : Edge) → IsEdge (may_shape program analysis) edge
+pub key_low : {program : Program} {analysis : Analysis} → AreInRange program analysis → (kind : ListKind) (edge : Edge)
+    → IsEdge (may_shape program analysis) edge
     → key_of kind (may_shape program analysis) (point_count program) edge ≤ keys_of kind (may_shape program analysis) (point_count program)
 key_low range Steps (Step x y) there = let low = (range.numbered.edge_in_range (Step x y) there).0 in omega (arith, low)
 key_low range Steps (Call site x y) there = omega arith
@@ -116,20 +132,27 @@ key_low range Calls (Step x y) there = omega arith
 key_low range Calls (Call site x y) there = let low = (range.numbered.edge_in_range (Call site x y) there).0 in omega (arith, low)
 key_low range Calls (Ret site x y) there = omega arith
 key_low range Callers (Step x y) there = omega arith
-key_low range Callers (Call site x y) there = let low = range.numbered.exit_in_range _ (range.numbered.formed.call_to_entry site x y there).0 in omega (arith, low)
+key_low range Callers (Call site x y) there =
+    let low = range.numbered.exit_in_range _ (range.numbered.formed.call_to_entry site x y there).0 in
+    omega (arith, low)
 key_low range Callers (Ret site x y) there = omega arith
 key_low range Sites (Step x y) there = omega arith
-key_low range Sites (Call site x y) there = let low = range.numbered.procedure_in_range x (range.numbered.edge_in_range (Call site x y) there).0 in omega (arith, low)
+key_low range Sites (Call site x y) there =
+    let low = range.numbered.procedure_in_range x (range.numbered.edge_in_range (Call site x y) there).0 in
+    omega (arith, low)
 key_low range Sites (Ret site x y) there = omega arith
 
-pub keys_few : {program : Program} {analysis : Analysis} → AreInRange program analysis → (kind : ListKind) → keys_of kind (may_shape program analysis) (point_count program) ≤ 1048576
+pub keys_few : {program : Program} {analysis : Analysis} → AreInRange program analysis → (kind : ListKind)
+    → keys_of kind (may_shape program analysis) (point_count program) ≤ 1048576
 keys_few range Steps = range.few
 keys_few range Calls = range.few
 keys_few range Callers = range.few
 keys_few range Sites = let few = range.few_procedures in omega (arith, few)
 
-pub keys_low : {program : Program} {analysis : Analysis} → AreInRange program analysis → (kind : ListKind) (edges : List Edge) → AreEdges (may_shape program analysis) edges → (keys : List ℕ)
-    → keys ≡ map (key_of kind (may_shape program analysis) (point_count program)) edges → (i : ℕ) → i < length keys → get_or keys i 0 ≤ keys_of kind (may_shape program analysis) (point_count program)
+pub keys_low : {program : Program} {analysis : Analysis} → AreInRange program analysis → (kind : ListKind) (edges : List Edge)
+    → AreEdges (may_shape program analysis) edges → (keys : List ℕ)
+    → keys ≡ map (key_of kind (may_shape program analysis) (point_count program)) edges → (i : ℕ) → i < length keys
+    → get_or keys i 0 ≤ keys_of kind (may_shape program analysis) (point_count program)
 keys_low {program = program} {analysis = analysis} range kind edges all keys are i within =
     let count : length keys ≡ length edges = ap length are ∙ length-map edges (key_of kind (may_shape program analysis) (point_count program)) in
     let inside : i < length edges = omega (arith, count, within) in
@@ -138,5 +161,6 @@ keys_low {program = program} {analysis = analysis} range kind edges all keys are
     let low = key_low range kind (get_or edges i (Step 0 0)) (all _ (All-contains_itself edges i (Step 0 0) inside)) in
     omega (arith, is, low)
 
-pub link_is_call : {program : Program} {analysis : Analysis} {site x y : ℕ} → AreInRange program analysis → (edge : Edge) → IsEdge (may_shape program analysis) edge → edge ≡ Call site x y → IsEdge (may_shape program analysis) (Call site x y)
+pub link_is_call : {program : Program} {analysis : Analysis} {site x y : ℕ} → AreInRange program analysis → (edge : Edge)
+    → IsEdge (may_shape program analysis) edge → edge ≡ Call site x y → IsEdge (may_shape program analysis) (Call site x y)
 link_is_call {program = program} {analysis = analysis} range edge there is = subst (λ e. IsEdge (may_shape program analysis) e) is there

@@ -17,7 +17,8 @@ blank_low xs n m is same p within =
     omega (arith, within, long, zero, same)
 
 -- the first places of groups are places of edges
-pub places_low : (edges : List Edge) (key : Edge → ℕ) (count : ℕ) (starts places : List ℕ) → AreGroups (map key edges) count starts places → (n : ℕ) (xs : List ℕ) → xs ≡ places
+pub places_low : (edges : List Edge) (key : Edge → ℕ) (count : ℕ) (starts places : List ℕ) → AreGroups (map key edges) count starts places
+    → (n : ℕ) (xs : List ℕ) → xs ≡ places
     → (j : ℕ) → j < length (take n xs) → get_or (take n xs) j 0 < length edges
 places_low edges key count starts places groups n xs same j low =
     let taken = length-take n xs in

@@ -73,7 +73,8 @@ impl Drop for Links<'_, '_> {
 
 // The entry of each procedure.
 fn entries(alloc: Global, problem: &Problem<'_, '_>) -> Result<Vec<u32>, OutOfMemory>
-    ensures { IfOk result (λ entries. AreEach entries.items (may_shape problem.now.program problem.now.analysis).procedures (may_shape problem.now.program problem.now.analysis).entry) }
+    ensures { IfOk result (λ entries. AreEach entries.items (may_shape problem.now.program problem.now.analysis).procedures
+        (may_shape problem.now.program problem.now.analysis).entry) }
 {
     let count = problem.procedures();
     let _ = problem.points();
@@ -86,7 +87,8 @@ fn entries(alloc: Global, problem: &Problem<'_, '_>) -> Result<Vec<u32>, OutOfMe
 
 // The exit of each procedure.
 fn exits(alloc: Global, problem: &Problem<'_, '_>) -> Result<Vec<u32>, OutOfMemory>
-    ensures { IfOk result (λ exits. AreEach exits.items (may_shape problem.now.program problem.now.analysis).procedures (may_shape problem.now.program problem.now.analysis).exit) }
+    ensures { IfOk result (λ exits. AreEach exits.items (may_shape problem.now.program problem.now.analysis).procedures
+        (may_shape problem.now.program problem.now.analysis).exit) }
 {
     let count = problem.procedures();
     let _ = problem.points();
@@ -99,7 +101,8 @@ fn exits(alloc: Global, problem: &Problem<'_, '_>) -> Result<Vec<u32>, OutOfMemo
 
 // The procedure of each point.
 fn procedures_of(alloc: Global, problem: &Problem<'_, '_>) -> Result<Vec<u32>, OutOfMemory>
-    ensures { IfOk result (λ procedures. AreEach procedures.items (point_count problem.now.program) (may_shape problem.now.program problem.now.analysis).procedure_of) }
+    ensures { IfOk result
+        (λ procedures. AreEach procedures.items (point_count problem.now.program) (may_shape problem.now.program problem.now.analysis).procedure_of) }
 {
     let _ = problem.procedures();
     let points = problem.points();
@@ -120,9 +123,12 @@ struct PlaceTables {
 
 // The tables of a problem's procedures and points.
 fn place_tables(alloc: Global, problem: &Problem<'_, '_>) -> Result<PlaceTables, OutOfMemory>
-    ensures entries { IfOk result (λ tables. AreEach tables.entries.items (may_shape problem.now.program problem.now.analysis).procedures (may_shape problem.now.program problem.now.analysis).entry) }
-    ensures exits { IfOk result (λ tables. AreEach tables.exits.items (may_shape problem.now.program problem.now.analysis).procedures (may_shape problem.now.program problem.now.analysis).exit) }
-    ensures procedures { IfOk result (λ tables. AreEach tables.procedures.items (point_count problem.now.program) (may_shape problem.now.program problem.now.analysis).procedure_of) }
+    ensures entries { IfOk result (λ tables. AreEach tables.entries.items (may_shape problem.now.program problem.now.analysis).procedures
+        (may_shape problem.now.program problem.now.analysis).entry) }
+    ensures exits { IfOk result (λ tables. AreEach tables.exits.items (may_shape problem.now.program problem.now.analysis).procedures
+        (may_shape problem.now.program problem.now.analysis).exit) }
+    ensures procedures { IfOk result (λ tables.
+        AreEach tables.procedures.items (point_count problem.now.program) (may_shape problem.now.program problem.now.analysis).procedure_of) }
 {
     let entries = entries(alloc, problem)?;
     let exits = exits(alloc, problem)?;

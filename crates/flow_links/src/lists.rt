@@ -62,7 +62,8 @@ fn call_lists(
 ) -> Result<CallLists, OutOfMemory>
     requires { calls.now ≡ filter is_call (may_shape problem.now.program problem.now.analysis).edges }
     ensures { IfOk result (λ lists. AreListed (may_shape problem.now.program problem.now.analysis).edges
-        (key_of ListKind.Calls (may_shape problem.now.program problem.now.analysis) (point_count problem.now.program)) (call_link (may_shape problem.now.program problem.now.analysis) (is_backward_of problem.now.analysis))
+        (key_of ListKind.Calls (may_shape problem.now.program problem.now.analysis) (point_count problem.now.program))
+        (call_link (may_shape problem.now.program problem.now.analysis) (is_backward_of problem.now.analysis))
         (point_count problem.now.program) lists.starts.items lists.items.items) }
 {
     let Groups { starts, places } = places(alloc, ListKind::Calls, problem, calls)?;
@@ -98,7 +99,8 @@ fn site_lists(
 ) -> Result<SiteLists, OutOfMemory>
     requires { calls.now ≡ filter is_call (may_shape problem.now.program problem.now.analysis).edges }
     ensures { IfOk result (λ lists. AreListed (may_shape problem.now.program problem.now.analysis).edges
-        (key_of ListKind.Sites (may_shape problem.now.program problem.now.analysis) (point_count problem.now.program)) (site_link (may_shape problem.now.program problem.now.analysis))
+        (key_of ListKind.Sites (may_shape problem.now.program problem.now.analysis) (point_count problem.now.program))
+        (site_link (may_shape problem.now.program problem.now.analysis))
         (may_shape problem.now.program problem.now.analysis).procedures lists.starts.items lists.items.items) }
 {
     let Groups { starts, places } = places(alloc, ListKind::Sites, problem, calls)?;
@@ -144,10 +146,12 @@ fn link_lists(
 ) -> Result<(CallLists, SiteLists), OutOfMemory>
     requires { calls.now ≡ filter is_call (may_shape problem.now.program problem.now.analysis).edges }
     ensures calls { IfOk result (λ lists. AreListed (may_shape problem.now.program problem.now.analysis).edges
-        (key_of ListKind.Calls (may_shape problem.now.program problem.now.analysis) (point_count problem.now.program)) (call_link (may_shape problem.now.program problem.now.analysis) (is_backward_of problem.now.analysis))
+        (key_of ListKind.Calls (may_shape problem.now.program problem.now.analysis) (point_count problem.now.program))
+        (call_link (may_shape problem.now.program problem.now.analysis) (is_backward_of problem.now.analysis))
         (point_count problem.now.program) lists.0.starts.items lists.0.items.items) }
     ensures sites { IfOk result (λ lists. AreListed (may_shape problem.now.program problem.now.analysis).edges
-        (key_of ListKind.Sites (may_shape problem.now.program problem.now.analysis) (point_count problem.now.program)) (site_link (may_shape problem.now.program problem.now.analysis))
+        (key_of ListKind.Sites (may_shape problem.now.program problem.now.analysis) (point_count problem.now.program))
+        (site_link (may_shape problem.now.program problem.now.analysis))
         (may_shape problem.now.program problem.now.analysis).procedures lists.1.starts.items lists.1.items.items) }
 {
     let sites = site_lists(alloc, problem, calls)?;
@@ -166,13 +170,15 @@ fn lists_over(
         (key_of ListKind.Steps (may_shape problem.now.program problem.now.analysis) (point_count problem.now.program)) step_target
         (point_count problem.now.program) lists.steps.starts.items lists.steps.items.items) }
     ensures calls { IfOk result (λ lists. AreListed (may_shape problem.now.program problem.now.analysis).edges
-        (key_of ListKind.Calls (may_shape problem.now.program problem.now.analysis) (point_count problem.now.program)) (call_link (may_shape problem.now.program problem.now.analysis) (is_backward_of problem.now.analysis))
+        (key_of ListKind.Calls (may_shape problem.now.program problem.now.analysis) (point_count problem.now.program))
+        (call_link (may_shape problem.now.program problem.now.analysis) (is_backward_of problem.now.analysis))
         (point_count problem.now.program) lists.calls.starts.items lists.calls.items.items) }
     ensures callers { IfOk result (λ lists. AreListed (may_shape problem.now.program problem.now.analysis).edges
         (key_of ListKind.Callers (may_shape problem.now.program problem.now.analysis) (point_count problem.now.program)) call_source
         (point_count problem.now.program) lists.callers.starts.items lists.callers.items.items) }
     ensures sites { IfOk result (λ lists. AreListed (may_shape problem.now.program problem.now.analysis).edges
-        (key_of ListKind.Sites (may_shape problem.now.program problem.now.analysis) (point_count problem.now.program)) (site_link (may_shape problem.now.program problem.now.analysis))
+        (key_of ListKind.Sites (may_shape problem.now.program problem.now.analysis) (point_count problem.now.program))
+        (site_link (may_shape problem.now.program problem.now.analysis))
         (may_shape problem.now.program problem.now.analysis).procedures lists.sites.starts.items lists.sites.items.items) }
 {
     let (steps, callers) = point_lists(alloc, problem, calls)?;
@@ -191,13 +197,15 @@ pub(crate) fn edge_lists(alloc: Global, problem: &Problem<'_, '_>) -> Result<Edg
         (key_of ListKind.Steps (may_shape problem.now.program problem.now.analysis) (point_count problem.now.program)) step_target
         (point_count problem.now.program) lists.steps.starts.items lists.steps.items.items) }
     ensures calls { IfOk result (λ lists. AreListed (may_shape problem.now.program problem.now.analysis).edges
-        (key_of ListKind.Calls (may_shape problem.now.program problem.now.analysis) (point_count problem.now.program)) (call_link (may_shape problem.now.program problem.now.analysis) (is_backward_of problem.now.analysis))
+        (key_of ListKind.Calls (may_shape problem.now.program problem.now.analysis) (point_count problem.now.program))
+        (call_link (may_shape problem.now.program problem.now.analysis) (is_backward_of problem.now.analysis))
         (point_count problem.now.program) lists.calls.starts.items lists.calls.items.items) }
     ensures callers { IfOk result (λ lists. AreListed (may_shape problem.now.program problem.now.analysis).edges
         (key_of ListKind.Callers (may_shape problem.now.program problem.now.analysis) (point_count problem.now.program)) call_source
         (point_count problem.now.program) lists.callers.starts.items lists.callers.items.items) }
     ensures sites { IfOk result (λ lists. AreListed (may_shape problem.now.program problem.now.analysis).edges
-        (key_of ListKind.Sites (may_shape problem.now.program problem.now.analysis) (point_count problem.now.program)) (site_link (may_shape problem.now.program problem.now.analysis))
+        (key_of ListKind.Sites (may_shape problem.now.program problem.now.analysis) (point_count problem.now.program))
+        (site_link (may_shape problem.now.program problem.now.analysis))
         (may_shape problem.now.program problem.now.analysis).procedures lists.sites.starts.items lists.sites.items.items) }
 {
     let calls = calls_of(alloc, problem)?;

@@ -121,7 +121,8 @@ pub(crate) fn links(
 ) -> Result<Vec<CallLink>, OutOfMemory>
     requires edges { AreEdges (may_shape problem.now.program problem.now.analysis) edges.now }
     requires places { (j : ℕ) → j < length places.now → slice_index places.now j < length edges.now }
-    ensures { IfOk result (λ list. list.items ≡ map (λ place. call_link (may_shape problem.now.program problem.now.analysis) (is_backward_of problem.now.analysis)
+    ensures { IfOk result
+        (λ list. list.items ≡ map (λ place. call_link (may_shape problem.now.program problem.now.analysis) (is_backward_of problem.now.analysis)
         (edge_at edges.now place)) places.now) }
 {
     let mut list = Vec::with_capacity(alloc, places.len())?;

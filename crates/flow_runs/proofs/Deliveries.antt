@@ -6,7 +6,8 @@ use Rattle.flow_runs.specs.declared.fault.Fault.{Fault}
 use Rattle.flow_runs.specs.declared.fault.Fault.TheVariants as fault
 
 -- a text of one kind is one of another
-pub delivers_as : {T : Type 0} (IsText IsOther : List ℕ → Type 0) (held holds : Option (List ℕ)) (r : Result T Fault) → ((out : List ℕ) → IsText out → IsOther out)
+pub delivers_as : {T : Type 0} (IsText IsOther : List ℕ → Type 0) (held holds : Option (List ℕ)) (r : Result T Fault)
+    → ((out : List ℕ) → IsText out → IsOther out)
     → Delivers IsText held holds r → Delivers IsOther held holds r
 delivers_as IsText IsOther held holds (Ok x) is told = (told.0, is told.0 told.1, told.2)
 delivers_as IsText IsOther held holds (Err fault.Write) is told = (told.0, is told.0 told.1, told.2)
@@ -17,7 +18,8 @@ delivers_as IsText IsOther held holds (Err fault.OutOfMemory) is told = told
 delivers_as IsText IsOther held holds (Err fault.Read) is told = told
 
 -- a fault that is none of the graph or a procedure is one of any program
-pub no_graph_fault : {T : Type 0} (P : GraphFault → Type 0) (Q : Type 0) (r : Result T Fault) → IfErr r (OfProgram (λ _. ⊥) ⊥) → IfErr r (OfProgram P Q)
+pub no_graph_fault : {T : Type 0} (P : GraphFault → Type 0) (Q : Type 0) (r : Result T Fault) → IfErr r (OfProgram (λ _. ⊥) ⊥)
+    → IfErr r (OfProgram P Q)
 no_graph_fault P Q (Ok x) told = tt
 no_graph_fault P Q (Err fault.Write) told = told
 no_graph_fault P Q (Err (fault.Refused f)) told = told

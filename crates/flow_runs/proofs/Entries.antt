@@ -1,11 +1,13 @@
 -- What a parse holds for an option that is the only one of its name, takes one value and has a default.
-use Rattle.std.proofs.Common.{◌≡◌, ◌∙◌, ◌<◌, ◌&&◌, ℕ, zero, suc, Bool, true, false, refl, sym, ap, subst, arith, List, [], ◌∷◌, length, map, Some, option_map, inl, inr, true≢false, not}
+use Rattle.std.proofs.Common.{◌≡◌, ◌∙◌, ◌<◌, ◌&&◌, ℕ, zero, suc, Bool, true, false, refl, sym, ap, subst, arith, List, [], ◌∷◌, length, map, Some}
+use Rattle.std.proofs.Common.{option_map, inl, inr, true≢false, not}
 use Rattle.std.specs.Prelude.{find, slice_get, nat_lt, option_and_then, is_some}
 use Rattle.std.specs.List.{All, Any, list_any, slice_index_or}
 use Rattle.std.specs.Borrow.{Bor}
 use Rattle.std.specs.Str.{bytes_eq}
 use Rattle.std.proofs.lemmas.Slice.Eq.{bytes_eq-Decides}
-use Rattle.clap.specs.Facts.{AllowsNone, Entry, EntryPasses, HasId, HasIn, HasReading, IsCountArg, MayBeEmpty, PassesArg, ValuesPass, WantsDefault, args_of, groups_of, parser_of_value, unwrap_or_range}
+use Rattle.clap.specs.Facts.{AllowsNone, Entry, EntryPasses, HasId, HasIn, HasReading, IsCountArg, MayBeEmpty, PassesArg, ValuesPass, WantsDefault}
+use Rattle.clap.specs.Facts.{args_of, groups_of, parser_of_value, unwrap_or_range}
 use Rattle.clap.specs.Matches.{first_value, matched_of, one_text}
 use Rattle.clap.specs.Values.{Accepts, read_as, reading_of}
 use Rattle.clap.specs.Walk.{Rule, Text, action_of, is_empty, is_simple_arg, rule_of}
@@ -56,7 +58,8 @@ no_delimiter a simple some =
     let delimiter = both (not (is_some a.val_delim)) _ groups.1 in
     true≢false (sym delimiter.0 ∙ ap not some)
 
-module _ (c : Command) (name : Text) (q : ValueParser) (only : OnlyOption (map rule_of (args_of c)) name q) (no_groups : groups_of c ≡ []) (named : name ≡ [] → ⊥) where
+module _ (c : Command) (name : Text) (q : ValueParser) (only : OnlyOption (map rule_of (args_of c)) name q) (no_groups : groups_of c ≡ [])
+    (named : name ≡ [] → ⊥) where
   accepted : (t : Text) → PassesArg c name t → Accepts false q t
   accepted t passes =
       let o = option_of (args_of c) name q (λ a. Accepts a.ignore_case (parser_of_value a.value_parser) t) only passes in
@@ -122,7 +125,8 @@ module _ (c : Command) (name : Text) (q : ValueParser) (only : OnlyOption (map r
       let first : slice_get x.vals.items 0 ≡ Some v.0 = ap (λ (m : MatchedArg). slice_get m.vals.items 0) (sym e.1) ∙ v.1 in
       let reading : x.reading ≡ reading_of q = ap (λ (m : MatchedArg). m.reading) (sym e.1) ∙ v.3 in (
         v.0.now,
-        ap (option_and_then (λ (m : MatchedArg). option_map (λ s. s.now) (slice_get m.vals.items 0))) found ∙ ap (option_map (λ (s : Bor Text). s.now)) first,
+        ap (option_and_then (λ (m : MatchedArg). option_map (λ s. s.now) (slice_get m.vals.items 0))) found
+            ∙ ap (option_map (λ (s : Bor Text). s.now)) first,
         ap (option_and_then (λ (m : MatchedArg). option_map (λ s. read_as m.reading s.now) (slice_get m.vals.items 0))) found
             ∙ ap (option_map (λ (s : Bor Text). read_as x.reading s.now)) first ∙ ap (λ (r : Reading). Some (read_as r v.0.now)) reading,
         v.2,
@@ -134,7 +138,8 @@ found_in : (xs : List Entry) (name : Text) → HasIn xs name
 found_in [] name has = absurd (omega (arith, has.1))
 found_in (e ∷ es) name has = go (bytes_eq e.0.now name) refl has.0 has.1 has.2 (found_in es name)
   where
-    go : (t : Bool) → bytes_eq e.0.now name ≡ t → (i : ℕ) → i < length (e ∷ es) → ((d : Entry) → bytes_eq (slice_index_or (e ∷ es) i d).0.now name ≡ true)
+    go : (t : Bool) → bytes_eq e.0.now name ≡ t → (i : ℕ) → i < length (e ∷ es)
+        → ((d : Entry) → bytes_eq (slice_index_or (e ∷ es) i d).0.now name ≡ true)
         → (HasIn es name → (x : MatchedArg) × (option_map (λ e. e.1) (find (λ e. bytes_eq e.0.now name) es) ≡ Some x))
         → (x : MatchedArg) × (option_map (λ e. e.1) (find (λ e. bytes_eq e.0.now name) (e ∷ es)) ≡ Some x)
     go true is i lt at further = (e.1, rw is refl)
@@ -158,7 +163,8 @@ wants x name e =
     ((is_nil _ ifs.0, defaults_length _ more.0), (bytes_eq-Decides x.id.now name).0 id.0)
 
 -- A name whose rule has a default has an entry.
-pub default_held : (f : Found) (name : Text) (xs : List Arg) → All (λ a. WantsDefault a → HasId f a.id.now) xs → has_default (map rule_of xs) name ≡ true → HasId f name
+pub default_held : (f : Found) (name : Text) (xs : List Arg) → All (λ a. WantsDefault a → HasId f a.id.now) xs
+    → has_default (map rule_of xs) name ≡ true → HasId f name
 default_held f name [] held e = absurd (true≢false (sym e))
 default_held f name (x ∷ xs) held e =
     go (bytes_eq x.id.now name && (nat_lt 0 (length (rule_of x).defaults) && (rule_of x).is_simple)) refl

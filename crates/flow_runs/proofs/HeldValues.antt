@@ -79,7 +79,8 @@ pub options_held : {T : Type 0} (kinds : List (Text × T)) (c : Command) (f : Fo
     → HoldsNumber (rows_of f) (codes "workers") 64 × HoldsNumber (rows_of f) (codes "cut") 4096 × HoldsKind kinds (rows_of f) kind
 options_held kinds c f kind values named has are passes defaults =
     let groups = (plain_fields c has.plain).groups in
-    let of = λ (name : Text) (default : has_default (map rule_of (args_of c)) name ≡ true). matched_in f name (default_held f name (args_of c) defaults default) in
+    let of = λ (name : Text) (default : has_default (map rule_of (args_of c)) name ≡ true).
+    matched_in f name (default_held f name (args_of c) defaults default) in
     let workers = of (codes "workers") has.workers_default in
     let cut = of (codes "cut") has.cut_default in
     let workers_value = option_held c (codes "workers") _ has.workers groups (λ e. cc) f workers.0 passes workers.1 in

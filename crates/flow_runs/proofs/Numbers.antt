@@ -30,6 +30,7 @@ named_within rows name most holds fits v named =
     let text : named.0 ≡ without_minus holds.0 = ap (λ (o : Option Text). unwrap_or o named.0) (sym named.1 ∙ holds.1) in
     let below : digits_value 10 (without_leading_plus named.0) < 2 ^ 32 = rw named.2.2 named.2.1 in
     let parsed : ParsesUnsigned {E = ℕ} 32 10 named.0 (Ok v) = ((named.2.0, below), sym named.2.2) in
-    let got = signed_reads ℕ (ParsesUnsigned 32 10) 32 1 most holds.0 (Some v) (subst (λ (t : Text). ParsesUnsigned {E = ℕ} 32 10 t (Ok v)) text parsed) (λ u x g. g) fits holds.2 in
+    let got = signed_reads ℕ (ParsesUnsigned 32 10) 32 1 most holds.0 (Some v)
+    (subst (λ (t : Text). ParsesUnsigned {E = ℕ} 32 10 t (Ok v)) text parsed) (λ u x g. g) fits holds.2 in
     let same : v ≡ got.0 = ap (λ (o : Option ℕ). unwrap_or o v) got.1 in
     rw same (got.2, got.3)

@@ -27,7 +27,8 @@ name_of_kind kind.DuplicateCallee = codes "DuplicateCallee"
 
 -- `LINE:COLUMN: refusal NUMBER: NAME`
 abbrev pub refusal_text : Refusal → List ℕ
-refusal_text r = decimal r.line ++ codes ":" ++ decimal r.column ++ codes ": refusal " ++ decimal (number_of_kind r.kind) ++ codes ": " ++ name_of_kind r.kind
+refusal_text r =
+    decimal r.line ++ codes ":" ++ decimal r.column ++ codes ": refusal " ++ decimal (number_of_kind r.kind) ++ codes ": " ++ name_of_kind r.kind
 
 -- `refusal NUMBER: NAME`
 abbrev pub graph_text : GraphFault → List ℕ

@@ -22,7 +22,8 @@ pub(crate) fn answer<R: Threads + Sync, K: Sink, W: Shown>(
     sink: &mut K,
 ) -> Result<(), Fault>
     requires { K.faults sink.old < 2 ^ 32 - 1 }
-    ensures delivers { Delivers (Shows (W.limits shown.now) (W.needs_graph shown.now) (W.is_shown shown.now) text.now) (K.contents sink.old) (K.contents sink.new) result }
+    ensures delivers { Delivers (Shows (W.limits shown.now) (W.needs_graph shown.now) (W.is_shown shown.now) text.now) (K.contents sink.old)
+        (K.contents sink.new) result }
     ensures flushed { OnOk result (K.flushed sink.new ≡ true) }
     ensures refused { IfErr result (WhereRefused (λ r. refusal_within (W.limits shown.now) text.now ≡ Some r)) }
     ensures no_graph { IfErr result (WhereNoGraph (HasNoGraph (W.limits shown.now) (W.needs_graph shown.now) text.now)) }

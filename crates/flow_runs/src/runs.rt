@@ -36,7 +36,8 @@ pub fn run<R: Threads + Sync, S: Source, K: Sink, W: Shown>(
     ensures written { OnOk result (WritesAnswer (W.limits shown.now) (W.needs_graph shown.now) (W.is_shown shown.now)
         (S.remaining source.old) (S.remaining source.new) (S.ended source.new) (K.contents sink.old) (K.contents sink.new)) }
     ensures flushed { OnOk result (K.flushed sink.new ≡ true) }
-    ensures refused { IfErr result (WhereRefused (PullsRefused (W.limits shown.now) (S.remaining source.old) (S.remaining source.new) (S.ended source.new))) }
+    ensures refused { IfErr result
+        (WhereRefused (PullsRefused (W.limits shown.now) (S.remaining source.old) (S.remaining source.new) (S.ended source.new))) }
     ensures no_graph { IfErr result (WhereNoGraph (PullsOverLimit (W.limits shown.now) (W.needs_graph shown.now)
         (S.remaining source.old) (S.remaining source.new) (S.ended source.new))) }
     ensures no_procedure { IfErr result (WhereNoProcedure (PullsNoProcedure (W.limits shown.now) (W.lacks shown.now)

@@ -49,7 +49,8 @@ pub trait Shown {
     ) -> Result<(), Fault>
         requires threads { IsSync R.row }
         requires below { K.faults sink.old < 2 ^ 32 - 1 }
-        ensures delivers { Delivers (λ out. HasItsGraph (limits self.now) (needs_graph self.now) program.now × is_shown self.now program.now out) (K.contents sink.old) (K.contents sink.new) result }
+        ensures delivers { Delivers (λ out. HasItsGraph (limits self.now) (needs_graph self.now) program.now × is_shown self.now program.now out)
+            (K.contents sink.old) (K.contents sink.new) result }
         ensures flushed { OnOk result (K.flushed sink.new ≡ true) }
         ensures fault { IfErr result (OfProgram (IsOverLimit (limits self.now) program.now) (lacks self.now program.now)) }
         ensures needed { IfErr result (WhereNoGraph (λ _. needs_graph self.now ≡ true)) }

@@ -49,7 +49,8 @@ module _ (asked : Asked) (slice : SliceTable) (q : ℕ) (ask : Ask) (mask : ℕ)
       }
 
 module _ (asked : Asked) where
-  pub done_still : {T : Type 0} → (done : ℕ → Type 0) (old new : PassState T) → PostsMore old new → AreDone asked done old.posted → AreDone asked done new.posted
+  pub done_still : {T : Type 0} → (done : ℕ → Type 0) (old new : PassState T) → PostsMore old new → AreDone asked done old.posted
+      → AreDone asked done new.posted
   done_still done old new posts all bit want at =
       subst (λ (pass : PassState _). IsMarked pass.posted 0 bit) (sym posts.same) (marked_still old.posted posts.more 0 bit (all bit want at))
 
@@ -83,14 +84,16 @@ module _ (asked : Asked) where
   all_of from until marks each bit want at =
       each want.ask.analysis bit want (among from until (bit / 64) want.ask want.ask.analysis want.there refl at.0 at.1)
 
-  pub done_all : {T : Type 0} → (from until : ℕ) (first second third last : PassState T) → PostsMore first second → PostsMore second third → PostsMore third last
+  pub done_all : {T : Type 0} → (from until : ℕ) (first second third last : PassState T) → PostsMore first second → PostsMore second third
+      → PostsMore third last
       → AreDone asked (IsAmong asked.order from until Reach) first.posted → AreDone asked (IsAmong asked.order from until Live) second.posted
       → AreDone asked (IsAmong asked.order from until Avail) third.posted → AreDone asked (IsAmong asked.order from until Busy) last.posted
       → AreDone asked (λ q. (from ≤ q) × (q < until)) last.posted
   done_all from until first second third last a b c reach live avail busy = all_of from until last.posted each
     where
       each : (analysis : Analysis) → AreDone asked (IsAmong asked.order from until analysis) last.posted
-      each Reach = done_still (IsAmong asked.order from until Reach) third last c (done_still (IsAmong asked.order from until Reach) second third b (done_still (IsAmong asked.order from until Reach) first second a reach))
+      each Reach = done_still (IsAmong asked.order from until Reach) third last c
+          (done_still (IsAmong asked.order from until Reach) second third b (done_still (IsAmong asked.order from until Reach) first second a reach))
       each Live = done_still (IsAmong asked.order from until Live) third last c (done_still (IsAmong asked.order from until Live) second third b live)
       each Avail = done_still (IsAmong asked.order from until Avail) third last c avail
       each Busy = busy

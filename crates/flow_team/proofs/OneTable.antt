@@ -14,7 +14,9 @@ same_test P false false is are = refl
 
 pub tables_agree : TablesAreOne
 tables_agree program one other of_one of_other same =
-    let facts : AreFacts program one.analysis (facts_of other) = subst (λ (a : Analysis). AreFacts program a (facts_of other)) (sym same) of_other.facts in (
+    let facts : AreFacts program one.analysis (facts_of other) =
+    subst (λ (a : Analysis). AreFacts program a (facts_of other)) (sym same) of_other.facts in (
       (λ point there. same_test (HasPathAt program one.analysis point) _ _ (of_one.facts.paths point there) (facts.paths point there)),
-      (λ point bit there below. same_test (IsInTable program one.analysis point bit) _ _ (of_one.facts.sets point bit there below) (facts.sets point bit there below)),
+      (λ point bit there below.
+          same_test (IsInTable program one.analysis point bit) _ _ (of_one.facts.sets point bit there below) (facts.sets point bit there below)),
     )

@@ -28,13 +28,15 @@ groups_arrange asks order keys starts places count same low groups size each = r
 }
 
 -- the asks of the order are those that were given
-pub order_of : (program : Program) (asks order : List Ask) (places : List ℕ) → Arranges asks order places → AreAsksOf program asks → AreAsksOf program order
+pub order_of : (program : Program) (asks order : List Ask) (places : List ℕ) → Arranges asks order places → AreAsksOf program asks
+    → AreAsksOf program order
 order_of program asks order places arranged of j ask is =
     of (slice_index places j) ask (sym (arranged.each j (omega (arith, slice_get_within order j ask is, arranged.count))) ∙ is)
 
 module _ (asked : Asked) (arranged : Arranges asked.asks asked.order asked.places) where
   -- one answer more
-  pub answered_more : (words : List ℕ) (j at word : ℕ) → j < length asked.asks → at ≡ slice_index asked.places j → at < length words → AreAnswered asked j words
+  pub answered_more : (words : List ℕ) (j at word : ℕ) → j < length asked.asks → at ≡ slice_index asked.places j → at < length words
+      → AreAnswered asked j words
       → ((ask : Ask) → slice_get asked.order j ≡ Some ask → IsAnswerTo asked.program ask word) → AreAnswered asked (j + 1) (slice_set words at word)
   answered_more words j at word inside is within before told i ask below there = dite (ℕ_discrete (slice_index asked.places i) at)
       (λ same.

@@ -18,7 +18,8 @@ pub marked_still : (old more : List Mark) (point bit : ℕ) → IsMarked old poi
 marked_still old more point bit is = let e = marks_at-append point (bit / 64) (bit % 64) old more in omega arith
 
 -- a bit of the mask that was posted last is marked
-pub marked_last : (old : List Mark) (point word mask bit : ℕ) → bit / 64 ≡ word → has_bit mask (bit % 64) ≡ true → IsMarked (old ++ mark point word mask ∷ []) point bit
+pub marked_last : (old : List Mark) (point word mask bit : ℕ) → bit / 64 ≡ word → has_bit mask (bit % 64) ≡ true
+    → IsMarked (old ++ mark point word mask ∷ []) point bit
 marked_last old point word mask bit at has =
     subst (λ (w : ℕ). IsMarked (old ++ mark point w mask ∷ []) point bit) at
     (let e = mark_here point (bit / 64) mask (bit % 64) old in let one = one_of_bit mask (bit % 64) has in omega arith)
@@ -40,7 +41,8 @@ module _ {T : Type 0} where
   pub posted_still : (wanted : ℕ → ℕ → Type 0) (lo hi : ℕ) (done : ℕ → ℕ → Type 0) (old new : PassState T) → PostsMore old new
       → IsPosted wanted lo hi done old.posted → IsPosted wanted lo hi done new.posted
   posted_still wanted lo hi done old new posts all point bit want low high is =
-      subst (λ (pass : PassState T). IsMarked pass.posted point bit) (sym posts.same) (marked_still old.posted posts.more point bit (all point bit want low high is))
+      subst (λ (pass : PassState T). IsMarked pass.posted point bit) (sym posts.same)
+      (marked_still old.posted posts.more point bit (all point bit want low high is))
 
 -- no bit of 0 is set
 pub none_of_zero : (k : ℕ) → has_bit 0 k ≡ true → ⊥
@@ -58,17 +60,21 @@ word_has wanted first end point word result is p bit here at want low high =
 module _ {T : Type 0} (wanted : ℕ → ℕ → Type 0) (lo hi from : ℕ) (old new : PassState T) (posts : PostsMore old new) where
   -- one word more of a point
   pub words_more : (point word : ℕ) → IsPosted wanted lo hi (λ p w. (p ≡ point) × (from ≤ w) × (w < word)) old.posted
-      → IsPosted wanted lo hi (λ p w. (p ≡ point) × (w ≡ word)) new.posted → IsPosted wanted lo hi (λ p w. (p ≡ point) × (from ≤ w) × (w < word + 1)) new.posted
+      → IsPosted wanted lo hi (λ p w. (p ≡ point) × (w ≡ word)) new.posted
+      → IsPosted wanted lo hi (λ p w. (p ≡ point) × (from ≤ w) × (w < word + 1)) new.posted
   words_more point word before here p bit want low high at = dite (ℕ_discrete (bit / 64) word)
       (λ same. here p bit want low high (at.0, same))
-      (λ apart. posted_still wanted lo hi (λ q w. (q ≡ point) × (from ≤ w) × (w < word)) old new posts before p bit want low high (at.0, at.1, omega (arith, at.2)))
+      (λ apart. posted_still wanted lo hi (λ q w. (q ≡ point) × (from ≤ w) × (w < word)) old new posts before p bit want low high
+      (at.0, at.1, omega (arith, at.2)))
 
   -- one point more
   pub points_more : (until point : ℕ) → IsPosted wanted lo hi (λ p w. (p < point) × (from ≤ w) × (w < until)) old.posted
-      → IsPosted wanted lo hi (λ p w. (p ≡ point) × (from ≤ w) × (w < until)) new.posted → IsPosted wanted lo hi (λ p w. (p < point + 1) × (from ≤ w) × (w < until)) new.posted
+      → IsPosted wanted lo hi (λ p w. (p ≡ point) × (from ≤ w) × (w < until)) new.posted
+      → IsPosted wanted lo hi (λ p w. (p < point + 1) × (from ≤ w) × (w < until)) new.posted
   points_more until point before here p bit want low high at = dite (ℕ_discrete p point)
       (λ same. here p bit want low high (same, at.1, at.2))
-      (λ apart. posted_still wanted lo hi (λ q w. (q < point) × (from ≤ w) × (w < until)) old new posts before p bit want low high (omega (arith, at.0), at.1, at.2))
+      (λ apart. posted_still wanted lo hi (λ q w. (q < point) × (from ≤ w) × (w < until)) old new posts before p bit want low high
+      (omega (arith, at.0), at.1, at.2))
 
   -- some words more of all points, where nothing is wanted at others
   pub groups_more : (points until : ℕ) → ((p bit : ℕ) → wanted p bit → p < points) → IsPosted wanted lo hi (λ p w. w < from) old.posted

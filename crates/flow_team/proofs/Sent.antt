@@ -1,4 +1,5 @@
--- That the sets of a graph, and what is asked of it, may go to any thread, and be shared by several: its parts first, since one search over all of them is too large.
+-- That the sets of a graph, and what is asked of it, may go to any thread, and be shared by several: its parts first, since one search over all of
+-- them is too large.
 use denote.Ref.{NamedLft}
 use denote.Param.Send.{IsSend, IsSync, sendable}
 use Rattle.std.proofs.Crossing.{crosses}

@@ -1,5 +1,6 @@
 -- What the words and flags of a table answer.
-use Rattle.std.proofs.Common.{◌≡◌, ◌↔◌, ◌∙◌, ℕ, ◌+◌, ◌*◌, ◌<◌, ◌≤◌, Bool, true, false, List, [], ◌∷◌, ◌++◌, length, map, slice_get, slice_index, slice_index_or, if◌then◌else◌, Some, inl, inr, sym, ap, subst, arith, true≢false}
+use Rattle.std.proofs.Common.{◌≡◌, ◌↔◌, ◌∙◌, ℕ, ◌+◌, ◌*◌, ◌<◌, ◌≤◌, Bool, true, false, List, [], ◌∷◌, ◌++◌, length, map, slice_get, slice_index}
+use Rattle.std.proofs.Common.{slice_index_or, if◌then◌else◌, Some, inl, inr, sym, ap, subst, arith, true≢false}
 use Rattle.std.specs.List.{range_with_len}
 use mathlib.Core.Logic.{dite}
 use native.Mathlib.Decide.{ℕ_discrete}
@@ -19,35 +20,42 @@ use Rattle.flow_team.specs.Tables.{AreFacts, IsTableOf, TableFacts, facts_of}
 use Rattle.flow_team.specs.declared.ask.Ask.{Ask}
 
 -- a word of a table's set is the answer to its ask
-pub table_answers : (program : Program) (table : TableFacts) (ask : Ask) (value : ℕ) → table.analysis ≡ ask.analysis → IsTableOf program table → IsAskOf program ask
-    → ((k : ℕ) → k < 64 → has_bit value k ≡ (facts_of table).contains ask.point (64 * ask.word + k)) → ((k : ℕ) → k < 64 → table.bits ≤ 64 * ask.word + k → has_bit value k ≡ false)
+pub table_answers : (program : Program) (table : TableFacts) (ask : Ask) (value : ℕ) → table.analysis ≡ ask.analysis → IsTableOf program table
+    → IsAskOf program ask
+    → ((k : ℕ) → k < 64 → has_bit value k ≡ (facts_of table).contains ask.point (64 * ask.word + k))
+    → ((k : ℕ) → k < 64 → table.bits ≤ 64 * ask.word + k → has_bit value k ≡ false)
     → IsAnswerTo program ask value
 table_answers program table ask value same is of set past k small =
     let b = 64 * ask.word + k in
     let facts : AreFacts program ask.analysis (facts_of table) = subst (λ (a : Analysis). AreFacts program a (facts_of table)) same is.facts in
     elim (cases_lt b (bits program ask.analysis)) [
       | inl below ↦
-          let told : ((facts_of table).contains ask.point b ≡ true) ↔ IsInTable program ask.analysis ask.point b = facts.sets ask.point b of.point below in (
+          let told : ((facts_of table).contains ask.point b ≡ true) ↔ IsInTable program ask.analysis ask.point b =
+          facts.sets ask.point b of.point below in (
             (λ has. (below, told.0 (sym (set k small) ∙ has))),
             (λ there. set k small ∙ told.1 there.1),
           )
       | inr above ↦
-          let none = past k small (subst (λ (a : Analysis). bits program a ≤ b → table.bits ≤ b) same (λ most. omega (arith, is.bits, most)) above) in (
+          let none =
+          past k small (subst (λ (a : Analysis). bits program a ≤ b → table.bits ≤ b) same (λ most. omega (arith, is.bits, most)) above) in (
             (λ has. absurd (true≢false (sym has ∙ none))),
             (λ there. absurd (omega (arith, above, there.0))),
           )
     ]
 
 -- and its flags are the path flags of its direction
-pub table_flags : (program : Program) (table : TableFacts) (analysis : Analysis) (flags : List Bool) → table.analysis ≡ analysis → IsTableOf program table
+pub table_flags : (program : Program) (table : TableFacts) (analysis : Analysis) (flags : List Bool) → table.analysis ≡ analysis
+    → IsTableOf program table
     → flags ≡ map (facts_of table).has_path (range_with_len 0 (point_count program))
-    → (length flags ≡ point_count program) × ((point : ℕ) → point < point_count program → (slice_index_or flags point false ≡ true) ↔ HasPathAt program analysis point)
+    → (length flags ≡ point_count program)
+    × ((point : ℕ) → point < point_count program → (slice_index_or flags point false ≡ true) ↔ HasPathAt program analysis point)
 table_flags program table analysis flags same is flags_are =
     let facts : AreFacts program analysis (facts_of table) = subst (λ (a : Analysis). AreFacts program a (facts_of table)) same is.facts in
     let has = (facts_of table).has_path in (
       subst (λ (fs : List Bool). length fs ≡ point_count program) (sym flags_are) (length-map-range_with_len has 0 (point_count program)),
       λ point below. subst (λ (fs : List Bool). (slice_index_or fs point false ≡ true) ↔ HasPathAt program analysis point) (sym flags_are)
-          (subst (λ (b : Bool). (b ≡ true) ↔ HasPathAt program analysis point) (sym (get_or-map-range_with_len has 0 (point_count program) point point false below (omega arith))) (facts.paths point below)),
+          (subst (λ (b : Bool). (b ≡ true) ↔ HasPathAt program analysis point)
+          (sym (get_or-map-range_with_len has 0 (point_count program) point point false below (omega arith))) (facts.paths point below)),
     )
 
 -- one answer more
@@ -64,7 +72,8 @@ told_more program asks words q value size before here i ask below there = dite (
 -- the flags of a direction, of an analysis of it
 abbrev pub AreFlagsOf : Program → Analysis → List Bool → Type 0
 AreFlagsOf program analysis flags =
-    (length flags ≡ point_count program) × ((point : ℕ) → point < point_count program → (slice_index_or flags point false ≡ true) ↔ HasPathAt program analysis point)
+    (length flags ≡ point_count program)
+    × ((point : ℕ) → point < point_count program → (slice_index_or flags point false ≡ true) ↔ HasPathAt program analysis point)
 
 -- words that answer the asks, and the flags of both directions, are the answers
 pub told_by_tables : (program : Program) (asks : List Ask) (words : List ℕ) (forward backward : List Bool) → length words ≡ length asks

@@ -1,5 +1,6 @@
 -- What the words of a closed board say of the asks.
-use Rattle.std.proofs.Common.{◌≡◌, ◌↔◌, ◌∙◌, ℕ, ◌+◌, ◌*◌, ◌/◌, ◌%◌, ◌<◌, ◌≤◌, Bool, true, false, ◌&&◌, nat_lt, List, Some, length, slice_get, slice_index, slice_index_or, if◌then◌else◌, refl, sym, ap, ap₂, subst, arith}
+use Rattle.std.proofs.Common.{◌≡◌, ◌↔◌, ◌∙◌, ℕ, ◌+◌, ◌*◌, ◌/◌, ◌%◌, ◌<◌, ◌≤◌, Bool, true, false, ◌&&◌, nat_lt, List, Some, length, slice_get}
+use Rattle.std.proofs.Common.{slice_index, slice_index_or, if◌then◌else◌, refl, sym, ap, ap₂, subst, arith}
 use Rattle.std.specs.Prelude.{bit_xor}
 use Rattle.bit_rows.specs.RowSet.{IsWordOf, contains}
 use Rattle.bit_rows.specs.RowTable.{RowTable, set_at}
@@ -23,7 +24,8 @@ use Rattle.flow_team.specs.declared.ask.Ask.{Ask}
 use Rattle.flow_team.proofs.Turns.{has_bit-xor, turned_place}
 
 -- what is wanted of an ask's place
-wanted_place : (asked : Asked) (j k : ℕ) (ask : Ask) → AreAsksOf asked.program asked.order → slice_get asked.order j ≡ Some ask → k < 64 → (set : Bool)
+wanted_place : (asked : Asked) (j k : ℕ) (ask : Ask) → AreAsksOf asked.program asked.order → slice_get asked.order j ≡ Some ask → k < 64
+    → (set : Bool)
     → (set ≡ true) ↔ IsWanted asked 0 (64 * j + k)
     → (set ≡ true) ↔ ((0 ≤ 64 * ask.word + k) × (64 * ask.word + k < bits asked.program ask.analysis)
     × SomePathHas (may_shape asked.program ask.analysis) (may_transfer asked.program ask.analysis (64 * ask.word + k)) ask.point)
@@ -42,7 +44,8 @@ wanted_place asked j k ask of there small set told =
         only = refl;
         ask = ask;
         there = ap (slice_get asked.order) at ∙ there;
-        some = subst (λ (n : ℕ). IsInMaySet (form_of asked.program ask.analysis) ask.point (64 * ask.word + n)) (sym place) ((of j ask there).point, some.1, some.2);
+        some = subst (λ (n : ℕ). IsInMaySet (form_of asked.program ask.analysis) ask.point (64 * ask.word + n)) (sym place)
+            ((of j ask there).point, some.1, some.2);
       })),
     )
 
@@ -55,9 +58,11 @@ word_answers asked j ask rows value turn limit must of there told is musts limit
     let b = 64 * ask.word + k in
     let set = contains (set_at rows 0) (64 * j + k) in
     let most = bits asked.program ask.analysis in
-    let placed : has_bit (bit_xor value turn) k ≡ turned (has_bit turn k) set = has_bit-xor value turn k ∙ ap (turned (has_bit turn k)) (is k small) in
+    let placed : has_bit (bit_xor value turn) k ≡ turned (has_bit turn k) set =
+    has_bit-xor value turn k ∙ ap (turned (has_bit turn k)) (is k small) in
     subst (λ (one : Bool). (one ≡ true) ↔ ((b < most) × IsInTable asked.program ask.analysis ask.point b)) (sym placed)
-    (turned_place (IsInTable asked.program ask.analysis ask.point b) (SomePathHas (may_shape asked.program ask.analysis) (may_transfer asked.program ask.analysis b) ask.point) b most
+    (turned_place (IsInTable asked.program ask.analysis ask.point b)
+    (SomePathHas (may_shape asked.program ask.analysis) (may_transfer asked.program ask.analysis b) ask.point) b most
     (is_must ask.analysis) set (has_bit turn k)
     (may_tables_are_may_forms asked.program ask.analysis ask.point b) (must_tables_are_may_forms asked.program ask.analysis ask.point b)
     (turns k small ∙ ap₂ (λ m n. m && nat_lt b n) musts limits)

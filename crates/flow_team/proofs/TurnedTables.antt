@@ -1,5 +1,6 @@
 -- Words and sets that are turned, and what the solution of a may form says of a table.
-use Rattle.std.proofs.Common.{◌≡◌, ◌↔◌, ℕ, ◌+◌, ◌*◌, ◌<◌, ◌≤◌, Bool, true, false, not, ◌&&◌, nat_lt, List, [], length, slice_index_or, inl, inr, refl, sym, ap, ap₂, subst, ◌∙◌, arith}
+use Rattle.std.proofs.Common.{◌≡◌, ◌↔◌, ℕ, ◌+◌, ◌*◌, ◌<◌, ◌≤◌, Bool, true, false, not, ◌&&◌, nat_lt, [], length, slice_index_or, inl, inr, refl}
+use Rattle.std.proofs.Common.{sym, ap, ap₂, subst, ◌∙◌, arith}
 use Rattle.std.specs.Prelude.{bit_xor}
 use Rattle.std.proofs.lemmas.Bool.{cases_lt, lt-ltb, le-ltb}
 use Rattle.std.proofs.lemmas.List.{get_or-map}
@@ -38,9 +39,11 @@ module _ (turns : Bool) (rows : RowTable) (point : ℕ) (there : point < length 
   set_at-turned : set_at (turned_table turns rows) point ≡ turned_set turns rows point
   set_at-turned = get_or-map-range_with_len (turned_set turns rows) 0 (length rows.flags) point point (empty_set 0 rows.hi) there (omega arith)
 
-  pub contains-turned : (bit : ℕ) → bit < rows.hi → contains (set_at (turned_table turns rows) point) bit ≡ turned turns (contains (set_at rows point) bit)
+  pub contains-turned : (bit : ℕ) → bit < rows.hi
+      → contains (set_at (turned_table turns rows) point) bit ≡ turned turns (contains (set_at rows point) bit)
   contains-turned bit below =
-      ap (λ (s : RowSet). contains s bit) set_at-turned ∙ contains-set_of 0 rows.hi (λ b. turned turns (contains (set_at rows point) b)) bit (omega arith) below
+      ap (λ (s : RowSet). contains s bit) set_at-turned
+      ∙ contains-set_of 0 rows.hi (λ b. turned turns (contains (set_at rows point) b)) bit (omega arith) below
 
   -- the first member is that of bit 0
   from_first : (bit : ℕ) → contains (turned_set turns rows point) bit ≡ slice_index_or (turned_set turns rows point).members bit false
@@ -48,10 +51,13 @@ module _ (turns : Bool) (rows : RowTable) (point : ℕ) (there : point < length 
   from_first bit = λ i. leb-zero bit i && slice_index_or (turned_set turns rows point).members (sub-zero bit i) false
 
   -- what its table says of a bit is whether the point's set has it
-  pub told_contains : (bit : ℕ) → slice_index_or (slice_index_or (members_of (turned_table turns rows)) point []) bit false ≡ contains (set_at (turned_table turns rows) point) bit
+  pub told_contains : (bit : ℕ) → slice_index_or (slice_index_or (members_of (turned_table turns rows)) point []) bit false
+      ≡ contains (set_at (turned_table turns rows) point) bit
   told_contains bit =
-      let size : length (turned_table turns rows).sets ≡ length rows.flags = length-map-range_with_len (turned_set turns rows) 0 (length rows.flags) in
-      ap (λ ms. slice_index_or ms bit false) (get_or-map (λ (s : RowSet). s.members) (turned_table turns rows).sets point (empty_set 0 rows.hi) [] (omega (arith, there, size)))
+      let size : length (turned_table turns rows).sets ≡ length rows.flags =
+      length-map-range_with_len (turned_set turns rows) 0 (length rows.flags) in
+      ap (λ ms. slice_index_or ms bit false)
+      (get_or-map (λ (s : RowSet). s.members) (turned_table turns rows).sets point (empty_set 0 rows.hi) [] (omega (arith, there, size)))
       ∙ ap (λ (s : RowSet). slice_index_or s.members bit false) set_at-turned
       ∙ sym (from_first bit)
       ∙ ap (λ (s : RowSet). contains s bit) (sym set_at-turned)
@@ -60,22 +66,27 @@ module _ (turns : Bool) (rows : RowTable) (point : ℕ) (there : point < length 
   pub none_past : (bit : ℕ) → rows.hi ≤ bit → contains (set_at (turned_table turns rows) point) bit ≡ false
   none_past bit past =
       ap (λ (s : RowSet). contains s bit) set_at-turned
-      ∙ contains-above (turned_set turns rows point) bit (omega (arith, past, hi_of-set_of 0 rows.hi (λ c. turned turns (contains (set_at rows point) c)) (omega arith)))
+      ∙ contains-above (turned_set turns rows point) bit
+      (omega (arith, past, hi_of-set_of 0 rows.hi (λ c. turned turns (contains (set_at rows point) c)) (omega arith)))
 
   -- a word of a set, turned at the places of its bits
-  pub word_turned : (word value turn : ℕ) → ((bit : ℕ) → contains (set_at rows point) bit ≡ true → bit < rows.hi) → IsWordOf (set_at rows point) word value
-      → ((k : ℕ) → k < 64 → has_bit turn k ≡ (turns && nat_lt (64 * word + k) rows.hi)) → IsWordOf (set_at (turned_table turns rows) point) word (bit_xor value turn)
+  pub word_turned : (word value turn : ℕ) → ((bit : ℕ) → contains (set_at rows point) bit ≡ true → bit < rows.hi)
+      → IsWordOf (set_at rows point) word value
+      → ((k : ℕ) → k < 64 → has_bit turn k ≡ (turns && nat_lt (64 * word + k) rows.hi))
+      → IsWordOf (set_at (turned_table turns rows) point) word (bit_xor value turn)
   word_turned word value turn within is turn_is k small =
       let b = 64 * word + k in
       let set = contains (set_at rows point) b in
       has_bit-xor value turn k ∙ ap₂ turned (turn_is k small) (is k small)
       ∙ elim (cases_lt b rows.hi) [
-        | inl below ↦ ap (λ t. turned (turns && t) set) (lt-ltb b rows.hi below) ∙ ap (λ t. turned t set) (and_true turns) ∙ sym (contains-turned b below)
+        | inl below ↦ ap (λ t. turned (turns && t) set) (lt-ltb b rows.hi below) ∙ ap (λ t. turned t set) (and_true turns)
+            ∙ sym (contains-turned b below)
         | inr past ↦
             ap (λ t. turned (turns && t) set) (le-ltb b rows.hi past) ∙ ap (λ t. turned t set) (and_false turns)
             ∙ none set (λ has. omega (arith, past, within b has))
             ∙ sym (ap (λ (s : RowSet). contains s b) set_at-turned
-            ∙ contains-above (turned_set turns rows point) b (omega (arith, past, hi_of-set_of 0 rows.hi (λ c. turned turns (contains (set_at rows point) c)) (omega arith))))
+            ∙ contains-above (turned_set turns rows point) b
+            (omega (arith, past, hi_of-set_of 0 rows.hi (λ c. turned turns (contains (set_at rows point) c)) (omega arith))))
       ]
 
 -- a bit that is taken out of a set or put in is so told by what it was
@@ -83,7 +94,8 @@ flipped : (P : Type 0) (set : Bool) → (set ≡ true) ↔ P → (not set ≡ tr
 flipped P true told = ((λ turned. absurd (cc turned)), (λ none. absurd (none (told.0 refl))))
 flipped P false told = ((λ turned p. absurd (cc (told.1 p))), (λ none. refl))
 
-module _ (program : Program) (analysis : Analysis) (point bit : ℕ) (set : Bool) (told : (set ≡ true) ↔ SomePathHas (may_shape program analysis) (may_transfer program analysis bit) point) where
+module _ (program : Program) (analysis : Analysis) (point bit : ℕ) (set : Bool)
+    (told : (set ≡ true) ↔ SomePathHas (may_shape program analysis) (may_transfer program analysis bit) point) where
   -- of a may analysis the sets are the table's, of a must analysis their complements
   turned_bit : (must : Bool) → is_must analysis ≡ must → (turned must set ≡ true) ↔ IsInTable program analysis point bit
   turned_bit true is =
@@ -108,6 +120,7 @@ turned_is_table program analysis rows meet = record {
         subst (λ (b : Bool). (b ≡ true) ↔ IsInTable program analysis point bit)
         (sym (told_contains (is_must analysis) rows point (omega (arith, there, meet.count)) bit
         ∙ contains-turned (is_must analysis) rows point (omega (arith, there, meet.count)) bit (omega (arith, below, meet.same_hi))))
-        (turned_bit program analysis point bit (contains (set_at rows point) bit) (meet.bit point bit there (omega arith) below) (is_must analysis) refl);
+        (turned_bit program analysis point bit (contains (set_at rows point) bit) (meet.bit point bit there (omega arith) below) (is_must analysis)
+        refl);
   };
 }

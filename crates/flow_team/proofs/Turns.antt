@@ -1,5 +1,6 @@
 -- Words whose places are turned.
-use Rattle.std.proofs.Common.{◌≡◌, ◌↔◌, ℕ, zero, suc, ◌+◌, ◌-◌, ◌*◌, ◌%◌, ◌^◌, ◌<◌, ◌≤◌, min, inl, inr, Bool, true, false, not, ◌&&◌, nat_lt, eqb, refl, sym, ap, subst, ◌∙◌, arith, true≢false}
+use Rattle.std.proofs.Common.{◌≡◌, ◌↔◌, ℕ, zero, suc, ◌+◌, ◌-◌, ◌*◌, ◌%◌, ◌^◌, ◌<◌, ◌≤◌, min, inl, inr, Bool, true, false, not, ◌&&◌, nat_lt, eqb}
+use Rattle.std.proofs.Common.{refl, sym, ap, subst, ◌∙◌, arith, true≢false}
 use Rattle.std.specs.Prelude.{bit_xor}
 use Rattle.std.specs.Int.{bit_at}
 use Rattle.std.proofs.lemmas.Bool.{cases_lt, lt-ltb, le-ltb}
@@ -31,7 +32,8 @@ has_bit-low_ones bits word k small = elim (cases_lt (64 * word + k) bits) [
 
 -- What a turned place tells: whether a bit of a table is there, which is what some path has, or for a must analysis what none has.
 module _ (Table Some : Type 0) (b bits : ℕ) where
-  may_place : (set turn : Bool) → (Table ↔ Some) → turn ≡ false → (set ≡ true) ↔ ((0 ≤ b) × (b < bits) × Some) → (turned turn set ≡ true) ↔ ((b < bits) × Table)
+  may_place : (set turn : Bool) → (Table ↔ Some) → turn ≡ false → (set ≡ true) ↔ ((0 ≤ b) × (b < bits) × Some)
+      → (turned turn set ≡ true) ↔ ((b < bits) × Table)
   may_place set turn law is told = subst (λ (t : Bool). (turned t set ≡ true) ↔ ((b < bits) × Table)) (sym is) (
     (λ has. let there = told.0 has in (there.1, law.1 there.2)),
     (λ has. told.1 (omega arith, has.0, law.0 has.1)),
@@ -41,7 +43,8 @@ module _ (Table Some : Type 0) (b bits : ℕ) where
   inside true law there told = ((λ has. absurd (true≢false (sym has))), (λ has. absurd (law.0 has.1 ((told.0 refl).2))))
   inside false law there told = ((λ has. (there, law.1 (λ some. true≢false (sym (told.1 (omega arith, there, some)))))), (λ has. refl))
 
-  must_place : (set turn : Bool) → (Table ↔ (¬ Some)) → turn ≡ nat_lt b bits → (set ≡ true) ↔ ((0 ≤ b) × (b < bits) × Some) → (turned turn set ≡ true) ↔ ((b < bits) × Table)
+  must_place : (set turn : Bool) → (Table ↔ (¬ Some)) → turn ≡ nat_lt b bits → (set ≡ true) ↔ ((0 ≤ b) × (b < bits) × Some)
+      → (turned turn set ≡ true) ↔ ((b < bits) × Table)
   must_place set turn law is told = elim (cases_lt b bits) [
     | inl there ↦ subst (λ (t : Bool). (turned t set ≡ true) ↔ ((b < bits) × Table)) (sym (is ∙ lt-ltb b bits there)) (inside set law there told)
     | inr past ↦ subst (λ (t : Bool). (turned t set ≡ true) ↔ ((b < bits) × Table)) (sym (is ∙ le-ltb b bits past)) (

@@ -11,4 +11,5 @@ abbrev pub TablesAreOne : Type 0
 TablesAreOne =
     (program : Program) (one other : TableFacts) → IsTableOf program one → IsTableOf program other → one.analysis ≡ other.analysis
     → ((point : ℕ) → point < point_count program → (facts_of one).has_path point ≡ (facts_of other).has_path point)
-    × ((point bit : ℕ) → point < point_count program → bit < bits program one.analysis → (facts_of one).contains point bit ≡ (facts_of other).contains point bit)
+    × ((point bit : ℕ) → point < point_count program → bit < bits program one.analysis
+    → (facts_of one).contains point bit ≡ (facts_of other).contains point bit)

@@ -96,7 +96,8 @@ fn words_in(
     requires avail { (avail.now.analysis ≡ Avail) × IsTableOf graph.now avail.now }
     requires busy { (busy.now.analysis ≡ Busy) × IsTableOf graph.now busy.now }
     ensures count { IfOk result (λ words. length words.items ≡ length asks.now) }
-    ensures answered { IfOk result (λ words. (q : ℕ) (ask : AskValue) → slice_get asks.now q ≡ Some ask → IsAnswerTo graph.now ask (slice_index words.items q)) }
+    ensures answered { IfOk result
+        (λ words. (q : ℕ) (ask : AskValue) → slice_get asks.now q ≡ Some ask → IsAnswerTo graph.now ask (slice_index words.items q)) }
 {
     let mut words = Vec::new(alloc);
     for q in 0..asks.len() {

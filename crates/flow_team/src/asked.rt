@@ -1,5 +1,6 @@
 // What is asked of a graph, and what solves it.
-ghost use Rattle.std.specs.Prelude.{◌≡◌, ℕ, ◌+◌, ◌*◌, ◌/◌, ◌^◌, ◌<◌, ◌≤◌, ◌↔◌, true, false, Some, length, slice_get, slice_index, IfOk, IfErr, IfSome, IfNone};
+ghost use Rattle.std.specs.Prelude.{◌≡◌, ℕ, ◌+◌, ◌*◌, ◌/◌, ◌^◌, ◌<◌, ◌≤◌, ◌↔◌, true, false, Some, length, slice_get, slice_index, IfOk, IfErr};
+ghost use Rattle.std.specs.Prelude.{IfSome, IfNone};
 ghost use Rattle.bit_rows.specs.RowSet.{contains};
 ghost use Rattle.bit_rows.specs.RowTable.{set_at};
 ghost use Rattle.flow_graph.specs.Analyses.{is_must};
@@ -84,6 +85,19 @@ fn asks_some(asks: &[Ask], analysis: Analysis, from: u32, until: u32) -> bool
     false
 }
 
+// The first of the words that are solved together with a word: eight where there are more than 64, else four.
+fn group_start(bits: u32, word: u32) -> u32
+    ensures low { result ≤ word }
+    ensures short { (bits + 63) / 64 ≤ 64 → word < result + 4 }
+    ensures long { 64 < (bits + 63) / 64 → word < result + 8 }
+{
+    if bits.div_ceil(64) > 64 {
+        word / 8 * 8
+    } else {
+        word / 4 * 4
+    }
+}
+
 // Sees to it that a word is among those that were solved last: of the words from one up to another this is known.
 fn solve_to<'a, 'g, 'p>(
     solver: &'a Solver<'g, 'p>,
@@ -101,7 +115,7 @@ fn solve_to<'a, 'g, 'p>(
     if solved.0 <= word && word < solved.1 {
         return solved;
     }
-    let from = word / 4 * 4;
+    let from = group_start(solver.problem().bits(), word);
     let until = solver.solve_from(routes, words, from);
     (from, until)
 }

@@ -77,6 +77,9 @@ pub(crate) fn directions_here<'g, 'p>(
     Ok((forward, backward))
 }
 
+// With more groups of an analysis two are solved at once: a slice of one would solve the other for nothing.
+const SHORT: usize = 16;
+
 // Where slices of so many groups end between so many asks: no slice has asks of two analyses, and each has one.
 fn ends(
     alloc: Global,
@@ -88,6 +91,11 @@ fn ends(
     requires few { 64 * count < 2 ^ 32 }
 {
     let analysis_groups = (starts.len() / 4).max(1);
+    let slice_groups = if analysis_groups > SHORT {
+        (slice_groups / 2 * 2).max(2)
+    } else {
+        slice_groups
+    };
     let mut ends = Vec::new(alloc);
     let mut last = 0;
     for (key, start) in starts.iter().enumerate() {

@@ -27,7 +27,8 @@ const WIDTHS: &[u32] = &[1, 2, 64];
 
 /// Three expressions on branches: `b + c` (bit 0) and `c - d` (2) on both, `d * 2` (1) on one and behind them.
 const THREE_ON_BRANCHES: &str =
-    "proc main\nread b\nread c\nread d\nif b goto L\nx = b + c\ny = d * 2\nz = c - d\ngoto M\nL: z = c - d\nx = b + c\nM: print z\nb = x\ny = d * 2\nx = b + c\nprint y\nend\n";
+    "proc main\nread b\nread c\nread d\nif b goto L\nx = b + c\ny = d * 2\nz = c - d\ngoto M\n\
+    L: z = c - d\nx = b + c\nM: print z\nb = x\ny = d * 2\nx = b + c\nprint y\nend\n";
 
 /// The second branch does not evaluate `d * 2`, and what sets `b` at the point 11 takes `b + c` away.
 const THREE_ON_BRANCHES_AVAIL: &str =

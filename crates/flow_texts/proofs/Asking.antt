@@ -1,5 +1,6 @@
 -- Asks that are put behind others.
-use Rattle.std.proofs.Common.{◌≡◌, ◌⊎◌, ◌∙◌, ℕ, zero, suc, ◌+◌, ◌*◌, ◌^◌, ◌<◌, ◌≤◌, Bool, true, false, ◌||◌, List, [], ◌∷◌, ◌++◌, map, Some, length, nat_eq, slice_get, inl, inr, refl, sym, ap, subst, arith, length-append}
+use Rattle.std.proofs.Common.{◌≡◌, ◌⊎◌, ◌∙◌, ℕ, zero, suc, ◌+◌, ◌*◌, ◌^◌, ◌<◌, ◌≤◌, Bool, true, false, ◌||◌, List, [], ◌∷◌, ◌++◌, map, Some, length}
+use Rattle.std.proofs.Common.{nat_eq, slice_get, inl, inr, refl, sym, ap, subst, arith, length-append}
 use Rattle.std.specs.List.{list_any}
 use Rattle.std.proofs.lemmas.Bool.{cases_lt}
 use Rattle.flow_graph.specs.Points.{kind_at, point_count}
@@ -58,21 +59,24 @@ module _ (program : Program) where
     count = omega (arith, length-append old (ask ∷ []), room);
   })
 
-  pub asks_then : (old mid new : List Ask) (first second most : ℕ) → Asks program old mid first → Asks program mid new second → first + second ≤ most → Asks program old new most
+  pub asks_then : (old mid new : List Ask) (first second most : ℕ) → Asks program old mid first → Asks program mid new second → first + second ≤ most
+      → Asks program old new most
   asks_then old mid new first second most before after room = record {
     kept = λ q ask there. after.kept q ask (before.kept q ask there);
     of = λ are. after.of (before.of are);
     count = omega (arith, before.count, after.count, room);
   }
 
-  pub reads_still : (old new : List Ask) (place point : ℕ) (kind : StmtKind) (most : ℕ) → Asks program old new most → AsksReads old place point kind → AsksReads new place point kind
+  pub reads_still : (old new : List Ask) (place point : ℕ) (kind : StmtKind) (most : ℕ) → Asks program old new most → AsksReads old place point kind
+      → AsksReads new place point kind
   reads_still old new place point kind most more asked = record {
     each = λ variables are i variable at. more.kept (place + i) (ask_for Reach point variable) (asked.each variables are i variable at);
     all = λ variable reading. let found = asked.all variable reading in (found.0, more.kept found.0 (ask_for Reach point variable) found.1);
   }
 
   -- what was asked at a statement stays asked
-  pub asked_still : (old new : List Ask) (here : PointAsks) (point : ℕ) (kind : StmtKind) (most : ℕ) → Asks program old new most → AreAskedAt program old here point kind
+  pub asked_still : (old new : List Ask) (here : PointAsks) (point : ℕ) (kind : StmtKind) (most : ℕ) → Asks program old new most
+      → AreAskedAt program old here point kind
       → AreAskedAt program new here point kind
   asked_still old new here point kind most more asked = record {
     reads = reads_still old new here.reads point kind most more asked.reads;
@@ -82,7 +86,8 @@ module _ (program : Program) where
   }
 
   -- and one statement more is
-  pub asked_more : (old new : List Ask) (places more : List PointAsks) (here : PointAsks) (point most : ℕ) → more ≡ places ++ here ∷ [] → length places ≡ point
+  pub asked_more : (old new : List Ask) (places more : List PointAsks) (here : PointAsks) (point most : ℕ) → more ≡ places ++ here ∷ []
+      → length places ≡ point
       → Asks program old new most → ((kind : StmtKind) → kind_at program point ≡ Some kind → AreAskedAt program new here point kind)
       → AreAsked program old places → AreAsked program new more
   asked_more old new places more here point most is count asks asked before p at kind there stands_there =
@@ -96,11 +101,13 @@ module _ (program : Program) where
       ]
 
 -- the asks for words of very busy expressions, one more
-pub one_busy_more : (first point word : ℕ) (old new : List Ask) (ask : Ask) → new ≡ old ++ ask ∷ [] → ask ≡ record { analysis = Busy; point = point; word = word } → length old ≡ first + word
+pub one_busy_more : (first point word : ℕ) (old new : List Ask) (ask : Ask) → new ≡ old ++ ask ∷ []
+    → ask ≡ record { analysis = Busy; point = point; word = word } → length old ≡ first + word
     → ((w : ℕ) → w < word → slice_get old (first + w) ≡ Some (let one : Ask = record { analysis = Busy; point = point; word = w } in one))
     → (w : ℕ) → w < word + 1 → slice_get new (first + w) ≡ Some (let one : Ask = record { analysis = Busy; point = point; word = w } in one)
 one_busy_more first point word old new ask is of count before w below = elim (cases_lt w word) [
-  | inl low ↦ ap (λ asks. slice_get asks (first + w)) is ∙ get_before old (ask ∷ []) (first + w) (record { analysis = Busy; point = point; word = w }) (before w low)
+  | inl low ↦ ap (λ asks. slice_get asks (first + w)) is
+      ∙ get_before old (ask ∷ []) (first + w) (record { analysis = Busy; point = point; word = w }) (before w low)
   | inr high ↦ (
       let same : word ≡ w = omega (arith, below, high) in
       let place : first + w ≡ length old = omega (arith, count, same) in
@@ -133,33 +140,41 @@ place_of variable (x ∷ variables) is = elim (either (nat_eq variable x) (list_
   | inr later ↦ (let rest = place_of variable variables later in (suc rest.0, rest.1))
 ]
 
-module _ (program : Program) (point : ℕ) (kind : StmtKind) (sound : IsSound program) (below : point < point_count program) (at : kind_at program point ≡ Some kind) where
+module _ (program : Program) (point : ℕ) (kind : StmtKind) (sound : IsSound program) (below : point < point_count program)
+    (at : kind_at program point ≡ Some kind) where
   -- the asks for the variables that the statement reads stand behind the others
-  pub reads_asked : (old new : List Ask) (variables : List ℕ) → AreRead kind variables → new ≡ old ++ map (ask_for Reach point) variables → AsksReads new (length old) point kind
+  pub reads_asked : (old new : List Ask) (variables : List ℕ) → AreRead kind variables → new ≡ old ++ map (ask_for Reach point) variables
+      → AsksReads new (length old) point kind
   reads_asked old new variables are is = record {
-    each = λ others are_others i variable there. asked i variable (subst (λ vs. slice_get vs i ≡ Some variable) (same_read program point kind others variables sound below at are_others are) there);
-    all = λ variable reading. let found = place_of variable variables (are.read variable ∙ reading) in (length old + found.0, asked found.0 variable found.1);
+    each = λ others are_others i variable there. asked i variable
+        (subst (λ vs. slice_get vs i ≡ Some variable) (same_read program point kind others variables sound below at are_others are) there);
+    all = λ variable reading. let found = place_of variable variables (are.read variable ∙ reading) in
+        (length old + found.0, asked found.0 variable found.1);
   }
     where
       asked : (i variable : ℕ) → slice_get variables i ≡ Some variable → slice_get new (length old + i) ≡ Some (ask_for Reach point variable)
       asked i variable there =
-          ap (λ asks. slice_get asks (length old + i)) is ∙ get_behind old (map (ask_for Reach point) variables) i ∙ in_order point variables i variable there
+          ap (λ asks. slice_get asks (length old + i)) is ∙ get_behind old (map (ask_for Reach point) variables) i
+          ∙ in_order point variables i variable there
 
   -- the ask for a variable that it reads is of the program
-  pub read_is_ask : (variables : List ℕ) → AreRead kind variables → (variable : ℕ) → list_any (nat_eq variable) variables ≡ true → IsAskOf program (ask_for Reach point variable)
+  pub read_is_ask : (variables : List ℕ) → AreRead kind variables → (variable : ℕ) → list_any (nat_eq variable) variables ≡ true
+      → IsAskOf program (ask_for Reach point variable)
   read_is_ask variables are variable among = record {
     point = below;
     word = omega (arith, variables_are_there program point kind variables sound below at are variable among, variables_have_dummies program);
   }
 
 -- the asks for one variable, and for two
-pub first_read : (asks : List Ask) (place point variable : ℕ) (kind : StmtKind) (others : List ℕ) → AsksReads asks place point kind → AreRead kind (variable ∷ others)
+pub first_read : (asks : List Ask) (place point variable : ℕ) (kind : StmtKind) (others : List ℕ) → AsksReads asks place point kind
+    → AreRead kind (variable ∷ others)
     → slice_get asks place ≡ Some (ask_for Reach point variable)
 first_read asks place point variable kind others asked are =
     let here : place + 0 ≡ place = omega arith in
     subst (λ (q : ℕ). slice_get asks q ≡ Some (ask_for Reach point variable)) here (asked.each (variable ∷ others) are 0 variable refl)
 
-pub second_read : (asks : List Ask) (place point first second : ℕ) (kind : StmtKind) → AsksReads asks place point kind → AreRead kind (first ∷ second ∷ [])
+pub second_read : (asks : List Ask) (place point first second : ℕ) (kind : StmtKind) → AsksReads asks place point kind
+    → AreRead kind (first ∷ second ∷ [])
     → slice_get asks (place + 1) ≡ Some (ask_for Reach point second)
 second_read asks place point first second kind asked are = asked.each (first ∷ second ∷ []) are 1 second refl
 

@@ -24,7 +24,8 @@ lowest n fits = by_size (cases_lt 0 n) where
   by_size (inr small) =
       let nothing : 0 ≡ n = omega (arith, small) in
       let all : trailing_zeros w64 0 ≡ 64 = trailing_of_zero 64 in
-      subst (λ m. IsLowest m (trailing_zeros w64 m)) nothing (record { one = λ below. absurd (omega (arith, all, below)); none = λ i _. bit_at-zero i })
+      subst (λ m. IsLowest m (trailing_zeros w64 m)) nothing
+      (record { one = λ below. absurd (omega (arith, all, below)); none = λ i _. bit_at-zero i })
 
 -- The first place from some place on at which a word is 1: 64 where there is none.
 pub record IsNextOne (word from place : ℕ) : Type 0 where
@@ -43,7 +44,8 @@ next_one word from fits within =
       within = omega arith;
       before = λ k above below.
           let place : from + (k - from) ≡ k = omega (arith, above) in
-          ap (λ x. eqb x 1) (ap (bit_at word) (sym place) ∙ sym (bit_at-shifted word from (k - from)) ∙ low.none (k - from) (omega (arith, above, below)));
+          ap (λ x. eqb x 1)
+          (ap (bit_at word) (sym place) ∙ sym (bit_at-shifted word from (k - from)) ∙ low.none (k - from) (omega (arith, above, below)));
       one = λ below.
           let place : min (from + t) 64 ≡ from + t = omega (arith, below) in
           ap (λ x. eqb x 1) (ap (bit_at word) place ∙ sym (bit_at-shifted word from t) ∙ low.one (omega (arith, below)));
@@ -55,10 +57,12 @@ pub bits_of_word : (word first end : ℕ) (member : ℕ → Bool) → ((k : ℕ)
     → (n : ℕ) → first + from ≤ n → n < first + to → member n ≡ value
 bits_of_word word first end member same from to value inside each n above below =
     let place : first + (n - first) ≡ n = omega (arith, above) in
-    ap member (sym place) ∙ sym (same (n - first) (omega (arith, above, below, inside))) ∙ each (n - first) (omega (arith, above)) (omega (arith, above, below))
+    ap member (sym place) ∙ sym (same (n - first) (omega (arith, above, below, inside)))
+    ∙ each (n - first) (omega (arith, above)) (omega (arith, above, below))
 
 -- a place further on, behind numbers that are no members
-pub run_further : (member : ℕ → Bool) (place next first end : ℕ) → IsRunBefore member place first end → place ≤ next → ((n : ℕ) → place ≤ n → n < next → member n ≡ false)
+pub run_further : (member : ℕ → Bool) (place next first end : ℕ) → IsRunBefore member place first end → place ≤ next
+    → ((n : ℕ) → place ≤ n → n < next → member n ≡ false)
     → IsRunBefore member next first end
 run_further member place next first end is further none = record {
   ordered = is.ordered;
@@ -72,7 +76,8 @@ run_further member place next first end is further none = record {
     by_place n above below (inr behind) = none n behind below
 
 -- a run that begins where the one before ends
-pub run_longer : (member : ℕ → Bool) (first end next : ℕ) → IsRunBefore member end first end → end ≤ next → ((n : ℕ) → end ≤ n → n < next → member n ≡ true)
+pub run_longer : (member : ℕ → Bool) (first end next : ℕ) → IsRunBefore member end first end → end ≤ next
+    → ((n : ℕ) → end ≤ n → n < next → member n ≡ true)
     → IsRunBefore member next first next
 run_longer member first end next is further each = record {
   ordered = omega (arith, is.ordered, further);
@@ -86,4 +91,5 @@ run_longer member first end next is further each = record {
     by_place n above below (inr behind) = each n behind below
 
 pub run_new : (member : ℕ → Bool) (first end : ℕ) → first ≤ end → ((n : ℕ) → first ≤ n → n < end → member n ≡ true) → IsRunBefore member end first end
-run_new member first end ordered each = record { ordered = ordered; before = omega arith; inside = each; behind = λ n above below. absurd (omega (arith, above, below)) }
+run_new member first end ordered each =
+    record { ordered = ordered; before = omega arith; inside = each; behind = λ n above below. absurd (omega (arith, above, below)) }

@@ -14,7 +14,8 @@ use Rattle.flow_graph.proofs.graphs.GraphLaws.{edges_join_points}
 use Rattle.flow_texts.specs.code.Findings.{TellDoubtful}
 
 -- a path from a point ends at a point
-path_ends : (program : Program) → IsSound program → (path : List Edge) (start finish : ℕ) → start < point_count program → IsPath (shape_of program) start path finish → finish < point_count program
+path_ends : (program : Program) → IsSound program → (path : List Edge) (start finish : ℕ) → start < point_count program
+    → IsPath (shape_of program) start path finish → finish < point_count program
 path_ends program sound [] start finish below same = omega (arith, same)
 path_ends program sound (edge ∷ path) start finish below along =
     path_ends program sound path (target_of edge) finish (edges_join_points program sound edge along.0).target along.2

@@ -1,5 +1,6 @@
 -- How the text of a set grows, bit by bit and word by word
-use Rattle.std.proofs.Common.{◌≡◌, ℕ, zero, suc, ◌+◌, ◌-◌, ◌<◌, ◌≤◌, Bool, true, false, ◌||◌, List, [], ◌∷◌, ◌++◌, map, filter, refl, sym, ap, ◌∙◌, subst, if◌then◌else◌, arith, append_assoc}
+use Rattle.std.proofs.Common.{◌≡◌, ℕ, zero, suc, ◌+◌, ◌-◌, ◌<◌, ◌≤◌, Bool, true, false, ◌||◌, List, [], ◌∷◌, ◌++◌, map, filter, refl, sym, ap, ◌∙◌}
+use Rattle.std.proofs.Common.{subst, if◌then◌else◌, arith, append_assoc}
 use Rattle.std.specs.List.{range_with_len}
 use Rattle.std.specs.Prelude.{codes}
 use Rattle.std.proofs.lemmas.List.{map-append}
@@ -43,7 +44,8 @@ wrote-none between set others first at = record { written = by_others others; kn
 
 -- more of the members are written
 pub wrote-more : (between : List ℕ) (set : Named) (others : Bool) (first m n : ℕ) (old mid new : Outlet) (any now : Bool)
-    → Wrote between set others first m old mid any → Wrote between set any (first + m) n mid new now → Wrote between set others first (m + n) old new now
+    → Wrote between set others first m old mid any → Wrote between set any (first + m) n mid new now
+    → Wrote between set others first (m + n) old new now
 wrote-more between set others first m n old mid new any now before step =
     let split : members set first (m + n) ≡ members set first m ++ members set (first + m) n =
     ap (filter set.member) (range_split first m n) ∙ filter-append set.member (range_with_len first m) (range_with_len (first + m) n) in
@@ -72,7 +74,8 @@ wrote-no_member between set any n at is =
     }
 
 -- numbers none of which is a member
-pub wrote-no_members : (between : List ℕ) (set : Named) (any : Bool) (first count : ℕ) (at : Outlet) → ((k : ℕ) → k < count → set.member (first + k) ≡ false) → Wrote between set any first count at at any
+pub wrote-no_members : (between : List ℕ) (set : Named) (any : Bool) (first count : ℕ) (at : Outlet)
+    → ((k : ℕ) → k < count → set.member (first + k) ≡ false) → Wrote between set any first count at at any
 wrote-no_members between set any first zero at none = wrote-none between set any first at
 wrote-no_members between set any first (suc count) at none =
     let next : 1 + count ≡ suc count = omega arith in
@@ -92,19 +95,22 @@ listed-none (x ∷ xs) none = absurd (cc none)
 pub map-members : {A : Type 0} (f g : ℕ → A) (member : ℕ → Bool) (first count : ℕ) → ((n : ℕ) → n < first + count → f n ≡ g n)
     → map f (filter member (range_with_len first count)) ≡ map g (filter member (range_with_len first count))
 map-members f g member first zero same = refl
-map-members f g member first (suc count) same = by_test (member first) (map-members f g member (first + 1) count (λ n below. same n (omega arith))) where
-  by_test : (t : Bool) → map f (filter member (range_with_len (first + 1) count)) ≡ map g (filter member (range_with_len (first + 1) count))
-      → map f (if t then first ∷ filter member (range_with_len (first + 1) count) else filter member (range_with_len (first + 1) count))
-      ≡ map g (if t then first ∷ filter member (range_with_len (first + 1) count) else filter member (range_with_len (first + 1) count))
-  by_test true rest = ap (λ x. x ∷ map f (filter member (range_with_len (first + 1) count))) (same first (omega arith)) ∙ ap (λ xs. g first ∷ xs) rest
-  by_test false rest = rest
+map-members f g member first (suc count) same =
+    by_test (member first) (map-members f g member (first + 1) count (λ n below. same n (omega arith))) where
+      by_test : (t : Bool) → map f (filter member (range_with_len (first + 1) count)) ≡ map g (filter member (range_with_len (first + 1) count))
+          → map f (if t then first ∷ filter member (range_with_len (first + 1) count) else filter member (range_with_len (first + 1) count))
+          ≡ map g (if t then first ∷ filter member (range_with_len (first + 1) count) else filter member (range_with_len (first + 1) count))
+      by_test true rest =
+          ap (λ x. x ∷ map f (filter member (range_with_len (first + 1) count))) (same first (omega arith)) ∙ ap (λ xs. g first ∷ xs) rest
+      by_test false rest = rest
 
 -- the text of a set was taken, or nothing where the set is empty
 pub set_written : (between : List ℕ) (set : Named) (count : ℕ) (old new : Outlet) (any : Bool) → between ≡ codes ", "
     → Wrote between set false 0 count old new any → any ≡ true → Takes old new (listed (map set.named (members set 0 count)))
 set_written between set count old new any commas wrote is =
     let some : some_stand (map set.named (members set 0 count)) ≡ true = some_stand-map set.named (members set 0 count) ∙ sym wrote.known ∙ is in
-    subst (Takes old new) (ap (λ b. after b false (map set.named (members set 0 count))) commas ∙ sym (listed-some (map set.named (members set 0 count)) some)) wrote.written
+    subst (Takes old new) (ap (λ b. after b false (map set.named (members set 0 count))) commas
+    ∙ sym (listed-some (map set.named (members set 0 count)) some)) wrote.written
 
 pub set_empty : (between : List ℕ) (set : Named) (count : ℕ) (old new : Outlet) (any : Bool)
     → Wrote between set false 0 count old new any → any ≡ false → (Takes old new []) × (listed (map set.named (members set 0 count)) ≡ codes "-")
@@ -128,7 +134,8 @@ pub wrote-run : (between : List ℕ) (set : Named) (others : Bool) (a b c : ℕ)
 wrote-run between set others a b c old new now low high inside behind taken known =
     let ends : a + (b - a) ≡ b = omega (arith, low) in
     let all : (b - a) + (c - b) ≡ c - a = omega (arith, low, high) in
-    let same : range_with_len a (b - a) ≡ members set a (b - a) = sym (all_pass set.member a (b - a) (λ n above below. inside n above (omega (arith, below, ends)))) in
+    let same : range_with_len a (b - a) ≡ members set a (b - a) =
+    sym (all_pass set.member a (b - a) (λ n above below. inside n above (omega (arith, below, ends)))) in
     let first : Wrote between set others a (b - a) old new now =
     record {
       written = subst (Takes old new) (ap (λ ns. after between others (map set.named ns)) same) taken;
@@ -136,7 +143,8 @@ wrote-run between set others a b c old new now low high inside behind taken know
     } in
     subst (λ k. Wrote between set others a k old new now) all
     (wrote-more between set others a (b - a) (c - b) old new new now now first
-    (wrote-no_members between set now (a + (b - a)) (c - b) new (λ k below. behind (a + (b - a) + k) (omega (arith, ends)) (omega (arith, ends, below)))))
+    (wrote-no_members between set now (a + (b - a)) (c - b) new (λ k below.
+    behind (a + (b - a) + k) (omega (arith, ends)) (omega (arith, ends, below)))))
 
 -- first up to one number, then up to the next
 pub wrote-further : (between : List ℕ) (set : Named) (others : Bool) (a b c : ℕ) (old mid new : Outlet) (any now : Bool) → a ≤ b → b ≤ c

@@ -1,5 +1,6 @@
 -- Texts of the numbers of a range that pass a test, piece by piece
-use Rattle.std.proofs.Common.{◌≡◌, ℕ, zero, suc, ◌+◌, ◌-◌, ◌*◌, ◌<◌, ◌≤◌, Bool, true, false, List, [], ◌∷◌, ◌++◌, min, cond, flat_map, append-nil, refl, sym, ap, ◌∙◌, arith}
+use Rattle.std.proofs.Common.{◌≡◌, ℕ, zero, suc, ◌+◌, ◌-◌, ◌*◌, ◌<◌, ◌≤◌, Bool, true, false, List, [], ◌∷◌, ◌++◌, min, cond, flat_map, append-nil}
+use Rattle.std.proofs.Common.{refl, sym, ap, ◌∙◌, arith}
 use Rattle.std.specs.List.{filter, range_with_len}
 use Rattle.std.proofs.lemmas.Grind.{flat_map-append}
 use Rattle.std.proofs.lemmas.List.Elements.{filter-append}
@@ -52,7 +53,8 @@ none_pass : (test : ℕ → Bool) (a k : ℕ) → ((i : ℕ) → i < k → test 
 none_pass test a zero fails = refl
 none_pass test a (suc k) fails =
     let first : a + 0 ≡ a = omega arith in
-    ap (λ t. cond t (a ∷ filter test (range_with_len (a + 1) k)) (filter test (range_with_len (a + 1) k))) (ap test (sym first) ∙ fails 0 (omega arith))
+    ap (λ t. cond t (a ∷ filter test (range_with_len (a + 1) k)) (filter test (range_with_len (a + 1) k)))
+    (ap test (sym first) ∙ fails 0 (omega arith))
     ∙ none_pass test (a + 1) k (λ i below. let e : a + 1 + i ≡ a + suc i = omega arith in ap test e ∙ fails (suc i) (omega arith))
 
 -- no texts where none passes
@@ -71,7 +73,8 @@ next_member text_of test a place next width old one two inside further passes no
     let here : min width place ≡ place = omega (arith, inside) in
     let all : place + (1 + r) ≡ min width next = omega (arith, inside, further) in
     let none_behind : texts_between text_of test (a + place + 1) r ≡ [] = none_texts text_of test (a + place + 1) r
-    (λ i below. let e : a + place + 1 + i ≡ a + (place + 1 + i) = omega arith in ap test e ∙ none (place + 1 + i) (omega arith) (omega (arith, below))) in
+    (λ i below. let e : a + place + 1 + i ≡ a + (place + 1 + i) = omega arith in
+    ap test e ∙ none (place + 1 + i) (omega arith) (omega (arith, below))) in
     takes_as old two _ _ (takes_then old one two _ _ before done)
     (ap (λ m. texts_between text_of test a m ++ text_of (a + place)) here
     ∙ ap (λ t. texts_between text_of test a place ++ t)

@@ -1,5 +1,6 @@
 -- Rising numbers are what a filter lets through that passes them alone
-use Rattle.std.proofs.Common.{◌≡◌, ℕ, zero, suc, ◌+◌, ◌<◌, ◌≤◌, ◌⊎◌, inl, inr, Bool, true, false, ◌&&◌, ◌||◌, List, [], ◌∷◌, cond, nat_eq, slice_index, refl, sym, ap, ◌∙◌, subst, arith, eq-or-lt_of_le}
+use Rattle.std.proofs.Common.{◌≡◌, ℕ, zero, suc, ◌+◌, ◌<◌, ◌≤◌, ◌⊎◌, inl, inr, Bool, true, false, ◌&&◌, ◌||◌, List, [], ◌∷◌, cond, nat_eq}
+use Rattle.std.proofs.Common.{slice_index, refl, sym, ap, ◌∙◌, subst, arith, eq-or-lt_of_le}
 use Rattle.std.specs.List.{filter, list_any, range_with_len}
 use Rattle.std.specs.List.Sorted.{IsStrictlyIncreasing}
 use Rattle.flow_graph.proofs.bits.SetWords.{nat_eq-same, nat_eq-other}
@@ -12,8 +13,11 @@ RisesFrom a (x ∷ xs) = (a ≤ x) × RisesFrom (suc x) xs
 rises_from : (a x : ℕ) (xs : List ℕ) → a ≤ x → IsStrictlyIncreasing (x ∷ xs) → RisesFrom a (x ∷ xs)
 rises_from a x [] above rising = (above, tt)
 rises_from a x (y ∷ ys) above rising =
-    let next : x < y = rising 0 (omega arith) in
-    (above, rises_from (suc x) y ys (omega arith) (λ k within. let e : suc k + 1 ≡ suc (k + 1) = omega arith in subst (λ i. slice_index (y ∷ ys) k < slice_index (x ∷ y ∷ ys) i) e (rising (suc k) (omega arith))))
+    let next : x < y = rising 0 (omega arith) in (
+      above,
+      rises_from (suc x) y ys (omega arith) (λ k within. let e : suc k + 1 ≡ suc (k + 1) = omega arith in
+          subst (λ i. slice_index (y ∷ ys) k < slice_index (x ∷ y ∷ ys) i) e (rising (suc k) (omega arith))),
+    )
 
 pub rises : (xs : List ℕ) → IsStrictlyIncreasing xs → RisesFrom 0 xs
 rises [] rising = tt
@@ -40,11 +44,14 @@ filter_rising zero a (x ∷ xs) p rising within same =
 filter_rising (suc n) a [] p rising within same =
     ap (λ t. cond t (a ∷ filter p (range_with_len (a + 1) n)) (filter p (range_with_len (a + 1) n))) (sym (same a (omega arith)))
     ∙ filter_rising n (a + 1) [] p tt (λ v any. absurd (cc any)) (λ v above. same v (omega arith))
-filter_rising (suc n) a (x ∷ xs) p rising within same = by_case (eq-or-lt_of_le rising.0) (filter_rising n (a + 1) xs p) (filter_rising n (a + 1) (x ∷ xs) p)
+filter_rising (suc n) a (x ∷ xs) p rising within same =
+    by_case (eq-or-lt_of_le rising.0) (filter_rising n (a + 1) xs p) (filter_rising n (a + 1) (x ∷ xs) p)
   where
     by_case : (a ≡ x) ⊎ (a < x)
-        → (RisesFrom (a + 1) xs → ((v : ℕ) → list_any (nat_eq v) xs ≡ true → v < a + 1 + n) → ((v : ℕ) → a + 1 ≤ v → list_any (nat_eq v) xs ≡ p v) → filter p (range_with_len (a + 1) n) ≡ xs)
-        → (RisesFrom (a + 1) (x ∷ xs) → ((v : ℕ) → list_any (nat_eq v) (x ∷ xs) ≡ true → v < a + 1 + n) → ((v : ℕ) → a + 1 ≤ v → list_any (nat_eq v) (x ∷ xs) ≡ p v) → filter p (range_with_len (a + 1) n) ≡ x ∷ xs)
+        → (RisesFrom (a + 1) xs → ((v : ℕ) → list_any (nat_eq v) xs ≡ true → v < a + 1 + n) → ((v : ℕ) → a + 1 ≤ v → list_any (nat_eq v) xs ≡ p v)
+        → filter p (range_with_len (a + 1) n) ≡ xs)
+        → (RisesFrom (a + 1) (x ∷ xs) → ((v : ℕ) → list_any (nat_eq v) (x ∷ xs) ≡ true → v < a + 1 + n)
+        → ((v : ℕ) → a + 1 ≤ v → list_any (nat_eq v) (x ∷ xs) ≡ p v) → filter p (range_with_len (a + 1) n) ≡ x ∷ xs)
         → filter p (range_with_len a (suc n)) ≡ x ∷ xs
     by_case (inl first) others all =
         let here : list_any (nat_eq a) (x ∷ xs) ≡ true = ap (λ t. t || list_any (nat_eq a) xs) (nat_eq-same a x first) in

@@ -1,5 +1,6 @@
 -- What is found of a program is knowledge of it, and what a report lists as dead is safe
-use Rattle.std.proofs.Common.{◌≡◌, ℕ, zero, suc, ◌<◌, Bool, true, false, not, ◌&&◌, List, [], ◌∷◌, ◌++◌, inl, inr, length, map, get_or, subst, Contains, Option, Some, None, option_and_then, if◌then◌else◌, refl, sym, ap, ◌∙◌, arith}
+use Rattle.std.proofs.Common.{◌≡◌, ℕ, zero, suc, ◌<◌, Bool, true, false, not, ◌&&◌, List, [], ◌∷◌, ◌++◌, inl, inr, length, map, get_or, subst}
+use Rattle.std.proofs.Common.{Contains, Option, Some, None, option_and_then, if◌then◌else◌, refl, sym, ap, ◌∙◌, arith}
 use Rattle.std.proofs.lemmas.List.Elements.{All-map, All-contains, Contains-get_or, Contains-append_cases}
 use Rattle.tac_program.specs.Programs.{Program}
 use Rattle.tac_program.specs.Sound.{IsSound}
@@ -8,7 +9,8 @@ use Rattle.flow_graph.specs.Points.{kind_at, point_count}
 use Rattle.flow_graph.proofs.graphs.GraphLaws.{dead_variables_are_safe}
 use Rattle.flow_graph.proofs.places.Standing.{Stands, stands}
 use Rattle.flow_texts.specs.code.Findings.{AreFindings, TellDoubtful, knowledge_of}
-use Rattle.flow_texts.specs.Reports.{IsKnowledge, IsListedDead, IsReport, IsSafeToDelete, Knowledge, ListsSafely, assigned, busy_at, computed_at, dead_at, remarks_at, remarks_when_reached, report_of, unset_at}
+use Rattle.flow_texts.specs.Reports.{IsKnowledge, IsListedDead, IsReport, IsSafeToDelete, Knowledge, ListsSafely, assigned, busy_at, computed_at}
+use Rattle.flow_texts.specs.Reports.{dead_at, remarks_at, remarks_when_reached, report_of, unset_at}
 use Rattle.flow_texts.specs.declared.remark.Remark.{Remark}
 use Rattle.flow_texts.specs.declared.remark.Remark.TheVariants.{NeverReached, Unset, Computed, VeryBusy, Dead}
 use Rattle.flow_texts.specs.declared.findings.Findings.{Findings}
@@ -26,13 +28,15 @@ record IsDead (program : Program) (known : Knowledge) (point variable : ℕ) : T
 -- what is made otherwise is no remark that an assignment is dead
 none_made : (make : ℕ → Remark) (xs : List ℕ) (variable : ℕ) → ((x : ℕ) → ¬ (make x ≡ Dead variable)) → ¬ (Contains (map make xs) (Dead variable))
 none_made make xs variable other at =
-    All-contains (λ r. r ≡ Dead variable → ⊥) (map make xs) (Dead variable) (All-map (λ r. r ≡ Dead variable → ⊥) make xs (λ k d low. other _)) at refl
+    All-contains (λ r. r ≡ Dead variable → ⊥) (map make xs) (Dead variable) (All-map (λ r. r ≡ Dead variable → ⊥) make xs (λ k d low. other _))
+    at refl
 
 -- and one that is made so is made of its variable
 made_dead : (xs : List ℕ) (variable : ℕ) → Contains (map (λ v. Dead v) xs) (Dead variable) → Contains xs variable
 made_dead xs variable at =
     All-contains (λ r. r ≡ Dead variable → Contains xs variable) (map (λ v. Dead v) xs) (Dead variable)
-    (All-map (λ r. r ≡ Dead variable → Contains xs variable) (λ v. Dead v) xs (λ k d low same. subst (Contains xs) (dead_variable _ variable same) (Contains-get_or xs k d low))) at refl
+    (All-map (λ r. r ≡ Dead variable → Contains xs variable) (λ v. Dead v) xs (λ k d low same.
+    subst (Contains xs) (dead_variable _ variable same) (Contains-get_or xs k d low))) at refl
   where
     dead_variable : (x y : ℕ) → Dead x ≡ Dead y → x ≡ y
     dead_variable x y same = cc
@@ -46,11 +50,14 @@ only x variable at = go at.0 at.1 at.2
     go (suc i) low is = absurd (omega arith)
 
 -- an assignment that a remark of a point calls dead is the dead one there
-listed_there : (program : Program) (known : Knowledge) (point variable : ℕ) → Contains (remarks_at program known point) (Dead variable) → Contains (dead_at program known point) variable
+listed_there : (program : Program) (known : Knowledge) (point variable : ℕ) → Contains (remarks_at program known point) (Dead variable)
+    → Contains (dead_at program known point) variable
 listed_there program known point variable listed = by_kind (kind_at program point) (known.reach.has_path point) listed
   where
-    of_four : (first second third fourth : List Remark) → ¬ (Contains first (Dead variable)) → ¬ (Contains second (Dead variable)) → ¬ (Contains third (Dead variable))
-        → (Contains fourth (Dead variable) → Contains (dead_at program known point) variable) → Contains (first ++ second ++ third ++ fourth) (Dead variable) → Contains (dead_at program known point) variable
+    of_four : (first second third fourth : List Remark) → ¬ (Contains first (Dead variable)) → ¬ (Contains second (Dead variable))
+        → ¬ (Contains third (Dead variable))
+        → (Contains fourth (Dead variable) → Contains (dead_at program known point) variable)
+        → Contains (first ++ second ++ third ++ fourth) (Dead variable) → Contains (dead_at program known point) variable
     of_four first second third fourth no_a no_b no_c of_d at = elim (Contains-append_cases (first ++ second ++ third) fourth (Dead variable) at) [
       | inr last ↦ of_d last
       | inl before ↦ elim (Contains-append_cases (first ++ second) third (Dead variable) before) [
@@ -63,8 +70,11 @@ listed_there program known point variable listed = by_kind (kind_at program poin
     ]
 
     reached : Contains (remarks_when_reached program known point) (Dead variable) → Contains (dead_at program known point) variable
-    reached at = of_four (map (λ x. Unset x) (unset_at program known point)) (map (λ x. Computed x) (computed_at program known point)) (map (λ x. VeryBusy x) (busy_at program known point)) (map (λ x. Dead x) (dead_at program known point)) (none_made (λ x. Unset x) (unset_at program known point) variable (λ x same. cc))
-        (none_made (λ x. Computed x) (computed_at program known point) variable (λ x same. cc)) (none_made (λ x. VeryBusy x) (busy_at program known point) variable (λ x same. cc))
+    reached at = of_four (map (λ x. Unset x) (unset_at program known point)) (map (λ x. Computed x) (computed_at program known point))
+        (map (λ x. VeryBusy x) (busy_at program known point)) (map (λ x. Dead x) (dead_at program known point))
+        (none_made (λ x. Unset x) (unset_at program known point) variable (λ x same. cc))
+        (none_made (λ x. Computed x) (computed_at program known point) variable (λ x same. cc))
+        (none_made (λ x. VeryBusy x) (busy_at program known point) variable (λ x same. cc))
         (made_dead (dead_at program known point) variable) at
 
     by_kind : (o : Option StmtKind) (has_path : Bool)
@@ -76,16 +86,24 @@ listed_there program known point variable listed = by_kind (kind_at program poin
     by_kind (Some statement) true at = reached at
     by_kind (Some statement) false at = absurd (none_made (λ x. NeverReached) (0 ∷ []) variable (λ x same. cc) at)
 
-dead_of : (program : Program) (known : Knowledge) (point variable : ℕ) → Contains (dead_at program known point) variable → IsDead program known point variable
+dead_of : (program : Program) (known : Knowledge) (point variable : ℕ) → Contains (dead_at program known point) variable
+    → IsDead program known point variable
 dead_of program known point variable listed = by_kind (kind_at program point) refl listed
   where
-    by_tests : (k : StmtKind) (x : ℕ) (d l : Bool) → kind_at program point ≡ Some k → assigned k ≡ Some x → known.doubtful (suc point) ≡ d → known.live.contains (suc point) x ≡ l
+    by_tests : (k : StmtKind) (x : ℕ) (d l : Bool) → kind_at program point ≡ Some k → assigned k ≡ Some x → known.doubtful (suc point) ≡ d
+        → known.live.contains (suc point) x ≡ l
         → Contains (if not d && not l then x ∷ [] else []) variable → IsDead program known point variable
     by_tests k x true l at sets sure dead is = absurd (omega (arith, is.1))
     by_tests k x false true at sets sure dead is = absurd (omega (arith, is.1))
     by_tests k x false false at sets sure dead is =
         let same : x ≡ variable = only x variable is in
-        record { statement = k; there = at; sets = sets ∙ ap (λ v. let o : Option ℕ = Some v in o) same; sure = sure; dead = ap (known.live.contains (suc point)) (sym same) ∙ dead }
+        record {
+          statement = k;
+          there = at;
+          sets = sets ∙ ap (λ v. let o : Option ℕ = Some v in o) same;
+          sure = sure;
+          dead = ap (known.live.contains (suc point)) (sym same) ∙ dead;
+        }
 
     by_variable : (k : StmtKind) (o : Option ℕ) → kind_at program point ≡ Some k → assigned k ≡ o
         → Contains (elim o [
@@ -103,7 +121,8 @@ dead_of program known point variable listed = by_kind (kind_at program point) re
     by_kind None at is = absurd (omega (arith, is.1))
     by_kind (Some k) at is = by_variable k (assigned k) at refl is
 
-listed_dead_is_safe : (program : Program) (known : Knowledge) (point variable : ℕ) → IsSound program → IsKnowledge program known → IsListedDead program known point variable → IsSafeToDelete program point variable
+listed_dead_is_safe : (program : Program) (known : Knowledge) (point variable : ℕ) → IsSound program → IsKnowledge program known
+    → IsListedDead program known point variable → IsSafeToDelete program point variable
 listed_dead_is_safe program known point variable sound is_known (below, listed) =
     let dead : IsDead program known point variable = dead_of program known point variable (listed_there program known point variable listed) in
     let stand : Stands program point dead.statement = stands program sound point dead.statement below dead.there in
@@ -117,15 +136,19 @@ listed_dead_is_safe program known point variable sound is_known (below, listed) 
     not_both true on off = absurd (cc off)
     not_both false on off = absurd (cc on)
 
-pub is_report : (found : Findings) (text : List ℕ) → AreFindings found → TellDoubtful found.graph.now found.doubtful.items → text ≡ report_of found.graph.now (knowledge_of found)
+pub is_report : (found : Findings) (text : List ℕ) → AreFindings found → TellDoubtful found.graph.now found.doubtful.items
+    → text ≡ report_of found.graph.now (knowledge_of found)
     → IsReport found.graph.now text
-is_report found text are told is = record { known = all_known found are; is_known = all_is_known found are told; is_text = is ∙ report_of_all found are told }
+is_report found text are told is =
+    record { known = all_known found are; is_known = all_is_known found are told; is_text = is ∙ report_of_all found are told }
 
-pub lists_safely : (found : Findings) (text : List ℕ) → AreFindings found → TellDoubtful found.graph.now found.doubtful.items → text ≡ report_of found.graph.now (knowledge_of found)
+pub lists_safely : (found : Findings) (text : List ℕ) → AreFindings found → TellDoubtful found.graph.now found.doubtful.items
+    → text ≡ report_of found.graph.now (knowledge_of found)
     → ListsSafely found.graph.now text
 lists_safely found text are told is = record {
   known = all_known found are;
   is_known = all_is_known found are told;
   is_text = is ∙ report_of_all found are told;
-  safe = λ point variable listed. listed_dead_is_safe found.graph.now (all_known found are) point variable are.sound (all_is_known found are told) listed;
+  safe = λ point variable listed.
+      listed_dead_is_safe found.graph.now (all_known found are) point variable are.sound (all_is_known found are told) listed;
 }

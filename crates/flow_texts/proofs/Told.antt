@@ -1,5 +1,6 @@
 -- What answers tell where they were asked for.
-use Rattle.std.proofs.Common.{◌≡◌, ◌↔◌, ◌∙◌, ℕ, zero, suc, ◌+◌, ◌*◌, ◌/◌, ◌%◌, ◌<◌, Bool, true, false, ◌&&◌, List, [], ◌∷◌, Some, length, nat_eq, slice_get, slice_index, if◌then◌else◌, refl, sym, ap, subst, arith}
+use Rattle.std.proofs.Common.{◌≡◌, ◌↔◌, ◌∙◌, ℕ, zero, suc, ◌+◌, ◌*◌, ◌/◌, ◌%◌, ◌<◌, Bool, true, false, ◌&&◌, List, [], ◌∷◌, Some, length, nat_eq}
+use Rattle.std.proofs.Common.{slice_get, slice_index, if◌then◌else◌, refl, sym, ap, subst, arith}
 use Rattle.bit_rows.specs.Words.{has_bit}
 use Rattle.flow_graph.specs.Analyses.{IsInTable}
 use Rattle.flow_graph.specs.Universes.{bits}
@@ -91,7 +92,8 @@ pub bit_told : (program : Program) (replies : Replies) → AreAnswers program re
     → ((facts_in replies analysis).contains point bit ≡ true) ↔ ((bit < bits program analysis) × IsInTable program analysis point bit)
 bit_told program replies are analysis point bit q there =
     let whole : 64 * (bit / 64) + bit % 64 ≡ bit = omega arith in
-    subst (λ (b : ℕ). ((facts_in replies analysis).contains point bit ≡ true) ↔ ((b < bits program analysis) × IsInTable program analysis point b)) whole
+    subst (λ (b : ℕ). ((facts_in replies analysis).contains point bit ≡ true) ↔ ((b < bits program analysis) × IsInTable program analysis point b))
+    whole
     (told program replies.asks replies.words are.count are.sets q (ask_for analysis point bit) there (bit % 64) (omega arith))
 
 -- two that tell the same are the same
@@ -109,4 +111,5 @@ word_told program replies are q ask there k small =
     same_truth (has_bit (slice_index replies.words q) k) (has_bit (answer_in replies.asks replies.words ask) k)
     (are.sets q ask there k small) (told program replies.asks replies.words are.count are.sets q ask there k small)
     ∙ ap (λ n. has_bit (answer_in replies.asks replies.words ask) n) (sym place)
-    ∙ ap (λ n. has_bit (answer_in replies.asks replies.words (let a : Ask = record { analysis = ask.analysis; point = ask.point; word = n } in a)) ((64 * ask.word + k) % 64)) (sym at)
+    ∙ ap (λ n. has_bit (answer_in replies.asks replies.words (let a : Ask = record { analysis = ask.analysis; point = ask.point; word = n } in a))
+    ((64 * ask.word + k) % 64)) (sym at)

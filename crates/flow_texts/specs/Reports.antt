@@ -1,5 +1,6 @@
 -- The report on a program: what the four analyses say of each statement.
-use Rattle.std.specs.Prelude.{◌≡◌, ◌↔◌, ℕ, suc, ◌<◌, Bool, true, false, not, ◌&&◌, List, [], ◌∷◌, ◌++◌, map, flat_map, filter, length, Contains, Option, Some, None, option_and_then, option_map, unwrap_or, if◌then◌else◌, codes, decimal}
+use Rattle.std.specs.Prelude.{◌≡◌, ◌↔◌, ℕ, suc, ◌<◌, Bool, true, false, not, ◌&&◌, List, [], ◌∷◌, ◌++◌, map, flat_map, filter, length, Contains}
+use Rattle.std.specs.Prelude.{Option, Some, None, option_and_then, option_map, unwrap_or, if◌then◌else◌, codes, decimal}
 use Rattle.std.specs.List.{range_with_len}
 use Rattle.flow_graph.specs.Analyses.{shape_of}
 use Rattle.flow_graph.specs.Runs.{accesses_of, IsDoubtful, ReadsBeforeWriting}

@@ -22,7 +22,8 @@ fn endless_points(
     answers: &ReportAnswers,
 ) -> Result<Vec<bool>, OutOfMemory>
     requires { length (flags_of answers.now.replies Live) ≡ point_count graph.now }
-    ensures points { IfOk result (λ endless. endless.items ≡ map (λ point. not ((facts_in answers.now.replies Live).has_path point)) (points graph.now)) }
+    ensures points { IfOk result
+        (λ endless. endless.items ≡ map (λ point. not ((facts_in answers.now.replies Live).has_path point)) (points graph.now)) }
     ensures few { HasFewPoints Large graph.now }
     ensures sound { IsSound graph.now }
 {

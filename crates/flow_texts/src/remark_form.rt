@@ -30,5 +30,6 @@ pub trait RemarkForm {
         requires point { point < point_count found.now.graph.now }
         requires remark { IsRemarkIn found.now.graph.now remark }
         ensures same_reference { out.new.sink.ghost_name ≡ out.old.sink.ghost_name }
-        ensures takes { Takes (outlet K.contents K.faults out.old) (outlet K.contents K.faults out.new) (text self.now found.now.graph.now point remark) };
+        ensures takes { Takes (outlet K.contents K.faults out.old) (outlet K.contents K.faults out.new)
+            (text self.now found.now.graph.now point remark) };
 }

@@ -9,7 +9,8 @@ ghost use Rattle.flow_graph.specs.declared.analysis.Analysis.TheVariants.{Busy, 
 ghost use Rattle.flow_texts.specs.code.Findings.{AreFindings, IsRemarkIn, knowledge_of, remark_name, texts_where, words_before, words_behind};
 ghost use Rattle.text_pieces.specs.code.Lists.{some_stand};
 ghost use Rattle.text_pieces.specs.Pieces.{IsOpen, Takes, outlet};
-ghost use Rattle.flow_texts.specs.Reports.{assigned as assigned_by, busy_at, computed_at, dead_at, is_test as is_test_of, remarks_at, remarks_when_reached, unset_at};
+ghost use Rattle.flow_texts.specs.Reports.{assigned as assigned_by, busy_at, computed_at, dead_at, is_test as is_test_of, remarks_at};
+ghost use Rattle.flow_texts.specs.Reports.{remarks_when_reached, unset_at};
 ghost use Rattle.flow_texts.specs.code.Told.{ask_for};
 ghost use Rattle.flow_texts.specs.declared.remark.Remark.TheVariants.{Computed, Dead, Unset, VeryBusy};
 
@@ -67,6 +68,17 @@ impl Findings<'_> {
         }
     }
 
+    /// Whether some valid path leads to a point.
+    ///
+    /// The conditions: what was found is of one program, which has the point.
+    pub fn is_reached(&self, point: u32) -> bool
+        requires found { AreFindings self.now }
+        requires point { point < point_count self.now.graph.now }
+        ensures { result ≡ (knowledge_of self.now).reach.has_path point }
+    {
+        self.answers.has_path(Analysis::Reach, point)
+    }
+
     // Whether a variable may not be set at a point, by the ask of a number.
     fn may_be_unset(&self, number: u32, point: u32, variable: u32) -> bool
         requires found { AreFindings self.now }
@@ -111,7 +123,8 @@ impl Findings<'_> {
         requires point { point < point_count self.now.graph.now }
         requires variable { variable < length self.now.graph.now.variable_names }
         ensures same_reference { out.new.sink.ghost_name ≡ out.old.sink.ghost_name }
-        ensures takes { Takes (outlet K.contents K.faults out.old) (outlet K.contents K.faults out.new) (texts_where (λ v. F.text form.now self.now.graph.now point (Unset v)) ((knowledge_of self.now).reach.contains point) (variable ∷ [])) }
+        ensures takes { Takes (outlet K.contents K.faults out.old) (outlet K.contents K.faults out.new)
+            (texts_where (λ v. F.text form.now self.now.graph.now point (Unset v)) ((knowledge_of self.now).reach.contains point) (variable ∷ [])) }
     {
         if !self.may_be_unset(number, point, variable) {
             return;
@@ -132,7 +145,8 @@ impl Findings<'_> {
         requires point { point < point_count self.now.graph.now }
         requires kind { kind_at self.now.graph.now point ≡ Some kind.now }
         ensures same_reference { out.new.sink.ghost_name ≡ out.old.sink.ghost_name }
-        ensures takes { Takes (outlet K.contents K.faults out.old) (outlet K.contents K.faults out.new) (flat_map (λ v. F.text form.now self.now.graph.now point (Unset v)) (unset_at self.now.graph.now (knowledge_of self.now) point)) }
+        ensures takes { Takes (outlet K.contents K.faults out.old) (outlet K.contents K.faults out.new)
+            (flat_map (λ v. F.text form.now self.now.graph.now point (Unset v)) (unset_at self.now.graph.now (knowledge_of self.now) point)) }
     {
         let reads = self.answers.places(point).reads;
         match variables_read(kind) {
@@ -173,7 +187,8 @@ impl Findings<'_> {
         requires point { point < point_count self.now.graph.now }
         requires kind { kind_at self.now.graph.now point ≡ Some kind.now }
         ensures same_reference { out.new.sink.ghost_name ≡ out.old.sink.ghost_name }
-        ensures takes { Takes (outlet K.contents K.faults out.old) (outlet K.contents K.faults out.new) (flat_map (λ e. F.text form.now self.now.graph.now point (Computed e)) (computed_at self.now.graph.now (knowledge_of self.now) point)) }
+        ensures takes { Takes (outlet K.contents K.faults out.old) (outlet K.contents K.faults out.new)
+            (flat_map (λ e. F.text form.now self.now.graph.now point (Computed e)) (computed_at self.now.graph.now (knowledge_of self.now) point)) }
     {
         let Some(bit) = self.graph.evaluated(point) else {
             return;
@@ -202,7 +217,9 @@ impl Findings<'_> {
         requires width { end ≤ first + 64 }
         requires end { end ≤ bits_of self.now.graph.now Busy }
         ensures same_reference { out.new.sink.ghost_name ≡ out.old.sink.ghost_name }
-        ensures takes { Takes (outlet K.contents K.faults out.old) (outlet K.contents K.faults out.new) (texts_where (λ e. F.text form.now self.now.graph.now point (VeryBusy e)) ((knowledge_of self.now).busy.contains point) (range_with_len first (end - first))) }
+        ensures takes { Takes (outlet K.contents K.faults out.old) (outlet K.contents K.faults out.new)
+            (texts_where (λ e. F.text form.now self.now.graph.now point (VeryBusy e)) ((knowledge_of self.now).busy.contains point)
+            (range_with_len first (end - first))) }
     {
         let width = end - first;
         let mut place = next_one(ones, 0);
@@ -246,7 +263,9 @@ impl Findings<'_> {
         requires kind { kind_at self.now.graph.now point ≡ Some kind.now }
         requires test { is_test_of kind.now ≡ true }
         ensures same_reference { out.new.sink.ghost_name ≡ out.old.sink.ghost_name }
-        ensures takes { Takes (outlet K.contents K.faults out.old) (outlet K.contents K.faults out.new) (texts_where (λ e. F.text form.now self.now.graph.now point (VeryBusy e)) ((knowledge_of self.now).busy.contains point) (range_with_len 0 (bits_of self.now.graph.now Busy))) }
+        ensures takes { Takes (outlet K.contents K.faults out.old) (outlet K.contents K.faults out.new)
+            (texts_where (λ e. F.text form.now self.now.graph.now point (VeryBusy e)) ((knowledge_of self.now).busy.contains point)
+            (range_with_len 0 (bits_of self.now.graph.now Busy))) }
     {
         let bits = self.graph.bits(Analysis::Busy);
         for word in 0..(bits + 63) / 64 {
@@ -280,7 +299,8 @@ impl Findings<'_> {
         requires point { point < point_count self.now.graph.now }
         requires kind { kind_at self.now.graph.now point ≡ Some kind.now }
         ensures same_reference { out.new.sink.ghost_name ≡ out.old.sink.ghost_name }
-        ensures takes { Takes (outlet K.contents K.faults out.old) (outlet K.contents K.faults out.new) (flat_map (λ e. F.text form.now self.now.graph.now point (VeryBusy e)) (busy_at self.now.graph.now (knowledge_of self.now) point)) }
+        ensures takes { Takes (outlet K.contents K.faults out.old) (outlet K.contents K.faults out.new)
+            (flat_map (λ e. F.text form.now self.now.graph.now point (VeryBusy e)) (busy_at self.now.graph.now (knowledge_of self.now) point)) }
     {
         if !self.tells_busy(point, kind) {
             return;
@@ -331,7 +351,8 @@ impl Findings<'_> {
         requires point { point < point_count self.now.graph.now }
         requires kind { kind_at self.now.graph.now point ≡ Some kind.now }
         ensures same_reference { out.new.sink.ghost_name ≡ out.old.sink.ghost_name }
-        ensures takes { Takes (outlet K.contents K.faults out.old) (outlet K.contents K.faults out.new) (flat_map (λ v. F.text form.now self.now.graph.now point (Dead v)) (dead_at self.now.graph.now (knowledge_of self.now) point)) }
+        ensures takes { Takes (outlet K.contents K.faults out.old) (outlet K.contents K.faults out.new)
+            (flat_map (λ v. F.text form.now self.now.graph.now point (Dead v)) (dead_at self.now.graph.now (knowledge_of self.now) point)) }
     {
         let Some(variable) = assigned(kind) else {
             return;
@@ -355,7 +376,8 @@ impl Findings<'_> {
         requires point { point < point_count self.now.graph.now }
         requires kind { kind_at self.now.graph.now point ≡ Some kind.now }
         ensures same_reference { out.new.sink.ghost_name ≡ out.old.sink.ghost_name }
-        ensures takes { Takes (outlet K.contents K.faults out.old) (outlet K.contents K.faults out.new) (flat_map (F.text form.now self.now.graph.now point) (remarks_when_reached self.now.graph.now (knowledge_of self.now) point)) }
+        ensures takes { Takes (outlet K.contents K.faults out.old) (outlet K.contents K.faults out.new)
+            (flat_map (F.text form.now self.now.graph.now point) (remarks_when_reached self.now.graph.now (knowledge_of self.now) point)) }
     {
         self.write_unset(form, out, point, kind);
         self.write_computed(form, out, point, kind);
@@ -377,7 +399,8 @@ impl Findings<'_> {
         requires found { AreFindings self.now }
         requires point { point < point_count self.now.graph.now }
         ensures same_reference { out.new.sink.ghost_name ≡ out.old.sink.ghost_name }
-        ensures takes { Takes (outlet K.contents K.faults out.old) (outlet K.contents K.faults out.new) (flat_map (F.text form.now self.now.graph.now point) (remarks_at self.now.graph.now (knowledge_of self.now) point)) }
+        ensures takes { Takes (outlet K.contents K.faults out.old) (outlet K.contents K.faults out.new)
+            (flat_map (F.text form.now self.now.graph.now point) (remarks_at self.now.graph.now (knowledge_of self.now) point)) }
     {
         if out.has_failed() {
             return;
@@ -385,7 +408,7 @@ impl Findings<'_> {
         let Some(stmt) = self.graph.stmt(point) else {
             return;
         };
-        if self.answers.has_path(Analysis::Reach, point) {
+        if self.is_reached(point) {
             self.write_when_reached(form, out, point, &stmt.kind);
             return;
         }

@@ -174,7 +174,8 @@ fn ask_point(graph: &Graph<'_>, asks: &mut Vec<Ask>, point: u32) -> Result<Point
     requires point { point < point_count graph.now }
     requires few { length asks.old.items < 2 ^ 31 }
     ensures asks { IfOk result (λ _. Asks graph.now asks.old.items asks.new.items 2052) }
-    ensures asked { IfOk result (λ here. (kind : KindValue) → kind_at graph.now point ≡ Some kind → AreAskedAt graph.now asks.new.items here point kind) }
+    ensures asked { IfOk result
+        (λ here. (kind : KindValue) → kind_at graph.now point ≡ Some kind → AreAskedAt graph.now asks.new.items here point kind) }
 {
     let Some(stmt) = graph.stmt(point) else {
         return Ok(PointAsks {

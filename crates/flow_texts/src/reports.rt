@@ -114,7 +114,8 @@ impl Findings<'_> {
         requires point { point < point_count self.now.graph.now }
         requires head { head.now ≡ decimal (line_at self.now.graph.now point) ++ codes ": " }
         ensures same_reference { out.new.sink.ghost_name ≡ out.old.sink.ghost_name }
-        ensures takes { Takes (outlet K.contents K.faults out.old) (outlet K.contents K.faults out.new) (lines_at self.now.graph.now (knowledge_of self.now) point) }
+        ensures takes { Takes (outlet K.contents K.faults out.old) (outlet K.contents K.faults out.new)
+            (lines_at self.now.graph.now (knowledge_of self.now) point) }
     {
         self.write_remarks(&ReportLine { head }, out, point);
     }
@@ -125,7 +126,8 @@ impl Findings<'_> {
         requires found { AreFindings self.now }
         requires point { point < point_count self.now.graph.now }
         ensures same_reference { out.new.sink.ghost_name ≡ out.old.sink.ghost_name }
-        ensures takes { Takes (outlet K.contents K.faults out.old) (outlet K.contents K.faults out.new) (lines_at self.now.graph.now (knowledge_of self.now) point) }
+        ensures takes { Takes (outlet K.contents K.faults out.old) (outlet K.contents K.faults out.new)
+            (lines_at self.now.graph.now (knowledge_of self.now) point) }
     {
         let mut digits = Buffer::new();
         let mut room = [0; 42];
@@ -140,7 +142,8 @@ impl Findings<'_> {
         requires ready { IsOpen (outlet K.contents K.faults out.old) }
         requires found { AreFindings self.now }
         ensures same_reference { out.new.sink.ghost_name ≡ out.old.sink.ghost_name }
-        ensures takes { Takes (outlet K.contents K.faults out.old) (outlet K.contents K.faults out.new) (report_of self.now.graph.now (knowledge_of self.now)) }
+        ensures takes { Takes (outlet K.contents K.faults out.old) (outlet K.contents K.faults out.new)
+            (report_of self.now.graph.now (knowledge_of self.now)) }
     {
         write_counts(out, self.graph);
         for point in 0..self.graph.points() {

@@ -52,7 +52,8 @@ fn write_point<K: Sink>(
     requires table { IsTableOf graph.now table.now }
     requires texts { HoldsTexts (codes ", ") (bit_text graph.now table.now.analysis) (bits_of graph.now table.now.analysis) texts.now }
     ensures same_reference { out.new.sink.ghost_name ≡ out.old.sink.ghost_name }
-    ensures takes { Takes (outlet K.contents K.faults out.old) (outlet K.contents K.faults out.new) (point_line graph.now table.now.analysis (facts_of table.now) point) }
+    ensures takes { Takes (outlet K.contents K.faults out.old) (outlet K.contents K.faults out.new)
+        (point_line graph.now table.now.analysis (facts_of table.now) point) }
 {
     if out.has_failed() {
         return;

@@ -1,5 +1,6 @@
 -- Escaped texts, piece by piece
-use Rattle.std.proofs.Common.{◌≡◌, ℕ, ◌+◌, ◌<◌, Bool, true, false, ◌||◌, ◌==◌, List, [], ◌∷◌, ◌++◌, length, take, get_or, cond, codes, if◌then◌else◌, refl, sym, ap, ap₂, ◌∙◌, append-nil}
+use Rattle.std.proofs.Common.{◌≡◌, ℕ, ◌+◌, ◌<◌, Bool, true, false, ◌||◌, ◌==◌, List, [], ◌∷◌, ◌++◌, length, take, get_or, cond, codes, if◌then◌else◌}
+use Rattle.std.proofs.Common.{refl, sym, ap, ap₂, ◌∙◌, append-nil}
 use Rattle.std.proofs.lemmas.Grind.{flat_map-append}
 use Rattle.std.proofs.lemmas.List.{take_more}
 use Rattle.text_pieces.specs.Pieces.{Outlet, Takes}
@@ -10,11 +11,13 @@ pub escaped-append : (first second : List ℕ) → escaped (first ++ second) ≡
 escaped-append first second = flat_map-append escaped_byte first second
 
 -- two texts that were taken between quotes
-pub shows_then : (text more : List ℕ) (first second third : Outlet) → Takes first second (escaped text) → Takes second third (escaped more) → Takes first third (escaped (text ++ more))
+pub shows_then : (text more : List ℕ) (first second third : Outlet) → Takes first second (escaped text) → Takes second third (escaped more)
+    → Takes first third (escaped (text ++ more))
 shows_then text more first second third one two = takes_as _ _ _ _ (takes_then _ _ _ _ _ one two) (sym (escaped-append text more))
 
 -- a byte more
-pub escaped_more : (bytes : List ℕ) (i : ℕ) → i < length bytes → escaped (take i bytes) ++ escaped_byte (get_or bytes i 0) ≡ escaped (take (i + 1) bytes)
+pub escaped_more : (bytes : List ℕ) (i : ℕ) → i < length bytes
+    → escaped (take i bytes) ++ escaped_byte (get_or bytes i 0) ≡ escaped (take (i + 1) bytes)
 escaped_more bytes i below =
     ap (λ t. escaped (take i bytes) ++ t) (sym (append-nil (escaped_byte (get_or bytes i 0))))
     ∙ sym (escaped-append (take i bytes) (get_or bytes i 0 ∷ []))

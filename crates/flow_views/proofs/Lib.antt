@@ -1,5 +1,6 @@
 pub mod Escapes
 pub mod Rows
+pub mod SameTexts
 pub mod Walks
 pub mod Statements
 pub mod Tables

@@ -1,5 +1,6 @@
 -- Texts in a row, with something between them
-use Rattle.std.proofs.Common.{◌≡◌, ℕ, zero, suc, ◌+◌, ◌<◌, false, List, [], ◌∷◌, ◌++◌, length, map, flat_map, take, get_or, nat_lt, if◌then◌else◌, refl, sym, ap, ◌∙◌, append_assoc, append-nil, codes, arith}
+use Rattle.std.proofs.Common.{◌≡◌, ℕ, zero, suc, ◌+◌, ◌<◌, false, List, [], ◌∷◌, ◌++◌, length, map, flat_map, take, get_or, nat_lt, if◌then◌else◌}
+use Rattle.std.proofs.Common.{refl, sym, ap, ◌∙◌, append_assoc, append-nil, codes, arith}
 use Rattle.std.proofs.lemmas.Grind.{flat_map-append}
 use Rattle.std.proofs.lemmas.List.{map-append, take_more}
 use Rattle.std.proofs.Math.Seq.{take-length}
@@ -55,7 +56,8 @@ joined_next between f xs i x below read =
 pub joined_behind : {A : Type 0} (first between : List ℕ) (f : A → List ℕ) (xs : List A) (i : ℕ) (x : A) → i < length xs → x ≡ get_or xs i x
     → first ++ joined between (map f (take i xs)) ++ (if nat_lt 0 i then between else []) ++ f x ≡ first ++ joined between (map f (take (i + 1) xs))
 joined_behind first between f xs i x below read =
-    regroup first (joined between (map f (take i xs))) (if nat_lt 0 i then between else []) (f x) ∙ ap (λ t. first ++ t) (joined_next between f xs i x below read)
+    regroup first (joined between (map f (take i xs))) (if nat_lt 0 i then between else []) (f x)
+    ∙ ap (λ t. first ++ t) (joined_next between f xs i x below read)
   where
     regroup : (a b d e : List ℕ) → a ++ b ++ d ++ e ≡ a ++ (b ++ d ++ e)
     regroup a b d e = simp append_assoc

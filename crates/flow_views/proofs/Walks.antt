@@ -22,7 +22,8 @@ pub walk_list_more : (text_of : ℕ → List ℕ) (numbers_in : ℕ → List ℕ
     → flat_map text_of (flat_map numbers_in (range_with_len first (n - first))) ++ flat_map text_of (numbers_in n)
     ≡ flat_map text_of (flat_map numbers_in (range_with_len first (n + 1 - first)))
 walk_list_more text_of numbers_in first n above =
-    sym (flat_map-append text_of (flat_map numbers_in (range_with_len first (n - first))) (numbers_in n)) ∙ ap (flat_map text_of) (walk_more numbers_in first n above)
+    sym (flat_map-append text_of (flat_map numbers_in (range_with_len first (n - first))) (numbers_in n))
+    ∙ ap (flat_map text_of) (walk_more numbers_in first n above)
 
 -- an element more
 pub walk_next : {A : Type 0} (text_of : A → List ℕ) (xs : List A) (i : ℕ) (d : A) → i < length xs

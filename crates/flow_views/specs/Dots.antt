@@ -1,5 +1,6 @@
 -- A program's flow graph with its facts, for Graphviz: a cluster a procedure, a node a point, and the edges.
-use Rattle.std.specs.Prelude.{◌≡◌, ℕ, suc, ◌+◌, Bool, true, false, ◌&&◌, List, [], ◌∷◌, ◌++◌, map, flat_map, Some, None, option_map, unwrap_or, nat_le, nat_lt, if◌then◌else◌, codes, decimal}
+use Rattle.std.specs.Prelude.{◌≡◌, ℕ, suc, ◌+◌, Bool, true, false, ◌&&◌, List, [], ◌∷◌, ◌++◌, map, flat_map, Some, None, option_map, unwrap_or}
+use Rattle.std.specs.Prelude.{nat_le, nat_lt, if◌then◌else◌, codes, decimal}
 use Rattle.flow_graph.specs.Edges.{edges_from}
 use Rattle.flow_graph.specs.Paths.{target_of}
 use Rattle.flow_graph.specs.Points.{end_place, entry_point, kind_at, procedure_at, statement_at}

@@ -1,5 +1,6 @@
 pub mod Strings
 pub mod Views
+pub mod ShownTables
 pub mod Dots
 pub mod Json
 pub mod code

@@ -3,27 +3,31 @@
 ghost use Rattle.std.specs.Prelude.{◌≡◌, ◌++◌, ◌<◌, ◌≤◌, All, Some, flat_map, length, if◌then◌else◌, IfOk, IfSome, codes, decimal};
 ghost use Rattle.flow_graph.specs.Paths.{target_of};
 ghost use Rattle.flow_graph.specs.Points.{point_count, procedure_at, statement_at};
+ghost use Rattle.flow_team.specs.Tables.{IsTableOf, facts_of};
 ghost use Rattle.text_pieces.specs.Pieces.{IsOpen, Takes, outlet};
-ghost use Rattle.flow_team.specs.AllTables.{AreTablesOf};
 ghost use Rattle.flow_texts.specs.Reports.{dead_at, remark_text, unset_at};
 ghost use Rattle.flow_texts.specs.code.Reported.{TellReport};
 ghost use Rattle.flow_texts.specs.Tables.{line_at};
 ghost use Rattle.tac_program.specs.Listings.{statement_text};
-ghost use Rattle.flow_views.specs.code.Shown.{AreShown, IsSiteIn, known_of, numbers_of};
+ghost use Rattle.flow_views.specs.ShownTables.{AreShownTables};
+ghost use Rattle.flow_views.specs.code.Shown.{AreShown, IsSiteIn, is_chosen, known_of, numbers_of};
 ghost use Rattle.flow_views.specs.declared.names.NameForm.TheVariants.{Escaped};
-ghost use Rattle.flow_views.specs.Dots.{IsDot, arrow, calls_at, cluster, dot_of, edge_line, edge_lines, fact_line, head, is_call, is_edge_shown, label_line, label_lines, marks, node, passed_call, path_marks, shown_edge, text_if_some, title};
+ghost use Rattle.flow_views.specs.Dots.{IsDot, arrow, calls_at, cluster, dot_of, edge_line, edge_lines, fact_line, head, is_call, is_edge_shown};
+ghost use Rattle.flow_views.specs.Dots.{label_line, label_lines, marks, node, passed_call, path_marks, shown_edge, text_if_some, title};
 ghost use Rattle.flow_views.specs.Strings.{escaped};
-ghost use Rattle.flow_views.specs.Views.{analysis_if, chosen_analyses, names_at, points_in, procedure_name};
+ghost use Rattle.flow_views.specs.Views.{analysis_if, chosen_analyses, names_at, points_in, procedure_name, told_by};
 
 use crate::names::NameForm;
 use crate::optional::write_if;
 use crate::shown::{Numbers, Shown, name_of};
+use crate::shown_tables::ShownTables;
 use crate::strings::{write_escaped, write_escaped_number, write_quoted};
 use crate::view::View;
 use flow_graph::{Analysis, Edge, Graph, OutOfMemory};
+use flow_team::Table;
 use flow_texts::{
-    Findings, Remark, RemarkForm, ReportAnswers, Tables, line, words_before_name,
-    words_behind_name, write_number, write_set,
+    Findings, Remark, RemarkForm, ReportAnswers, line, words_before_name, words_behind_name,
+    write_number, write_set,
 };
 use std::alloc::Global;
 use std::marker::Model;
@@ -114,7 +118,8 @@ impl Shown<'_> {
         requires point { point < point_count self.now.found.graph.now }
         requires statement { statement_at self.now.found.graph.now point ≡ Some stmt.now }
         ensures same_reference { out.new.sink.ghost_name ≡ out.old.sink.ghost_name }
-        ensures takes { Takes (outlet K.contents K.faults out.old) (outlet K.contents K.faults out.new) (escaped (decimal stmt.now.span.line ++ codes ": " ++ statement_text (names_at self.now.found.graph.now point) stmt.now.kind)) }
+        ensures takes { Takes (outlet K.contents K.faults out.old) (outlet K.contents K.faults out.new)
+            (escaped (decimal stmt.now.span.line ++ codes ": " ++ statement_text (names_at self.now.found.graph.now point) stmt.now.kind)) }
     {
         write_escaped_number(out, stmt.span.line as u64);
         out.write(b": ");
@@ -127,7 +132,8 @@ impl Shown<'_> {
         requires shown { AreShown self.now }
         requires point { point < point_count self.now.found.graph.now }
         ensures same_reference { out.new.sink.ghost_name ≡ out.old.sink.ghost_name }
-        ensures takes { Takes (outlet K.contents K.faults out.old) (outlet K.contents K.faults out.new) (escaped (codes "end of " ++ procedure_name self.now.found.graph.now (procedure_at self.now.found.graph.now point))) }
+        ensures takes { Takes (outlet K.contents K.faults out.old) (outlet K.contents K.faults out.new)
+            (escaped (codes "end of " ++ procedure_name self.now.found.graph.now (procedure_at self.now.found.graph.now point))) }
     {
         out.write(b"end of ");
         write_escaped(out, self.procedure_name(self.scope(point).procedure));
@@ -139,7 +145,8 @@ impl Shown<'_> {
         requires shown { AreShown self.now }
         requires point { point < point_count self.now.found.graph.now }
         ensures same_reference { out.new.sink.ghost_name ≡ out.old.sink.ghost_name }
-        ensures takes { Takes (outlet K.contents K.faults out.old) (outlet K.contents K.faults out.new) (escaped (title self.now.found.graph.now point)) }
+        ensures takes { Takes (outlet K.contents K.faults out.old) (outlet K.contents K.faults out.new)
+            (escaped (title self.now.found.graph.now point)) }
     {
         match self.found.graph.stmt(point) {
             Some(stmt) => self.write_statement_title(out, point, stmt),
@@ -148,40 +155,45 @@ impl Shown<'_> {
     }
 
     // Writes what an analysis tells at a point.
-    fn write_fact_line<K: Sink>(&self, out: &mut Pieces<'_, K>, point: u32, analysis: Analysis)
-        requires ready { IsOpen (outlet K.contents K.faults out.old) }
-        requires shown { AreShown self.now }
-        requires form { self.now.names.form ≡ Escaped }
-        requires point { point < point_count self.now.found.graph.now }
-        ensures same_reference { out.new.sink.ghost_name ≡ out.old.sink.ghost_name }
-        ensures takes { Takes (outlet K.contents K.faults out.old) (outlet K.contents K.faults out.new) (label_line (fact_line self.now.found.graph.now (known_of self.now) point analysis)) }
-    {
-        write_escaped(out, name_of(analysis));
-        out.write(b": ");
-        let bits = self.found.graph.bits(analysis);
-        write_set(out, self.names(analysis), self.table(analysis), point, bits);
-        out.write(b"\\l");
-    }
-
-    // Writes it where the analysis is chosen.
-    fn write_fact_if<K: Sink>(
+    fn write_fact_line<K: Sink>(
         &self,
         out: &mut Pieces<'_, K>,
-        chosen: bool,
+        table: &Table,
         point: u32,
         analysis: Analysis,
     )
         requires ready { IsOpen (outlet K.contents K.faults out.old) }
         requires shown { AreShown self.now }
         requires form { self.now.names.form ≡ Escaped }
+        requires table { IsTableOf self.now.found.graph.now table.now }
+        requires facts { facts_of table.now ≡ told_by (known_of self.now) analysis }
         requires point { point < point_count self.now.found.graph.now }
         ensures same_reference { out.new.sink.ghost_name ≡ out.old.sink.ghost_name }
-        ensures takes { Takes (outlet K.contents K.faults out.old) (outlet K.contents K.faults out.new) (flat_map (λ a. label_line (fact_line self.now.found.graph.now (known_of self.now) point a)) (analysis_if chosen analysis)) }
+        ensures takes { Takes (outlet K.contents K.faults out.old) (outlet K.contents K.faults out.new)
+            (label_line (fact_line self.now.found.graph.now (known_of self.now) point analysis)) }
     {
-        if !chosen {
+        write_escaped(out, name_of(analysis));
+        out.write(b": ");
+        let bits = self.found.graph.bits(analysis);
+        write_set(out, self.names(analysis), table, point, bits);
+        out.write(b"\\l");
+    }
+
+    // Writes it where the analysis is chosen.
+    fn write_fact_if<K: Sink>(&self, out: &mut Pieces<'_, K>, point: u32, analysis: Analysis)
+        requires ready { IsOpen (outlet K.contents K.faults out.old) }
+        requires shown { AreShown self.now }
+        requires form { self.now.names.form ≡ Escaped }
+        requires point { point < point_count self.now.found.graph.now }
+        ensures same_reference { out.new.sink.ghost_name ≡ out.old.sink.ghost_name }
+        ensures takes { Takes (outlet K.contents K.faults out.old) (outlet K.contents K.faults out.new)
+            (flat_map (λ a. label_line (fact_line self.now.found.graph.now (known_of self.now) point a))
+            (analysis_if (is_chosen self.now.view.facts analysis) analysis)) }
+    {
+        let Some(table) = self.table(analysis) else {
             return;
-        }
-        self.write_fact_line(out, point, analysis);
+        };
+        self.write_fact_line(out, table, point, analysis);
     }
 
     // Writes what the chosen analyses tell at a point.
@@ -191,13 +203,13 @@ impl Shown<'_> {
         requires form { self.now.names.form ≡ Escaped }
         requires point { point < point_count self.now.found.graph.now }
         ensures same_reference { out.new.sink.ghost_name ≡ out.old.sink.ghost_name }
-        ensures takes { Takes (outlet K.contents K.faults out.old) (outlet K.contents K.faults out.new) (flat_map (λ a. label_line (fact_line self.now.found.graph.now (known_of self.now) point a)) (chosen_analyses self.now.view.facts)) }
+        ensures takes { Takes (outlet K.contents K.faults out.old) (outlet K.contents K.faults out.new)
+            (flat_map (λ a. label_line (fact_line self.now.found.graph.now (known_of self.now) point a)) (chosen_analyses self.now.view.facts)) }
     {
-        let chosen = self.view.facts;
-        self.write_fact_if(out, chosen.reach, point, Analysis::Reach);
-        self.write_fact_if(out, chosen.live, point, Analysis::Live);
-        self.write_fact_if(out, chosen.avail, point, Analysis::Avail);
-        self.write_fact_if(out, chosen.busy, point, Analysis::Busy);
+        self.write_fact_if(out, point, Analysis::Reach);
+        self.write_fact_if(out, point, Analysis::Live);
+        self.write_fact_if(out, point, Analysis::Avail);
+        self.write_fact_if(out, point, Analysis::Busy);
     }
 
     // Writes the lines of a node.
@@ -207,7 +219,8 @@ impl Shown<'_> {
         requires form { self.now.names.form ≡ Escaped }
         requires point { point < point_count self.now.found.graph.now }
         ensures same_reference { out.new.sink.ghost_name ≡ out.old.sink.ghost_name }
-        ensures takes { Takes (outlet K.contents K.faults out.old) (outlet K.contents K.faults out.new) (flat_map label_line (label_lines self.now.found.graph.now (known_of self.now) self.now.view.facts point)) }
+        ensures takes { Takes (outlet K.contents K.faults out.old) (outlet K.contents K.faults out.new)
+            (flat_map label_line (label_lines self.now.found.graph.now (known_of self.now) self.now.view.facts point)) }
     {
         self.write_title(out, point);
         out.write(b"\\l");
@@ -222,7 +235,9 @@ impl Shown<'_> {
         requires point { point < point_count self.now.found.graph.now }
         requires statement { statement_at self.now.found.graph.now point ≡ Some stmt.now }
         ensures same_reference { out.new.sink.ghost_name ≡ out.old.sink.ghost_name }
-        ensures takes { Takes (outlet K.contents K.faults out.old) (outlet K.contents K.faults out.new) (text_if_some (unset_at self.now.found.graph.now (known_of self.now) point) (codes ", color=red, fontcolor=red") ++ text_if_some (dead_at self.now.found.graph.now (known_of self.now) point) (codes ", style=filled, fillcolor=khaki")) }
+        ensures takes { Takes (outlet K.contents K.faults out.old) (outlet K.contents K.faults out.new)
+            (text_if_some (unset_at self.now.found.graph.now (known_of self.now) point) (codes ", color=red, fontcolor=red")
+            ++ text_if_some (dead_at self.now.found.graph.now (known_of self.now) point) (codes ", style=filled, fillcolor=khaki")) }
     {
         let unset = self.reads_unset(point, &stmt.kind);
         write_if(out, unset, b", color=red, fontcolor=red");
@@ -236,9 +251,10 @@ impl Shown<'_> {
         requires shown { AreShown self.now }
         requires point { point < point_count self.now.found.graph.now }
         ensures same_reference { out.new.sink.ghost_name ≡ out.old.sink.ghost_name }
-        ensures takes { Takes (outlet K.contents K.faults out.old) (outlet K.contents K.faults out.new) (path_marks self.now.found.graph.now (known_of self.now) point) }
+        ensures takes { Takes (outlet K.contents K.faults out.old) (outlet K.contents K.faults out.new)
+            (path_marks self.now.found.graph.now (known_of self.now) point) }
     {
-        if !self.tables.reach.has_path(point) {
+        if !self.found.is_reached(point) {
             out.write(b", style=filled, fillcolor=grey80");
             return;
         }
@@ -263,7 +279,8 @@ impl Shown<'_> {
         requires shown { AreShown self.now }
         requires point { point < point_count self.now.found.graph.now }
         ensures same_reference { out.new.sink.ghost_name ≡ out.old.sink.ghost_name }
-        ensures takes { Takes (outlet K.contents K.faults out.old) (outlet K.contents K.faults out.new) (marks self.now.found.graph.now (known_of self.now) point) }
+        ensures takes { Takes (outlet K.contents K.faults out.old) (outlet K.contents K.faults out.new)
+            (marks self.now.found.graph.now (known_of self.now) point) }
     {
         self.write_path_marks(out, point);
         write_if(out, self.is_doubtful(point), b", peripheries=2");
@@ -276,7 +293,8 @@ impl Shown<'_> {
         requires form { self.now.names.form ≡ Escaped }
         requires point { point < point_count self.now.found.graph.now }
         ensures same_reference { out.new.sink.ghost_name ≡ out.old.sink.ghost_name }
-        ensures takes { Takes (outlet K.contents K.faults out.old) (outlet K.contents K.faults out.new) (node self.now.found.graph.now (known_of self.now) self.now.view.facts point) }
+        ensures takes { Takes (outlet K.contents K.faults out.old) (outlet K.contents K.faults out.new)
+            (node self.now.found.graph.now (known_of self.now) self.now.view.facts point) }
     {
         if out.has_failed() {
             return;
@@ -298,7 +316,8 @@ impl Shown<'_> {
         requires ordered { points.first ≤ points.end }
         requires points { points.end ≤ point_count self.now.found.graph.now }
         ensures same_reference { out.new.sink.ghost_name ≡ out.old.sink.ghost_name }
-        ensures takes { Takes (outlet K.contents K.faults out.old) (outlet K.contents K.faults out.new) (flat_map (node self.now.found.graph.now (known_of self.now) self.now.view.facts) (numbers_of points)) }
+        ensures takes { Takes (outlet K.contents K.faults out.old) (outlet K.contents K.faults out.new)
+            (flat_map (node self.now.found.graph.now (known_of self.now) self.now.view.facts) (numbers_of points)) }
     {
         for point in points.first..points.end {
             self.write_node(out, point);
@@ -312,7 +331,8 @@ impl Shown<'_> {
         requires form { self.now.names.form ≡ Escaped }
         requires procedure { procedure < length self.now.found.graph.now.procedures }
         ensures same_reference { out.new.sink.ghost_name ≡ out.old.sink.ghost_name }
-        ensures takes { Takes (outlet K.contents K.faults out.old) (outlet K.contents K.faults out.new) (cluster self.now.found.graph.now (known_of self.now) self.now.view.facts procedure) }
+        ensures takes { Takes (outlet K.contents K.faults out.old) (outlet K.contents K.faults out.new)
+            (cluster self.now.found.graph.now (known_of self.now) self.now.view.facts procedure) }
     {
         out.write(b"  subgraph \"cluster_");
         write_number(out, procedure);
@@ -332,7 +352,8 @@ impl Shown<'_> {
         requires ordered { procedures.first ≤ procedures.end }
         requires procedures { procedures.end ≤ length self.now.found.graph.now.procedures }
         ensures same_reference { out.new.sink.ghost_name ≡ out.old.sink.ghost_name }
-        ensures takes { Takes (outlet K.contents K.faults out.old) (outlet K.contents K.faults out.new) (flat_map (cluster self.now.found.graph.now (known_of self.now) self.now.view.facts) (numbers_of procedures)) }
+        ensures takes { Takes (outlet K.contents K.faults out.old) (outlet K.contents K.faults out.new)
+            (flat_map (cluster self.now.found.graph.now (known_of self.now) self.now.view.facts) (numbers_of procedures)) }
     {
         for procedure in procedures.first..procedures.end {
             self.write_cluster(out, procedure);
@@ -351,7 +372,8 @@ impl Shown<'_> {
         requires ready { IsOpen (outlet K.contents K.faults out.old) }
         requires site { site < point_count self.now.found.graph.now }
         ensures same_reference { out.new.sink.ghost_name ≡ out.old.sink.ghost_name }
-        ensures takes { Takes (outlet K.contents K.faults out.old) (outlet K.contents K.faults out.new) (arrow source target ++ codes " [style=dashed, label=\"" ++ word.now ++ decimal (line_at self.now.found.graph.now site) ++ codes "\"];\n") }
+        ensures takes { Takes (outlet K.contents K.faults out.old) (outlet K.contents K.faults out.new) (arrow source target
+            ++ codes " [style=dashed, label=\"" ++ word.now ++ decimal (line_at self.now.found.graph.now site) ++ codes "\"];\n") }
     {
         write_arrow(out, source, target);
         out.write(b" [style=dashed, label=\"");
@@ -396,7 +418,8 @@ impl Shown<'_> {
         requires shown { AreShown self.now }
         requires edge { IsSiteIn self.now.found.graph.now edge }
         ensures same_reference { out.new.sink.ghost_name ≡ out.old.sink.ghost_name }
-        ensures takes { Takes (outlet K.contents K.faults out.old) (outlet K.contents K.faults out.new) (shown_edge self.now.found.graph.now self.now.view edge) }
+        ensures takes { Takes (outlet K.contents K.faults out.old) (outlet K.contents K.faults out.new)
+            (shown_edge self.now.found.graph.now self.now.view edge) }
     {
         if !self.shows(edge) {
             return;
@@ -410,7 +433,8 @@ impl Shown<'_> {
         requires shown { AreShown self.now }
         requires edges { All (IsSiteIn self.now.found.graph.now) edges.now }
         ensures same_reference { out.new.sink.ghost_name ≡ out.old.sink.ghost_name }
-        ensures takes { Takes (outlet K.contents K.faults out.old) (outlet K.contents K.faults out.new) (flat_map (shown_edge self.now.found.graph.now self.now.view) edges.now) }
+        ensures takes { Takes (outlet K.contents K.faults out.old) (outlet K.contents K.faults out.new)
+            (flat_map (shown_edge self.now.found.graph.now self.now.view) edges.now) }
     {
         for edge in edges {
             self.write_shown_edge(out, *edge);
@@ -434,7 +458,8 @@ impl Shown<'_> {
         requires shown { AreShown self.now }
         requires point { point < point_count self.now.found.graph.now }
         ensures same_reference { out.new.sink.ghost_name ≡ out.old.sink.ghost_name }
-        ensures takes { Takes (outlet K.contents K.faults out.old) (outlet K.contents K.faults out.new) (passed_call self.now.found.graph.now self.now.view point) }
+        ensures takes { Takes (outlet K.contents K.faults out.old) (outlet K.contents K.faults out.new)
+            (passed_call self.now.found.graph.now self.now.view point) }
     {
         let Some(_) = self.view.procedure else {
             return;
@@ -452,7 +477,8 @@ impl Shown<'_> {
         requires shown { AreShown self.now }
         requires point { point < point_count self.now.found.graph.now }
         ensures same_reference { out.new.sink.ghost_name ≡ out.old.sink.ghost_name }
-        ensures takes { Takes (outlet K.contents K.faults out.old) (outlet K.contents K.faults out.new) (edge_lines self.now.found.graph.now self.now.view point) }
+        ensures takes { Takes (outlet K.contents K.faults out.old) (outlet K.contents K.faults out.new)
+            (edge_lines self.now.found.graph.now self.now.view point) }
     {
         if out.has_failed() {
             return;
@@ -468,7 +494,8 @@ impl Shown<'_> {
         requires ordered { points.first ≤ points.end }
         requires points { points.end ≤ point_count self.now.found.graph.now }
         ensures same_reference { out.new.sink.ghost_name ≡ out.old.sink.ghost_name }
-        ensures takes { Takes (outlet K.contents K.faults out.old) (outlet K.contents K.faults out.new) (flat_map (edge_lines self.now.found.graph.now self.now.view) (numbers_of points)) }
+        ensures takes { Takes (outlet K.contents K.faults out.old) (outlet K.contents K.faults out.new)
+            (flat_map (edge_lines self.now.found.graph.now self.now.view) (numbers_of points)) }
     {
         for point in points.first..points.end {
             self.write_edges(out, point);
@@ -482,7 +509,8 @@ impl Shown<'_> {
         requires ordered { procedures.first ≤ procedures.end }
         requires procedures { procedures.end ≤ length self.now.found.graph.now.procedures }
         ensures same_reference { out.new.sink.ghost_name ≡ out.old.sink.ghost_name }
-        ensures takes { Takes (outlet K.contents K.faults out.old) (outlet K.contents K.faults out.new) (flat_map (edge_lines self.now.found.graph.now self.now.view) (flat_map (points_in self.now.found.graph.now) (numbers_of procedures))) }
+        ensures takes { Takes (outlet K.contents K.faults out.old) (outlet K.contents K.faults out.new)
+            (flat_map (edge_lines self.now.found.graph.now self.now.view) (flat_map (points_in self.now.found.graph.now) (numbers_of procedures))) }
     {
         for procedure in procedures.first..procedures.end {
             self.write_procedure_edges(out, self.points_of(procedure));
@@ -495,7 +523,8 @@ impl Shown<'_> {
         requires shown { AreShown self.now }
         requires form { self.now.names.form ≡ Escaped }
         ensures same_reference { out.new.sink.ghost_name ≡ out.old.sink.ghost_name }
-        ensures takes { Takes (outlet K.contents K.faults out.old) (outlet K.contents K.faults out.new) (dot_of self.now.found.graph.now (known_of self.now) self.now.view) }
+        ensures takes { Takes (outlet K.contents K.faults out.old) (outlet K.contents K.faults out.new)
+            (dot_of self.now.found.graph.now (known_of self.now) self.now.view) }
     {
         let procedures = self.procedures();
         write_head(out);
@@ -541,16 +570,16 @@ impl<'a> Model for DotText<'a> {
 impl<'a> DotText<'a> {
     /// The picture, ready to be written.
     ///
-    /// The conditions: the tables and the answers to what a report asks are of this graph, and the procedure that is shown is one of its
-    /// program. Fails only where memory runs out.
+    /// The conditions: the answers to what a report asks and the tables are of this graph, these of the analyses that are shown, and the
+    /// procedure that is shown is one of its program. Fails only where memory runs out.
     pub fn of(
         alloc: Global,
         graph: &'a Graph<'a>,
-        tables: &'a Tables,
+        tables: &'a ShownTables,
         answers: &'a ReportAnswers,
         view: View,
     ) -> Result<DotText<'a>, OutOfMemory>
-        requires tables { AreTablesOf graph.now tables.now }
+        requires tables { AreShownTables graph.now view.facts tables.now }
         requires answers { TellReport graph.now answers.now }
         requires procedure { IfSome view.procedure (λ procedure. procedure < length graph.now.procedure_names) }
         ensures { IfOk result (IsDot graph.now view) }

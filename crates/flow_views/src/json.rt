@@ -1,31 +1,31 @@
 // The text of lines of JSON.
 
-ghost use Rattle.flow_team.specs.Tables.{facts_of};
+ghost use Rattle.flow_team.specs.Tables.{IsTableOf, facts_of};
 ghost use Rattle.std.specs.Prelude.{◌≡◌, ◌+◌, ◌++◌, ◌<◌, ◌≤◌, Some, codes, decimal, filter, flat_map, length, map, IfOk, IfSome};
 ghost use Rattle.std.specs.List.{range_with_len};
 ghost use Rattle.flow_graph.specs.Points.{place_of, point_count, procedure_at, statement_at};
 ghost use Rattle.flow_texts.specs.code.Findings.{AreFindings, IsRemarkIn};
 ghost use Rattle.text_pieces.specs.code.Lists.{text_at};
 ghost use Rattle.text_pieces.specs.Pieces.{IsOpen, Takes, outlet};
-ghost use Rattle.flow_team.specs.AllTables.{AreTablesOf};
 ghost use Rattle.flow_texts.specs.code.Reported.{TellReport};
 ghost use Rattle.tac_program.specs.Listings.{statement_text};
-ghost use Rattle.flow_views.specs.code.Shown.{AreShown, known_of, numbers_of};
+ghost use Rattle.flow_views.specs.ShownTables.{AreShownTables};
+ghost use Rattle.flow_views.specs.code.Shown.{AreShown, is_chosen, known_of, numbers_of};
 ghost use Rattle.flow_views.specs.declared.names.NameForm.TheVariants.{Quoted};
-ghost use Rattle.flow_views.specs.Json.{IsJson, array, boolean, edge_object, facts_field, json_of, point_line, program_line, remark_fields, remark_lines, remark_object, span_fields, statement_field};
+ghost use Rattle.flow_views.specs.Json.{IsJson, array, boolean, edge_object, facts_field, json_of, point_line, program_line, remark_fields};
+ghost use Rattle.flow_views.specs.Json.{remark_lines, remark_object, span_fields, statement_field};
 ghost use Rattle.flow_views.specs.Strings.{quoted};
-ghost use Rattle.flow_views.specs.Views.{analysis_if, chosen_analyses, names_at, points_in, procedure_name};
+ghost use Rattle.flow_views.specs.Views.{analysis_if, chosen_analyses, names_at, points_in, procedure_name, told_by};
 
 use crate::names::NameForm;
 use crate::optional::write_if;
 use crate::shown::{Numbers, Shown, name_of};
+use crate::shown_tables::ShownTables;
 use crate::strings::write_quoted;
 use crate::view::View;
 use flow_graph::{Analysis, Edge, Graph, OutOfMemory};
 use flow_team::Table;
-use flow_texts::{
-    Findings, Remark, RemarkForm, ReportAnswers, Tables, write_members, write_number,
-};
+use flow_texts::{Findings, Remark, RemarkForm, ReportAnswers, write_members, write_number};
 use itoa::Buffer;
 use std::alloc::Global;
 use std::marker::Model;
@@ -146,7 +146,8 @@ fn write_array<K: Sink>(
     requires point { point < length table.now.paths }
     requires bits { bits ≤ length texts.now.texts }
     ensures same_reference { out.new.sink.ghost_name ≡ out.old.sink.ghost_name }
-    ensures takes { Takes (outlet K.contents K.faults out.old) (outlet K.contents K.faults out.new) (array (map (text_at texts.now.texts) (filter ((facts_of table.now).contains point) (range_with_len 0 bits)))) }
+    ensures takes { Takes (outlet K.contents K.faults out.old) (outlet K.contents K.faults out.new)
+        (array (map (text_at texts.now.texts) (filter ((facts_of table.now).contains point) (range_with_len 0 bits)))) }
 {
     out.write(b"[");
     write_members(out, texts, table, point, bits);
@@ -157,7 +158,8 @@ fn write_array<K: Sink>(
 fn write_site<K: Sink>(out: &mut Pieces<'_, K>, kind: &[u8], site: u32, target: u32)
     requires { IsOpen (outlet K.contents K.faults out.old) }
     ensures same_reference { out.new.sink.ghost_name ≡ out.old.sink.ghost_name }
-    ensures takes { Takes (outlet K.contents K.faults out.old) (outlet K.contents K.faults out.new) (kind.now ++ decimal site ++ codes ",\"to\":" ++ decimal target ++ codes "}") }
+    ensures takes { Takes (outlet K.contents K.faults out.old) (outlet K.contents K.faults out.new)
+        (kind.now ++ decimal site ++ codes ",\"to\":" ++ decimal target ++ codes "}") }
 {
     out.write(kind);
     write_number(out, site);
@@ -170,7 +172,8 @@ fn write_site<K: Sink>(out: &mut Pieces<'_, K>, kind: &[u8], site: u32, target: 
 fn write_step<K: Sink>(out: &mut Pieces<'_, K>, target: u32)
     requires { IsOpen (outlet K.contents K.faults out.old) }
     ensures same_reference { out.new.sink.ghost_name ≡ out.old.sink.ghost_name }
-    ensures takes { Takes (outlet K.contents K.faults out.old) (outlet K.contents K.faults out.new) (codes "{\"kind\":\"step\",\"to\":" ++ decimal target ++ codes "}") }
+    ensures takes { Takes (outlet K.contents K.faults out.old) (outlet K.contents K.faults out.new)
+        (codes "{\"kind\":\"step\",\"to\":" ++ decimal target ++ codes "}") }
 {
     out.write(b"{\"kind\":\"step\",\"to\":");
     write_number(out, target);
@@ -210,7 +213,8 @@ impl Shown<'_> {
         requires ready { IsOpen (outlet K.contents K.faults out.old) }
         requires shown { AreShown self.now }
         ensures same_reference { out.new.sink.ghost_name ≡ out.old.sink.ghost_name }
-        ensures takes { Takes (outlet K.contents K.faults out.old) (outlet K.contents K.faults out.new) (array (map quoted self.now.found.graph.now.procedure_names)) }
+        ensures takes { Takes (outlet K.contents K.faults out.old) (outlet K.contents K.faults out.new)
+            (array (map quoted self.now.found.graph.now.procedure_names)) }
     {
         let count = self.found.graph.program().procs().len();
         out.write(b"[");
@@ -225,7 +229,8 @@ impl Shown<'_> {
     fn write_variables<K: Sink>(&self, out: &mut Pieces<'_, K>)
         requires ready { IsOpen (outlet K.contents K.faults out.old) }
         ensures same_reference { out.new.sink.ghost_name ≡ out.old.sink.ghost_name }
-        ensures takes { Takes (outlet K.contents K.faults out.old) (outlet K.contents K.faults out.new) (array (map quoted self.now.found.graph.now.variable_names)) }
+        ensures takes { Takes (outlet K.contents K.faults out.old) (outlet K.contents K.faults out.new)
+            (array (map quoted self.now.found.graph.now.variable_names)) }
     {
         let program = self.found.graph.program();
         out.write(b"[");
@@ -264,7 +269,8 @@ impl Shown<'_> {
         requires point { point < point_count self.now.found.graph.now }
         requires statement { statement_at self.now.found.graph.now point ≡ Some stmt.now }
         ensures same_reference { out.new.sink.ghost_name ≡ out.old.sink.ghost_name }
-        ensures takes { Takes (outlet K.contents K.faults out.old) (outlet K.contents K.faults out.new) (quoted (statement_text (names_at self.now.found.graph.now point) stmt.now.kind)) }
+        ensures takes { Takes (outlet K.contents K.faults out.old) (outlet K.contents K.faults out.new)
+            (quoted (statement_text (names_at self.now.found.graph.now point) stmt.now.kind)) }
     {
         out.write(b"\"");
         self.write_statement(out, point, stmt);
@@ -277,7 +283,8 @@ impl Shown<'_> {
         requires shown { AreShown self.now }
         requires point { point < point_count self.now.found.graph.now }
         ensures same_reference { out.new.sink.ghost_name ≡ out.old.sink.ghost_name }
-        ensures takes { Takes (outlet K.contents K.faults out.old) (outlet K.contents K.faults out.new) (statement_field self.now.found.graph.now point) }
+        ensures takes { Takes (outlet K.contents K.faults out.old) (outlet K.contents K.faults out.new)
+            (statement_field self.now.found.graph.now point) }
     {
         match self.found.graph.stmt(point) {
             Some(stmt) => self.write_statement_field(out, point, stmt),
@@ -286,15 +293,23 @@ impl Shown<'_> {
     }
 
     // Writes what an analysis tells at a point.
-    fn write_facts_field<K: Sink>(&self, out: &mut Pieces<'_, K>, point: u32, analysis: Analysis)
+    fn write_facts_field<K: Sink>(
+        &self,
+        out: &mut Pieces<'_, K>,
+        table: &Table,
+        point: u32,
+        analysis: Analysis,
+    )
         requires ready { IsOpen (outlet K.contents K.faults out.old) }
         requires shown { AreShown self.now }
         requires form { self.now.names.form ≡ Quoted }
+        requires table { IsTableOf self.now.found.graph.now table.now }
+        requires facts { facts_of table.now ≡ told_by (known_of self.now) analysis }
         requires point { point < point_count self.now.found.graph.now }
         ensures same_reference { out.new.sink.ghost_name ≡ out.old.sink.ghost_name }
-        ensures takes { Takes (outlet K.contents K.faults out.old) (outlet K.contents K.faults out.new) (facts_field self.now.found.graph.now (known_of self.now) point analysis) }
+        ensures takes { Takes (outlet K.contents K.faults out.old) (outlet K.contents K.faults out.new)
+            (facts_field self.now.found.graph.now (known_of self.now) point analysis) }
     {
-        let table = self.table(analysis);
         let bits = self.found.graph.bits(analysis);
         out.write(b",\"");
         out.write(name_of(analysis));
@@ -308,24 +323,19 @@ impl Shown<'_> {
     }
 
     // Writes it where the analysis is chosen.
-    fn write_facts_field_if<K: Sink>(
-        &self,
-        out: &mut Pieces<'_, K>,
-        chosen: bool,
-        point: u32,
-        analysis: Analysis,
-    )
+    fn write_facts_field_if<K: Sink>(&self, out: &mut Pieces<'_, K>, point: u32, analysis: Analysis)
         requires ready { IsOpen (outlet K.contents K.faults out.old) }
         requires shown { AreShown self.now }
         requires form { self.now.names.form ≡ Quoted }
         requires point { point < point_count self.now.found.graph.now }
         ensures same_reference { out.new.sink.ghost_name ≡ out.old.sink.ghost_name }
-        ensures takes { Takes (outlet K.contents K.faults out.old) (outlet K.contents K.faults out.new) (flat_map (facts_field self.now.found.graph.now (known_of self.now) point) (analysis_if chosen analysis)) }
+        ensures takes { Takes (outlet K.contents K.faults out.old) (outlet K.contents K.faults out.new) (flat_map
+            (facts_field self.now.found.graph.now (known_of self.now) point) (analysis_if (is_chosen self.now.view.facts analysis) analysis)) }
     {
-        if !chosen {
+        let Some(table) = self.table(analysis) else {
             return;
-        }
-        self.write_facts_field(out, point, analysis);
+        };
+        self.write_facts_field(out, table, point, analysis);
     }
 
     // Writes what the chosen analyses tell at a point.
@@ -335,13 +345,13 @@ impl Shown<'_> {
         requires form { self.now.names.form ≡ Quoted }
         requires point { point < point_count self.now.found.graph.now }
         ensures same_reference { out.new.sink.ghost_name ≡ out.old.sink.ghost_name }
-        ensures takes { Takes (outlet K.contents K.faults out.old) (outlet K.contents K.faults out.new) (flat_map (facts_field self.now.found.graph.now (known_of self.now) point) (chosen_analyses self.now.view.facts)) }
+        ensures takes { Takes (outlet K.contents K.faults out.old) (outlet K.contents K.faults out.new)
+            (flat_map (facts_field self.now.found.graph.now (known_of self.now) point) (chosen_analyses self.now.view.facts)) }
     {
-        let chosen = self.view.facts;
-        self.write_facts_field_if(out, chosen.reach, point, Analysis::Reach);
-        self.write_facts_field_if(out, chosen.live, point, Analysis::Live);
-        self.write_facts_field_if(out, chosen.avail, point, Analysis::Avail);
-        self.write_facts_field_if(out, chosen.busy, point, Analysis::Busy);
+        self.write_facts_field_if(out, point, Analysis::Reach);
+        self.write_facts_field_if(out, point, Analysis::Live);
+        self.write_facts_field_if(out, point, Analysis::Avail);
+        self.write_facts_field_if(out, point, Analysis::Busy);
     }
 
     // Writes which point it is.
@@ -350,7 +360,10 @@ impl Shown<'_> {
         requires shown { AreShown self.now }
         requires point { point < point_count self.now.found.graph.now }
         ensures same_reference { out.new.sink.ghost_name ≡ out.old.sink.ghost_name }
-        ensures takes { Takes (outlet K.contents K.faults out.old) (outlet K.contents K.faults out.new) (codes "{\"type\":\"point\",\"point\":" ++ decimal point ++ codes ",\"procedure\":" ++ quoted (procedure_name self.now.found.graph.now (procedure_at self.now.found.graph.now point)) ++ codes ",\"place\":" ++ decimal (place_of self.now.found.graph.now point).place) }
+        ensures takes { Takes (outlet K.contents K.faults out.old) (outlet K.contents K.faults out.new)
+            (codes "{\"type\":\"point\",\"point\":" ++ decimal point ++ codes ",\"procedure\":"
+            ++ quoted (procedure_name self.now.found.graph.now (procedure_at self.now.found.graph.now point)) ++ codes ",\"place\":"
+            ++ decimal (place_of self.now.found.graph.now point).place) }
     {
         let place = self.found.graph.place(point);
         out.write(b"{\"type\":\"point\",\"point\":");
@@ -368,7 +381,8 @@ impl Shown<'_> {
         requires form { self.now.names.form ≡ Quoted }
         requires point { point < point_count self.now.found.graph.now }
         ensures same_reference { out.new.sink.ghost_name ≡ out.old.sink.ghost_name }
-        ensures takes { Takes (outlet K.contents K.faults out.old) (outlet K.contents K.faults out.new) (point_line self.now.found.graph.now (known_of self.now) self.now.view.facts point) }
+        ensures takes { Takes (outlet K.contents K.faults out.old) (outlet K.contents K.faults out.new)
+            (point_line self.now.found.graph.now (known_of self.now) self.now.view.facts point) }
     {
         if out.has_failed() {
             return;
@@ -391,7 +405,8 @@ impl Shown<'_> {
         requires ordered { points.first ≤ points.end }
         requires points { points.end ≤ point_count self.now.found.graph.now }
         ensures same_reference { out.new.sink.ghost_name ≡ out.old.sink.ghost_name }
-        ensures takes { Takes (outlet K.contents K.faults out.old) (outlet K.contents K.faults out.new) (flat_map (point_line self.now.found.graph.now (known_of self.now) self.now.view.facts) (numbers_of points)) }
+        ensures takes { Takes (outlet K.contents K.faults out.old) (outlet K.contents K.faults out.new)
+            (flat_map (point_line self.now.found.graph.now (known_of self.now) self.now.view.facts) (numbers_of points)) }
     {
         for point in points.first..points.end {
             self.write_point(out, point);
@@ -406,7 +421,9 @@ impl Shown<'_> {
         requires ordered { procedures.first ≤ procedures.end }
         requires procedures { procedures.end ≤ length self.now.found.graph.now.procedures }
         ensures same_reference { out.new.sink.ghost_name ≡ out.old.sink.ghost_name }
-        ensures takes { Takes (outlet K.contents K.faults out.old) (outlet K.contents K.faults out.new) (flat_map (point_line self.now.found.graph.now (known_of self.now) self.now.view.facts) (flat_map (points_in self.now.found.graph.now) (numbers_of procedures))) }
+        ensures takes { Takes (outlet K.contents K.faults out.old) (outlet K.contents K.faults out.new)
+            (flat_map (point_line self.now.found.graph.now (known_of self.now) self.now.view.facts)
+            (flat_map (points_in self.now.found.graph.now) (numbers_of procedures))) }
     {
         for procedure in procedures.first..procedures.end {
             self.write_points(out, self.points_of(procedure));
@@ -420,7 +437,8 @@ impl Shown<'_> {
         requires ordered { points.first ≤ points.end }
         requires points { points.end ≤ point_count self.now.found.graph.now }
         ensures same_reference { out.new.sink.ghost_name ≡ out.old.sink.ghost_name }
-        ensures takes { Takes (outlet K.contents K.faults out.old) (outlet K.contents K.faults out.new) (flat_map (remark_lines self.now.found.graph.now (known_of self.now)) (numbers_of points)) }
+        ensures takes { Takes (outlet K.contents K.faults out.old) (outlet K.contents K.faults out.new)
+            (flat_map (remark_lines self.now.found.graph.now (known_of self.now)) (numbers_of points)) }
     {
         for point in points.first..points.end {
             self.write_remarks_at(&JsonLine, out, point);
@@ -434,7 +452,8 @@ impl Shown<'_> {
         requires ordered { procedures.first ≤ procedures.end }
         requires procedures { procedures.end ≤ length self.now.found.graph.now.procedures }
         ensures same_reference { out.new.sink.ghost_name ≡ out.old.sink.ghost_name }
-        ensures takes { Takes (outlet K.contents K.faults out.old) (outlet K.contents K.faults out.new) (flat_map (remark_lines self.now.found.graph.now (known_of self.now)) (flat_map (points_in self.now.found.graph.now) (numbers_of procedures))) }
+        ensures takes { Takes (outlet K.contents K.faults out.old) (outlet K.contents K.faults out.new) (flat_map
+            (remark_lines self.now.found.graph.now (known_of self.now)) (flat_map (points_in self.now.found.graph.now) (numbers_of procedures))) }
     {
         for procedure in procedures.first..procedures.end {
             self.write_remarks(out, self.points_of(procedure));
@@ -447,7 +466,8 @@ impl Shown<'_> {
         requires shown { AreShown self.now }
         requires form { self.now.names.form ≡ Quoted }
         ensures same_reference { out.new.sink.ghost_name ≡ out.old.sink.ghost_name }
-        ensures takes { Takes (outlet K.contents K.faults out.old) (outlet K.contents K.faults out.new) (json_of self.now.found.graph.now (known_of self.now) self.now.view) }
+        ensures takes { Takes (outlet K.contents K.faults out.old) (outlet K.contents K.faults out.new)
+            (json_of self.now.found.graph.now (known_of self.now) self.now.view) }
     {
         let procedures = self.procedures();
         self.write_program(out);
@@ -496,16 +516,16 @@ impl<'a> Model for JsonText<'a> {
 impl<'a> JsonText<'a> {
     /// The lines, ready to be written.
     ///
-    /// The conditions: the tables and the answers to what a report asks are of this graph, and the procedure that is shown is one of its
-    /// program. Fails only where memory runs out.
+    /// The conditions: the answers to what a report asks and the tables are of this graph, these of the analyses that are shown, and the
+    /// procedure that is shown is one of its program. Fails only where memory runs out.
     pub fn of(
         alloc: Global,
         graph: &'a Graph<'a>,
-        tables: &'a Tables,
+        tables: &'a ShownTables,
         answers: &'a ReportAnswers,
         view: View,
     ) -> Result<JsonText<'a>, OutOfMemory>
-        requires tables { AreTablesOf graph.now tables.now }
+        requires tables { AreShownTables graph.now view.facts tables.now }
         requires answers { TellReport graph.now answers.now }
         requires procedure { IfSome view.procedure (λ procedure. procedure < length graph.now.procedure_names) }
         ensures { IfOk result (IsJson graph.now view) }

@@ -7,10 +7,12 @@ mod names;
 mod optional;
 mod scope;
 mod shown;
+mod shown_tables;
 mod strings;
 mod view;
 
 pub use dots::DotText;
 pub use json::JsonText;
+pub use shown_tables::ShownTables;
 pub use std::alloc::AllocError as OutOfMemory;
 pub use view::{Chosen, View};

@@ -27,7 +27,8 @@ impl Scope<'_> {
         requires ready { IsOpen (outlet K.contents K.faults out.old) }
         requires variable { variable < length self.now.program.now.variable_names }
         ensures same_reference { out.new.sink.ghost_name ≡ out.old.sink.ghost_name }
-        ensures takes { Takes (outlet K.contents K.faults out.old) (outlet K.contents K.faults out.new) (escaped (name_at self.now.program.now.variable_names variable)) }
+        ensures takes { Takes (outlet K.contents K.faults out.old) (outlet K.contents K.faults out.new)
+            (escaped (name_at self.now.program.now.variable_names variable)) }
     {
         write_escaped(out, self.program.variable(variable));
     }
@@ -36,7 +37,8 @@ impl Scope<'_> {
         requires ready { IsOpen (outlet K.contents K.faults out.old) }
         requires operand { IsSoundOperand (length self.now.program.now.variable_names) operand }
         ensures same_reference { out.new.sink.ghost_name ≡ out.old.sink.ghost_name }
-        ensures takes { Takes (outlet K.contents K.faults out.old) (outlet K.contents K.faults out.new) (escaped (operand_text (names_in self.now.program.now self.now.procedure) operand)) }
+        ensures takes { Takes (outlet K.contents K.faults out.old) (outlet K.contents K.faults out.new)
+            (escaped (operand_text (names_in self.now.program.now self.now.procedure) operand)) }
     {
         match operand {
             Operand::Variable(variable) => self.write_variable(out, variable),
@@ -48,7 +50,8 @@ impl Scope<'_> {
         requires ready { IsOpen (outlet K.contents K.faults out.old) }
         requires operand { IsSoundOperand (length self.now.program.now.variable_names) operand }
         ensures same_reference { out.new.sink.ghost_name ≡ out.old.sink.ghost_name }
-        ensures takes { Takes (outlet K.contents K.faults out.old) (outlet K.contents K.faults out.new) (escaped (unary_text (names_in self.now.program.now self.now.procedure) op operand)) }
+        ensures takes { Takes (outlet K.contents K.faults out.old) (outlet K.contents K.faults out.new)
+            (escaped (unary_text (names_in self.now.program.now self.now.procedure) op operand)) }
     {
         write_escaped(out, op.sign());
         self.write_operand(out, operand);
@@ -59,7 +62,8 @@ impl Scope<'_> {
         requires left { IsSoundOperand (length self.now.program.now.variable_names) left }
         requires right { IsSoundOperand (length self.now.program.now.variable_names) right }
         ensures same_reference { out.new.sink.ghost_name ≡ out.old.sink.ghost_name }
-        ensures takes { Takes (outlet K.contents K.faults out.old) (outlet K.contents K.faults out.new) (escaped (binary_text (names_in self.now.program.now self.now.procedure) left op right)) }
+        ensures takes { Takes (outlet K.contents K.faults out.old) (outlet K.contents K.faults out.new)
+            (escaped (binary_text (names_in self.now.program.now self.now.procedure) left op right)) }
     {
         self.write_operand(out, left);
         out.write(b" ");
@@ -73,7 +77,8 @@ impl Scope<'_> {
         requires ready { IsOpen (outlet K.contents K.faults out.old) }
         requires target { target < length self.now.program.now.variable_names }
         ensures same_reference { out.new.sink.ghost_name ≡ out.old.sink.ghost_name }
-        ensures takes { Takes (outlet K.contents K.faults out.old) (outlet K.contents K.faults out.new) (escaped (name_at self.now.program.now.variable_names target ++ codes " = ")) }
+        ensures takes { Takes (outlet K.contents K.faults out.old) (outlet K.contents K.faults out.new)
+            (escaped (name_at self.now.program.now.variable_names target ++ codes " = ")) }
     {
         self.write_variable(out, target);
         out.write(b" = ");
@@ -84,7 +89,8 @@ impl Scope<'_> {
         requires label { label < length (names_in self.now.program.now self.now.procedure).labels }
         requires procedure { self.now.procedure < length self.now.program.now.procedures }
         ensures same_reference { out.new.sink.ghost_name ≡ out.old.sink.ghost_name }
-        ensures takes { Takes (outlet K.contents K.faults out.old) (outlet K.contents K.faults out.new) (escaped (goto_text (names_in self.now.program.now self.now.procedure) label)) }
+        ensures takes { Takes (outlet K.contents K.faults out.old) (outlet K.contents K.faults out.new)
+            (escaped (goto_text (names_in self.now.program.now self.now.procedure) label)) }
     {
         out.write(b"goto ");
         write_escaped(out, self.program.label(self.procedure, label));
@@ -95,7 +101,8 @@ impl Scope<'_> {
         requires target { target < length self.now.program.now.variable_names }
         requires value { IsSoundOperand (length self.now.program.now.variable_names) value }
         ensures same_reference { out.new.sink.ghost_name ≡ out.old.sink.ghost_name }
-        ensures takes { Takes (outlet K.contents K.faults out.old) (outlet K.contents K.faults out.new) (escaped (statement_text (names_in self.now.program.now self.now.procedure) (kind_of.Copy target value))) }
+        ensures takes { Takes (outlet K.contents K.faults out.old) (outlet K.contents K.faults out.new)
+            (escaped (statement_text (names_in self.now.program.now self.now.procedure) (kind_of.Copy target value))) }
     {
         self.write_target(out, target);
         self.write_operand(out, value);
@@ -112,7 +119,8 @@ impl Scope<'_> {
         requires target { target < length self.now.program.now.variable_names }
         requires operand { IsSoundOperand (length self.now.program.now.variable_names) operand }
         ensures same_reference { out.new.sink.ghost_name ≡ out.old.sink.ghost_name }
-        ensures takes { Takes (outlet K.contents K.faults out.old) (outlet K.contents K.faults out.new) (escaped (statement_text (names_in self.now.program.now self.now.procedure) (kind_of.Unary target op operand))) }
+        ensures takes { Takes (outlet K.contents K.faults out.old) (outlet K.contents K.faults out.new)
+            (escaped (statement_text (names_in self.now.program.now self.now.procedure) (kind_of.Unary target op operand))) }
     {
         self.write_target(out, target);
         self.write_unary(out, op, operand);
@@ -131,7 +139,8 @@ impl Scope<'_> {
         requires left { IsSoundOperand (length self.now.program.now.variable_names) left }
         requires right { IsSoundOperand (length self.now.program.now.variable_names) right }
         ensures same_reference { out.new.sink.ghost_name ≡ out.old.sink.ghost_name }
-        ensures takes { Takes (outlet K.contents K.faults out.old) (outlet K.contents K.faults out.new) (escaped (statement_text (names_in self.now.program.now self.now.procedure) (kind_of.Binary op target left right))) }
+        ensures takes { Takes (outlet K.contents K.faults out.old) (outlet K.contents K.faults out.new)
+            (escaped (statement_text (names_in self.now.program.now self.now.procedure) (kind_of.Binary op target left right))) }
     {
         self.write_target(out, target);
         self.write_binary(out, left, op, right);
@@ -143,7 +152,8 @@ impl Scope<'_> {
         requires label { label < length (names_in self.now.program.now self.now.procedure).labels }
         requires procedure { self.now.procedure < length self.now.program.now.procedures }
         ensures same_reference { out.new.sink.ghost_name ≡ out.old.sink.ghost_name }
-        ensures takes { Takes (outlet K.contents K.faults out.old) (outlet K.contents K.faults out.new) (escaped (statement_text (names_in self.now.program.now self.now.procedure) (kind_of.If condition label))) }
+        ensures takes { Takes (outlet K.contents K.faults out.old) (outlet K.contents K.faults out.new)
+            (escaped (statement_text (names_in self.now.program.now self.now.procedure) (kind_of.If condition label))) }
     {
         out.write(b"if ");
         self.write_operand(out, condition);
@@ -157,7 +167,8 @@ impl Scope<'_> {
         requires label { label < length (names_in self.now.program.now self.now.procedure).labels }
         requires procedure { self.now.procedure < length self.now.program.now.procedures }
         ensures same_reference { out.new.sink.ghost_name ≡ out.old.sink.ghost_name }
-        ensures takes { Takes (outlet K.contents K.faults out.old) (outlet K.contents K.faults out.new) (escaped (statement_text (names_in self.now.program.now self.now.procedure) (kind_of.IfFalse condition label))) }
+        ensures takes { Takes (outlet K.contents K.faults out.old) (outlet K.contents K.faults out.new)
+            (escaped (statement_text (names_in self.now.program.now self.now.procedure) (kind_of.IfFalse condition label))) }
     {
         out.write(b"ifFalse ");
         self.write_operand(out, condition);
@@ -179,7 +190,8 @@ impl Scope<'_> {
         requires label { label < length (names_in self.now.program.now self.now.procedure).labels }
         requires procedure { self.now.procedure < length self.now.program.now.procedures }
         ensures same_reference { out.new.sink.ghost_name ≡ out.old.sink.ghost_name }
-        ensures takes { Takes (outlet K.contents K.faults out.old) (outlet K.contents K.faults out.new) (escaped (statement_text (names_in self.now.program.now self.now.procedure) (kind_of.IfCompare op label left right))) }
+        ensures takes { Takes (outlet K.contents K.faults out.old) (outlet K.contents K.faults out.new)
+            (escaped (statement_text (names_in self.now.program.now self.now.procedure) (kind_of.IfCompare op label left right))) }
     {
         out.write(b"if ");
         self.write_binary(out, left, op, right);
@@ -191,7 +203,8 @@ impl Scope<'_> {
         requires ready { IsOpen (outlet K.contents K.faults out.old) }
         requires callees { All (λ callee. callee < length self.now.program.now.procedure_names) callees.now }
         ensures same_reference { out.new.sink.ghost_name ≡ out.old.sink.ghost_name }
-        ensures takes { Takes (outlet K.contents K.faults out.old) (outlet K.contents K.faults out.new) (escaped (callees_text (names_in self.now.program.now self.now.procedure) callees.now)) }
+        ensures takes { Takes (outlet K.contents K.faults out.old) (outlet K.contents K.faults out.new)
+            (escaped (callees_text (names_in self.now.program.now self.now.procedure) callees.now)) }
     {
         for (place, callee) in callees.iter().enumerate() {
             write_if(out, 0 < place, b" | ");
@@ -203,7 +216,8 @@ impl Scope<'_> {
         requires ready { IsOpen (outlet K.contents K.faults out.old) }
         requires callees { All (λ callee. callee < length self.now.program.now.procedure_names) callees.now }
         ensures same_reference { out.new.sink.ghost_name ≡ out.old.sink.ghost_name }
-        ensures takes { Takes (outlet K.contents K.faults out.old) (outlet K.contents K.faults out.new) (escaped (codes "call " ++ callees_text (names_in self.now.program.now self.now.procedure) callees.now)) }
+        ensures takes { Takes (outlet K.contents K.faults out.old) (outlet K.contents K.faults out.new)
+            (escaped (codes "call " ++ callees_text (names_in self.now.program.now self.now.procedure) callees.now)) }
     {
         out.write(b"call ");
         self.write_callees(out, callees);
@@ -213,7 +227,8 @@ impl Scope<'_> {
         requires ready { IsOpen (outlet K.contents K.faults out.old) }
         requires target { target < length self.now.program.now.variable_names }
         ensures same_reference { out.new.sink.ghost_name ≡ out.old.sink.ghost_name }
-        ensures takes { Takes (outlet K.contents K.faults out.old) (outlet K.contents K.faults out.new) (escaped (statement_text (names_in self.now.program.now self.now.procedure) (kind_of.Read target))) }
+        ensures takes { Takes (outlet K.contents K.faults out.old) (outlet K.contents K.faults out.new)
+            (escaped (statement_text (names_in self.now.program.now self.now.procedure) (kind_of.Read target))) }
     {
         out.write(b"read ");
         self.write_variable(out, target);
@@ -223,7 +238,8 @@ impl Scope<'_> {
         requires ready { IsOpen (outlet K.contents K.faults out.old) }
         requires value { IsSoundOperand (length self.now.program.now.variable_names) value }
         ensures same_reference { out.new.sink.ghost_name ≡ out.old.sink.ghost_name }
-        ensures takes { Takes (outlet K.contents K.faults out.old) (outlet K.contents K.faults out.new) (escaped (statement_text (names_in self.now.program.now self.now.procedure) (kind_of.Print value))) }
+        ensures takes { Takes (outlet K.contents K.faults out.old) (outlet K.contents K.faults out.new)
+            (escaped (statement_text (names_in self.now.program.now self.now.procedure) (kind_of.Print value))) }
     {
         out.write(b"print ");
         self.write_operand(out, value);
@@ -235,9 +251,11 @@ impl Scope<'_> {
     pub(crate) fn write_statement<K: Sink>(&self, out: &mut Pieces<'_, K>, kind: &StmtKind)
         requires ready { IsOpen (outlet K.contents K.faults out.old) }
         requires procedure { self.now.procedure < length self.now.program.now.procedures }
-        requires sound { IsSoundStatement (length self.now.program.now.variable_names) (length (names_in self.now.program.now self.now.procedure).labels) (length self.now.program.now.procedure_names) kind.now }
+        requires sound { IsSoundStatement (length self.now.program.now.variable_names)
+            (length (names_in self.now.program.now self.now.procedure).labels) (length self.now.program.now.procedure_names) kind.now }
         ensures same_reference { out.new.sink.ghost_name ≡ out.old.sink.ghost_name }
-        ensures takes { Takes (outlet K.contents K.faults out.old) (outlet K.contents K.faults out.new) (escaped (statement_text (names_in self.now.program.now self.now.procedure) kind.now)) }
+        ensures takes { Takes (outlet K.contents K.faults out.old) (outlet K.contents K.faults out.new)
+            (escaped (statement_text (names_in self.now.program.now self.now.procedure) kind.now)) }
     {
         match kind {
             StmtKind::Copy { target, value } => self.write_copy(out, *target, *value),

@@ -1,26 +1,27 @@
 // What both texts are made of.
 
-ghost use Rattle.std.specs.Prelude.{◌≡◌, ◌+◌, ◌<◌, ◌≤◌, suc, Some, flat_map, length, map, IfOk, IfSome};
+ghost use Rattle.std.specs.Prelude.{◌≡◌, ◌+◌, ◌<◌, ◌≤◌, suc, None, Some, false, true, flat_map, length, map, IfOk, IfSome};
 ghost use Rattle.flow_graph.specs.Edges.{edges_from};
 ghost use Rattle.flow_graph.specs.Points.{end_place, entry_point, kind_at, point_count, points, procedure_at, statement_at};
 ghost use Rattle.flow_team.specs.Tables.{IsTableOf, facts_of};
 ghost use Rattle.text_pieces.specs.Pieces.{IsOpen, Takes, outlet};
-ghost use Rattle.flow_team.specs.AllTables.{AreTablesOf};
-ghost use Rattle.flow_texts.specs.Reports.{IsKnowledge, dead_at, remarks_at, unset_at};
+ghost use Rattle.flow_views.specs.ShownTables.{AreShownTables};
+ghost use Rattle.flow_texts.specs.Reports.{dead_at, remarks_at, unset_at};
 ghost use Rattle.flow_texts.specs.code.Reported.{TellReport};
 ghost use Rattle.text_pieces.specs.code.Lists.{some_stand};
 ghost use Rattle.tac_program.specs.Listings.{statement_text};
 ghost use Rattle.flow_views.specs.code.Names.{AreNamesOf};
-ghost use Rattle.flow_views.specs.code.Shown.{AreShown, contents, known_of, numbers_of};
+ghost use Rattle.flow_views.specs.code.Shown.{AreShown, contents, is_chosen, known_of, numbers_of};
 ghost use Rattle.flow_views.specs.Strings.{escaped};
 ghost use Rattle.flow_views.specs.Views.{analysis_name, names_at, points_in, procedure_name as name_of_procedure, shown_procedures, told_by};
 
 use crate::names::{NameForm, Names};
 use crate::scope::Scope;
+use crate::shown_tables::ShownTables;
 use crate::view::View;
 use flow_graph::{Analysis, Edge, Graph, OutOfMemory};
 use flow_team::Table;
-use flow_texts::{Findings, RemarkForm, ReportAnswers, Tables};
+use flow_texts::{Findings, RemarkForm, ReportAnswers};
 use smallvec::SmallVec;
 use std::alloc::Global;
 use tac_program::{Stmt, StmtKind};
@@ -38,8 +39,8 @@ pub(crate) struct Numbers {
 pub(crate) struct Shown<'a> {
     /// What was found.
     pub(crate) found: Findings<'a>,
-    /// The tables of its analyses.
-    pub(crate) tables: &'a Tables,
+    /// The tables of the analyses whose facts are shown.
+    pub(crate) tables: &'a ShownTables,
     /// What its bits are called.
     pub(crate) names: Names,
     /// The edges out of each point.
@@ -77,24 +78,23 @@ pub(crate) fn name_of(analysis: Analysis) -> &'static [u8]
 impl<'a> Shown<'a> {
     /// What is shown of a graph with its tables, and the names of bits in this form.
     ///
-    /// The conditions: the tables and the answers to what a report asks are of this graph, and the procedure is there. Fails only where
-    /// memory runs out.
+    /// The conditions: the answers to what a report asks and the tables are of this graph, these of the analyses that are shown, and the
+    /// procedure is there. Fails only where memory runs out.
     pub(crate) fn of(
         alloc: Global,
         graph: &'a Graph<'a>,
-        tables: &'a Tables,
+        tables: &'a ShownTables,
         answers: &'a ReportAnswers,
         view: View,
         form: NameForm,
     ) -> Result<Shown<'a>, OutOfMemory>
-        requires tables { AreTablesOf graph.now tables.now }
+        requires tables { AreShownTables graph.now view.facts tables.now }
         requires answers { TellReport graph.now answers.now }
         requires procedure { IfSome view.procedure (λ procedure. procedure < length graph.now.procedure_names) }
         ensures program { IfOk result (λ shown. shown.found.graph.now ≡ graph.now) }
         ensures view { IfOk result (λ shown. shown.view ≡ view) }
         ensures form { IfOk result (λ shown. shown.names.form ≡ form) }
         ensures shown { IfOk result AreShown }
-        ensures known { IfOk result (λ shown. IsKnowledge shown.found.graph.now (known_of shown)) }
     {
         let found = Findings::of(alloc, graph, answers)?;
         let names = Names::of(alloc, graph, form)?;
@@ -123,19 +123,16 @@ impl Shown<'_> {
         }
     }
 
-    /// The table of an analysis.
-    pub(crate) fn table(&self, analysis: Analysis) -> &Table
+    /// The table of an analysis, where its facts are shown.
+    pub(crate) fn table(&self, analysis: Analysis) -> Option<&Table>
         requires { AreShown self.now }
-        ensures analysis { result.now.analysis ≡ analysis }
-        ensures table { IsTableOf self.now.found.graph.now result.now }
-        ensures facts { facts_of result.now ≡ told_by (known_of self.now) analysis }
+        ensures none { result ≡ None → is_chosen self.now.view.facts analysis ≡ false }
+        ensures some { IfSome result (λ table. is_chosen self.now.view.facts analysis ≡ true) }
+        ensures table { IfSome result (λ table. IsTableOf self.now.found.graph.now table.now) }
+        ensures analysis { IfSome result (λ table. table.now.analysis ≡ analysis) }
+        ensures facts { IfSome result (λ table. facts_of table.now ≡ told_by (known_of self.now) analysis) }
     {
-        match analysis {
-            Analysis::Reach => &self.tables.reach,
-            Analysis::Live => &self.tables.live,
-            Analysis::Avail => &self.tables.avail,
-            Analysis::Busy => &self.tables.busy,
-        }
+        self.tables.table(analysis)
     }
 
     /// Writes the remarks of a point, each in that form.
@@ -149,7 +146,8 @@ impl Shown<'_> {
         requires shown { AreShown self.now }
         requires point { point < point_count self.now.found.graph.now }
         ensures same_reference { out.new.sink.ghost_name ≡ out.old.sink.ghost_name }
-        ensures takes { Takes (outlet K.contents K.faults out.old) (outlet K.contents K.faults out.new) (flat_map (F.text form.now self.now.found.graph.now point) (remarks_at self.now.found.graph.now (known_of self.now) point)) }
+        ensures takes { Takes (outlet K.contents K.faults out.old) (outlet K.contents K.faults out.new)
+            (flat_map (F.text form.now self.now.found.graph.now point) (remarks_at self.now.found.graph.now (known_of self.now) point)) }
     {
         self.found.write_remarks(form, out, point);
     }
@@ -254,7 +252,8 @@ impl Shown<'_> {
         requires point { point < point_count self.now.found.graph.now }
         requires statement { statement_at self.now.found.graph.now point ≡ Some stmt.now }
         ensures same_reference { out.new.sink.ghost_name ≡ out.old.sink.ghost_name }
-        ensures takes { Takes (outlet K.contents K.faults out.old) (outlet K.contents K.faults out.new) (escaped (statement_text (names_at self.now.found.graph.now point) stmt.now.kind)) }
+        ensures takes { Takes (outlet K.contents K.faults out.old) (outlet K.contents K.faults out.new)
+            (escaped (statement_text (names_at self.now.found.graph.now point) stmt.now.kind)) }
     {
         self.scope(point).write_statement(out, &stmt.kind);
     }

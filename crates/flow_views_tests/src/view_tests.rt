@@ -1,13 +1,13 @@
 // Both texts of small programs, by hand.
 
 ghost use Rattle.std.specs.Prelude.{◌<◌, length, IfSome};
-ghost use Rattle.flow_team.specs.AllTables.{AreTablesOf};
 ghost use Rattle.flow_texts.specs.code.Reported.{TellReport};
+ghost use Rattle.flow_views.specs.ShownTables.{AreShownTables};
 
 use failing_streams::{Page, blank_page};
 use flow_graph::Graph;
-use flow_texts::{ReportAnswers, Tables};
-use flow_views::{Chosen, DotText, JsonText, View};
+use flow_texts::ReportAnswers;
+use flow_views::{Chosen, DotText, JsonText, ShownTables, View};
 use std::alloc::Global;
 use std::process::Abort;
 use std::test::Fail;
@@ -27,13 +27,13 @@ enum Format {
 fn write_view(
     alloc: Global,
     graph: &Graph<'_>,
-    tables: &Tables,
+    tables: &ShownTables,
     answers: &ReportAnswers,
     format: Format,
     view: View,
     page: &mut Page,
 ) -> Result<bool, Fail>
-    requires tables { AreTablesOf graph.now tables.now }
+    requires tables { AreShownTables graph.now view.facts tables.now }
     requires answers { TellReport graph.now answers.now }
     requires procedure { IfSome view.procedure (λ procedure. procedure < length graph.now.procedure_names) }
 {
@@ -58,8 +58,8 @@ fn write_graph<R: Threads + Sync>(
     procedure: u32,
     page: &mut Page,
 ) -> Result<bool, Fail> {
-    let tables = Tables::of(rt, alloc, graph, 1, 64)?;
-    let answers = ReportAnswers::of_tables(alloc, graph, &tables)?;
+    let tables = ShownTables::of(rt, alloc, graph, facts, 1, 64)?;
+    let answers = ReportAnswers::of(rt, alloc, graph, 1, 64)?;
     let count = graph.program().procs().len();
     if procedure as usize >= count {
         let view = View {
@@ -119,8 +119,21 @@ const ALL_PROCEDURES: u32 = 256;
 #[test]
 fn picture_of_remarks(rt: HostRuntime) -> Result<(), Fail> {
     let got = text_of(&rt, remarks::TEXT, Format::Dot, NO_FACTS, ALL_PROCEDURES)?;
-    let wanted: &[u8] =
-        b"digraph \"tacflow\" {\n  graph [fontname=\"monospace\", labeljust=l];\n  node [shape=box, fontname=\"monospace\", fontsize=11];\n  edge [fontname=\"monospace\", fontsize=10];\n  subgraph \"cluster_0\" {\n    label=\"main\";\n    0 [label=\"3: read a\\l\"];\n    1 [label=\"4: read b\\l\"];\n    2 [label=\"5: x = a + b\\l\"];\n    3 [label=\"6: y = a + b\\la + b is already computed\\l\"];\n    4 [label=\"7: if x < y goto larger\\la * b is very busy\\l\"];\n    5 [label=\"8: z = a * b\\l\"];\n    6 [label=\"9: goto shown\\l\"];\n    7 [label=\"11: z = a * b\\l\"];\n    8 [label=\"12: x = 0\\lassignment to x is dead\\l\", style=filled, fillcolor=khaki];\n    9 [label=\"14: print z\\l\"];\n    10 [label=\"15: print count\\lcount may be used before it is set\\l\", color=red, fontcolor=red];\n    11 [label=\"16: return\\l\"];\n    12 [label=\"17: print y\\lnever reached\\l\", style=filled, fillcolor=grey80];\n    13 [label=\"end of main\\l\"];\n  }\n  0 -> 1;\n  1 -> 2;\n  2 -> 3;\n  3 -> 4;\n  4 -> 5;\n  4 -> 7;\n  5 -> 6;\n  6 -> 9;\n  7 -> 8;\n  8 -> 9;\n  9 -> 10;\n  10 -> 11;\n  11 -> 13;\n  12 -> 13;\n}\n";
+    let wanted: &[u8] = b"digraph \"tacflow\" {\n  graph [fontname=\"monospace\", labeljust=l];\n  \
+        node [shape=box, fontname=\"monospace\", fontsize=11];\n  \
+        edge [fontname=\"monospace\", fontsize=10];\n  subgraph \"cluster_0\" {\n    \
+        label=\"main\";\n    0 [label=\"3: read a\\l\"];\n    1 [label=\"4: read b\\l\"];\n    \
+        2 [label=\"5: x = a + b\\l\"];\n    \
+        3 [label=\"6: y = a + b\\la + b is already computed\\l\"];\n    \
+        4 [label=\"7: if x < y goto larger\\la * b is very busy\\l\"];\n    \
+        5 [label=\"8: z = a * b\\l\"];\n    6 [label=\"9: goto shown\\l\"];\n    \
+        7 [label=\"11: z = a * b\\l\"];\n    \
+        8 [label=\"12: x = 0\\lassignment to x is dead\\l\", style=filled, fillcolor=khaki];\n    \
+        9 [label=\"14: print z\\l\"];\n    \
+        10 [label=\"15: print count\\lcount may be used before it is set\\l\", color=red, fontcolor=red];\n    11 [label=\"16: return\\l\"];\n    \
+        12 [label=\"17: print y\\lnever reached\\l\", style=filled, fillcolor=grey80];\n    \
+        13 [label=\"end of main\\l\"];\n  }\n  0 -> 1;\n  1 -> 2;\n  2 -> 3;\n  3 -> 4;\n  4 -> 5;\n  \
+        4 -> 7;\n  5 -> 6;\n  6 -> 9;\n  7 -> 8;\n  8 -> 9;\n  9 -> 10;\n  10 -> 11;\n  11 -> 13;\n  12 -> 13;\n}\n";
     assert_eq!(rt; got.as_slice(), wanted);
     Ok(())
 }
@@ -130,9 +143,14 @@ fn picture_of_remarks(rt: HostRuntime) -> Result<(), Fail> {
 fn lines_of_remarks(rt: HostRuntime) -> Result<(), Fail> {
     let got = text_of(&rt, remarks::TEXT, Format::Json, NO_FACTS, ALL_PROCEDURES)?;
     let first: &[u8] =
-        b"{\"type\":\"program\",\"points\":14,\"procedures\":[\"main\"],\"variables\":[\"a\",\"b\",\"x\",\"y\",\"z\",\"count\"],\"definitions\":13,\"expressions\":2}\n";
+        b"{\"type\":\"program\",\"points\":14,\"procedures\":[\"main\"],\"variables\":[\"a\",\"b\",\"x\",\"y\",\"z\",\"count\"],\"definitions\":13,\
+        \"expressions\":2}\n";
     let last: &[u8] =
-        b"{\"type\":\"remark\",\"point\":3,\"line\":6,\"first\":92,\"last\":100,\"kind\":\"computed\",\"expression\":\"a + b\"}\n{\"type\":\"remark\",\"point\":4,\"line\":7,\"first\":140,\"last\":159,\"kind\":\"busy\",\"expression\":\"a * b\"}\n{\"type\":\"remark\",\"point\":8,\"line\":12,\"first\":244,\"last\":248,\"kind\":\"dead\",\"variable\":\"x\"}\n{\"type\":\"remark\",\"point\":10,\"line\":15,\"first\":318,\"last\":328,\"kind\":\"unset\",\"variable\":\"count\"}\n{\"type\":\"remark\",\"point\":12,\"line\":17,\"first\":365,\"last\":371,\"kind\":\"never_reached\"}\n";
+        b"{\"type\":\"remark\",\"point\":3,\"line\":6,\"first\":92,\"last\":100,\"kind\":\"computed\",\"expression\":\"a + b\"}\n\
+        {\"type\":\"remark\",\"point\":4,\"line\":7,\"first\":140,\"last\":159,\"kind\":\"busy\",\"expression\":\"a * b\"}\n\
+        {\"type\":\"remark\",\"point\":8,\"line\":12,\"first\":244,\"last\":248,\"kind\":\"dead\",\"variable\":\"x\"}\n\
+        {\"type\":\"remark\",\"point\":10,\"line\":15,\"first\":318,\"last\":328,\"kind\":\"unset\",\"variable\":\"count\"}\n\
+        {\"type\":\"remark\",\"point\":12,\"line\":17,\"first\":365,\"last\":371,\"kind\":\"never_reached\"}\n";
     assert!(rt; got.starts_with(first));
     assert!(rt; got.ends_with(last));
     Ok(())
@@ -149,7 +167,23 @@ fn lines_of_recursion(rt: HostRuntime) -> Result<(), Fail> {
     };
     let got = text_of(&rt, factorial::TEXT, Format::Json, facts, 1)?;
     let wanted: &[u8] =
-        b"{\"type\":\"program\",\"points\":10,\"procedures\":[\"main\",\"factorial\"],\"variables\":[\"n\",\"result\"],\"definitions\":6,\"expressions\":2}\n{\"type\":\"point\",\"point\":5,\"procedure\":\"factorial\",\"place\":0,\"line\":10,\"first\":135,\"last\":153,\"statement\":\"if n <= 1 goto base\",\"edges\":[{\"kind\":\"step\",\"to\":6},{\"kind\":\"step\",\"to\":9}],\"reach\":{\"path\":true,\"bits\":[2,3,4,5],\"names\":[\"n@3\",\"result@4\",\"result@11\",\"n@12\"]},\"live\":{\"path\":true,\"bits\":[0,1],\"names\":[\"n\",\"result\"]}}\n{\"type\":\"point\",\"point\":6,\"procedure\":\"factorial\",\"place\":1,\"line\":11,\"first\":157,\"last\":175,\"statement\":\"result = result * n\",\"edges\":[{\"kind\":\"step\",\"to\":7}],\"reach\":{\"path\":true,\"bits\":[2,3,4,5],\"names\":[\"n@3\",\"result@4\",\"result@11\",\"n@12\"]},\"live\":{\"path\":true,\"bits\":[0,1],\"names\":[\"n\",\"result\"]}}\n{\"type\":\"point\",\"point\":7,\"procedure\":\"factorial\",\"place\":2,\"line\":12,\"first\":179,\"last\":187,\"statement\":\"n = n - 1\",\"edges\":[{\"kind\":\"step\",\"to\":8}],\"reach\":{\"path\":true,\"bits\":[2,4,5],\"names\":[\"n@3\",\"result@11\",\"n@12\"]},\"live\":{\"path\":true,\"bits\":[0,1],\"names\":[\"n\",\"result\"]}}\n{\"type\":\"point\",\"point\":8,\"procedure\":\"factorial\",\"place\":3,\"line\":13,\"first\":191,\"last\":204,\"statement\":\"call factorial\",\"edges\":[{\"kind\":\"call\",\"site\":8,\"to\":5}],\"reach\":{\"path\":true,\"bits\":[4,5],\"names\":[\"result@11\",\"n@12\"]},\"live\":{\"path\":true,\"bits\":[0,1],\"names\":[\"n\",\"result\"]}}\n{\"type\":\"point\",\"point\":9,\"procedure\":\"factorial\",\"place\":4,\"line\":null,\"first\":null,\"last\":null,\"statement\":null,\"edges\":[{\"kind\":\"return\",\"site\":2,\"to\":3},{\"kind\":\"return\",\"site\":8,\"to\":9}],\"reach\":{\"path\":true,\"bits\":[2,3,4,5],\"names\":[\"n@3\",\"result@4\",\"result@11\",\"n@12\"]},\"live\":{\"path\":true,\"bits\":[1],\"names\":[\"result\"]}}\n";
+        b"{\"type\":\"program\",\"points\":10,\"procedures\":[\"main\",\"factorial\"],\"variables\":[\"n\",\"result\"],\"definitions\":6,\
+        \"expressions\":2}\n\
+        {\"type\":\"point\",\"point\":5,\"procedure\":\"factorial\",\"place\":0,\"line\":10,\"first\":135,\"last\":153,\"statement\":\"if n <= 1 \
+        goto base\",\"edges\":[{\"kind\":\"step\",\"to\":6},{\"kind\":\"step\",\"to\":9}],\"reach\":{\"path\":true,\"bits\":[2,3,4,5],\
+        \"names\":[\"n@3\",\"result@4\",\"result@11\",\"n@12\"]},\"live\":{\"path\":true,\"bits\":[0,1],\"names\":[\"n\",\"result\"]}}\n\
+        {\"type\":\"point\",\"point\":6,\"procedure\":\"factorial\",\"place\":1,\"line\":11,\"first\":157,\"last\":175,\"statement\":\"result = \
+        result * n\",\"edges\":[{\"kind\":\"step\",\"to\":7}],\"reach\":{\"path\":true,\"bits\":[2,3,4,5],\"names\":[\"n@3\",\"result@4\",\
+        \"result@11\",\"n@12\"]},\"live\":{\"path\":true,\"bits\":[0,1],\"names\":[\"n\",\"result\"]}}\n\
+        {\"type\":\"point\",\"point\":7,\"procedure\":\"factorial\",\"place\":2,\"line\":12,\"first\":179,\"last\":187,\"statement\":\"n = n - 1\",\
+        \"edges\":[{\"kind\":\"step\",\"to\":8}],\"reach\":{\"path\":true,\"bits\":[2,4,5],\"names\":[\"n@3\",\"result@11\",\"n@12\"]},\
+        \"live\":{\"path\":true,\"bits\":[0,1],\"names\":[\"n\",\"result\"]}}\n\
+        {\"type\":\"point\",\"point\":8,\"procedure\":\"factorial\",\"place\":3,\"line\":13,\"first\":191,\"last\":204,\"statement\":\"call \
+        factorial\",\"edges\":[{\"kind\":\"call\",\"site\":8,\"to\":5}],\"reach\":{\"path\":true,\"bits\":[4,5],\"names\":[\"result@11\",\"n@12\"]},\
+        \"live\":{\"path\":true,\"bits\":[0,1],\"names\":[\"n\",\"result\"]}}\n\
+        {\"type\":\"point\",\"point\":9,\"procedure\":\"factorial\",\"place\":4,\"line\":null,\"first\":null,\"last\":null,\"statement\":null,\
+        \"edges\":[{\"kind\":\"return\",\"site\":2,\"to\":3},{\"kind\":\"return\",\"site\":8,\"to\":9}],\"reach\":{\"path\":true,\"bits\":[2,3,4,5],\
+        \"names\":[\"n@3\",\"result@4\",\"result@11\",\"n@12\"]},\"live\":{\"path\":true,\"bits\":[1],\"names\":[\"result\"]}}\n";
     assert_eq!(rt; got.as_slice(), wanted);
     Ok(())
 }

@@ -25,12 +25,15 @@ no_bit = record { gen = λ x y. false; kill = λ x y. false; boundary = false }
 
 pub backward_flags_are_reversed : BackwardFlagsAreReversed
 backward_flags_are_reversed shape point well =
-    iff_trans (solution_is_meet (reversed_shape shape) no_bit point (reversed_is_well_formed shape well)).0 (iff_sym (meets_reverse shape no_bit point).0)
+    iff_trans (solution_is_meet (reversed_shape shape) no_bit point (reversed_is_well_formed shape well)).0
+    (iff_sym (meets_reverse shape no_bit point).0)
 
 pub backward_may_is_reversed : BackwardMayIsReversed
 backward_may_is_reversed shape transfer point well =
-    iff_trans (solution_is_meet (reversed_shape shape) (reversed_transfer transfer) point (reversed_is_well_formed shape well)).1 (iff_sym (meets_reverse shape transfer point).1)
+    iff_trans (solution_is_meet (reversed_shape shape) (reversed_transfer transfer) point (reversed_is_well_formed shape well)).1
+    (iff_sym (meets_reverse shape transfer point).1)
 
 pub backward_must_is_reversed_complement : BackwardMustIsReversedComplement
 backward_must_is_reversed_complement shape transfer point well =
-    iff_trans (iff_not (backward_may_is_reversed shape (complemented_transfer transfer) point well)) (iff_sym (meets_complement shape transfer point).1)
+    iff_trans (iff_not (backward_may_is_reversed shape (complemented_transfer transfer) point well))
+    (iff_sym (meets_complement shape transfer point).1)

@@ -14,7 +14,8 @@ use Rattle.std.proofs.lemmas.List.{get_or-set_same, get_or-set_other}
 pub no_bit : (W w k : ℕ) → has_bit (get_or (replicate W 0) w 0) k ≡ true → ⊥
 no_bit W w k has = elim (cases_lt w W) [
   | inl within ↦ false≢true (sym (has_bit-zero k) ∙ (ap (λ n. has_bit n k) (sym (get_or-replicate W w 0 0 within)) ∙ has))
-  | inr past ↦ false≢true (sym (has_bit-zero k) ∙ (ap (λ n. has_bit n k) (sym (get_or_past (replicate W 0) w 0 (omega (arith, length-replicate {A = ℕ} W 0)))) ∙ has))
+  | inr past ↦ false≢true
+      (sym (has_bit-zero k) ∙ (ap (λ n. has_bit n k) (sym (get_or_past (replicate W 0) w 0 (omega (arith, length-replicate {A = ℕ} W 0)))) ∙ has))
 ]
 
 pub each_bit : (W w k : ℕ) → w < W → k < 64 → has_bit (get_or (replicate W (2 ^ 64 - 1)) w 0) k ≡ true
@@ -27,23 +28,29 @@ abbrev pub entry_summary : (W : ℕ) → Summary W
 entry_summary W = record { kept = replicate W (2 ^ 64 - 1); made = replicate W 0 }
 
 -- blank summaries have no bits
-pub blank_sound : (W : ℕ) (group : Group) (table : List (Summary W)) → ((j : ℕ) (d : Summary W) → j < length table → get_or table j d ≡ blank_summary W) → AreSoundSummaries group table
+pub blank_sound : (W : ℕ) (group : Group) (table : List (Summary W))
+    → ((j : ℕ) (d : Summary W) → j < length table → get_or table j d ≡ blank_summary W) → AreSoundSummaries group table
 blank_sound W group table blank w inside = (λ x k low has. absurd (kept x k has), λ x k low has. absurd (made x k has))
   where
     kept : (x k : ℕ) → HasBit (kept_word table w) x k → ⊥
     kept x k has = elim (cases_lt x (length table)) [
-      | inl within ↦ no_bit W w k (ap (λ (s : Summary W). has_bit (get_or s.kept w 0) k) (sym (blank x (record { kept = []; made = [] }) within)) ∙ has)
-      | inr past ↦ false≢true (sym (has_bit-zero k) ∙ (ap (λ (s : Summary W). has_bit (get_or s.kept w 0) k) (sym (get_or_past table x (record { kept = []; made = [] }) past)) ∙ has))
+      | inl within ↦
+          no_bit W w k (ap (λ (s : Summary W). has_bit (get_or s.kept w 0) k) (sym (blank x (record { kept = []; made = [] }) within)) ∙ has)
+      | inr past ↦ false≢true (sym (has_bit-zero k)
+          ∙ (ap (λ (s : Summary W). has_bit (get_or s.kept w 0) k) (sym (get_or_past table x (record { kept = []; made = [] }) past)) ∙ has))
     ]
 
     made : (x k : ℕ) → HasBit (made_word table w) x k → ⊥
     made x k has = elim (cases_lt x (length table)) [
-      | inl within ↦ no_bit W w k (ap (λ (s : Summary W). has_bit (get_or s.made w 0) k) (sym (blank x (record { kept = []; made = [] }) within)) ∙ has)
-      | inr past ↦ false≢true (sym (has_bit-zero k) ∙ (ap (λ (s : Summary W). has_bit (get_or s.made w 0) k) (sym (get_or_past table x (record { kept = []; made = [] }) past)) ∙ has))
+      | inl within ↦
+          no_bit W w k (ap (λ (s : Summary W). has_bit (get_or s.made w 0) k) (sym (blank x (record { kept = []; made = [] }) within)) ∙ has)
+      | inr past ↦ false≢true (sym (has_bit-zero k)
+          ∙ (ap (λ (s : Summary W). has_bit (get_or s.made w 0) k) (sym (get_or_past table x (record { kept = []; made = [] }) past)) ∙ has))
     ]
 
 -- an entry more keeps everything
-module _ (W : ℕ) (group : Group) (table : List (Summary W)) (procedure at : ℕ) (within : at < length table) (there : procedure < group.shape.procedures) (at_is : at ≡ group.shape.entry procedure) where
+module _ (W : ℕ) (group : Group) (table : List (Summary W)) (procedure at : ℕ) (within : at < length table)
+    (there : procedure < group.shape.procedures) (at_is : at ≡ group.shape.entry procedure) where
   written : summary_at (set table at (entry_summary W)) at ≡ entry_summary W
   written = get_or-set_same table at (entry_summary W) (record { kept = []; made = [] }) within
 
@@ -61,14 +68,17 @@ module _ (W : ℕ) (group : Group) (table : List (Summary W)) (procedure at : �
 
       made : AreSoundWords (IsMade group.shape (group.transfer w)) (made_word (set table at (entry_summary W)) w)
       made x k low has = elim (cases_eq x at) [
-        | inl same ↦ absurd (no_bit W w k (sym (ap (λ (s : Summary W). has_bit (get_or s.made w 0) k) written) ∙ (ap (λ n. has_bit (made_word (set table at (entry_summary W)) w n) k) (sym same) ∙ has)))
+        | inl same ↦ absurd (no_bit W w k (sym (ap (λ (s : Summary W). has_bit (get_or s.made w 0) k) written)
+            ∙ (ap (λ n. has_bit (made_word (set table at (entry_summary W)) w n) k) (sym same) ∙ has)))
         | inr other ↦ (sound w inside).1 x k low (sym (ap (λ (s : Summary W). has_bit (get_or s.made w 0) k) (unwritten x other)) ∙ has)
       ]
 
   here : (x w k : ℕ) → w < W → k < 64 → x ≡ at → HasBit (kept_word (set table at (entry_summary W)) w) x k
-  here x w k inside low same = ap (λ n. has_bit (kept_word (set table at (entry_summary W)) w n) k) same ∙ (ap (λ (s : Summary W). has_bit (get_or s.kept w 0) k) written ∙ each_bit W w k inside low)
+  here x w k inside low same = ap (λ n. has_bit (kept_word (set table at (entry_summary W)) w n) k) same
+      ∙ (ap (λ (s : Summary W). has_bit (get_or s.kept w 0) k) written ∙ each_bit W w k inside low)
 
-  pub entry_more : (x w k : ℕ) → w < W → k < 64 → (x ≡ at) ⊎ HasBit (kept_word table w) x k → HasBit (kept_word (set table at (entry_summary W)) w) x k
+  pub entry_more : (x w k : ℕ) → w < W → k < 64 → (x ≡ at) ⊎ HasBit (kept_word table w) x k
+      → HasBit (kept_word (set table at (entry_summary W)) w) x k
   entry_more x w k inside low (inl same) = here x w k inside low same
   entry_more x w k inside low (inr had) = elim (cases_eq x at) [
     | inl same ↦ here x w k inside low same
@@ -76,12 +86,16 @@ module _ (W : ℕ) (group : Group) (table : List (Summary W)) (procedure at : �
   ]
 
 -- ---- what is brought at its beginning: the boundary to the root
-pub root_sound : (W : ℕ) (group : Group) (table : List (List ℕ)) (root : ℕ) (boundary : List ℕ) → root < length table → root ≡ group.shape.root_procedure
+pub root_sound : (W : ℕ) (group : Group) (table : List (List ℕ)) (root : ℕ) (boundary : List ℕ) → root < length table
+    → root ≡ group.shape.root_procedure
     → ((j : ℕ) (d : List ℕ) → j < length table → get_or table j d ≡ replicate W 0)
-    → ((w k : ℕ) → w < group.width → k < 64 → has_bit (get_or boundary w 0) k ≡ (group.transfer w k).boundary) → AreSoundBrought group (set table root boundary)
+    → ((w k : ℕ) → w < group.width → k < 64 → has_bit (get_or boundary w 0) k ≡ (group.transfer w k).boundary)
+    → AreSoundBrought group (set table root boundary)
 root_sound W group table root boundary within root_is blank are w inside x k low has = elim (cases_eq x root) [
   | inl same ↦ subst (IsBrought group.shape (group.transfer w) k) (sym (same ∙ root_is))
-      (brought_by_boundary (sym (are w k inside low) ∙ (sym (ap (λ (row : List ℕ). has_bit (get_or row w 0) k) (get_or-set_same table root boundary [] within)) ∙ (ap (λ n. has_bit (brought_word (set table root boundary) w n) k) (sym same) ∙ has))))
+      (brought_by_boundary
+      (sym (are w k inside low) ∙ (sym (ap (λ (row : List ℕ). has_bit (get_or row w 0) k) (get_or-set_same table root boundary [] within))
+      ∙ (ap (λ n. has_bit (brought_word (set table root boundary) w n) k) (sym same) ∙ has))))
   | inr other ↦ absurd (no_row x (sym (ap (λ (row : List ℕ). has_bit (get_or row w 0) k) (get_or-set_other table root x boundary [] other)) ∙ has))
 ]
   where

@@ -5,7 +5,9 @@ use Rattle.flow_graph.specs.declared.edge.Edge.TheVariants.{Step, Call, Ret}
 use Rattle.flow_graph.specs.Paths.{Shape, Transfer, IsEdge, IsPath, open_sites_after, value_across, value_after}
 use Rattle.flow_graph.specs.WellFormed.{IsWellFormed}
 use Rattle.flow_graph.proofs.paths.PathLemmas.{open_sites_after-none, same_site}
-use Rattle.gk_solve.specs.Equations.{CallsAt, ReturnsTo, Reached, entry_is_reached, reached_by_step, reached_by_call, Kept, kept_at_entry, kept_by_step, kept_by_call, Made, made_by_step, made_before_step, made_by_callee, made_before_call, Entered, entered_by_call, Brought, brought_where_made, brought_where_kept}
+use Rattle.gk_solve.specs.Equations.{CallsAt, ReturnsTo, Reached, entry_is_reached, reached_by_step, reached_by_call, Kept, kept_at_entry}
+use Rattle.gk_solve.specs.Equations.{kept_by_step, kept_by_call, Made, made_by_step, made_before_step, made_by_callee, made_before_call, Entered}
+use Rattle.gk_solve.specs.Equations.{entered_by_call, Brought, brought_where_made, brought_where_kept}
 
 -- the bit is at x, where `before` says whether it was at the entry of x's procedure
 abbrev pub Holds : Shape → Transfer → ℕ → Bool → Type 0
@@ -72,7 +74,8 @@ module _ (shape : Shape) (transfer : Transfer) (well : IsWellFormed shape) (firs
         holds = λ e. inr (e, rw target.1 (kept_at_entry _ target.0));
       }
 
-  stands_after_return : (site x z : ℕ) (sites : List ℕ) (now : Bool) → IsEdge shape (Ret site x z) → StandsAt shape transfer first start x (site ∷ sites) now
+  stands_after_return : (site x z : ℕ) (sites : List ℕ) (now : Bool) → IsEdge shape (Ret site x z)
+      → StandsAt shape transfer first start x (site ∷ sites) now
       → StandsAt shape transfer first start z sites now
   stands_after_return site x z sites now edge at_x =
       let (caller, before, call, at_call, came, at_call_holds) = at_x.came in
@@ -86,18 +89,22 @@ module _ (shape : Shape) (transfer : Transfer) (well : IsWellFormed shape) (firs
         holds = λ e. through caller before call at_call at_call_holds return at_exit (rw exit at at_x.holds e);
       }
     where
-      out : (caller : ℕ) (before : Bool) → CallsAt shape site caller (shape.procedure_of x) → Reached shape caller → ReturnsTo shape site (shape.procedure_of x) z → Reached shape (shape.exit (shape.procedure_of x))
+      out : (caller : ℕ) (before : Bool) → CallsAt shape site caller (shape.procedure_of x) → Reached shape caller
+          → ReturnsTo shape site (shape.procedure_of x) z → Reached shape (shape.exit (shape.procedure_of x))
           → Kept shape transfer.kill (shape.exit (shape.procedure_of x)) → Holds shape transfer caller before → Holds shape transfer z before
       out caller before call at_call return at_exit kept (inl made) = inl (made_before_call site caller _ z call return at_call at_exit made kept)
-      out caller before call at_call return at_exit kept (inr kept_before) = inr (kept_before.0, kept_by_call site caller _ z call return at_call at_exit kept_before.1 kept)
+      out caller before call at_call return at_exit kept (inr kept_before) =
+          inr (kept_before.0, kept_by_call site caller _ z call return at_call at_exit kept_before.1 kept)
 
-      through : (caller : ℕ) (before : Bool) → CallsAt shape site caller (shape.procedure_of x) → Reached shape caller → (at_x.before ≡ true → Holds shape transfer caller before)
+      through : (caller : ℕ) (before : Bool) → CallsAt shape site caller (shape.procedure_of x) → Reached shape caller
+          → (at_x.before ≡ true → Holds shape transfer caller before)
           → ReturnsTo shape site (shape.procedure_of x) z → Reached shape (shape.exit (shape.procedure_of x))
           → Holds shape transfer (shape.exit (shape.procedure_of x)) at_x.before → Holds shape transfer z before
       through caller before call at_call holds return at_exit (inl made) = inl (made_by_callee site caller _ z call return at_call at_exit made)
       through caller before call at_call holds return at_exit (inr kept) = out caller before call at_call return at_exit kept.1 (holds kept.0)
 
-  pub stands_after_path : (path : List Edge) (x y : ℕ) (sites after : List ℕ) (now : Bool) → IsPath shape x path y → open_sites_after path (Some sites) ≡ Some after
+  pub stands_after_path : (path : List Edge) (x y : ℕ) (sites after : List ℕ) (now : Bool) → IsPath shape x path y
+      → open_sites_after path (Some sites) ≡ Some after
       → StandsAt shape transfer first start x sites now → StandsAt shape transfer first start y after (value_after transfer path now)
   stands_after_path [] x y sites after now is_path opens at_x =
       let same : sites ≡ after = cc in
@@ -111,7 +118,8 @@ module _ (shape : Shape) (transfer : Transfer) (well : IsWellFormed shape) (firs
       let (same, rest) = same_site site latest path sites after opens in
       stands_after_path path j y sites after now is_path.2 rest (stands_after_return site i j sites now is_path.0 (rw (is_path.1, same) at_x))
 
-  pub entered_of : Entered shape first → (sites : List ℕ) (procedure : ℕ) (now : Bool) → CameInto shape transfer first start procedure sites now → Entered shape procedure
+  pub entered_of : Entered shape first → (sites : List ℕ) (procedure : ℕ) (now : Bool) → CameInto shape transfer first start procedure sites now
+      → Entered shape procedure
   entered_of entered [] procedure now came = rw came.0 entered
   entered_of entered (site ∷ sites) procedure now came =
       let (x, before, call, at_x, outer, holds) = came in
@@ -128,4 +136,5 @@ module _ (shape : Shape) (transfer : Transfer) (well : IsWellFormed shape) (firs
       go : (x : ℕ) (before : Bool) → CallsAt shape site x procedure → Reached shape x → Entered shape (shape.procedure_of x)
           → (before ≡ true → Brought shape transfer (shape.procedure_of x)) → Holds shape transfer x before → Brought shape transfer procedure
       go x before call at_x caller_entered caller_brought (inl made) = brought_where_made site x procedure call caller_entered at_x made
-      go x before call at_x caller_entered caller_brought (inr kept) = brought_where_kept site x procedure call caller_entered at_x (caller_brought kept.0) kept.1
+      go x before call at_x caller_entered caller_brought (inr kept) =
+          brought_where_kept site x procedure call caller_entered at_x (caller_brought kept.0) kept.1

@@ -12,11 +12,13 @@ use Rattle.gk_solve.proofs.Sound.{entered_path, brought_path}
 use Rattle.gk_solve.proofs.Complete.{brought_of, came_by_call}
 use Rattle.gk_solve.proofs.Meet.{stands, flag_of}
 
-entered_by : (shape : Shape) (transfer : Transfer) → IsWellFormed shape → (procedure : ℕ) → procedure < shape.procedures → (path : List Edge) × IsEnteringPath shape path procedure → Entered shape procedure
+entered_by : (shape : Shape) (transfer : Transfer) → IsWellFormed shape → (procedure : ℕ) → procedure < shape.procedures
+    → (path : List Edge) × IsEnteringPath shape path procedure → Entered shape procedure
 entered_by shape transfer well p in_range has = rw (well.entry_inside p in_range) at (flag_of shape transfer well (shape.entry p) (has.0, has.1.0)).0
 
 brought_by : (shape : Shape) (transfer : Transfer) → IsWellFormed shape → (procedure : ℕ) → procedure < shape.procedures
-    → (path : List Edge) × IsEnteringPath shape path procedure × (value_after transfer path transfer.boundary ≡ true) → Brought shape transfer procedure
+    → (path : List Edge) × IsEnteringPath shape path procedure × (value_after transfer path transfer.boundary ≡ true)
+    → Brought shape transfer procedure
 brought_by shape transfer well p in_range has = go has.0 has.1.0 has.2 has.1.1
   where
     go : (path : List Edge) → IsValidPath shape path (shape.entry p) → value_after transfer path transfer.boundary ≡ true
@@ -30,7 +32,8 @@ brought_by shape transfer well p in_range has = go has.0 has.1.0 has.2 has.1.1
         let (sites, at_x) = stands shape transfer well front x (rw (← call.1) at front_valid) in
         let came = came_by_call shape transfer well shape.root_procedure transfer.boundary site x (shape.entry p) sites _ call.0 at_x in
         rw (well.entry_inside p in_range) at
-        (brought_of shape transfer well shape.root_procedure transfer.boundary root_is_entered (λ e. brought_by_boundary e) (site ∷ sites) (shape.procedure_of (shape.entry p)) _ came
+        (brought_of shape transfer well shape.root_procedure transfer.boundary root_is_entered (λ e. brought_by_boundary e) (site ∷ sites)
+        (shape.procedure_of (shape.entry p)) _ came
         (sym (value_after-append transfer front _ _) ∙ (ap (λ l. value_after transfer l transfer.boundary) (sym same) ∙ value)))
 
 pub entries_are_paths : EntriesArePaths

@@ -2,7 +2,10 @@
 use Rattle.std.proofs.Common.{ℕ, Bool, sym, ◌∙◌, ◌⊎◌, inl, inr}
 use Rattle.flow_graph.specs.Paths.{Shape, Transfer}
 use Rattle.flow_graph.specs.WellFormed.{AgreesOnSteps}
-use Rattle.gk_solve.specs.Equations.{Reached, entry_is_reached, reached_by_step, reached_by_call, Kept, kept_at_entry, kept_by_step, kept_by_call, Made, made_by_step, made_before_step, made_by_callee, made_before_call, Entered, root_is_entered, entered_by_call, Brought, brought_by_boundary, brought_where_made, brought_where_kept, IsInSolution, IsClosedReached, IsClosedKept, IsClosedMade, IsClosedEntered, IsClosedBrought}
+use Rattle.gk_solve.specs.Equations.{Reached, entry_is_reached, reached_by_step, reached_by_call, Kept, kept_at_entry, kept_by_step, kept_by_call}
+use Rattle.gk_solve.specs.Equations.{Made, made_by_step, made_before_step, made_by_callee, made_before_call, Entered, root_is_entered}
+use Rattle.gk_solve.specs.Equations.{entered_by_call, Brought, brought_by_boundary, brought_where_made, brought_where_kept, IsInSolution}
+use Rattle.gk_solve.specs.Equations.{IsClosedReached, IsClosedKept, IsClosedMade, IsClosedEntered, IsClosedBrought}
 use Rattle.gk_solve.specs.Laws.{SolutionIsClosed, ReachedIsLeast, KeptIsLeast, MadeIsLeast, EnteredIsLeast, BroughtIsLeast, BitsAreApart}
 
 pub reached_least : {shape : Shape} {reached : ℕ → Type 0} → IsClosedReached shape reached → {x : ℕ} → Reached shape x → reached x
@@ -10,13 +13,15 @@ reached_least r (entry_is_reached p in_range) = r.entry p in_range
 reached_least r (reached_by_step x y edge at_x) = r.step x y edge (reached_least r at_x)
 reached_least r (reached_by_call site x p z call return at_x at_exit) = r.call site x p z call return (reached_least r at_x) (reached_least r at_exit)
 
-pub kept_least : {shape : Shape} {kill : ℕ → ℕ → Bool} {reached kept : ℕ → Type 0} → IsClosedReached shape reached → IsClosedKept shape kill reached kept → {x : ℕ} → Kept shape kill x → kept x
+pub kept_least : {shape : Shape} {kill : ℕ → ℕ → Bool} {reached kept : ℕ → Type 0} → IsClosedReached shape reached
+    → IsClosedKept shape kill reached kept → {x : ℕ} → Kept shape kill x → kept x
 kept_least r k (kept_at_entry p in_range) = k.entry p in_range
 kept_least r k (kept_by_step x y edge at_x before unkilled) = k.step x y edge (reached_least r at_x) (kept_least r k before) unkilled
 kept_least r k (kept_by_call site x p z call return at_x at_exit before through) =
     k.call site x p z call return (reached_least r at_x) (reached_least r at_exit) (kept_least r k before) (kept_least r k through)
 
-pub made_least : {shape : Shape} {transfer : Transfer} {reached kept made : ℕ → Type 0} → IsClosedReached shape reached → IsClosedKept shape transfer.kill reached kept
+pub made_least : {shape : Shape} {transfer : Transfer} {reached kept made : ℕ → Type 0} → IsClosedReached shape reached
+    → IsClosedKept shape transfer.kill reached kept
     → IsClosedMade shape transfer reached kept made → {x : ℕ} → Made shape transfer x → made x
 made_least r k m (made_by_step x y edge at_x gens) = m.by_step x y edge (reached_least r at_x) gens
 made_least r k m (made_before_step x y edge at_x before unkilled) = m.before_step x y edge (reached_least r at_x) (made_least r k m before) unkilled
@@ -25,12 +30,15 @@ made_least r k m (made_by_callee site x p z call return at_x at_exit through) =
 made_least r k m (made_before_call site x p z call return at_x at_exit before through) =
     m.before_call site x p z call return (reached_least r at_x) (reached_least r at_exit) (made_least r k m before) (kept_least r k through)
 
-pub entered_least : {shape : Shape} {reached entered : ℕ → Type 0} → IsClosedReached shape reached → IsClosedEntered shape reached entered → {procedure : ℕ} → Entered shape procedure → entered procedure
+pub entered_least : {shape : Shape} {reached entered : ℕ → Type 0} → IsClosedReached shape reached → IsClosedEntered shape reached entered
+    → {procedure : ℕ} → Entered shape procedure → entered procedure
 entered_least r e root_is_entered = e.root
 entered_least r e (entered_by_call site x p call caller at_x) = e.call site x p call (entered_least r e caller) (reached_least r at_x)
 
-pub brought_least : {shape : Shape} {transfer : Transfer} {reached kept made entered brought : ℕ → Type 0} → IsClosedReached shape reached → IsClosedKept shape transfer.kill reached kept
-    → IsClosedMade shape transfer reached kept made → IsClosedEntered shape reached entered → IsClosedBrought shape transfer reached kept made entered brought
+pub brought_least : {shape : Shape} {transfer : Transfer} {reached kept made entered brought : ℕ → Type 0} → IsClosedReached shape reached
+    → IsClosedKept shape transfer.kill reached kept
+    → IsClosedMade shape transfer reached kept made → IsClosedEntered shape reached entered
+    → IsClosedBrought shape transfer reached kept made entered brought
     → {procedure : ℕ} → Brought shape transfer procedure → brought procedure
 brought_least r k m e b (brought_by_boundary has) = b.boundary has
 brought_least r k m e b (brought_where_made site x p call caller at_x made) =
@@ -85,9 +93,11 @@ module _ (shape : Shape) (transfer other : Transfer) (agrees : AgreesOnSteps sha
   solution_includes : (x : ℕ) → IsInSolution shape transfer x → IsInSolution shape other x
   solution_includes x member = (member.0, go member.1)
     where
-      go : Made shape transfer x ⊎ (Brought shape transfer (shape.procedure_of x) × Kept shape transfer.kill x) → Made shape other x ⊎ (Brought shape other (shape.procedure_of x) × Kept shape other.kill x)
+      go : Made shape transfer x ⊎ (Brought shape transfer (shape.procedure_of x) × Kept shape transfer.kill x)
+          → Made shape other x ⊎ (Brought shape other (shape.procedure_of x) × Kept shape other.kill x)
       go (inl made) = inl (made_least reached_closed kept_closed made_closed made)
-      go (inr kept) = inr (brought_least reached_closed kept_closed made_closed entered_closed brought_closed kept.0, kept_least reached_closed kept_closed kept.1)
+      go (inr kept) = inr
+          (brought_least reached_closed kept_closed made_closed entered_closed brought_closed kept.0, kept_least reached_closed kept_closed kept.1)
 
 pub bits_are_apart : BitsAreApart
 bits_are_apart shape transfer other x agrees =

@@ -15,6 +15,7 @@ pub mod Meet
 pub mod ProgramTables
 pub mod RowWords
 pub mod Slices
+pub mod SliceWidths
 pub mod SolutionTests
 pub mod SolvedWords
 pub mod Sound

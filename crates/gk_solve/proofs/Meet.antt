@@ -5,7 +5,8 @@ use Rattle.flow_graph.specs.Paths.{Shape, Transfer, IsValidPath, value_after, Ha
 use Rattle.flow_graph.specs.WellFormed.{IsWellFormed}
 use Rattle.flow_graph.specs.MatchedPaths.{IsPathFromEntry, is_kept_along}
 use Rattle.flow_graph.proofs.paths.PathLemmas.{some_sites}
-use Rattle.gk_solve.specs.Equations.{Reached, Kept, Made, made_by_step, made_before_step, made_by_callee, made_before_call, root_is_entered, Brought, brought_by_boundary, HasFlag, IsInSolution}
+use Rattle.gk_solve.specs.Equations.{Reached, Kept, Made, made_by_step, made_before_step, made_by_callee, made_before_call, root_is_entered, Brought}
+use Rattle.gk_solve.specs.Equations.{brought_by_boundary, HasFlag, IsInSolution}
 use Rattle.gk_solve.specs.Laws.{SummariesArePaths, SolutionIsMeet}
 use Rattle.gk_solve.proofs.Sound.{flag_path, set_path, reached_path, kept_path, made_path, value_after-kept}
 use Rattle.gk_solve.proofs.Complete.{Holds, StandsAt, stands_at_entry, stands_after_path, entered_of, brought_of}
@@ -15,34 +16,47 @@ pub stands : (shape : Shape) (transfer : Transfer) → IsWellFormed shape → (p
     → (sites : List ℕ) × StandsAt shape transfer shape.root_procedure transfer.boundary x sites (value_after transfer path transfer.boundary)
 stands shape transfer well path x valid =
     let (sites, opens) = some_sites _ valid.1 in
-    let r = shape.root_procedure in
-    (sites, stands_after_path shape transfer well r transfer.boundary path _ x [] sites transfer.boundary valid.0 opens (stands_at_entry shape transfer well r transfer.boundary well.root_in_range))
+    let r = shape.root_procedure in (
+      sites,
+      stands_after_path shape transfer well r transfer.boundary path _ x [] sites transfer.boundary valid.0 opens
+          (stands_at_entry shape transfer well r transfer.boundary well.root_in_range),
+    )
 
 pub flag_of : (shape : Shape) (transfer : Transfer) → IsWellFormed shape → (x : ℕ) → HasPath shape x → HasFlag shape x
 flag_of shape transfer well x has =
-    let (sites, at_x) = stands shape transfer well has.0 x has.1 in
-    (entered_of shape transfer well shape.root_procedure transfer.boundary root_is_entered sites (shape.procedure_of x) at_x.before at_x.came, at_x.reached)
+    let (sites, at_x) = stands shape transfer well has.0 x has.1 in (
+      entered_of shape transfer well shape.root_procedure transfer.boundary root_is_entered sites (shape.procedure_of x) at_x.before at_x.came,
+      at_x.reached,
+    )
 
 set_of : (shape : Shape) (transfer : Transfer) → IsWellFormed shape → (x : ℕ) → SomePathHas shape transfer x → IsInSolution shape transfer x
 set_of shape transfer well x has =
     let (sites, at_x) = stands shape transfer well has.0 x has.1 in
     (flag_of shape transfer well x (has.0, has.1), go sites at_x (at_x.holds has.2))
   where
-    go : (sites : List ℕ) (at_x : StandsAt shape transfer shape.root_procedure transfer.boundary x sites (value_after transfer has.0 transfer.boundary)) → Holds shape transfer x at_x.before
+    go : (sites : List ℕ)
+        (at_x : StandsAt shape transfer shape.root_procedure transfer.boundary x sites (value_after transfer has.0 transfer.boundary))
+        → Holds shape transfer x at_x.before
         → Made shape transfer x ⊎ (Brought shape transfer (shape.procedure_of x) × Kept shape transfer.kill x)
     go sites at_x (inl made) = inl made
     go sites at_x (inr kept) =
-        inr (brought_of shape transfer well shape.root_procedure transfer.boundary root_is_entered (λ e. brought_by_boundary e) sites (shape.procedure_of x) at_x.before at_x.came kept.0, kept.1)
+        inr (
+          brought_of shape transfer well shape.root_procedure transfer.boundary root_is_entered (λ e. brought_by_boundary e) sites
+              (shape.procedure_of x) at_x.before at_x.came kept.0,
+          kept.1,
+        )
 
 pub solution_is_meet : SolutionIsMeet
 solution_is_meet shape transfer x well = ((flag_path well x, flag_of shape transfer well x), (set_path well x, set_of shape transfer well x))
 
 -- where a matched path from the entry of x's procedure stands
-stands_inside : (shape : Shape) (transfer : Transfer) (start : Bool) → IsWellFormed shape → (path : List Edge) (x : ℕ) → shape.procedure_of x < shape.procedures → IsPathFromEntry shape path x
+stands_inside : (shape : Shape) (transfer : Transfer) (start : Bool) → IsWellFormed shape → (path : List Edge) (x : ℕ)
+    → shape.procedure_of x < shape.procedures → IsPathFromEntry shape path x
     → StandsAt shape transfer (shape.procedure_of x) start x [] (value_after transfer path start)
 stands_inside shape transfer start well path x in_range from_entry =
     let p = shape.procedure_of x in
-    stands_after_path shape transfer well p start path _ x [] [] start from_entry.0 from_entry.1 (stands_at_entry shape transfer well p start in_range)
+    stands_after_path shape transfer well p start path _ x [] [] start from_entry.0 from_entry.1
+    (stands_at_entry shape transfer well p start in_range)
 
 -- a transfer that makes nothing
 no_gen : Transfer → Transfer
@@ -55,7 +69,8 @@ nothing_made transfer (made_before_step x y edge at_x made unkilled) = nothing_m
 nothing_made transfer (made_by_callee site x p z call return at_x at_exit made) = nothing_made transfer made
 nothing_made transfer (made_before_call site x p z call return at_x at_exit made kept) = nothing_made transfer made
 
-reached_of : (shape : Shape) (transfer : Transfer) → IsWellFormed shape → (x : ℕ) → shape.procedure_of x < shape.procedures → (path : List Edge) × IsPathFromEntry shape path x → Reached shape x
+reached_of : (shape : Shape) (transfer : Transfer) → IsWellFormed shape → (x : ℕ) → shape.procedure_of x < shape.procedures
+    → (path : List Edge) × IsPathFromEntry shape path x → Reached shape x
 reached_of shape transfer well x in_range has = (stands_inside shape transfer false well has.0 x in_range has.1).reached
 
 made_of : (shape : Shape) (transfer : Transfer) → IsWellFormed shape → (x : ℕ) → shape.procedure_of x < shape.procedures

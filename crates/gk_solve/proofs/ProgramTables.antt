@@ -11,19 +11,22 @@ use Rattle.gk_solve.proofs.Meet.{solution_is_meet}
 
 pub flags_are_solutions : FlagsAreSolutions
 flags_are_solutions program analysis point sound =
-    let meet = (solution_is_meet (may_shape program analysis) (may_transfer program analysis 0) point (may_forms_are_well_formed program analysis sound)).0 in
+    let meet = (solution_is_meet (may_shape program analysis) (may_transfer program analysis 0) point
+    (may_forms_are_well_formed program analysis sound)).0 in
     let may = flags_are_may_forms program analysis point in
     (λ flag. may.1 (meet.0 flag), λ has. meet.1 (may.0 has))
 
 pub may_tables_are_solutions : MayTablesAreSolutions
 may_tables_are_solutions program analysis point bit sound is_may =
-    let meet = (solution_is_meet (may_shape program analysis) (may_transfer program analysis bit) point (may_forms_are_well_formed program analysis sound)).1 in
+    let meet = (solution_is_meet (may_shape program analysis) (may_transfer program analysis bit) point
+    (may_forms_are_well_formed program analysis sound)).1 in
     let may = may_tables_are_may_forms program analysis point bit is_may in
     (λ solved. may.1 (meet.0 solved), λ has. meet.1 (may.0 has))
 
 pub must_tables_are_solutions : MustTablesAreSolutions
 must_tables_are_solutions program analysis point bit sound must =
-    let meet = (solution_is_meet (may_shape program analysis) (may_transfer program analysis bit) point (may_forms_are_well_formed program analysis sound)).1 in
+    let meet = (solution_is_meet (may_shape program analysis) (may_transfer program analysis bit) point
+    (may_forms_are_well_formed program analysis sound)).1 in
     let may = must_tables_are_may_forms program analysis point bit must in
     (λ none. may.1 (λ has. none (meet.1 has)), λ every solved. may.0 every (meet.0 solved))
 
@@ -41,7 +44,8 @@ tables_are_decided program analysis point bit sound =
     (by_iff (flags_are_solutions program analysis point sound) decided.0, by_kind (is_must analysis) refl decided.1)
   where
     by_kind : (b : Bool) → is_must analysis ≡ b
-        → IsInSolution (may_shape program analysis) (may_transfer program analysis bit) point ⊎ (¬ (IsInSolution (may_shape program analysis) (may_transfer program analysis bit) point))
+        → IsInSolution (may_shape program analysis) (may_transfer program analysis bit) point
+        ⊎ (¬ (IsInSolution (may_shape program analysis) (may_transfer program analysis bit) point))
         → IsInTable program analysis point bit ⊎ (¬ (IsInTable program analysis point bit))
     by_kind true must decided = by_denial (must_tables_are_solutions program analysis point bit sound must) decided
     by_kind false may decided = by_iff (may_tables_are_solutions program analysis point bit sound may) decided

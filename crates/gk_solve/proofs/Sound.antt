@@ -7,7 +7,9 @@ use Rattle.flow_graph.specs.WellFormed.{IsWellFormed}
 use Rattle.flow_graph.specs.MatchedPaths.{IsPathFromEntry, IsEnteringPath, is_kept_along}
 use Rattle.flow_graph.proofs.paths.PathLemmas.{value_after-append}
 use Rattle.flow_graph.proofs.paths.Splitting.{at_entry, steps_join, callee_paths_join, calls_enter, valid_join}
-use Rattle.gk_solve.specs.Equations.{Reached, entry_is_reached, reached_by_step, reached_by_call, Kept, kept_at_entry, kept_by_step, kept_by_call, Made, made_by_step, made_before_step, made_by_callee, made_before_call, Entered, root_is_entered, entered_by_call, Brought, brought_by_boundary, brought_where_made, brought_where_kept, HasFlag, IsInSolution}
+use Rattle.gk_solve.specs.Equations.{Reached, entry_is_reached, reached_by_step, reached_by_call, Kept, kept_at_entry, kept_by_step, kept_by_call}
+use Rattle.gk_solve.specs.Equations.{Made, made_by_step, made_before_step, made_by_callee, made_before_call, Entered, root_is_entered}
+use Rattle.gk_solve.specs.Equations.{entered_by_call, Brought, brought_by_boundary, brought_where_made, brought_where_kept, HasFlag, IsInSolution}
 
 pub reached_path : {shape : Shape} → IsWellFormed shape → {x : ℕ} → Reached shape x → (path : List Edge) × IsPathFromEntry shape path x
 reached_path well (entry_is_reached p in_range) = ([], at_entry _ well p in_range)
@@ -19,13 +21,15 @@ reached_path well (reached_by_call site x p z call return at_x at_exit) =
     let (inner, through) = reached_path well at_exit in
     (path ++ Call site x _ ∷ (inner ++ Ret site _ z ∷ []), callee_paths_join _ path inner site x p z well call.0 call.1 return joined through)
 
-is_kept_along-append : (kill : ℕ → ℕ → Bool) (front back : List Edge) → is_kept_along kill front ≡ true → is_kept_along kill back ≡ true → is_kept_along kill (front ++ back) ≡ true
+is_kept_along-append : (kill : ℕ → ℕ → Bool) (front back : List Edge) → is_kept_along kill front ≡ true → is_kept_along kill back ≡ true
+    → is_kept_along kill (front ++ back) ≡ true
 is_kept_along-append kill [] back first second = second
 is_kept_along-append kill (Step x y ∷ front) back first second = grind (arith, is_kept_along-append kill front back)
 is_kept_along-append kill (Call site x y ∷ front) back first second = is_kept_along-append kill front back first second
 is_kept_along-append kill (Ret site x y ∷ front) back first second = is_kept_along-append kill front back first second
 
-pub kept_path : {shape : Shape} {kill : ℕ → ℕ → Bool} → IsWellFormed shape → {x : ℕ} → Kept shape kill x → (path : List Edge) × IsPathFromEntry shape path x × (is_kept_along kill path ≡ true)
+pub kept_path : {shape : Shape} {kill : ℕ → ℕ → Bool} → IsWellFormed shape → {x : ℕ} → Kept shape kill x
+    → (path : List Edge) × IsPathFromEntry shape path x × (is_kept_along kill path ≡ true)
 kept_path well (kept_at_entry p in_range) = ([], at_entry _ well p in_range, refl)
 kept_path {kill} well (kept_by_step x y edge at_x kept unkilled) =
     let (path, joined, keeps) = kept_path well kept in
@@ -38,7 +42,8 @@ kept_path {kill} well (kept_by_call site x p z call return at_x at_exit kept thr
       is_kept_along-append kill path _ keeps (is_kept_along-append kill inner _ inner_keeps refl),
     )
 
-value_across-mono : (transfer : Transfer) (edge : Edge) (v w : Bool) → (v ≡ true → w ≡ true) → value_across transfer edge v ≡ true → value_across transfer edge w ≡ true
+value_across-mono : (transfer : Transfer) (edge : Edge) (v w : Bool) → (v ≡ true → w ≡ true) → value_across transfer edge v ≡ true
+    → value_across transfer edge w ≡ true
 value_across-mono transfer (Step x y) v w more = go (transfer.gen x y) (transfer.kill x y) v w more
   where
     go : (gen kill v w : Bool) → (v ≡ true → w ≡ true) → (gen || (v && not kill)) ≡ true → (gen || (w && not kill)) ≡ true
@@ -48,12 +53,14 @@ value_across-mono transfer (Step x y) v w more = go (transfer.gen x y) (transfer
 value_across-mono transfer (Call site x y) v w more = more
 value_across-mono transfer (Ret site x y) v w more = more
 
-value_after-mono : (transfer : Transfer) (path : List Edge) (v w : Bool) → (v ≡ true → w ≡ true) → value_after transfer path v ≡ true → value_after transfer path w ≡ true
+value_after-mono : (transfer : Transfer) (path : List Edge) (v w : Bool) → (v ≡ true → w ≡ true) → value_after transfer path v ≡ true
+    → value_after transfer path w ≡ true
 value_after-mono transfer [] v w more = more
 value_after-mono transfer (edge ∷ path) v w more = value_after-mono transfer path _ _ (value_across-mono transfer edge v w more)
 
 -- what a path makes it has whatever came to it
-value_after-made : (transfer : Transfer) (path : List Edge) (value : Bool) → value_after transfer path false ≡ true → value_after transfer path value ≡ true
+value_after-made : (transfer : Transfer) (path : List Edge) (value : Bool) → value_after transfer path false ≡ true
+    → value_after transfer path value ≡ true
 value_after-made transfer path value made = value_after-mono transfer path false value (λ e. absurd (cc e)) made
 
 or_true : (a : Bool) → (a || true) ≡ true
@@ -72,13 +79,17 @@ value_after-kept transfer (Step x y ∷ path) keeps =
 value_after-kept transfer (Call site x y ∷ path) keeps = value_after-kept transfer path keeps
 value_after-kept transfer (Ret site x y ∷ path) keeps = value_after-kept transfer path keeps
 
-pub made_path : {shape : Shape} {transfer : Transfer} → IsWellFormed shape → {x : ℕ} → Made shape transfer x → (path : List Edge) × IsPathFromEntry shape path x × (value_after transfer path false ≡ true)
+pub made_path : {shape : Shape} {transfer : Transfer} → IsWellFormed shape → {x : ℕ} → Made shape transfer x
+    → (path : List Edge) × IsPathFromEntry shape path x × (value_after transfer path false ≡ true)
 made_path {transfer} well (made_by_step x y edge at_x gens) =
     let (path, joined) = reached_path well at_x in
     (path ++ Step x y ∷ [], steps_join _ path x y well edge joined, value_after-append transfer path _ false ∙ rw gens)
 made_path {transfer} well (made_before_step x y edge at_x made unkilled) =
-    let (path, joined, has) = made_path well made in
-    (path ++ Step x y ∷ [], steps_join _ path x y well edge joined, value_after-append transfer path _ false ∙ rw (has, unkilled) (or_true (transfer.gen x y)))
+    let (path, joined, has) = made_path well made in (
+      path ++ Step x y ∷ [],
+      steps_join _ path x y well edge joined,
+      value_after-append transfer path _ false ∙ rw (has, unkilled) (or_true (transfer.gen x y)),
+    )
 made_path {transfer} well (made_by_callee site x p z call return at_x at_exit made) =
     let (path, joined) = reached_path well at_x in
     let (inner, through, has) = made_path well made in (
@@ -94,7 +105,8 @@ made_path {transfer} well (made_before_call site x p z call return at_x at_exit 
       value_after-append transfer path _ false ∙ (rw has (value_after-append transfer inner _ true ∙ value_after-kept transfer inner keeps)),
     )
 
-pub entered_path : {shape : Shape} → IsWellFormed shape → {procedure : ℕ} → Entered shape procedure → (path : List Edge) × IsEnteringPath shape path procedure
+pub entered_path : {shape : Shape} → IsWellFormed shape → {procedure : ℕ} → Entered shape procedure
+    → (path : List Edge) × IsEnteringPath shape path procedure
 entered_path well root_is_entered = ([], ((refl, refl), inl (refl, refl)))
 entered_path {shape} well (entered_by_call site x p call entered at_x) =
     let (front, entering) = entered_path well entered in
@@ -135,5 +147,8 @@ set_path {shape} {transfer} well x member = go member.1
         (front ++ path, valid_join shape front path x entering joined, value_after-append transfer front _ _ ∙ value_after-made transfer path _ has)
     go (inr brought) =
         let (front, entering, has) = brought_path well brought.0 in
-        let (path, joined, keeps) = kept_path well brought.1 in
-        (front ++ path, valid_join shape front path x entering joined, value_after-append transfer front _ _ ∙ rw has (value_after-kept transfer path keeps))
+        let (path, joined, keeps) = kept_path well brought.1 in (
+          front ++ path,
+          valid_join shape front path x entering joined,
+          value_after-append transfer front _ _ ∙ rw has (value_after-kept transfer path keeps),
+        )

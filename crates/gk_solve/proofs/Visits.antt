@@ -10,12 +10,16 @@ use Rattle.work_list.specs.Marks.{IsMarked, AreClear}
 use Rattle.gk_solve.specs.Tables.Visits.{IsSettled, Spreads}
 use Rattle.work_list.proofs.MarkCounts.{mark_count, count-cleared, count-low}
 
-module _ {Table : Type 0} {room : Table → ℕ} {Grows : Table → Table → Type 0} {Settled : Table → List Bool → Edge → Type 0} {Sound : Table → Type 0} {shape : Shape} where
+module _ {Table : Type 0} {room : Table → ℕ} {Grows : Table → Table → Type 0} {Settled : Table → List Bool → Edge → Type 0} {Sound : Table → Type 0}
+    {shape : Shape} where
   pub same_spreads : ((t : Table) → Grows t t) → (table : Table) (dirty : List Bool) → Spreads room Grows Settled Sound shape table dirty table dirty
-  same_spreads still table dirty = record { count = refl; grows = still table; settled = λ edge there settled. settled; progress = inl (refl, refl); sound = λ sound. sound }
+  same_spreads still table dirty =
+      record { count = refl; grows = still table; settled = λ edge there settled. settled; progress = inl (refl, refl); sound = λ sound. sound }
 
-  pub spreads_more : ((a b c : Table) → Grows a b → Grows b c → Grows a c) → (t0 : Table) (d0 : List Bool) (t1 : Table) (d1 : List Bool) (t2 : Table) (d2 : List Bool)
-      → Spreads room Grows Settled Sound shape t0 d0 t1 d1 → Spreads room Grows Settled Sound shape t1 d1 t2 d2 → Spreads room Grows Settled Sound shape t0 d0 t2 d2
+  pub spreads_more : ((a b c : Table) → Grows a b → Grows b c → Grows a c)
+      → (t0 : Table) (d0 : List Bool) (t1 : Table) (d1 : List Bool) (t2 : Table) (d2 : List Bool)
+      → Spreads room Grows Settled Sound shape t0 d0 t1 d1 → Spreads room Grows Settled Sound shape t1 d1 t2 d2
+      → Spreads room Grows Settled Sound shape t0 d0 t2 d2
   spreads_more on t0 d0 t1 d1 t2 d2 first second = record {
     count = second.count ∙ first.count;
     grows = on t0 t1 t2 first.grows second.grows;
@@ -35,7 +39,8 @@ module _ {Table : Type 0} {room : Table → ℕ} {Grows : Table → Table → Ty
 
 -- when no point is marked, all is closed
 pub all_closed : {Table : Type 0} (Closed : Table → Edge → Type 0) (shape : Shape) (from : Edge → ℕ) (table : Table) (dirty : List Bool)
-    → ((edge : Edge) → IsEdge shape edge → IsSettled Closed from table dirty edge) → AreClear dirty → (edge : Edge) → IsEdge shape edge → Closed table edge
+    → ((edge : Edge) → IsEdge shape edge → IsSettled Closed from table dirty edge) → AreClear dirty → (edge : Edge) → IsEdge shape edge
+    → Closed table edge
 all_closed Closed shape from table dirty settled clear edge there = elim (settled edge there) [
   | inl closed ↦ closed
   | inr marked ↦ let none : get_or dirty (from edge) false ≡ false = clear (from edge) in absurd (cc)
@@ -53,9 +58,13 @@ pub pair_falls : (left left_after : ℕ) (dirty dirty_after : List Bool) (at : �
     → ((left_after ≡ left) × (dirty_after ≡ set dirty at false)) ⊎ (left_after < left)
     → (length dirty_after + 1) * left_after + mark_count dirty_after < (length dirty + 1) * left + mark_count dirty
 pair_falls left left_after dirty dirty_after at marked same_length progress =
-    falls left left_after (length dirty) (length dirty_after) (mark_count dirty) (mark_count dirty_after) (same_length ∙ length-set dirty at false) (count-low dirty_after)
+    falls left left_after (length dirty) (length dirty_after) (mark_count dirty) (mark_count dirty_after) (same_length ∙ length-set dirty at false)
+    (count-low dirty_after)
     (elim progress [
-      | inl (l, d) ↦ inl (l, one_less (mark_count dirty) (mark_count (set dirty at false)) (mark_count dirty_after) (count-cleared dirty at marked) (ap mark_count d))
+      | inl (l, d) ↦ inl (
+        l,
+        one_less (mark_count dirty) (mark_count (set dirty at false)) (mark_count dirty_after) (count-cleared dirty at marked) (ap mark_count d),
+      )
       | inr less ↦ inr less
     ])
   where
@@ -71,8 +80,10 @@ pair_falls left left_after dirty dirty_after at marked same_length progress =
         omega (arith, more, equal, low)
 
 -- a visit leaves less room, or as much and fewer points marked
-pub visit_falls : {Table : Type 0} {room : Table → ℕ} {Grows : Table → Table → Type 0} {Settled : Table → List Bool → Edge → Type 0} {Sound : Table → Type 0} {shape : Shape}
-    (table : Table) (dirty : List Bool) (table_after : Table) (dirty_between dirty_after : List Bool) (at : ℕ) → IsMarked dirty at → dirty_between ≡ set dirty at false
+pub visit_falls : {Table : Type 0} {room : Table → ℕ} {Grows : Table → Table → Type 0} {Settled : Table → List Bool → Edge → Type 0}
+    {Sound : Table → Type 0} {shape : Shape}
+    (table : Table) (dirty : List Bool) (table_after : Table) (dirty_between dirty_after : List Bool) (at : ℕ) → IsMarked dirty at
+    → dirty_between ≡ set dirty at false
     → Spreads room Grows Settled Sound shape table dirty_between table_after dirty_after
     → (length dirty_after + 1) * room table_after + mark_count dirty_after < (length dirty + 1) * room table + mark_count dirty
 visit_falls {room = room} table dirty table_after dirty_between dirty_after at marked taken spreads =
@@ -94,8 +105,10 @@ settled_but Closed from table dirty at edge settled = elim (cases_eq (from edge)
 ]
 
 -- after a visit each edge is settled, where each was before, those that waited for the visited point are now, and no other waits for it
-pub visit_settles : {Table : Type 0} {room : Table → ℕ} {Grows : Table → Table → Type 0} {Settled : Table → List Bool → Edge → Type 0} {Sound : Table → Type 0} {shape : Shape}
-    (Waits : Edge → Type 0) (table : Table) (dirty : List Bool) (table_after : Table) (dirty_between dirty_after : List Bool) (at : ℕ) → dirty_between ≡ set dirty at false
+pub visit_settles : {Table : Type 0} {room : Table → ℕ} {Grows : Table → Table → Type 0} {Settled : Table → List Bool → Edge → Type 0}
+    {Sound : Table → Type 0} {shape : Shape}
+    (Waits : Edge → Type 0) (table : Table) (dirty : List Bool) (table_after : Table) (dirty_between dirty_after : List Bool) (at : ℕ)
+    → dirty_between ≡ set dirty at false
     → Spreads room Grows Settled Sound shape table dirty_between table_after dirty_after
     → ((edge : Edge) → Settled table dirty edge → Waits edge ⊎ Settled table (set dirty at false) edge)
     → ((edge : Edge) → IsEdge shape edge → Waits edge → Settled table_after dirty_after edge)
@@ -107,11 +120,13 @@ visit_settles {Settled = Settled} Waits table dirty table_after dirty_between di
     ]
 
 -- the same of edges that wait for the point that they leave, or its procedure
-pub visit_settles_from : {Table : Type 0} {room : Table → ℕ} {Grows : Table → Table → Type 0} {Sound : Table → Type 0} {shape : Shape} (Closed : Table → Edge → Type 0) (from : Edge → ℕ)
+pub visit_settles_from : {Table : Type 0} {room : Table → ℕ} {Grows : Table → Table → Type 0} {Sound : Table → Type 0} {shape : Shape}
+    (Closed : Table → Edge → Type 0) (from : Edge → ℕ)
     (table : Table) (dirty : List Bool) (table_after : Table) (dirty_between dirty_after : List Bool) (at : ℕ) → dirty_between ≡ set dirty at false
     → Spreads room Grows (IsSettled Closed from) Sound shape table dirty_between table_after dirty_after
     → ((edge : Edge) → IsEdge shape edge → from edge ≡ at → IsSettled Closed from table_after dirty_after edge)
-    → ((edge : Edge) → IsEdge shape edge → IsSettled Closed from table dirty edge) → (edge : Edge) → IsEdge shape edge → IsSettled Closed from table_after dirty_after edge
+    → ((edge : Edge) → IsEdge shape edge → IsSettled Closed from table dirty edge) → (edge : Edge) → IsEdge shape edge
+    → IsSettled Closed from table_after dirty_after edge
 visit_settles_from Closed from table dirty table_after dirty_between dirty_after at taken spreads visited before =
     visit_settles {Settled = IsSettled Closed from} (λ edge. from edge ≡ at) table dirty table_after dirty_between dirty_after at taken spreads
     (λ edge is. settled_but Closed from table dirty at edge is) visited before

@@ -6,11 +6,13 @@ use Rattle.flow_graph.specs.Analyses.{HasPathAt, IsInTable, is_must}
 use Rattle.flow_graph.specs.Problems.{may_shape, may_transfer}
 use Rattle.flow_graph.specs.declared.analysis.Analysis.{Analysis}
 use Rattle.flow_graph.specs.declared.edge.Edge.{Edge}
-use Rattle.flow_graph.specs.Paths.{Shape, Transfer, IsValidPath, IsBackwardValidPath, value_before, value_after, HasPath, SomePathHas, EveryPathHas, HasBackwardPath, SomeBackwardPathHas, EveryBackwardPathHas}
+use Rattle.flow_graph.specs.Paths.{Shape, Transfer, IsValidPath, IsBackwardValidPath, value_before, value_after, HasPath, SomePathHas, EveryPathHas}
+use Rattle.flow_graph.specs.Paths.{HasBackwardPath, SomeBackwardPathHas, EveryBackwardPathHas}
 use Rattle.flow_graph.specs.Reversals.{reversed_shape, reversed_transfer, complemented_transfer}
 use Rattle.flow_graph.specs.WellFormed.{IsWellFormed, AgreesOnSteps}
 use Rattle.flow_graph.specs.MatchedPaths.{IsPathFromEntry, IsEnteringPath, is_kept_along}
-use Rattle.gk_solve.specs.Equations.{Reached, Kept, Made, Entered, Brought, HasFlag, IsInSolution, IsClosedReached, IsClosedKept, IsClosedMade, IsClosedEntered, IsClosedBrought}
+use Rattle.gk_solve.specs.Equations.{Reached, Kept, Made, Entered, Brought, HasFlag, IsInSolution, IsClosedReached, IsClosedKept, IsClosedMade}
+use Rattle.gk_solve.specs.Equations.{IsClosedEntered, IsClosedBrought}
 
 -- Reached, kept and made say that some matched path from the entry of the point's procedure exists, keeps the bit, makes
 -- the bit.
@@ -26,7 +28,8 @@ abbrev pub EntriesArePaths : Type 0
 EntriesArePaths =
     (shape : Shape) (transfer : Transfer) (procedure : ℕ) → IsWellFormed shape → procedure < shape.procedures
     → (Entered shape procedure ↔ ((path : List Edge) × IsEnteringPath shape path procedure))
-    × (Brought shape transfer procedure ↔ ((path : List Edge) × IsEnteringPath shape path procedure × (value_after transfer path transfer.boundary ≡ true)))
+    × (Brought shape transfer procedure
+    ↔ ((path : List Edge) × IsEnteringPath shape path procedure × (value_after transfer path transfer.boundary ≡ true)))
 
 -- The least solution of a forward may problem is its meet over valid paths, with recursion and all.
 abbrev pub SolutionIsMeet : Type 0
@@ -127,7 +130,8 @@ MeetsAreDecided =
     (shape : Shape) (transfer : Transfer) (point : ℕ) → IsWellFormed shape
     → (HasPath shape point ⊎ (¬ (HasPath shape point)))
     × (SomePathHas shape transfer point ⊎ (¬ (SomePathHas shape transfer point)))
-    × (EveryPathHas shape transfer point ⊎ ((path : List Edge) × IsValidPath shape path point × (value_after transfer path transfer.boundary ≡ false)))
+    × (EveryPathHas shape transfer point
+    ⊎ ((path : List Edge) × IsValidPath shape path point × (value_after transfer path transfer.boundary ≡ false)))
 
 -- and backwards.
 abbrev pub BackwardMeetsAreDecided : Type 0
@@ -135,7 +139,8 @@ BackwardMeetsAreDecided =
     (shape : Shape) (transfer : Transfer) (point : ℕ) → IsWellFormed shape
     → (HasBackwardPath shape point ⊎ (¬ (HasBackwardPath shape point)))
     × (SomeBackwardPathHas shape transfer point ⊎ (¬ (SomeBackwardPathHas shape transfer point)))
-    × (EveryBackwardPathHas shape transfer point ⊎ ((path : List Edge) × IsBackwardValidPath shape path point × (value_before transfer path transfer.boundary ≡ false)))
+    × (EveryBackwardPathHas shape transfer point
+    ⊎ ((path : List Edge) × IsBackwardValidPath shape path point × (value_before transfer path transfer.boundary ≡ false)))
 
 -- The tables of a program's four analyses are the least solutions of their may forms, complemented for a must analysis; and so
 -- are their flags.

@@ -80,4 +80,5 @@ AreMeetWords form = TellWords (λ point bit. SomePathHas (may_shape form.program
 -- one flag for each point, set exactly where some valid path leads to it
 pub record HasPathFlags (form : MayForm) (flags : List Bool) : Type 0 where
   pub count : length flags ≡ point_count form.program
-  pub flag : (point : ℕ) → point < point_count form.program → (slice_index_or flags point false ≡ true) ↔ HasPath (may_shape form.program form.analysis) point
+  pub flag : (point : ℕ) → point < point_count form.program
+      → (slice_index_or flags point false ≡ true) ↔ HasPath (may_shape form.program form.analysis) point

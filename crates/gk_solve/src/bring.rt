@@ -8,7 +8,8 @@ ghost use Rattle.gk_solve.specs.Equations.{IsInSolution};
 ghost use Rattle.flow_links.specs.Shapes.{directed_shape};
 ghost use Rattle.flow_links.specs.LinkLists.{IsSiteLink};
 ghost use Rattle.work_list.specs.Marks.{IsMarked};
-ghost use Rattle.gk_solve.specs.Tables.Brought.{AreBroughtOf, AreExactBrought, AreSoundBrought, BroughtSpreads, IsBringSettled, IsBroughtClosedAt, brought_word};
+ghost use Rattle.gk_solve.specs.Tables.Brought.{AreBroughtOf, AreExactBrought, AreSoundBrought, BroughtSpreads, IsBringSettled, IsBroughtClosedAt};
+ghost use Rattle.gk_solve.specs.Tables.Brought.{brought_word};
 ghost use Rattle.gk_solve.specs.Tables.Flags.{source_procedure};
 ghost use Rattle.gk_solve.specs.Tables.Groups.{AreCompleteSummaries, AreSoundSummaries, IsGroupFrame, group_of};
 ghost use Rattle.gk_solve.specs.Tables.Visits.{IsSettled};
@@ -92,8 +93,10 @@ fn visit<const W: usize>(
     requires within { procedure < (directed_shape frame.now.links.now).procedures }
     requires sound { AreSoundBrought (group_of frame.now W) brought.now }
     ensures spreads { BroughtSpreads (group_of frame.now W) frame.now.paths.now table.now brought.old dirty.old brought.new dirty.new }
-    ensures settled { (edge : Edge) → IsEdge (directed_shape frame.now.links.now) edge → source_procedure (directed_shape frame.now.links.now) edge ≡ procedure
-        → IsSettled (IsBroughtClosedAt (group_of frame.now W) frame.now.paths.now table.now) (source_procedure (directed_shape frame.now.links.now)) brought.new dirty.new edge }
+    ensures settled { (edge : Edge) → IsEdge (directed_shape frame.now.links.now) edge
+        → source_procedure (directed_shape frame.now.links.now) edge ≡ procedure
+        → IsSettled (IsBroughtClosedAt (group_of frame.now W) frame.now.paths.now table.now) (source_procedure (directed_shape frame.now.links.now))
+        brought.new dirty.new edge }
 {
     let links = frame.links;
     let sites = links.sites_in(procedure);
@@ -119,7 +122,8 @@ fn boundary<const W: usize>(frame: &GroupFrame) -> [u64; W]
 fn begin<const W: usize>(frame: &GroupFrame, brought: &mut [[u64; W]])
     requires frame { IsGroupFrame W frame.now }
     requires count { length brought.now ≡ (directed_shape frame.now.links.now).procedures }
-    ensures root { (w k : ℕ) → w < W → k < 64 → ((group_of frame.now W).transfer w k).boundary ≡ true → HasBit (brought_word brought.new w) (directed_shape frame.now.links.now).root_procedure k }
+    ensures root { (w k : ℕ) → w < W → k < 64 → ((group_of frame.now W).transfer w k).boundary ≡ true
+        → HasBit (brought_word brought.new w) (directed_shape frame.now.links.now).root_procedure k }
     ensures sound { AreSoundBrought (group_of frame.now W) brought.new }
 {
     for procedure in 0..brought.len() {

@@ -1,7 +1,9 @@
 //! Worked shapes: which bits their least solutions have.
 
 ghost use Rattle.flow_graph.specs.Reversals.{reversed_shape, reversed_transfer, complemented_transfer};
-ghost use Rattle.flow_graph.specs.Examples.{two_calls, earlier_definition, later_definition, two_prints, live_first, recursive_procedure, inner_definition, recursive_main, only_definition, value_at_entry, endless_callee, sum_expression, several_callees, outer_definition, inner_of_first};
+ghost use Rattle.flow_graph.specs.Examples.{two_calls, earlier_definition, later_definition, two_prints, live_first, recursive_procedure};
+ghost use Rattle.flow_graph.specs.Examples.{inner_definition, recursive_main, only_definition, value_at_entry, endless_callee, sum_expression};
+ghost use Rattle.flow_graph.specs.Examples.{several_callees, outer_definition, inner_of_first};
 ghost use Rattle.gk_solve.specs.Equations.{HasFlag, IsInSolution};
 
 /// The later of two definitions reaches the point after the second call, and not the point after the first.

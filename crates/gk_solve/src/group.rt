@@ -9,7 +9,9 @@ ghost use Rattle.gk_solve.specs.Equations.{HasFlag};
 ghost use Rattle.flow_links.specs.Shapes.{directed_shape};
 ghost use Rattle.flow_links.specs.LinkLists.{IsCallLink};
 ghost use Rattle.gk_solve.specs.Tables.Flags.{IsFlagged};
-ghost use Rattle.gk_solve.specs.Tables.Groups.{AreCompleteSummaries, AreJoined, AreOf, AreSameBut, AreSoundSummaries, IsCallerSettled, IsGroupFrame, IsSummaryCallSettled, IsSummarySettled, SummarySpreads, WaitsFor, group_of, kept_word, made_word, room_of_summary};
+ghost use Rattle.gk_solve.specs.Tables.Groups.{AreCompleteSummaries, AreJoined, AreOf, AreSameBut, AreSoundSummaries, IsCallerSettled, IsGroupFrame};
+ghost use Rattle.gk_solve.specs.Tables.Groups.{IsSummaryCallSettled, IsSummarySettled, SummarySpreads, WaitsFor, group_of, kept_word, made_word};
+ghost use Rattle.gk_solve.specs.Tables.Groups.{room_of_summary};
 ghost use Rattle.gk_solve.specs.Tables.Words.{HasBit, IsKept, IsMade, step_statement};
 
 use crate::effects::across;

@@ -44,7 +44,8 @@ pub(crate) fn across_word(added: u64, before: u64, kill: u64) -> u64
 #[inline(always)]
 pub(crate) fn added<const W: usize>(words: [u64; W], more: [u64; W]) -> ([u64; W], bool)
     ensures count { length result.0 ≡ W }
-    ensures bits { (w k : ℕ) → w < W → has_bit (slice_index result.0 w) k ≡ (has_bit (slice_index words.entry w) k || has_bit (slice_index more.entry w) k) }
+    ensures bits { (w k : ℕ) → w < W
+        → has_bit (slice_index result.0 w) k ≡ (has_bit (slice_index words.entry w) k || has_bit (slice_index more.entry w) k) }
     ensures same { result.1 ≡ false → result.0 ≡ words.entry }
     ensures less { result.1 ≡ true → room_of_words result.0 < room_of_words words.entry }
 {
@@ -64,7 +65,8 @@ pub(crate) fn added<const W: usize>(words: [u64; W], more: [u64; W]) -> ([u64; W
 /// The bits of both.
 #[inline(always)]
 pub(crate) fn both<const W: usize>(first: [u64; W], second: [u64; W]) -> [u64; W]
-    ensures { (w k : ℕ) → w < W → has_bit (slice_index result w) k ≡ (has_bit (slice_index first.entry w) k && has_bit (slice_index second.entry w) k) }
+    ensures { (w k : ℕ) → w < W
+        → has_bit (slice_index result w) k ≡ (has_bit (slice_index first.entry w) k && has_bit (slice_index second.entry w) k) }
 {
     let mut all = first;
     for w in 0..W {
@@ -80,7 +82,8 @@ pub(crate) fn new_or_kept<const W: usize>(
     before: [u64; W],
     kept: [u64; W],
 ) -> [u64; W]
-    ensures { (w k : ℕ) → w < W → has_bit (slice_index result w) k ≡ (has_bit (slice_index new.entry w) k || (has_bit (slice_index before.entry w) k && has_bit (slice_index kept.entry w) k)) }
+    ensures { (w k : ℕ) → w < W → has_bit (slice_index result w) k
+        ≡ (has_bit (slice_index new.entry w) k || (has_bit (slice_index before.entry w) k && has_bit (slice_index kept.entry w) k)) }
 {
     let mut all = new;
     for w in 0..W {

@@ -4,7 +4,10 @@
 //! `summaries_are_paths`, `entries_are_paths`, `solution_is_meet` and `reversal_and_complement_carry_the_meet`.
 
 ghost use Rattle.flow_graph.specs.PathLaws.{MatchedReturnsLeaveTheirCallee, CalleePathsJoin, ValidPathsSplit};
-ghost use Rattle.gk_solve.specs.Laws.{SummariesArePaths, EntriesArePaths, SolutionIsMeet, ForwardMustIsComplement, BackwardFlagsAreReversed, BackwardMayIsReversed, BackwardMustIsReversedComplement, SolutionIsClosed, ReachedIsLeast, KeptIsLeast, MadeIsLeast, EnteredIsLeast, BroughtIsLeast, BitsAreApart, SolutionIsDecided, MeetsAreDecided, BackwardMeetsAreDecided, FlagsAreSolutions, MayTablesAreSolutions, MustTablesAreSolutions, TablesAreDecided};
+ghost use Rattle.gk_solve.specs.Laws.{SummariesArePaths, EntriesArePaths, SolutionIsMeet, ForwardMustIsComplement, BackwardFlagsAreReversed};
+ghost use Rattle.gk_solve.specs.Laws.{BackwardMayIsReversed, BackwardMustIsReversedComplement, SolutionIsClosed, ReachedIsLeast, KeptIsLeast};
+ghost use Rattle.gk_solve.specs.Laws.{MadeIsLeast, EnteredIsLeast, BroughtIsLeast, BitsAreApart, SolutionIsDecided, MeetsAreDecided};
+ghost use Rattle.gk_solve.specs.Laws.{BackwardMeetsAreDecided, FlagsAreSolutions, MayTablesAreSolutions, MustTablesAreSolutions, TablesAreDecided};
 
 /// On a valid path a return that matches a call leaves from the callee that the call entered.
 pub fn matched_returns_leave_their_callee()

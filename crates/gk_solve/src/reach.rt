@@ -112,7 +112,8 @@ fn grow_entries(links: &Links<'_, '_>, flags: &mut [bool], dirty: &mut Marks)
     requires count { length flags.now ≡ point_count links.now.program }
     requires dirty_count { length dirty.now ≡ point_count links.now.program }
     ensures spreads { ReachSpreads (directed_shape links.now) links.now.backward flags.old dirty.old flags.new dirty.new }
-    ensures entries { (procedure : ℕ) → procedure < (directed_shape links.now).procedures → IsFlagged flags.new ((directed_shape links.now).entry procedure) }
+    ensures entries { (procedure : ℕ) → procedure < (directed_shape links.now).procedures
+        → IsFlagged flags.new ((directed_shape links.now).entry procedure) }
 {
     // Its contract tells where entries lie.
     let _ = links.points();

@@ -49,7 +49,8 @@ impl Drop for Routes<'_, '_> {
 
 // The points that are reached, and how many steps were followed to find them.
 fn reached_points(alloc: Global, links: &Links<'_, '_>) -> Result<(Vec<bool>, u64), OutOfMemory>
-    ensures { IfOk result (λ found. (length found.0.items ≡ point_count links.now.program) × AreExactly (Reached (directed_shape links.now)) found.0.items) }
+    ensures { IfOk result
+        (λ found. (length found.0.items ≡ point_count links.now.program) × AreExactly (Reached (directed_shape links.now)) found.0.items) }
 {
     let mut flags = vec![in alloc; false; links.points() as usize]?;
     let mut dirty = Marks::none(alloc, links.order())?;
@@ -66,7 +67,8 @@ fn entered_procedures(
 ) -> Result<Vec<bool>, OutOfMemory>
     requires count { length reached.now ≡ point_count links.now.program }
     requires reached { AreExactly (Reached (directed_shape links.now)) reached.now }
-    ensures { IfOk result (λ flags. (length flags.items ≡ (directed_shape links.now).procedures) × AreExactly (Entered (directed_shape links.now)) flags.items) }
+    ensures { IfOk result
+        (λ flags. (length flags.items ≡ (directed_shape links.now).procedures) × AreExactly (Entered (directed_shape links.now)) flags.items) }
 {
     let mut flags = vec![in alloc; false; links.procedures() as usize]?;
     let mut dirty = Marks::none(alloc, links.call_order())?;

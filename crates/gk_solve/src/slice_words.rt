@@ -9,6 +9,7 @@ ghost use Rattle.flow_links.specs.Shapes.{LinkedProgram, directed_shape};
 ghost use Rattle.gk_solve.specs.Solved.{AreSolved, IsSliceOf, direction_of, word_at};
 ghost use Rattle.gk_solve.specs.Tables.Groups.{AreEffectWords, IsGroupFrame};
 ghost use Rattle.gk_solve.specs.Tables.Widths.{width_of};
+ghost use Rattle.gk_solve.specs.declared.slice_words.Width.TheVariants.{One, Four, Eight};
 
 use crate::OutOfMemory;
 use crate::effects::with_bit;
@@ -22,8 +23,16 @@ use std::alloc::Global;
 use std::marker::Model;
 use work_list::Marks;
 
-// How many words are solved at once where a slice has more than one.
-const WIDTH: usize = 4;
+// A slice of more words is long, and solves eight at once: twice as many for some more work.
+const LONG: u32 = 64;
+
+/// How many words a slice solves at once: one where it has no more, and eight where it is long.
+#[derive(Clone, Copy)]
+pub(crate) enum Width {
+    One,
+    Four,
+    Eight,
+}
 
 /// All working memory in which the words of a slice are solved, and the words that were solved last.
 pub struct SliceWords {
@@ -31,11 +40,13 @@ pub struct SliceWords {
     hi: u32,
     from: u32,
     until: u32,
-    wide: bool,
+    width: Width,
     one: Vec<Summary<1>>,
     one_brought: Vec<[u64; 1]>,
-    many: Vec<Summary<WIDTH>>,
-    many_brought: Vec<[u64; WIDTH]>,
+    four: Vec<Summary<4>>,
+    four_brought: Vec<[u64; 4]>,
+    eight: Vec<Summary<8>>,
+    eight_brought: Vec<[u64; 8]>,
     dirty: Marks,
     callers: Marks,
     variables: u32,
@@ -61,11 +72,13 @@ impl Drop for SliceWords {
             hi: _,
             from: _,
             until: _,
-            wide: _,
+            width: _,
             one: _,
             one_brought: _,
-            many: _,
-            many_brought: _,
+            four: _,
+            four_brought: _,
+            eight: _,
+            eight_brought: _,
             dirty: _,
             callers: _,
             variables: _,
@@ -75,35 +88,35 @@ impl Drop for SliceWords {
 }
 
 // The words of a group, a bit each: word `w` at place `w % 64`.
-fn group_mask<const W: usize>(first: u32) -> u64
-    requires narrow { W ≤ 8 }
+fn group_mask(first: u32, width: u32) -> u64
+    requires narrow { width ≤ 8 }
     requires first { first < 2 ^ 31 }
-    ensures { (w : ℕ) → w < W → has_bit result ((first + w) % 64) ≡ true }
+    ensures { (w : ℕ) → w < width → has_bit result ((first + w) % 64) ≡ true }
 {
     let mut mask = 0;
-    for w in 0..W {
-        let word = first + w as u32;
-        mask = with_bit(mask, word % 64);
+    for w in 0..width {
+        mask = with_bit(mask, (first + w) % 64);
     }
     mask
 }
 
-// What a group of words from one on is solved by.
-fn group_frame<'a, 'g, 'p, const W: usize>(
+// What a group of so many words from one on is solved by.
+fn group_frame<'a, 'g, 'p>(
     problem: &'a Problem<'g, 'p>,
     routes: &'a Routes<'g, 'p>,
     effects: &'a [u64],
     dependence: &'a BitTable,
     word: u32,
+    width: u32,
 ) -> GroupFrame<'a, 'g, 'p>
-    requires narrow { W ≤ 8 }
+    requires narrow { width ≤ 8 }
     requires routes { routes.now ≡ direction_of problem.now }
     requires effects { AreEffectWords problem.now effects.now }
     requires dependence { IsDependence problem.now.program problem.now.analysis word dependence.now.words.items dependence.now.width }
     requires row_first { dependence.now.first ≡ word }
-    requires row_words { dependence.now.width ≡ W }
+    requires row_words { dependence.now.width ≡ width }
     requires word { 64 * word < bits_of problem.now.program problem.now.analysis }
-    ensures frame { IsGroupFrame W result }
+    ensures frame { IsGroupFrame width result }
     ensures problem { result.problem.now ≡ problem.now }
     ensures links { result.links.now ≡ routes.now }
     ensures first { result.first ≡ word }
@@ -118,7 +131,7 @@ fn group_frame<'a, 'g, 'p, const W: usize>(
         paths: routes.paths(),
         effects,
         first: word,
-        mask: group_mask::<W>(word),
+        mask: group_mask(word, width),
         dependence,
     }
 }
@@ -150,11 +163,46 @@ fn marks(alloc: Global, links: &Links<'_, '_>) -> Result<(Marks, Marks), OutOfMe
     Ok((points, procedures))
 }
 
-// How many words a slice solves at once.
-fn width(wide: bool) -> u32
-    ensures { result ≡ width_of wide }
+// How many words a slice of the bits `lo..hi` solves at once.
+fn width_for(lo: u32, hi: u32) -> Width
+    requires { lo ≤ hi }
+    ensures one { result ≡ One → hi ≤ 64 * (lo / 64) + 64 }
+    ensures four { result ≡ Four → (hi + 63) / 64 ≤ lo / 64 + 64 }
+    ensures eight { result ≡ Eight → lo / 64 + 64 < (hi + 63) / 64 }
 {
-    if wide { WIDTH as u32 } else { 1 }
+    let words = hi.div_ceil(64).saturating_sub(lo / 64);
+    if words <= 1 {
+        Width::One
+    } else if words <= LONG {
+        Width::Four
+    } else {
+        Width::Eight
+    }
+}
+
+// So many words.
+fn count(width: Width) -> u32
+    ensures { result ≡ width_of width }
+{
+    match width {
+        Width::One => 1,
+        Width::Four => 4,
+        Width::Eight => 8,
+    }
+}
+
+// How many tables of each width there are: one, of the width that is used.
+fn tables(width: Width) -> (usize, usize, usize)
+    ensures one { width ≡ One → result.0 ≡ 1 }
+    ensures four { width ≡ Four → result.1 ≡ 1 }
+    ensures eight { width ≡ Eight → result.2 ≡ 1 }
+    ensures most { (result.0 ≤ 1) × (result.1 ≤ 1) × (result.2 ≤ 1) }
+{
+    match width {
+        Width::One => (1, 0, 0),
+        Width::Four => (0, 1, 0),
+        Width::Eight => (0, 0, 1),
+    }
 }
 
 // All working memory of a slice.
@@ -172,23 +220,26 @@ pub(crate) fn slice_words(
     let links = routes.links();
     let points = links.points() as usize;
     let procedures = links.procedures() as usize;
-    let wide = lo / 64 + 1 < hi.div_ceil(64);
-    let (single, several) = if wide { (0, 1) } else { (1, 0) };
-    let (one, one_brought) = blank_tables(alloc, single * points, single * procedures)?;
-    let (many, many_brought) = blank_tables(alloc, several * points, several * procedures)?;
+    let width = width_for(lo, hi);
+    let (ones, fours, eights) = tables(width);
+    let (one, one_brought) = blank_tables(alloc, ones * points, ones * procedures)?;
+    let (four, four_brought) = blank_tables(alloc, fours * points, fours * procedures)?;
+    let (eight, eight_brought) = blank_tables(alloc, eights * points, eights * procedures)?;
     let (dirty, callers) = marks(alloc, links)?;
     let variables = problem.variables();
-    let dependence = problem.no_dependence(alloc, width(wide))?;
+    let dependence = problem.no_dependence(alloc, count(width))?;
     Ok(SliceWords {
         lo,
         hi,
         from: lo / 64,
         until: lo / 64,
-        wide,
+        width,
         one,
         one_brought,
-        many,
-        many_brought,
+        four,
+        four_brought,
+        eight,
+        eight_brought,
         dirty,
         callers,
         variables,
@@ -212,10 +263,10 @@ impl SliceWords {
         ensures { result ≡ word_at self.now point word }
     {
         let w = (word - self.from) as usize;
-        if self.wide {
-            self.many[point as usize].made[w]
-        } else {
-            self.one[point as usize].made[w]
+        match self.width {
+            Width::One => self.one[point as usize].made[w],
+            Width::Four => self.four[point as usize].made[w],
+            Width::Eight => self.eight[point as usize].made[w],
         }
     }
 
@@ -227,14 +278,80 @@ impl SliceWords {
         ensures words { (w : ℕ) → w < length result.1.now → slice_index result.1.now w ≡ word_at self.now point (result.0 + w) }
     {
         let count = (self.until - self.from) as usize;
-        if self.wide {
-            (self.from, &self.many[point as usize].made[..count])
-        } else {
-            (self.from, &self.one[point as usize].made[..count])
+        match self.width {
+            Width::One => (self.from, &self.one[point as usize].made[..count]),
+            Width::Four => (self.from, &self.four[point as usize].made[..count]),
+            Width::Eight => (self.from, &self.eight[point as usize].made[..count]),
         }
     }
 
-    /// Solves the words from one on, four or to the slice's end, and answers the word after the last.
+    // Solves the words from one on, four, or eight of a long slice, or to the slice's end.
+    fn solve_group_from<'a, 'g, 'p>(
+        &mut self,
+        problem: &'a Problem<'g, 'p>,
+        routes: &'a Routes<'g, 'p>,
+        effects: &'a [u64],
+        word: u32,
+        followed: &mut u64,
+    )
+        requires slice { IsSliceOf problem.now self.old }
+        requires routes { routes.now ≡ direction_of problem.now }
+        requires effects { AreEffectWords problem.now effects.now }
+        requires word { 64 * word < self.old.hi }
+        ensures slice { IsSliceOf problem.now self.new }
+        ensures range { (self.new.lo ≡ self.old.lo) × (self.new.hi ≡ self.old.hi) }
+        ensures from { self.new.from ≡ word }
+        ensures more { word < self.new.until }
+        ensures last { 64 * self.new.until < self.old.hi + 64 }
+        ensures most { self.new.until ≤ word + 8 }
+        ensures most_short { (self.old.hi + 63) / 64 ≤ self.old.lo / 64 + 64 → self.new.until ≤ word + 4 }
+        ensures whole { self.old.lo / 64 ≤ word → 64 * self.new.until < self.old.hi → (self.old.hi + 63) / 64 ≤ self.old.lo / 64 + 64
+            → self.new.until ≡ word + 4 }
+        ensures whole_long { self.old.lo / 64 ≤ word → 64 * self.new.until < self.old.hi → self.old.lo / 64 + 64 < (self.old.hi + 63) / 64
+            → self.new.until ≡ word + 8 }
+        ensures solved { AreSolved problem.now self.new }
+    {
+        let left = self.hi.div_ceil(64) - word;
+        // Its contract tells that there are few bits.
+        let _ = problem.bits();
+        problem.put_dependence(word, &mut self.dependence);
+        let width = count(self.width);
+        let frame = group_frame(problem, routes, effects, &self.dependence, word, width);
+        let range = (self.lo, self.hi);
+        self.from = word;
+        self.until = word + left.min(width);
+        match self.width {
+            Width::One => solve_group(
+                &frame,
+                self.one.as_mut_slice(),
+                self.one_brought.as_mut_slice(),
+                &mut self.dirty,
+                &mut self.callers,
+                range,
+                followed,
+            ),
+            Width::Four => solve_group(
+                &frame,
+                self.four.as_mut_slice(),
+                self.four_brought.as_mut_slice(),
+                &mut self.dirty,
+                &mut self.callers,
+                range,
+                followed,
+            ),
+            Width::Eight => solve_group(
+                &frame,
+                self.eight.as_mut_slice(),
+                self.eight_brought.as_mut_slice(),
+                &mut self.dirty,
+                &mut self.callers,
+                range,
+                followed,
+            ),
+        }
+    }
+
+    /// Solves the words from one on, four, or eight of a long slice, or to the slice's end, and answers the word after the last.
     pub(crate) fn solve_from<'a, 'g, 'p>(
         &mut self,
         problem: &'a Problem<'g, 'p>,
@@ -253,43 +370,15 @@ impl SliceWords {
         ensures until { self.new.until ≡ result }
         ensures more { word < result }
         ensures last { 64 * result < self.old.hi + 64 }
-        ensures most { result ≤ word + 4 }
-        ensures whole { self.old.lo / 64 ≤ word → 64 * result < self.old.hi → result ≡ word + 4 }
+        ensures most { result ≤ word + 8 }
+        ensures most_short { (self.old.hi + 63) / 64 ≤ self.old.lo / 64 + 64 → result ≤ word + 4 }
+        ensures whole { self.old.lo / 64 ≤ word → 64 * result < self.old.hi → (self.old.hi + 63) / 64 ≤ self.old.lo / 64 + 64
+            → result ≡ word + 4 }
+        ensures whole_long { self.old.lo / 64 ≤ word → 64 * result < self.old.hi → self.old.lo / 64 + 64 < (self.old.hi + 63) / 64
+            → result ≡ word + 8 }
         ensures solved { AreSolved problem.now self.new }
     {
-        let left = self.hi.div_ceil(64) - word;
-        // Its contract tells that there are few bits.
-        let _ = problem.bits();
-        problem.put_dependence(word, &mut self.dependence);
-        if self.wide {
-            let frame = group_frame::<WIDTH>(problem, routes, effects, &self.dependence, word);
-            solve_group(
-                &frame,
-                self.many.as_mut_slice(),
-                self.many_brought.as_mut_slice(),
-                &mut self.dirty,
-                &mut self.callers,
-                self.lo,
-                self.hi,
-                followed,
-            );
-            self.from = word;
-            self.until = word + left.min(WIDTH as u32);
-            return self.until;
-        }
-        let frame = group_frame::<1>(problem, routes, effects, &self.dependence, word);
-        solve_group(
-            &frame,
-            self.one.as_mut_slice(),
-            self.one_brought.as_mut_slice(),
-            &mut self.dirty,
-            &mut self.callers,
-            self.lo,
-            self.hi,
-            followed,
-        );
-        self.from = word;
-        self.until = word + 1;
+        self.solve_group_from(problem, routes, effects, word, followed);
         self.until
     }
 }

@@ -102,15 +102,14 @@ fn put_solutions<const W: usize>(
     }
 }
 
-/// Solves a group of words: the solution's bits of `lo..hi` stand in the place of what is made. Counts the steps that are followed.
+/// Solves a group of words: the solution's bits of a range stand in the place of what is made. Counts the steps that are followed.
 pub(crate) fn solve_group<const W: usize>(
     frame: &GroupFrame,
     table: &mut [Summary<W>],
     brought_words: &mut [[u64; W]],
     dirty: &mut Marks,
     callers: &mut Marks,
-    lo: u32,
-    hi: u32,
+    range: (u32, u32),
     followed: &mut u64,
 )
     requires frame { IsGroupFrame W frame.now }
@@ -118,11 +117,11 @@ pub(crate) fn solve_group<const W: usize>(
     requires procedures { length brought_words.now ≡ (directed_shape frame.now.links.now).procedures }
     requires dirty { length dirty.now ≡ point_count frame.now.links.now.program }
     requires callers { length callers.now ≡ (directed_shape frame.now.links.now).procedures }
-    ensures solutions { AreSliceSolutions (group_of frame.now W) frame.now.first (point_count frame.now.links.now.program) lo hi table.new }
+    ensures solutions { AreSliceSolutions (group_of frame.now W) frame.now.first (point_count frame.now.links.now.program) range.0 range.1 table.new }
     ensures dirty { length dirty.new ≡ length dirty.old }
     ensures callers { length callers.new ≡ length callers.old }
 {
     kept_and_made(frame, table, dirty, followed);
     brought(frame, table, brought_words, callers);
-    put_solutions(frame, table, brought_words, lo, hi);
+    put_solutions(frame, table, brought_words, range.0, range.1);
 }

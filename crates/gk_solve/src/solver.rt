@@ -311,8 +311,8 @@ impl<'g, 'p> Solver<'g, 'p> {
         slice_words(alloc, &self.problem, routes, lo, hi)
     }
 
-    /// Solves the words of a slice from one on, four or to the slice's end. Answers the word after the last one solved. It takes
-    /// no memory.
+    /// Solves the words of a slice from one on: four, or eight where the slice has more than 64, or to its end. Answers the word after
+    /// the last one solved. It takes no memory.
     pub fn solve_from<'a>(
         &'a self,
         routes: &'a Routes<'g, 'p>,
@@ -328,8 +328,12 @@ impl<'g, 'p> Solver<'g, 'p> {
         ensures until { slice.new.until ≡ result }
         ensures more { word < result }
         ensures last { 64 * result < slice.old.hi + 64 }
-        ensures most { result ≤ word + 4 }
-        ensures whole { slice.old.lo / 64 ≤ word → 64 * result < slice.old.hi → result ≡ word + 4 }
+        ensures most { result ≤ word + 8 }
+        ensures most_short { (slice.old.hi + 63) / 64 ≤ slice.old.lo / 64 + 64 → result ≤ word + 4 }
+        ensures whole { slice.old.lo / 64 ≤ word → 64 * result < slice.old.hi → (slice.old.hi + 63) / 64 ≤ slice.old.lo / 64 + 64
+            → result ≡ word + 4 }
+        ensures whole_long { slice.old.lo / 64 ≤ word → 64 * result < slice.old.hi → slice.old.lo / 64 + 64 < (slice.old.hi + 63) / 64
+            → result ≡ word + 8 }
         ensures equations { AreSolved self.now slice.new }
         ensures paths { AreMeetWords self.now slice.new }
     {

@@ -86,25 +86,30 @@ const CHOSEN_LINES: &[(Large, Analysis, &[u32], &str)] = &[
         Large::BrokenChain,
         Analysis::Reach,
         &[1, 2, 256, 257, 258, 259, 260, 261, 514],
-        "main 1: x@2\nmain 2 (no path): -\np126 0: x@2\np126 1 (no path): -\np127 0: x@2\np127 1 (no path): -\np127 2 (no path): -\np128 0 (no path): -\np254 1 (no path): -\n",
+        "main 1: x@2\nmain 2 (no path): -\np126 0: x@2\np126 1 (no path): -\np127 0: x@2\n\
+        p127 1 (no path): -\np127 2 (no path): -\np128 0 (no path): -\np254 1 (no path): -\n",
     ),
     (
         Large::BrokenChain,
         Analysis::Live,
         &[1, 2, 256, 257, 258, 259, 260, 261, 513, 514],
-        "main 1 (no path): -\nmain 2: x\np126 0 (no path): -\np126 1: x\np127 0 (no path): -\np127 1: -\np127 2: x\np128 0: -\np254 0: -\np254 1: x\n",
+        "main 1 (no path): -\nmain 2: x\np126 0 (no path): -\np126 1: x\np127 0 (no path): -\n\
+        p127 1: -\np127 2: x\np128 0: -\np254 0: -\np254 1: x\n",
     ),
     (
         Large::Circle,
         Analysis::Reach,
         &[0, 2, 42, 44],
-        "main 0: x@entry\np0 0: x@entry, x@1488, x@1494, x@1500, x@1506, x@1512, x@1518, x@1524, x@1530\np10 0: x@18, x@24, x@30, x@36, x@42, x@48, x@54, x@60\np10 2: x@66\n",
+        "main 0: x@entry\n\
+        p0 0: x@entry, x@1488, x@1494, x@1500, x@1506, x@1512, x@1518, x@1524, x@1530\n\
+        p10 0: x@18, x@24, x@30, x@36, x@42, x@48, x@54, x@60\np10 2: x@66\n",
     ),
     (
         Large::Loop,
         Analysis::Reach,
         &[0, 1, 2, 4_001, 4_002, 4_003],
-        "main 0: c@entry, x@entry, x@4002\nmain 1: c@entry, x@entry, x@4002\nmain 2: c@entry, x@3\nmain 4001: c@entry, x@4002\nmain 4002: c@entry, x@entry, x@4002\nmain 4003: c@entry, x@entry, x@4002\n",
+        "main 0: c@entry, x@entry, x@4002\nmain 1: c@entry, x@entry, x@4002\nmain 2: c@entry, x@3\n\
+        main 4001: c@entry, x@4002\nmain 4002: c@entry, x@entry, x@4002\nmain 4003: c@entry, x@entry, x@4002\n",
     ),
     (
         Large::Loop,

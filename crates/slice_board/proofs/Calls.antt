@@ -29,7 +29,8 @@ unfolding has_bit
 bit_of_one word i h = eq-eqb (bit_at word i) 1 h
 
 -- a mark of a bit is one of its place in its word
-pub at_place : (marks : List Mark) (point word place : ℕ) → place < 64 → IsMarked marks point (64 * word + place) → 0 < marks_at point word place marks
+pub at_place : (marks : List Mark) (point word place : ℕ) → place < 64 → IsMarked marks point (64 * word + place)
+    → 0 < marks_at point word place marks
 at_place marks point word place within marked =
     let q : (64 * word + place) / 64 ≡ word = omega arith in
     let j : (64 * word + place) % 64 ≡ place = omega arith in
@@ -43,7 +44,8 @@ module _ {T : Type 0} {t u : TableId} (m : Sat T) {n : Sat T} {w : View T} (held
   pub kept_after : m.1 ≡ [] → IsKept (pass_state t w held next) → IsKept (pass_state u n.0 held next) × (n.1 ≡ [])
   kept_after none k = (subst IsKept (sym state_after) k, (λ i. (after i).1) ∙ none)
 
-module _ {T : Type 0} {wants : T → ℕ → ℕ → Type 0} {table : TableId} {key : Key T} {cut : Slices} {blank : RowTable} {board : BoardState T} (laid : IsLaid wants table key cut blank) (board_is : board_state table key cut blank ≡ board) where
+module _ {T : Type 0} {wants : T → ℕ → ℕ → Type 0} {table : TableId} {key : Key T} {cut : Slices} {blank : RowTable} {board : BoardState T}
+    (laid : IsLaid wants table key cut blank) (board_is : board_state table key cut blank ≡ board) where
   pub same_cut : key.cut.value ≡ board.cut
   same_cut = laid.cut_is ∙ ap (λ (b : BoardState T). b.cut) board_is
 
@@ -59,20 +61,28 @@ module _ {T : Type 0} {wants : T → ℕ → ℕ → Type 0} {table : TableId} {
   pub tally_below : (word : ℕ) → word < words_for (slice_count board.cut) → word < tally_words (about_key key)
   tally_below word h = subst (λ (n : ℕ). word < words_for n) (same_slices laid board_is) h
 
-  pub wanted_mask : (p q mask : ℕ) → mask < 2 ^ 64 → ((i : ℕ) → i < 64 → has_bit mask i ≡ true → wants board.wanted p (64 * q + i)) → (j : ℕ) → bit_at mask j ≡ 1 → wants key.wanted.value p (64 * q + j)
+  pub wanted_mask : (p q mask : ℕ) → mask < 2 ^ 64 → ((i : ℕ) → i < 64 → has_bit mask i ≡ true → wants board.wanted p (64 * q + i)) → (j : ℕ)
+      → bit_at mask j ≡ 1 → wants key.wanted.value p (64 * q + j)
   wanted_mask p q mask fits h j one = dite (dec_le 64 j)
       (λ far. absurd (omega (arith, bit_at_above mask 64 j fits far)))
       (λ near. subst (λ (t : T). wants t p (64 * q + j)) (sym (same_wanted laid board_is)) (h j (omega arith) (bit_of_one mask j one)))
 
-  module _ {seat : TableId} {v : View T} {held : Option ℕ} {next : ℕ} {pass : PassState T} (pass_is : pass_state seat v held next ≡ pass) (of : IsOf board pass) where
-    pub slice_low : (s : ℕ) → IsKept (pass_state seat v held next) → pass.held ≡ Some s → (s < slice_count (about_key key).cut) × (times s v.finished < times s v.claimed)
-    slice_low s k h = held_low (pass_state seat v held next) (about_key key) s k (knows laid board_is pass_is of) (ap (λ (p : PassState T). p.held) pass_is ∙ h)
+  module _ {seat : TableId} {v : View T} {held : Option ℕ} {next : ℕ} {pass : PassState T} (pass_is : pass_state seat v held next ≡ pass)
+      (of : IsOf board pass) where
+    pub slice_low : (s : ℕ) → IsKept (pass_state seat v held next) → pass.held ≡ Some s
+        → (s < slice_count (about_key key).cut) × (times s v.finished < times s v.claimed)
+    slice_low s k h =
+        held_low (pass_state seat v held next) (about_key key) s k (knows laid board_is pass_is of) (ap (λ (p : PassState T). p.held) pass_is ∙ h)
 
-    pub is_posted : (s : ℕ) → ((point bit : ℕ) → wants board.wanted point bit → InSlice board.cut s bit → IsMarked pass.posted point bit) → IsPosted wants (about_key key) v s
+    pub is_posted : (s : ℕ) → ((point bit : ℕ) → wants board.wanted point bit → InSlice board.cut s bit → IsMarked pass.posted point bit)
+        → IsPosted wants (about_key key) v s
     is_posted s h p b hp hw hi = (
       omega (arith, (laid.within p b hw).1, ap (λ (c : Slices). c.bits) laid.cut_is),
-      subst (λ (l : List Mark). IsMarked l p b) (sym (ap (λ (p : PassState T). p.posted) pass_is)) (h p b (subst (λ (t : T). wants t p b) (same_wanted laid board_is) hw) (subst (λ (c : Slices). InSlice c s b) same_cut hi)),
+      subst (λ (l : List Mark). IsMarked l p b) (sym (ap (λ (p : PassState T). p.posted) pass_is))
+          (h p b (subst (λ (t : T). wants t p b) (same_wanted laid board_is) hw) (subst (λ (c : Slices). InSlice c s b) same_cut hi)),
     )
 
-    pub shows_own : (word value : ℕ) → ShowsOwn (slice_count (about_key key).cut) v.claimed v.finished word value → ShowsOwn (slice_count board.cut) pass.claimed pass.finished word value
-    shows_own word value = subst (λ (a : ℕ × PassState T). ShowsOwn a.0 a.1.claimed a.1.finished word value) (λ i. (sym (same_slices laid board_is) i, pass_is i))
+    pub shows_own : (word value : ℕ) → ShowsOwn (slice_count (about_key key).cut) v.claimed v.finished word value
+        → ShowsOwn (slice_count board.cut) pass.claimed pass.finished word value
+    shows_own word value =
+        subst (λ (a : ℕ × PassState T). ShowsOwn a.0 a.1.claimed a.1.finished word value) (λ i. (sym (same_slices laid board_is) i, pass_is i))

@@ -1,5 +1,6 @@
 -- A count of the finished slices, one done word after the other.
-use Rattle.std.proofs.Common.{◌≡◌, ℕ, zero, suc, ◌+◌, ◌-◌, ◌*◌, ◌/◌, ◌%◌, ◌<◌, ◌≤◌, min, List, [], ◌∷◌, ◌++◌, length, get_or, cond, eqb, eq-eqb, refl, sym, ap, ◌∙◌, inl, inr, arith, append_assoc}
+use Rattle.std.proofs.Common.{◌≡◌, ℕ, zero, suc, ◌+◌, ◌-◌, ◌*◌, ◌/◌, ◌%◌, ◌<◌, ◌≤◌, min, List, [], ◌∷◌, ◌++◌, length, get_or, cond, eqb, eq-eqb, refl}
+use Rattle.std.proofs.Common.{sym, ap, ◌∙◌, inl, inr, arith, append_assoc}
 use mathlib.Core.Logic.{dite}
 use native.Mathlib.Decide.{ℕ_discrete}
 use Rattle.std.specs.Int.{bit_at}
@@ -31,7 +32,8 @@ shown_below-front : (n : ℕ) (values more : List ℕ) → n ≤ 64 * length val
 shown_below-front zero values more h = refl
 shown_below-front (suc n) values more h = omega (arith, shown_below-front n values more (omega arith), shown_front values more n (omega arith))
 
-shown_below-word : (j w : ℕ) (values : List ℕ) (v : ℕ) → length values ≡ w → j ≤ 64 → shown_below (64 * w + j) (values ++ v ∷ []) ≡ shown_below (64 * w) values + ones_below j v
+shown_below-word : (j w : ℕ) (values : List ℕ) (v : ℕ) → length values ≡ w → j ≤ 64
+    → shown_below (64 * w + j) (values ++ v ∷ []) ≡ shown_below (64 * w) values + ones_below j v
 shown_below-word zero w values v size h =
     let e : 64 * w + 0 ≡ 64 * w = omega arith in
     let f = ap (λ (n : ℕ). shown_below n (values ++ v ∷ [])) e in
@@ -54,8 +56,10 @@ module _ {T : Type 0} where
     lacks_held = λ s low h. absurd (omega arith);
   }
 
-  pub CountedTo-more : (slices w done d v : ℕ) (old mid new : PassState T) → CountedTo slices w old mid done → mid ≡ record old { counted = mid.counted } → 64 * w < slices
-      → new.counted ≡ mid.counted ++ load_of w v ∷ [] → ShowsOwn slices mid.claimed mid.finished w v → d ≡ ones_below (min (slices - 64 * w) 64) v → CountedTo slices (w + 1) old new (done + d)
+  pub CountedTo-more : (slices w done d v : ℕ) (old mid new : PassState T) → CountedTo slices w old mid done
+      → mid ≡ record old { counted = mid.counted } → 64 * w < slices
+      → new.counted ≡ mid.counted ++ load_of w v ∷ [] → ShowsOwn slices mid.claimed mid.finished w v → d ≡ ones_below (min (slices - 64 * w) 64) v
+      → CountedTo slices (w + 1) old new (done + d)
   CountedTo-more slices w done d v old mid new c same more added own ones =
       let values = c.values ++ v ∷ [] in
       let size = c.each_word in
@@ -121,7 +125,8 @@ shown_below-full (suc n) values each = let a = shown_below-full n values (λ s h
 pub shows_at-loads : (first i j : ℕ) (values : List ℕ) → bit_at (get_or values i 0) j ≤ shows_at (first + i) j (loads_from first values)
 shows_at-loads first i j [] = omega (arith, bit_at-zero j)
 shows_at-loads first zero j (x ∷ xs) =
-    let here : cond (eqb first (first + 0)) (bit_at x j) 0 ≡ bit_at x j = ap {B = ℕ} (λ b. cond b (bit_at x j) 0) (eq-eqb first (first + 0) (omega arith)) in
+    let here : cond (eqb first (first + 0)) (bit_at x j) 0 ≡ bit_at x j =
+    ap {B = ℕ} (λ b. cond b (bit_at x j) 0) (eq-eqb first (first + 0) (omega arith)) in
     omega arith
 shows_at-loads first (suc i) j (x ∷ xs) =
     let e : first + 1 + i ≡ first + suc i = omega arith in

@@ -1,5 +1,6 @@
 -- The words of a board at the end, where a pass counted every slice as finished.
-use Rattle.std.proofs.Common.{◌≡◌, ℕ, ◌+◌, ◌*◌, ◌/◌, ◌%◌, ◌<◌, ◌≤◌, ◌↔◌, Bool, true, false, List, length, get_or, Option, Some, None, IsSome, refl, sym, ap, ◌∙◌, subst, arith}
+use Rattle.std.proofs.Common.{◌≡◌, ℕ, ◌+◌, ◌*◌, ◌/◌, ◌%◌, ◌<◌, ◌≤◌, ◌↔◌, Bool, true, false, List, length, get_or, Option, Some, None, IsSome, refl}
+use Rattle.std.proofs.Common.{sym, ap, ◌∙◌, subst, arith}
 use Rattle.std.specs.Int.{bit_at}
 use Rattle.atomic_table.specs.Table.{Final, Seen}
 use Rattle.bit_rows.specs.RowSet.{contains}
@@ -48,10 +49,13 @@ not_set false none = refl
 module _ {T : Type 0} (wants : T → ℕ → ℕ → Type 0) (about : About T) where
   -- the words of the rows hold exactly what is wanted
   pub record IsEnd (ws : List ℕ) : Type 0 where
-    pub here : (p b : ℕ) → p < about.points → b < about.cut.bits → wants about.wanted p b → bit_at (get_or ws (row_place about p (b / 64)) 0) (b % 64) ≡ 1
-    pub only : (p b : ℕ) → p < about.points → b / 64 < words_for about.cut.bits → bit_at (get_or ws (row_place about p (b / 64)) 0) (b % 64) ≡ 1 → wants about.wanted p b
+    pub here : (p b : ℕ) → p < about.points → b < about.cut.bits → wants about.wanted p b
+        → bit_at (get_or ws (row_place about p (b / 64)) 0) (b % 64) ≡ 1
+    pub only : (p b : ℕ) → p < about.points → b / 64 < words_for about.cut.bits → bit_at (get_or ws (row_place about p (b / 64)) 0) (b % 64) ≡ 1
+        → wants about.wanted p b
 
-  pub finals : (id : ℕ) (v : View T) (ws : List ℕ) (xs : List (Unit {0})) → CoverBits about.cut → ((s : ℕ) → s < slice_count about.cut → 0 < shows_at (s / 64) (s % 64) v.counted)
+  pub finals : (id : ℕ) (v : View T) (ws : List ℕ) (xs : List (Unit {0})) → CoverBits about.cut
+      → ((s : ℕ) → s < slice_count about.cut → 0 < shows_at (s / 64) (s % 64) v.counted)
       → Final (Seen (LawfulTable wants about) id v) ws xs → IsEnd ws
   finals id v ws xs cover all f =
       let lawful = f.1.0.lawful in
@@ -66,7 +70,8 @@ module _ {T : Type 0} (wants : T → ℕ → ℕ → Type 0) (about : About T) w
             subst (λ (n : ℕ). wants about.wanted p n) back (lawful.within p (b / 64) (b % 64) hp hq one);
       })
 
-  module _ (ws : List ℕ) (end : IsEnd ws) (tallies : ℕ) (flags : List Bool) (bits : ℕ) (tallies_is : tallies ≡ tally_words about) (bits_is : bits ≡ about.cut.bits) (points_is : length flags ≡ about.points) where
+  module _ (ws : List ℕ) (end : IsEnd ws) (tallies : ℕ) (flags : List Bool) (bits : ℕ) (tallies_is : tallies ≡ tally_words about)
+      (bits_is : bits ≡ about.cut.bits) (points_is : length flags ≡ about.points) where
     -- where the points' words begin
     abbrev first : ℕ
     first = 2 * tallies
@@ -80,18 +85,22 @@ module _ {T : Type 0} (wants : T → ℕ → ℕ → Type 0) (about : About T) w
     same_word : (point word : ℕ) → posted point word ≡ get_or ws (row_place about point word) 0
     same_word point word = ap (λ (k : ℕ). get_or ws k 0) (place_is point word)
 
-    wanted_there : (point bit : ℕ) → point < length flags → bit / 64 < words_for bits → bit_at (posted point (bit / 64)) (bit % 64) ≡ 1 → wants about.wanted point bit
+    wanted_there : (point bit : ℕ) → point < length flags → bit / 64 < words_for bits → bit_at (posted point (bit / 64)) (bit % 64) ≡ 1
+        → wants about.wanted point bit
     wanted_there point bit low within one =
-        end.only point bit (omega (arith, low, points_is)) (omega (arith, within, bits_is)) (ap (λ (w : ℕ). bit_at w (bit % 64)) (sym (same_word point (bit / 64))) ∙ one)
+        end.only point bit (omega (arith, low, points_is)) (omega (arith, within, bits_is))
+        (ap (λ (w : ℕ). bit_at w (bit % 64)) (sym (same_word point (bit / 64))) ∙ one)
 
     module _ (range : (point bit : ℕ) → wants about.wanted point bit → (point < length flags) × (bit < bits)) where
       -- no bit is there past the last
-      pub clear_past : (point word k : ℕ) → point < length flags → word < words_for bits → k < 64 → bits ≤ 64 * word + k → has_bit (posted point word) k ≡ false
+      pub clear_past : (point word k : ℕ) → point < length flags → word < words_for bits → k < 64 → bits ≤ 64 * word + k
+          → has_bit (posted point word) k ≡ false
       clear_past point word k low within small past =
           let q : (64 * word + k) / 64 ≡ word = omega (arith, small) in
           let j : (64 * word + k) % 64 ≡ k = omega (arith, small) in
           not_set (has_bit (posted point word) k) (λ set.
-          let one : bit_at (posted point ((64 * word + k) / 64)) ((64 * word + k) % 64) ≡ 1 = (λ i. bit_at (posted point (q i)) (j i)) ∙ one_of_bit (posted point word) k set in
+          let one : bit_at (posted point ((64 * word + k) / 64)) ((64 * word + k) % 64) ≡ 1 =
+          (λ i. bit_at (posted point (q i)) (j i)) ∙ one_of_bit (posted point word) k set in
           omega (arith, past, (range point (64 * word + k) (wanted_there point (64 * word + k) low (omega (arith, within, q)) one)).1))
 
       -- the sets of the points' words have exactly what is wanted

@@ -1,5 +1,7 @@
 -- What a call knows of its pass, and what holds of the pass after a step.
-use Rattle.std.proofs.Common.{◌≡◌, ◌≢◌, ℕ, zero, suc, ◌+◌, ◌-◌, ◌*◌, ◌/◌, ◌%◌, ◌^◌, ◌<◌, ◌≤◌, List, [], ◌∷◌, ◌++◌, length, Bool, false, is_some, if◌then◌else◌, cond, eq-eqb, ne_eqb, nat_eq, sym, refl, ap, ◌∙◌, subst, arith, Option, Some, None, IsSome, IfSome, bit_and, append_assoc}
+use Rattle.std.proofs.Common.{◌≡◌, ◌≢◌, ℕ, zero, suc, ◌+◌, ◌-◌, ◌*◌, ◌/◌, ◌%◌, ◌^◌, ◌<◌, ◌≤◌, List, [], ◌∷◌, ◌++◌, length, Bool, false, is_some}
+use Rattle.std.proofs.Common.{if◌then◌else◌, cond, eq-eqb, ne_eqb, nat_eq, sym, refl, ap, ◌∙◌, subst, arith, Option, Some, None, IsSome, IfSome}
+use Rattle.std.proofs.Common.{bit_and, append_assoc}
 use mathlib.Core.Logic.{dite}
 use mathlib.Core.Option.{none}
 use native.Mathlib.Decide.{ℕ_discrete, dec_le}
@@ -30,7 +32,8 @@ use Rattle.slice_board.proofs.Sums.{times-append, times-same, times-other}
 abbrev pub board_state : {T : Type 0} → TableId → Key T → Slices → RowTable → BoardState T
 board_state table key cut blank = record { table = table; wanted = key.wanted.value; cut = cut; blank = blank }
 
-module _ {T : Type 0} {wants : T → ℕ → ℕ → Type 0} {table : TableId} {key : Key T} {cut : Slices} {blank : RowTable} {board : BoardState T} (laid : IsLaid wants table key cut blank) (board_is : board_state table key cut blank ≡ board) where
+module _ {T : Type 0} {wants : T → ℕ → ℕ → Type 0} {table : TableId} {key : Key T} {cut : Slices} {blank : RowTable} {board : BoardState T}
+    (laid : IsLaid wants table key cut blank) (board_is : board_state table key cut blank ≡ board) where
   -- what the table's key says is what a contract sees of the board
   pub same_about : about_board board ≡ about_key key
   same_about = sym (ap about_board board_is) ∙ (λ i. record { wanted = key.wanted.value; points = sym laid.points_is i; cut = sym laid.cut_is i })
@@ -50,7 +53,8 @@ module _ {T : Type 0} {wants : T → ℕ → ℕ → Type 0} {table : TableId} {
   pub same_wanted : key.wanted.value ≡ board.wanted
   same_wanted = ap (λ (b : BoardState T). b.wanted) board_is
 
-  module _ {seat : TableId} {v : View T} {held : Option ℕ} {next : ℕ} {pass : PassState T} (pass_is : pass_state seat v held next ≡ pass) (of : IsOf board pass) where
+  module _ {seat : TableId} {v : View T} {held : Option ℕ} {next : ℕ} {pass : PassState T} (pass_is : pass_state seat v held next ≡ pass)
+      (of : IsOf board pass) where
     -- its seat sits at the board's table
     pub sits : seat ≡ table
     sits = ap (λ (p : PassState T). p.table) pass_is ∙ of.table ∙ sym same_table
@@ -107,7 +111,8 @@ either_times s (Some x) None one = omega arith
 either_times s None b one = omega arith
 
 module _ {T : Type 0} where
-  pub kept_marks : (p : PassState T) (posted seen : List Mark) (counted : List Count) → IsKept p → IsKept (record p { posted = posted; seen = seen; counted = counted })
+  pub kept_marks : (p : PassState T) (posted seen : List Mark) (counted : List Count) → IsKept p
+      → IsKept (record p { posted = posted; seen = seen; counted = counted })
   kept_marks p posted seen counted k = record { tried = k.tried; untried = k.untried; low = k.low; holds = k.holds }
 
   pub kept_finish : (p : PassState T) (s : ℕ) → p.held ≡ Some s → IsKept p → IsKept (record p { finished = p.finished ++ s ∷ []; held = None })
@@ -144,14 +149,17 @@ module _ {T : Type 0} where
 
   pub kept_joined : (p q : PassState T) → p.about ≡ q.about → ¬ (IsSome p.held × IsSome q.held) → IsKept p → IsKept q → IsKept (joined p q)
   kept_joined p q same one k l = record {
-    tried = λ s h. let a = times-append s p.claimed q.claimed in let b = times-append s p.found q.found in dite (dec_le (suc s) p.next) (λ near. let c = k.tried s near in omega arith) (λ far. let c = l.tried s (omega arith) in omega arith);
+    tried = λ s h. let a = times-append s p.claimed q.claimed in let b = times-append s p.found q.found in
+        dite (dec_le (suc s) p.next) (λ near. let c = k.tried s near in omega arith) (λ far. let c = l.tried s (omega arith) in omega arith);
     untried = λ s h. omega (arith, times-append s p.claimed q.claimed, k.untried s (omega arith), l.untried s (omega arith));
     low = λ about is. omega (arith, k.low about is, l.low about (sym same ∙ is));
-    holds = λ s. omega (arith, times-append s p.claimed q.claimed, times-append s p.finished q.finished, k.holds s, l.holds s, either_times s p.held q.held one);
+    holds = λ s. omega
+        (arith, times-append s p.claimed q.claimed, times-append s p.finished q.finished, k.holds s, l.holds s, either_times s p.held q.held one);
   }
 
   -- a slice that is held is one of the board's, and is claimed more often than it is finished
-  pub held_low : (p : PassState T) (about : About T) (s : ℕ) → IsKept p → p.about ≡ Some about → p.held ≡ Some s → (s < slice_count about.cut) × (times s p.finished < times s p.claimed)
+  pub held_low : (p : PassState T) (about : About T) (s : ℕ) → IsKept p → p.about ≡ Some about → p.held ≡ Some s
+      → (s < slice_count about.cut) × (times s p.finished < times s p.claimed)
   held_low p about s k knows held =
       let one : held_times s p.held ≡ 1 = ap (held_times s) held ∙ ap {B = ℕ} (λ b. cond b 1 0) (eq-eqb s s refl) in
       let less : times s p.finished < times s p.claimed = omega (arith, k.holds s) in
@@ -173,10 +181,12 @@ module _ {T : Type 0} where
   pub found_to-none : (pass : PassState T) → pass ≡ found_to pass pass.next
   found_to-none pass =
       let none : pass.next - pass.next ≡ 0 = omega arith in
-      let same : pass.found ≡ pass.found ++ range_with_len pass.next (pass.next - pass.next) = sym (ap (λ (n : ℕ). pass.found ++ range_with_len pass.next n) none ∙ append-nil pass.found) in
+      let same : pass.found ≡ pass.found ++ range_with_len pass.next (pass.next - pass.next) =
+      sym (ap (λ (n : ℕ). pass.found ++ range_with_len pass.next n) none ∙ append-nil pass.found) in
       ap (λ (l : List ℕ). record pass { found = l }) same
 
-  pub found_to-more : (old p : PassState T) → old.next ≤ p.next → p ≡ found_to old p.next → record p { found = p.found ++ p.next ∷ []; next = p.next + 1 } ≡ found_to old (p.next + 1)
+  pub found_to-more : (old p : PassState T) → old.next ≤ p.next → p ≡ found_to old p.next
+      → record p { found = p.found ++ p.next ∷ []; next = p.next + 1 } ≡ found_to old (p.next + 1)
   found_to-more old p from is =
       let n : ℕ = p.next in
       let count : n - old.next + 1 ≡ n + 1 - old.next = omega arith in
@@ -189,9 +199,16 @@ module _ {T : Type 0} where
       ∙ ap (λ (k : ℕ). old.found ++ range_with_len old.next k) count)
 
   -- how long its lists are
-  pub found_to-lengths : (old p : PassState T) → old.next ≤ p.next → p ≡ found_to old p.next → length p.claimed + length p.found + old.next ≡ length old.claimed + length old.found + p.next
+  pub found_to-lengths : (old p : PassState T) → old.next ≤ p.next → p ≡ found_to old p.next
+      → length p.claimed + length p.found + old.next ≡ length old.claimed + length old.found + p.next
   found_to-lengths old p from is =
-      omega (arith, ap (λ (q : PassState T). length q.claimed) is, ap (λ (q : PassState T). length q.found) is, length-append old.found (range_with_len old.next (p.next - old.next)), length-range_with_len old.next (p.next - old.next))
+      omega (
+        arith,
+        ap (λ (q : PassState T). length q.claimed) is,
+        ap (λ (q : PassState T). length q.found) is,
+        length-append old.found (range_with_len old.next (p.next - old.next)),
+        length-range_with_len old.next (p.next - old.next),
+      )
 
 -- what holds of a value that is there
 pub if_some : {P : ℕ → Type 0} (o : Option ℕ) → ((s : ℕ) → o ≡ Some s → P s) → IfSome o P

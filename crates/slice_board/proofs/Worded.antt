@@ -24,7 +24,8 @@ module _ (bits : ℕ) (words : ℕ → ℕ) where
   worded_past bit past = contains-above (worded_set bits words) bit (omega (arith, past, hi_of-set_of 0 bits has (omega arith)))
 
   -- each word is there,
-  word_is : (word : ℕ) → ((k : ℕ) → k < 64 → bits ≤ 64 * word + k → has_bit (words word) k ≡ false) → IsWordOf (worded_set bits words) word (words word)
+  word_is : (word : ℕ) → ((k : ℕ) → k < 64 → bits ≤ 64 * word + k → has_bit (words word) k ≡ false)
+      → IsWordOf (worded_set bits words) word (words word)
   word_is word clear i within = elim (cases_lt (64 * word + i) bits) [
     | inl inside ↦
         let which : (64 * word + i) / 64 ≡ word = omega (arith, within) in
@@ -42,33 +43,40 @@ module _ (bits : ℕ) (flags : List Bool) (words : ℕ → ℕ → ℕ) where
   rows = worded_table bits flags words
 
   set_at-worded : (point : ℕ) → point < length flags → set_at rows point ≡ worded_set bits (words point)
-  set_at-worded point there = get_or-map-range_with_len (λ p. worded_set bits (words p)) 0 (length flags) point point (empty_set 0 bits) there (omega arith)
+  set_at-worded point there =
+      get_or-map-range_with_len (λ p. worded_set bits (words p)) 0 (length flags) point point (empty_set 0 bits) there (omega arith)
 
   pub bit_there : (point bit : ℕ) → point < length flags → bit < bits → contains (set_at rows point) bit ≡ has_bit (words point (bit / 64)) (bit % 64)
-  bit_there point bit there below = ap (λ (s : RowSet). contains s bit) (set_at-worded point there) ∙ contains-set_of 0 bits (has bits (words point)) bit (omega arith) below
+  bit_there point bit there below =
+      ap (λ (s : RowSet). contains s bit) (set_at-worded point there) ∙ contains-set_of 0 bits (has bits (words point)) bit (omega arith) below
 
   -- a set has no bit past the last, and none is there past the last point
   pub bit_within : (point bit : ℕ) → contains (set_at rows point) bit ≡ true → (point < length flags) × (bit < bits)
   bit_within point bit set = elim (cases_lt point (length flags)) [
     | inl there ↦ elim (cases_lt bit bits) [
       | inl below ↦ (there, below)
-      | inr past ↦ absurd (both_ways (contains (set_at rows point) bit) (ap (λ (s : RowSet). contains s bit) (set_at-worded point there) ∙ worded_past bits (words point) bit past) set)
+      | inr past ↦ absurd (both_ways (contains (set_at rows point) bit) (ap (λ (s : RowSet). contains s bit) (set_at-worded point there)
+          ∙ worded_past bits (words point) bit past) set)
     ]
     | inr gone ↦
         let size : length rows.sets ≡ length flags = length-map-range_with_len (λ p. worded_set bits (words p)) 0 (length flags) in
         absurd (both_ways (contains (set_at rows point) bit)
-        (ap (λ (s : RowSet). contains s bit) (get_or_past rows.sets point (empty_set 0 bits) (omega (arith, gone, size))) ∙ contains-empty_set 0 bits bit) set)
+        (ap (λ (s : RowSet). contains s bit) (get_or_past rows.sets point (empty_set 0 bits) (omega (arith, gone, size)))
+        ∙ contains-empty_set 0 bits bit) set)
   ]
 
   pub word_there : (point word : ℕ) → point < length flags → ((k : ℕ) → k < 64 → bits ≤ 64 * word + k → has_bit (words point word) k ≡ false)
       → IsWordOf (set_at rows point) word (words point word)
-  word_there point word there clear i within = word_is bits (words point) word clear i within ∙ ap (λ (s : RowSet). contains s (64 * word + i)) (sym (set_at-worded point there))
+  word_there point word there clear i within =
+      word_is bits (words point) word clear i within ∙ ap (λ (s : RowSet). contains s (64 * word + i)) (sym (set_at-worded point there))
 
   pub no_word_there : (point word : ℕ) → point < length flags → words_for bits ≤ word → IsWordOf (set_at rows point) word 0
-  no_word_there point word there past i within = no_word_is bits (words point) word past i within ∙ ap (λ (s : RowSet). contains s (64 * word + i)) (sym (set_at-worded point there))
+  no_word_there point word there past i within =
+      no_word_is bits (words point) word past i within ∙ ap (λ (s : RowSet). contains s (64 * word + i)) (sym (set_at-worded point there))
 
 -- ---- rows into which posted words are put
-module _ (words : List ℕ) (count first bits : ℕ) (flags : List Bool) (posted : ArePosted words count first (length flags) bits) (old : RowTable) (blank : old ≡ blank_table flags 0 bits) where
+module _ (words : List ℕ) (count first bits : ℕ) (flags : List Bool) (posted : ArePosted words count first (length flags) bits) (old : RowTable)
+    (blank : old ≡ blank_table flags 0 bits) where
   abbrev pub at : ℕ → ℕ → ℕ
   at = word_of words first (length flags)
 
@@ -104,11 +112,13 @@ module _ (words : List ℕ) (count first bits : ℕ) (flags : List Bool) (posted
             ∙ bit_of_one (at point (bit / 64)) (bit % 64) ((λ i. bit_at (word_of words first (sym points_is i) point (bit / 64)) (bit % 64)) ∙ one)
         | inr past ↦
             let high = (put.uniform.ranges point).hi in
-            absurd (both_ways (contains (set_at new point) bit) (contains-above (set_at new point) bit (omega (arith, high, put.hi, hi_is, past))) set)
+            absurd
+            (both_ways (contains (set_at new point) bit) (contains-above (set_at new point) bit (omega (arith, high, put.hi, hi_is, past))) set)
       ]
       | inr gone ↦
           absurd (both_ways (contains (set_at new point) bit)
-          (ap (λ (s : RowSet). contains s bit) (put.left point (omega (arith, gone, points_is))) ∙ blank_empty words first old still_blank point bit) set)
+          (ap (λ (s : RowSet). contains s bit) (put.left point (omega (arith, gone, points_is))) ∙ blank_empty words first old still_blank point bit)
+          set)
     ]),
     (λ set.
         let inside = bit_within bits flags at point bit set in

@@ -1,4 +1,5 @@
-ghost use Rattle.std.specs.Prelude.{◌≡◌, ℕ, ◌+◌, ◌-◌, ◌*◌, ◌<◌, ◌≤◌, ◌↔◌, [], ◌∷◌, ◌++◌, length, Some, None, IfSome, IfNone, IfOk, IfErr, IsSome, IsOk, IsErr, true};
+ghost use Rattle.std.specs.Prelude.{◌≡◌, ℕ, ◌+◌, ◌-◌, ◌*◌, ◌<◌, ◌≤◌, ◌↔◌, [], ◌∷◌, ◌++◌, length, Some, None, IfSome, IfNone, IfOk, IfErr, IsSome};
+ghost use Rattle.std.specs.Prelude.{IsOk, IsErr, true};
 ghost use Rattle.std.specs.List.{range_with_len};
 ghost use Rattle.bit_rows.specs.RowSet.{contains};
 ghost use Rattle.bit_rows.specs.RowTable.{set_at, blank_table};

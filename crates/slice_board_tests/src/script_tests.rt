@@ -166,15 +166,18 @@ const CASES: &[(&Case, &str)] = &[
     ),
     (
         &FIRST_POSTS_FIRST,
-        "claims 0\nclaims 1\nsees 1\nsees 9223372036854775817\nfinishes 1\nclaims 2\nfinishes 0\nclaims none\nsees 1\nfinishes 2\n0 true: 0 3 63 64\n",
+        "claims 0\nclaims 1\nsees 1\nsees 9223372036854775817\nfinishes 1\nclaims 2\nfinishes 0\n\
+        claims none\nsees 1\nfinishes 2\n0 true: 0 3 63 64\n",
     ),
     (
         &SECOND_POSTS_FIRST,
-        "claims 0\nclaims 1\nsees 9223372036854775816\nsees 9223372036854775817\nfinishes 1\nclaims 2\nfinishes 0\nclaims none\nsees 1\nfinishes 2\n0 true: 0 3 63 64\n",
+        "claims 0\nclaims 1\nsees 9223372036854775816\nsees 9223372036854775817\nfinishes 1\nclaims 2\n\
+        finishes 0\nclaims none\nsees 1\nfinishes 2\n0 true: 0 3 63 64\n",
     ),
     (
         &POSTS_IN_TURN,
-        "claims 0\nclaims 1\nsees 8\nsees 9\nsees 9223372036854775817\nfinishes 1\nclaims 2\nfinishes 0\nclaims none\nsees 1\nfinishes 2\n0 true: 0 3 63 64\n",
+        "claims 0\nclaims 1\nsees 8\nsees 9\nsees 9223372036854775817\nfinishes 1\nclaims 2\n\
+        finishes 0\nclaims none\nsees 1\nfinishes 2\n0 true: 0 3 63 64\n",
     ),
 ];
 

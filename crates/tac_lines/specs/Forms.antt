@@ -1,5 +1,6 @@
 -- The forms of lines, as one table of what stands in each place.
-use Rattle.std.specs.Prelude.{ℕ, zero, suc, Bool, true, false, ◌&&◌, ◌||◌, List, [], ◌∷◌, ◌++◌, map, Option, Some, None, find, if◌then◌else◌, codes, not}
+use Rattle.std.specs.Prelude.{ℕ, zero, suc, Bool, true, false, ◌&&◌, ◌||◌, List, [], ◌∷◌, ◌++◌, map, Option, Some, None, find, if◌then◌else◌, codes}
+use Rattle.std.specs.Prelude.{not}
 use Rattle.std.specs.List.{list_any}
 use Rattle.tac_lines.specs.Tokens.{Word, name, number, fixed, Token}
 use Rattle.tac_program.specs.Spelling.{binary_signs, unary_signs, comparison_signs}

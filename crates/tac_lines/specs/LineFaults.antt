@@ -1,5 +1,6 @@
 -- The faults that a line shows by itself.
-use Rattle.std.specs.Prelude.{ℕ, Bool, true, false, ◌&&◌, ◌||◌, List, [], ◌∷◌, ◌++◌, flat_map, length, Option, Some, None, is_some, nat_le, nat_lt, ◌==◌, if◌then◌else◌}
+use Rattle.std.specs.Prelude.{ℕ, Bool, true, false, ◌&&◌, ◌||◌, List, [], ◌∷◌, ◌++◌, flat_map, length, Option, Some, None, is_some, nat_le, nat_lt}
+use Rattle.std.specs.Prelude.{◌==◌, if◌then◌else◌}
 use Rattle.tac_lines.specs.Tokens.{name, number, fixed, Token, Row, stop_of}
 use Rattle.tac_lines.specs.Forms.{proc_form, end_form, has_form, labels_of, behind_labels, forms_for, some_form, first_wrong}
 use Rattle.tac_lines.specs.declared.fault.Fault.{Fault}

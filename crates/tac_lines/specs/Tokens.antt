@@ -1,5 +1,6 @@
 -- The tokens of a line, and its first byte that begins none.
-use Rattle.std.specs.Prelude.{ℕ, zero, suc, ◌+◌, ◌-◌, ◌*◌, Bool, false, ◌&&◌, ◌||◌, List, [], ◌∷◌, ◌++◌, length, take, Option, Some, None, ◌==◌, if◌then◌else◌, codes, min, flat_map}
+use Rattle.std.specs.Prelude.{ℕ, zero, suc, ◌+◌, ◌-◌, ◌*◌, Bool, false, ◌&&◌, ◌||◌, List, [], ◌∷◌, ◌++◌, length, take, Option, Some, None, ◌==◌}
+use Rattle.std.specs.Prelude.{if◌then◌else◌, codes, min, flat_map}
 use Rattle.std.specs.List.{list_all}
 use Rattle.tac_lines.specs.Text.{lines, no_line_end}
 use Rattle.tac_program.specs.Names.{is_one_of}
@@ -55,7 +56,8 @@ number_piece s = word (number (value_of s))
 -- The piece that is spelled s, by what s is.
 abbrev pub picked : (named numbered signed skipped : Bool) → List ℕ → Option Piece
 picked named numbered signed skipped s =
-    if named then Some (name_or_keyword s) else if numbered then Some (number_piece s) else if signed then Some (word (fixed s)) else if skipped then Some gap else None
+    if named then Some (name_or_keyword s) else if numbered then Some (number_piece s) else if signed then Some (word (fixed s))
+    else if skipped then Some gap else None
 
 abbrev pub piece_of : List ℕ → Option Piece
 piece_of s = picked (is_name s) (is_number s) (is_one_of s signs) (is_blank s || is_comment s) s

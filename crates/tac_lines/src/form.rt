@@ -2,7 +2,8 @@
 
 ghost use Rattle.std.specs.Prelude.{◌≡◌, ℕ, List, [], ◌∷◌, map, option_map, slice_get, length};
 ghost use Rattle.tac_lines.specs.Forms.{fills, first_wrong, has_form, comparison, unary, statement_forms};
-ghost use Rattle.tac_lines.specs.code.Views.{GoesAsFar, token_view, tokens_view, word_at, slot_view, slots_view, form_slots, fills_at, of_key, wrong_of, is_whole};
+ghost use Rattle.tac_lines.specs.code.Views.{GoesAsFar, token_view, tokens_view, word_at, slot_view, slots_view, form_slots, fills_at, of_key};
+ghost use Rattle.tac_lines.specs.code.Views.{wrong_of, is_whole};
 
 use crate::token::{Keyword, Token, TokenKind};
 use tac_program::Op;
@@ -266,7 +267,8 @@ pub fn form_of(tokens: &[Token]) -> Form
 
 /// How far the tokens go along the form.
 pub fn follow(slots: &[Slot], tokens: &[Token]) -> Walk
-    ensures wrong { (text : List ℕ) → option_map (λ t. t.start) (first_wrong (slots_view slots.now ∷ []) [] (tokens_view text tokens.now)) ≡ wrong_of result }
+    ensures wrong { (text : List ℕ)
+        → option_map (λ t. t.start) (first_wrong (slots_view slots.now ∷ []) [] (tokens_view text tokens.now)) ≡ wrong_of result }
     ensures whole { (text : List ℕ) → has_form (slots_view slots.now) (tokens_view text tokens.now) ≡ is_whole result }
 {
     let mut at = 0;

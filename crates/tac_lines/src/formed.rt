@@ -1,6 +1,7 @@
 // Lines and statements with the form that they have, so that it is looked for once.
 
-ghost use Rattle.std.specs.Prelude.{◌≡◌, ◌-◌, ◌*◌, ◌<◌, ◌≤◌, ℕ, List, [], All, false, IsTrue, IfOk, is_some, length, option_map, slice_range, slice_index_or};
+ghost use Rattle.std.specs.Prelude.{◌≡◌, ◌-◌, ◌*◌, ◌<◌, ◌≤◌, ℕ, List, [], All, false, IsTrue, IfOk, is_some, length, option_map, slice_range};
+ghost use Rattle.std.specs.Prelude.{slice_index_or};
 ghost use Rattle.tac_lines.specs.code.Formed.{IsCountedIn, IsFormedIn, is_formed};
 ghost use Rattle.tac_lines.specs.Forms.{behind_labels as without_labels, cells_of, in_slot, labels_of, statement_row};
 ghost use Rattle.tac_lines.specs.code.Ranges.{range_view};
@@ -26,7 +27,8 @@ pub struct Statement<'a> {
 impl<'a> Statement<'a> {
     /// The form that the tokens have, where they are the whole of one.
     pub fn form(&self) -> Option<Form>
-        ensures { (text : List ℕ) → statement_row (tokens_view text self.now.tokens.now) ≡ option_map (λ form. (form, form_slots form (length self.now.tokens.now))) result }
+        ensures { (text : List ℕ) → statement_row (tokens_view text self.now.tokens.now)
+            ≡ option_map (λ form. (form, form_slots form (length self.now.tokens.now))) result }
     {
         self.form
     }
@@ -134,7 +136,8 @@ impl<'a> Lines<'a> {
     /// The line at a place among them.
     pub fn line(&self, at: usize) -> Line<'a>
         requires { at < length self.now.ranges.now }
-        ensures { (r : LineRange) → result.tokens.now ≡ slice_range self.now.tokens.now (slice_index_or self.now.ranges.now at r).first (slice_index_or self.now.ranges.now at r).end }
+        ensures { (r : LineRange) → result.tokens.now
+            ≡ slice_range self.now.tokens.now (slice_index_or self.now.ranges.now at r).first (slice_index_or self.now.ranges.now at r).end }
     {
         let range = self.ranges[at];
         Line {
@@ -158,7 +161,8 @@ impl<'a> Lines<'a> {
     /// Whether the statement of the line there may have tokens in a place of that role.
     pub fn plays(&self, at: usize, role: Role) -> bool
         requires { at < length self.now.ranges.now }
-        ensures { (text : List ℕ) (r : LineRange) → result ≡ false → in_slot (role_test role) (cells_of (without_labels (range_view text self.now.tokens.now (slice_index_or self.now.ranges.now at r)))) ≡ [] }
+        ensures { (text : List ℕ) (r : LineRange) → result ≡ false → in_slot (role_test role)
+            (cells_of (without_labels (range_view text self.now.tokens.now (slice_index_or self.now.ranges.now at r)))) ≡ [] }
     {
         match self.ranges[at].form {
             None => false,

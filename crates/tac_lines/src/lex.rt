@@ -1,6 +1,7 @@
 // The lines of a text by their tokens, or its first fault of a line.
 
-ghost use Rattle.std.specs.Prelude.{◌≡◌, ◌+◌, ◌<◌, ◌≤◌, ◌++◌, ℕ, List, Option, [], ◌∷◌, false, true, Some, None, length, drop, slice_range, IfOk, IfErr, OnOk, vec_len, map, IsTrue};
+ghost use Rattle.std.specs.Prelude.{◌≡◌, ◌+◌, ◌<◌, ◌≤◌, ◌++◌, ℕ, List, Option, [], ◌∷◌, false, true, Some, None, length, drop, slice_range, IfOk};
+ghost use Rattle.std.specs.Prelude.{IfErr, OnOk, vec_len, map, IsTrue};
 ghost use Rattle.tac_lines.specs.LineFaults.{first_by_place, line_faults, inside_after as inside_behind};
 ghost use Rattle.tac_program.specs.Limits.{longest_text};
 ghost use Rattle.tac_program.specs.declared.limits.Limits.TheVariants.{Large};
@@ -69,7 +70,8 @@ fn push_line(
 ) -> Result<(), AllocError>
     requires { AreLines tokens.old.items lines.old.items }
     ensures lines { OnOk result (AreLines tokens.new.items lines.new.items) }
-    ensures pushed { OnOk result (range_views tokens.new.items lines.new.items ≡ range_views tokens.old.items lines.old.items ++ some_of line.entry.tokens.now) }
+    ensures pushed { OnOk result
+        (range_views tokens.new.items lines.new.items ≡ range_views tokens.old.items lines.old.items ++ some_of line.entry.tokens.now) }
 {
     if line.tokens.is_empty() {
         return Ok(());

@@ -4,7 +4,8 @@ ghost use Rattle.std.specs.Prelude.{◌≡◌, ℕ, ◌+◌, ◌*◌, ◌<◌, �
 ghost use Rattle.tac_lines.specs.LineFaults.{first_by_place, form_fault as form_faults, row_faults, word_fault as word_faults};
 ghost use Rattle.tac_lines.specs.Forms.{behind_labels as without_labels, forms_for, labels_of};
 ghost use Rattle.tac_lines.specs.Tokens.{stop_of as end_of};
-ghost use Rattle.tac_lines.specs.code.Views.{GoesAsFar, fault_list, line_forms, merged, others_of, prefix_of, verdict, slots_view, starts_label, token_view, tokens_view};
+ghost use Rattle.tac_lines.specs.code.Views.{GoesAsFar, fault_list, line_forms, merged, others_of, prefix_of, verdict, slots_view, starts_label};
+ghost use Rattle.tac_lines.specs.code.Views.{token_view, tokens_view};
 
 use crate::fault::Fault;
 use crate::form::{END, PROC, Slot, Walk, fits_at, follow, form_of, slots_of};
@@ -31,7 +32,8 @@ pub fn label_at(tokens: &[Token], at: usize) -> bool
 pub fn behind_labels(tokens: &[Token]) -> &[Token]
     ensures behind { (text : List ℕ) → tokens_view text result.now ≡ without_labels (tokens_view text tokens.now) }
     ensures count { (text : List ℕ) → length tokens.now ≡ length result.now + 2 * length (labels_of (tokens_view text tokens.now)) }
-    ensures forms { (text : List ℕ) → forms_for true (labels_of (tokens_view text tokens.now)) ≡ line_forms true (nat_lt (length result.now) (length tokens.now)) }
+    ensures forms { (text : List ℕ)
+        → forms_for true (labels_of (tokens_view text tokens.now)) ≡ line_forms true (nat_lt (length result.now) (length tokens.now)) }
 {
     let mut at = 0;
     while label_at(tokens, at) {
@@ -58,7 +60,8 @@ fn line_slots(inside: bool, labelled: bool, tokens: &[Token]) -> &'static [Slot]
 /// before it.
 fn without_prefix(inside: bool, tokens: &[Token]) -> &[Token]
     ensures others { (text : List ℕ) → tokens_view text result.now ≡ others_of inside (tokens_view text tokens.now) }
-    ensures forms { (text : List ℕ) → forms_for inside (prefix_of inside (tokens_view text tokens.now)) ≡ line_forms inside (nat_lt (length result.now) (length tokens.now)) }
+    ensures forms { (text : List ℕ)
+        → forms_for inside (prefix_of inside (tokens_view text tokens.now)) ≡ line_forms inside (nat_lt (length result.now) (length tokens.now)) }
 {
     if inside {
         behind_labels(tokens)
@@ -69,7 +72,8 @@ fn without_prefix(inside: bool, tokens: &[Token]) -> &[Token]
 
 /// How far a line goes along the line forms.
 fn judged(inside: bool, tokens: &[Token]) -> Walk
-    ensures { (text : List ℕ) (bad : Option ℕ) → form_faults inside (record { tokens = tokens_view text tokens.now; bad = bad }) ≡ verdict result (is_some bad) (end_of (tokens_view text tokens.now)) }
+    ensures { (text : List ℕ) (bad : Option ℕ) → form_faults inside (record { tokens = tokens_view text tokens.now; bad = bad })
+        ≡ verdict result (is_some bad) (end_of (tokens_view text tokens.now)) }
 {
     let others = without_prefix(inside, tokens);
     if others.is_empty() {
@@ -94,7 +98,8 @@ pub fn stop_of(tokens: &[Token]) -> u32
 
 /// Where the line is no line form; a line that a bad byte cuts off need not be whole.
 fn form_fault(inside: bool, tokens: &[Token], is_cut: bool) -> Option<Fault>
-    ensures { (text : List ℕ) (bad : Option ℕ) → is_some bad ≡ is_cut → form_faults inside (record { tokens = tokens_view text tokens.now; bad = bad }) ≡ fault_list result }
+    ensures { (text : List ℕ) (bad : Option ℕ) → is_some bad ≡ is_cut
+        → form_faults inside (record { tokens = tokens_view text tokens.now; bad = bad }) ≡ fault_list result }
 {
     let place = match judged(inside, tokens) {
         Walk::Whole => return None,

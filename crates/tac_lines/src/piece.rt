@@ -1,6 +1,7 @@
 // The longest token, blank or comment at the front of some bytes.
 
-ghost use Rattle.std.specs.Prelude.{◌≡◌, ℕ, List, ◌+◌, ◌<◌, ◌≤◌, [], ◌∷◌, length, true, false, slice_index, take, IsTrue, IfSome, Some, None, option_map};
+ghost use Rattle.std.specs.Prelude.{◌≡◌, ℕ, List, ◌+◌, ◌<◌, ◌≤◌, [], ◌∷◌, length, true, false, slice_index, take, IsTrue, IfSome, Some, None};
+ghost use Rattle.std.specs.Prelude.{option_map};
 ghost use Rattle.std.specs.List.{prefix_len};
 ghost use Rattle.tac_lines.specs.Text.{no_line_end};
 ghost use Rattle.tac_lines.specs.Tokens.{longest, signs, is_blank, picked, name_or_keyword, number_piece, value_of, word, gap};
@@ -97,7 +98,8 @@ fn comment_len(rest: &[u8]) -> usize
 
 /// The sign or the blank of these two bytes.
 fn pair(first: u8, second: u8) -> Option<Option<TokenKind>>
-    ensures { option_map (piece_at (first ∷ second ∷ [])) result ≡ picked false false (is_one_of (first ∷ second ∷ []) signs) (is_blank (first ∷ second ∷ [])) (first ∷ second ∷ []) }
+    ensures { option_map (piece_at (first ∷ second ∷ [])) result
+        ≡ picked false false (is_one_of (first ∷ second ∷ []) signs) (is_blank (first ∷ second ∷ [])) (first ∷ second ∷ []) }
 {
     match (first, second) {
         (b'<', b'<') => Some(Some(TokenKind::Operator(Op::ShiftLeft))),

@@ -1,6 +1,7 @@
 // The tokens of a line.
 
-ghost use Rattle.std.specs.Prelude.{◌≡◌, ◌-◌, ◌^◌, ◌<◌, ◌≤◌, ◌++◌, ℕ, List, [], ◌∷◌, zero, Some, length, slice_range, IfErr, IfOk, IfSome, OnOk, vec_len};
+ghost use Rattle.std.specs.Prelude.{◌≡◌, ◌-◌, ◌^◌, ◌<◌, ◌≤◌, ◌++◌, ℕ, List, [], ◌∷◌, zero, Some, length, slice_range, IfErr, IfOk, IfSome, OnOk};
+ghost use Rattle.std.specs.Prelude.{vec_len};
 ghost use Rattle.tac_lines.specs.LineFaults.{first_by_place, row_faults};
 ghost use Rattle.tac_lines.specs.Tokens.{row_from};
 ghost use Rattle.tac_lines.specs.code.Lexed.{IfFault};
@@ -18,7 +19,9 @@ const FIRST_JUDGED: usize = 32;
 
 /// The first fault of a line by its tokens up to the place `at`, where what follows cannot change it.
 fn early_fault(inside: bool, text: &[u8], row: &[Token], at: u32) -> Option<Fault>
-    ensures { IfSome result (λ f. (rest : List ℕ) → first_by_place (row_faults inside (record { tokens = tokens_view text.now row.now ++ (row_from at zero rest).tokens; bad = (row_from at zero rest).bad })) ≡ Some f) }
+    ensures { IfSome result (λ f. (rest : List ℕ) → first_by_place
+        (row_faults inside (record { tokens = tokens_view text.now row.now ++ (row_from at zero rest).tokens; bad = (row_from at zero rest).bad }))
+        ≡ Some f) }
 {
     if stop_of(row) < at || behind_labels(row).len() == 1 {
         return None;
@@ -50,7 +53,8 @@ pub fn read_row(
     requires order { start ≤ stop }
     requires within { stop ≤ length text.now }
     requires small { length text.now < 2 ^ 32 }
-    ensures row { IfOk result (λ bad. row_from start 0 (slice_range text.now start stop) ≡ record { tokens = tokens_view text.now row.new.items; bad = bad }) }
+    ensures row { IfOk result
+        (λ bad. row_from start 0 (slice_range text.now start stop) ≡ record { tokens = tokens_view text.now row.new.items; bad = bad }) }
     ensures count { OnOk result (vec_len row.new ≤ stop - start) }
     ensures fault { IfErr result (IfFault (λ f. first_by_place (row_faults inside (row_from start 0 (slice_range text.now start stop))) ≡ Some f)) }
 {

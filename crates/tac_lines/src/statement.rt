@@ -21,7 +21,8 @@ pub enum Role {
 
 /// The form that the tokens of a statement have, where they are the whole of one; none of no tokens.
 pub fn statement_form(tokens: &[Token]) -> Option<Form>
-    ensures { (text : List ℕ) → statement_row (tokens_view text tokens.now) ≡ option_map (λ form. (form, form_slots form (length tokens.now))) result }
+    ensures { (text : List ℕ)
+        → statement_row (tokens_view text tokens.now) ≡ option_map (λ form. (form, form_slots form (length tokens.now))) result }
 {
     if tokens.is_empty() {
         return None;
@@ -52,7 +53,8 @@ fn filled(
     tokens: &[Token],
 ) -> Result<(), AllocError>
     ensures kept { take (vec_len found.old) found.new.items ≡ found.old.items }
-    ensures appended { OnOk result ((text : List ℕ) → tokens_view text found.new.items ≡ tokens_view text found.old.items ++ in_slot (role_test role) (paired (slots_view slots.now) (tokens_view text tokens.now))) }
+    ensures appended { OnOk result ((text : List ℕ) → tokens_view text found.new.items ≡ tokens_view text found.old.items
+        ++ in_slot (role_test role) (paired (slots_view slots.now) (tokens_view text tokens.now))) }
 {
     match (slots.split_first(), tokens.split_first()) {
         (Some((slot, slots)), Some((token, tokens))) => {
@@ -160,7 +162,8 @@ pub fn has_only_variables(form: Form) -> bool
 /// What is found already stays, also where memory runs out.
 pub fn cells(found: &mut Vec<Token>, role: Role, statement: Statement<'_>) -> Result<(), AllocError>
     ensures kept { take (vec_len found.old) found.new.items ≡ found.old.items }
-    ensures appended { OnOk result ((text : List ℕ) → tokens_view text found.new.items ≡ tokens_view text found.old.items ++ in_slot (role_test role) (cells_of (tokens_view text statement.entry.tokens.now))) }
+    ensures appended { OnOk result ((text : List ℕ) → tokens_view text found.new.items ≡ tokens_view text found.old.items
+        ++ in_slot (role_test role) (cells_of (tokens_view text statement.entry.tokens.now))) }
 {
     match statement.form() {
         None => Ok(()),

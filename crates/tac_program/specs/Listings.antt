@@ -53,7 +53,8 @@ labels_text names place labels = flat_map (λ l. if l.place == place then name_a
 
 abbrev pub places_text : Names → ℕ → List Label → List Stmt → List ℕ
 places_text names place labels [] = labels_text names place labels
-places_text names place labels (s ∷ ss) = labels_text names place labels ++ codes "  " ++ statement_text names s.kind ++ codes "\n" ++ places_text names (suc place) labels ss
+places_text names place labels (s ∷ ss) =
+    labels_text names place labels ++ codes "  " ++ statement_text names s.kind ++ codes "\n" ++ places_text names (suc place) labels ss
 
 abbrev pub procedure_text : List (List ℕ) → List (List ℕ) → Procedure → List ℕ
 procedure_text procedures variables p =

@@ -18,13 +18,15 @@ is_name [] = false
 is_name (b ∷ bs) = is_letter b && list_all is_name_byte bs
 
 abbrev pub keywords : List (List ℕ)
-keywords = codes "proc" ∷ codes "end" ∷ codes "goto" ∷ codes "if" ∷ codes "ifFalse" ∷ codes "call" ∷ codes "return" ∷ codes "read" ∷ codes "print" ∷ codes "skip" ∷ []
+keywords = codes "proc" ∷ codes "end" ∷ codes "goto" ∷ codes "if" ∷ codes "ifFalse" ∷ codes "call" ∷ codes "return" ∷ codes "read" ∷ codes "print"
+    ∷ codes "skip" ∷ []
 
 abbrev pub comparison_signs : List (List ℕ)
 comparison_signs = codes "<" ∷ codes "<=" ∷ codes ">" ∷ codes ">=" ∷ codes "==" ∷ codes "!=" ∷ []
 
 abbrev pub binary_signs : List (List ℕ)
-binary_signs = codes "+" ∷ codes "-" ∷ codes "*" ∷ codes "/" ∷ codes "%" ∷ codes "&" ∷ codes "|" ∷ codes "^" ∷ codes "<<" ∷ codes ">>" ∷ comparison_signs
+binary_signs =
+    codes "+" ∷ codes "-" ∷ codes "*" ∷ codes "/" ∷ codes "%" ∷ codes "&" ∷ codes "|" ∷ codes "^" ∷ codes "<<" ∷ codes ">>" ∷ comparison_signs
 
 abbrev pub unary_signs : List (List ℕ)
 unary_signs = codes "-" ∷ codes "~" ∷ codes "!" ∷ []

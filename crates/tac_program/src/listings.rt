@@ -1,7 +1,8 @@
 // The listing of a program: its text in one fixed layout.
 
 ghost use Rattle.std.specs.Prelude.{◌≡◌, ◌++◌, ◌≤◌, codes, filter, nat_lt, All, IfOk, OnOk};
-ghost use Rattle.tac_program.specs.Listings.{name_at, names_of, operand_text, binary_text, unary_text, goto_text, callees_text, statement_text, labels_text, places_text, procedure_text, listing_of};
+ghost use Rattle.tac_program.specs.Listings.{name_at, names_of, operand_text, binary_text, unary_text, goto_text, callees_text, statement_text};
+ghost use Rattle.tac_program.specs.Listings.{labels_text, places_text, procedure_text, listing_of};
 ghost use Rattle.tac_program.specs.Programs.{LabelsRise};
 
 use crate::names::NameTable;

@@ -2,24 +2,50 @@
 //
 // `FoldHasher` alone has no seed, so that names which all have one hash can be prepared, and a table of
 // them takes time by their square. There is no runtime to draw a seed from. So in a table of more than a
-// few names each hash begins with the text's own digest. A name more or less is another
+// few names each hash begins and ends with the text's own digest. A name more or less is another
 // text, and so another digest: who wants names to fall together has to choose them before he knows how they are
 // hashed, and no digest can be aimed at. `docs/DECISIONS.md` tells why no names fall together for all of them.
 
 use sha1::Sha1;
 use std::hash::{BuildHasher, FoldHasher, Hasher};
 
+/// A hasher of a name: what ends a hash comes behind all that is written.
+#[derive(Clone, Copy)]
+pub struct NameHasher {
+    written: FoldHasher,
+    end: [u8; 20],
+}
+
+impl Hasher for NameHasher {
+    ghost write = { λ hasher bytes. record hasher { written = ⟦<FoldHasher as Hasher>⟧.write hasher.written bytes } };
+
+    ghost finish = { λ hasher. ⟦<FoldHasher as Hasher>⟧.finish (⟦<FoldHasher as Hasher>⟧.write hasher.written hasher.end) };
+
+    fn finish(&self) -> u64 {
+        let mut written = self.written;
+        written.write(&self.end);
+        written.finish()
+    }
+
+    fn write(&mut self, bytes: &[u8]) {
+        self.written.write(bytes);
+    }
+}
+
 /// What makes the hashers of a table's names.
 #[derive(Clone, Copy)]
 pub struct NameHashers {
-    begun: FoldHasher,
+    begun: NameHasher,
 }
 
 impl NameHashers {
     /// The hashers of a few names, without a digest.
     pub fn plain() -> Self {
         NameHashers {
-            begun: FoldHasher::default(),
+            begun: NameHasher {
+                written: FoldHasher::default(),
+                end: [0; 20],
+            },
         }
     }
 }
@@ -40,25 +66,28 @@ impl<'a> NameSeeds<'a> {
         }
     }
 
-    /// The hashers that begin with the text's digest.
+    /// The hashers that begin and end with the text's digest.
     pub fn digested(&mut self) -> NameHashers {
         if let Some(hashers) = self.digested {
             return hashers;
         }
-        let mut begun = FoldHasher::default();
-        begun.write(&Sha1::digest(self.text));
-        let hashers = NameHashers { begun };
+        let end = Sha1::digest(self.text);
+        let mut written = FoldHasher::default();
+        written.write(&end);
+        let hashers = NameHashers {
+            begun: NameHasher { written, end },
+        };
         self.digested = Some(hashers);
         hashers
     }
 }
 
 impl BuildHasher for NameHashers {
-    type Hasher = FoldHasher;
+    type Hasher = NameHasher;
 
     ghost build_hasher = { λ hashers. hashers.begun };
 
-    fn build_hasher(&self) -> FoldHasher {
+    fn build_hasher(&self) -> NameHasher {
         self.begun
     }
 }

@@ -1,5 +1,6 @@
 -- Why a text is no program, and where its first fault stands.
-use Rattle.std.specs.Prelude.{ℕ, true, false, List, [], ◌∷◌, ◌++◌, flat_map, length, drop, take, Option, Some, None, option_map, nat_lt, if◌then◌else◌, codes}
+use Rattle.std.specs.Prelude.{ℕ, true, false, List, [], ◌∷◌, ◌++◌, flat_map, length, drop, take, Option, Some, None, option_map, nat_lt}
+use Rattle.std.specs.Prelude.{if◌then◌else◌, codes}
 use Rattle.tac_lines.specs.Text.{line_after, column_after}
 use Rattle.tac_lines.specs.Tokens.{Token, rows, spelling_of}
 use Rattle.tac_program.specs.Names.{is_one_of}

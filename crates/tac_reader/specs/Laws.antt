@@ -20,7 +20,8 @@ use Rattle.tac_program.specs.declared.program.StmtKind.{StmtKind}
 abbrev pub StatementsAreSpelled : Type 0
 StatementsAreSpelled =
     (text : List ℕ)
-    → All (λ s. All (λ ts. row_from (start_of ts) 0 (slice_range text (start_of ts) (stop_of ts)) ≡ record { tokens = ts; bad = None }) (statements_of s.body)) (sections text)
+    → All (λ s. All (λ ts. row_from (start_of ts) 0 (slice_range text (start_of ts) (stop_of ts)) ≡ record { tokens = ts; bad = None })
+    (statements_of s.body)) (sections text)
 
 -- A sign tells its operator, for each of them; so no two have the same.
 abbrev pub SignsTellOperators : Type 0

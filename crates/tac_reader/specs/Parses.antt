@@ -43,7 +43,8 @@ kind_of names callees form.Copy (x ∷ _ ∷ y ∷ _) = kind.Copy (variable_of n
 kind_of names callees form.Copy _ = kind.Skip
 kind_of names callees form.Unary (x ∷ _ ∷ o ∷ y ∷ _) = kind.Unary (variable_of names x) (operator_of o) (operand_of names y)
 kind_of names callees form.Unary _ = kind.Skip
-kind_of names callees form.Binary (x ∷ _ ∷ y ∷ o ∷ z ∷ _) = kind.Binary (operator_of o) (variable_of names x) (operand_of names y) (operand_of names z)
+kind_of names callees form.Binary (x ∷ _ ∷ y ∷ o ∷ z ∷ _) =
+    kind.Binary (operator_of o) (variable_of names x) (operand_of names y) (operand_of names z)
 kind_of names callees form.Binary _ = kind.Skip
 kind_of names callees form.Jump (_ ∷ l ∷ _) = kind.Goto (label_of names l)
 kind_of names callees form.Jump _ = kind.Skip
@@ -51,7 +52,8 @@ kind_of names callees form.Test (_ ∷ y ∷ _ ∷ l ∷ _) = kind.If (operand_o
 kind_of names callees form.Test _ = kind.Skip
 kind_of names callees form.NegatedTest (_ ∷ y ∷ _ ∷ l ∷ _) = kind.IfFalse (operand_of names y) (label_of names l)
 kind_of names callees form.NegatedTest _ = kind.Skip
-kind_of names callees form.Comparison (_ ∷ y ∷ o ∷ z ∷ _ ∷ l ∷ _) = kind.IfCompare (operator_of o) (label_of names l) (operand_of names y) (operand_of names z)
+kind_of names callees form.Comparison (_ ∷ y ∷ o ∷ z ∷ _ ∷ l ∷ _) =
+    kind.IfCompare (operator_of o) (label_of names l) (operand_of names y) (operand_of names z)
 kind_of names callees form.Comparison _ = kind.Skip
 kind_of names callees form.Call _ = kind.Call callees
 kind_of names callees form.Return _ = kind.Return
@@ -93,11 +95,17 @@ names_for procedures variables s = record { procedures = procedures; variables =
 abbrev pub procedure_of : List ℕ → List (List ℕ) → List (List ℕ) → ℕ → Section → Procedure
 procedure_of text procedures variables n s =
     let names : Names = names_for procedures variables s in
-    record { name = n; labels = labels_from 0 (label_places 0 s.body); label_names = names.labels; statements = map (statement_of text names) (statements_of s.body) }
+    record {
+      name = n;
+      labels = labels_from 0 (label_places 0 s.body);
+      label_names = names.labels;
+      statements = map (statement_of text names) (statements_of s.body);
+    }
 
 abbrev pub procedures_from : List ℕ → List (List ℕ) → List (List ℕ) → ℕ → List Section → List Procedure
 procedures_from text procedures variables n [] = []
-procedures_from text procedures variables n (s ∷ ss) = procedure_of text procedures variables n s ∷ procedures_from text procedures variables (suc n) ss
+procedures_from text procedures variables n (s ∷ ss) =
+    procedure_of text procedures variables n s ∷ procedures_from text procedures variables (suc n) ss
 
 abbrev pub variables_in : List Section → List (List ℕ)
 variables_in ss = each_once (names_in (flat_map (λ s. flat_map variables_of (statements_of s.body)) ss))

@@ -89,7 +89,9 @@ fn operator_at(tokens: &[Token], at: usize) -> Op
 
 /// What the tokens of a copy say.
 fn copy(names: Names<'_>, passed: &mut usize, tokens: &[Token]) -> StmtKind
-    ensures { result ≡ Copy (number_of names.entry.variables.table.now (bytes_of (word_nth (tokens_view names.entry.variables.text.now tokens.now) 0))) (operand_of (names_view names.entry) (word_nth (tokens_view names.entry.variables.text.now tokens.now) 2)) }
+    ensures { result
+        ≡ Copy (number_of names.entry.variables.table.now (bytes_of (word_nth (tokens_view names.entry.variables.text.now tokens.now) 0)))
+        (operand_of (names_view names.entry) (word_nth (tokens_view names.entry.variables.text.now tokens.now) 2)) }
 {
     StmtKind::Copy {
         target: variable_at(names.variables, passed, tokens, 0),
@@ -99,7 +101,10 @@ fn copy(names: Names<'_>, passed: &mut usize, tokens: &[Token]) -> StmtKind
 
 /// What the tokens of a unary assignment say.
 fn unary(names: Names<'_>, passed: &mut usize, tokens: &[Token]) -> StmtKind
-    ensures { result ≡ Unary (number_of names.entry.variables.table.now (bytes_of (word_nth (tokens_view names.entry.variables.text.now tokens.now) 0))) (operator_of (word_nth (tokens_view names.entry.variables.text.now tokens.now) 2)) (operand_of (names_view names.entry) (word_nth (tokens_view names.entry.variables.text.now tokens.now) 3)) }
+    ensures { result
+        ≡ Unary (number_of names.entry.variables.table.now (bytes_of (word_nth (tokens_view names.entry.variables.text.now tokens.now) 0)))
+        (operator_of (word_nth (tokens_view names.entry.variables.text.now tokens.now) 2))
+        (operand_of (names_view names.entry) (word_nth (tokens_view names.entry.variables.text.now tokens.now) 3)) }
 {
     StmtKind::Unary {
         target: variable_at(names.variables, passed, tokens, 0),
@@ -110,7 +115,10 @@ fn unary(names: Names<'_>, passed: &mut usize, tokens: &[Token]) -> StmtKind
 
 /// What the tokens of a binary assignment say.
 fn binary(names: Names<'_>, passed: &mut usize, tokens: &[Token]) -> StmtKind
-    ensures { result ≡ Binary (operator_of (word_nth (tokens_view names.entry.variables.text.now tokens.now) 3)) (number_of names.entry.variables.table.now (bytes_of (word_nth (tokens_view names.entry.variables.text.now tokens.now) 0))) (operand_of (names_view names.entry) (word_nth (tokens_view names.entry.variables.text.now tokens.now) 2)) (operand_of (names_view names.entry) (word_nth (tokens_view names.entry.variables.text.now tokens.now) 4)) }
+    ensures { result ≡ Binary (operator_of (word_nth (tokens_view names.entry.variables.text.now tokens.now) 3))
+        (number_of names.entry.variables.table.now (bytes_of (word_nth (tokens_view names.entry.variables.text.now tokens.now) 0)))
+        (operand_of (names_view names.entry) (word_nth (tokens_view names.entry.variables.text.now tokens.now) 2))
+        (operand_of (names_view names.entry) (word_nth (tokens_view names.entry.variables.text.now tokens.now) 4)) }
 {
     StmtKind::Binary {
         op: operator_at(tokens, 3),
@@ -122,7 +130,10 @@ fn binary(names: Names<'_>, passed: &mut usize, tokens: &[Token]) -> StmtKind
 
 /// What the tokens of a comparison say.
 fn comparison(names: Names<'_>, passed: &mut usize, tokens: &[Token]) -> StmtKind
-    ensures { result ≡ IfCompare (operator_of (word_nth (tokens_view names.entry.variables.text.now tokens.now) 2)) (number_of names.entry.labels.now (bytes_of (word_nth (tokens_view names.entry.variables.text.now tokens.now) 5))) (operand_of (names_view names.entry) (word_nth (tokens_view names.entry.variables.text.now tokens.now) 1)) (operand_of (names_view names.entry) (word_nth (tokens_view names.entry.variables.text.now tokens.now) 3)) }
+    ensures { result ≡ IfCompare (operator_of (word_nth (tokens_view names.entry.variables.text.now tokens.now) 2))
+        (number_of names.entry.labels.now (bytes_of (word_nth (tokens_view names.entry.variables.text.now tokens.now) 5)))
+        (operand_of (names_view names.entry) (word_nth (tokens_view names.entry.variables.text.now tokens.now) 1))
+        (operand_of (names_view names.entry) (word_nth (tokens_view names.entry.variables.text.now tokens.now) 3)) }
 {
     StmtKind::IfCompare {
         op: operator_at(tokens, 2),
@@ -156,7 +167,10 @@ pub fn kind(
     statement: Statement<'_>,
     progress: &mut Progress,
 ) -> Result<StmtKind, AllocError>
-    ensures { IfOk result (λ k. k ≡ kind_of (names_view names.entry) (call_numbers names.entry.procedures.now (tokens_view names.entry.variables.text.now statement.entry.tokens.now)) (form_in (tokens_view names.entry.variables.text.now statement.entry.tokens.now)) (map (λ t. t.word) (tokens_view names.entry.variables.text.now statement.entry.tokens.now))) }
+    ensures { IfOk result (λ k. k ≡ kind_of (names_view names.entry)
+        (call_numbers names.entry.procedures.now (tokens_view names.entry.variables.text.now statement.entry.tokens.now))
+        (form_in (tokens_view names.entry.variables.text.now statement.entry.tokens.now))
+        (map (λ t. t.word) (tokens_view names.entry.variables.text.now statement.entry.tokens.now))) }
 {
     let Progress { passed, found } = progress;
     let text = names.variables.text;

@@ -15,7 +15,8 @@ ghost use Rattle.tac_lines.specs.Forms.{callees_of};
 ghost use Rattle.tac_lines.specs.Tokens.{Token as Word};
 ghost use Rattle.tac_program.specs.Names.{is_one_of};
 ghost use Rattle.tac_lines.specs.code.Views.{tokens_view};
-ghost use Rattle.tac_lines.specs.declared.refusal.RefusalKind.TheVariants.{DuplicateCallee, DuplicateLabel, DuplicateProcedure, NoMain, TooManyProcedures, UnknownLabel, UnknownProcedure};
+ghost use Rattle.tac_lines.specs.declared.refusal.RefusalKind.TheVariants.{DuplicateCallee, DuplicateLabel, DuplicateProcedure, NoMain};
+ghost use Rattle.tac_lines.specs.declared.refusal.RefusalKind.TheVariants.{TooManyProcedures, UnknownLabel, UnknownProcedure};
 
 use crate::section::{Section, labels, line_cells, section_cells};
 use std::alloc::{AllocError, Global};
@@ -117,7 +118,8 @@ pub fn check_procedures(
 ) -> Result<NameTable, Stop>
     ensures faultless { OnOk result (repeated DuplicateProcedure [] (titles_of (sections_view text.now sections.now)) ≡ []) }
     ensures names { IfOk result (λ names. names ≡ names_in (titles_of (sections_view text.now sections.now))) }
-    ensures fault { IfErr result (IfFault (λ f. head_of (repeated DuplicateProcedure [] (titles_of (sections_view text.now sections.now))) ≡ Some f)) }
+    ensures fault { IfErr result
+        (IfFault (λ f. head_of (repeated DuplicateProcedure [] (titles_of (sections_view text.now sections.now))) ≡ Some f)) }
 {
     let mut names = NameTable::new(alloc);
     note_names(
@@ -175,7 +177,8 @@ pub fn check_labels(
 ) -> Result<Vec<NameTable>, Stop>
     ensures faultless { OnOk result (flat_map (λ s. repeated DuplicateLabel [] (labels_in s)) (sections_view text.now sections.now) ≡ []) }
     ensures names { IfOk result (λ tables. tables.items ≡ map (λ s. names_in (labels_in s)) (sections_view text.now sections.now)) }
-    ensures fault { IfErr result (IfFault (λ f. head_of (flat_map (λ s. repeated DuplicateLabel [] (labels_in s)) (sections_view text.now sections.now)) ≡ Some f)) }
+    ensures fault { IfErr result
+        (IfFault (λ f. head_of (flat_map (λ s. repeated DuplicateLabel [] (labels_in s)) (sections_view text.now sections.now)) ≡ Some f)) }
 {
     let mut tables = Vec::with_capacity(alloc, sections.len())?;
     let mut found = Vec::new(alloc);
@@ -196,7 +199,8 @@ fn unknown_jump(
     labels: &NameTable,
 ) -> Result<Option<Fault>, AllocError>
     requires { labels.now ≡ names_in (labels_in (section_view text.now section.now)) }
-    ensures { IfOk result (λ fault. fault ≡ head_of (unknown UnknownLabel (labels_in (section_view text.now section.now)) (jumps_in (section_view text.now section.now)))) }
+    ensures { IfOk result (λ fault.
+        fault ≡ head_of (unknown UnknownLabel (labels_in (section_view text.now section.now)) (jumps_in (section_view text.now section.now)))) }
 {
     found.clear();
     section_cells(found, Role::Label, section.lines)?;
@@ -213,7 +217,8 @@ pub fn check_jumps(
 ) -> Result<(), Stop>
     requires { labels.now ≡ map (λ s. names_in (labels_in s)) (sections_view text.now sections.now) }
     ensures faultless { OnOk result (flat_map (λ s. unknown UnknownLabel (labels_in s) (jumps_in s)) (sections_view text.now sections.now) ≡ []) }
-    ensures fault { IfErr result (IfFault (λ f. head_of (flat_map (λ s. unknown UnknownLabel (labels_in s) (jumps_in s)) (sections_view text.now sections.now)) ≡ Some f)) }
+    ensures fault { IfErr result
+        (IfFault (λ f. head_of (flat_map (λ s. unknown UnknownLabel (labels_in s) (jumps_in s)) (sections_view text.now sections.now)) ≡ Some f)) }
 {
     let mut found = Vec::new(alloc);
     for at in 0..sections.len() {
@@ -231,7 +236,8 @@ fn unknown_callee(
     section: &Section<'_>,
     procedures: &NameTable,
 ) -> Result<Option<Fault>, AllocError>
-    ensures { (known : List Word) → procedures.now ≡ names_in known → IfOk result (λ fault. fault ≡ head_of (unknown UnknownProcedure known (callees_in (section_view text.now section.now)))) }
+    ensures { (known : List Word) → procedures.now ≡ names_in known
+        → IfOk result (λ fault. fault ≡ head_of (unknown UnknownProcedure known (callees_in (section_view text.now section.now)))) }
 {
     found.clear();
     section_cells(found, Role::Callee, section.lines)?;
@@ -247,8 +253,10 @@ pub fn check_callees(
     procedures: &NameTable,
 ) -> Result<(), Stop>
     requires { procedures.now ≡ names_in (titles_of (sections_view text.now sections.now)) }
-    ensures faultless { OnOk result (flat_map (λ s. unknown UnknownProcedure (titles_of (sections_view text.now sections.now)) (callees_in s)) (sections_view text.now sections.now) ≡ []) }
-    ensures fault { IfErr result (IfFault (λ f. head_of (flat_map (λ s. unknown UnknownProcedure (titles_of (sections_view text.now sections.now)) (callees_in s)) (sections_view text.now sections.now)) ≡ Some f)) }
+    ensures faultless { OnOk result (flat_map (λ s. unknown UnknownProcedure (titles_of (sections_view text.now sections.now)) (callees_in s))
+        (sections_view text.now sections.now) ≡ []) }
+    ensures fault { IfErr result (IfFault (λ f. head_of (flat_map (λ s.
+        unknown UnknownProcedure (titles_of (sections_view text.now sections.now)) (callees_in s)) (sections_view text.now sections.now)) ≡ Some f)) }
 {
     let mut found = Vec::new(alloc);
     for section in sections {
@@ -265,7 +273,8 @@ fn repeated_callee(
     text: &[u8],
     section: &Section<'_>,
 ) -> Result<Option<Fault>, AllocError>
-    ensures { IfOk result (λ fault. fault ≡ head_of (flat_map (λ c. repeated DuplicateCallee [] (callees_of c)) (statements_of (section_view text.now section.now).body))) }
+    ensures { IfOk result (λ fault.
+        fault ≡ head_of (flat_map (λ c. repeated DuplicateCallee [] (callees_of c)) (statements_of (section_view text.now section.now).body))) }
 {
     let lines = section.lines;
     for at in 0..lines.len() {
@@ -285,8 +294,10 @@ pub fn check_repeated_callees(
     text: &[u8],
     sections: &[Section<'_>],
 ) -> Result<(), Stop>
-    ensures faultless { OnOk result (flat_map (λ s. flat_map (λ c. repeated DuplicateCallee [] (callees_of c)) (statements_of s.body)) (sections_view text.now sections.now) ≡ []) }
-    ensures fault { IfErr result (IfFault (λ f. head_of (flat_map (λ s. flat_map (λ c. repeated DuplicateCallee [] (callees_of c)) (statements_of s.body)) (sections_view text.now sections.now)) ≡ Some f)) }
+    ensures faultless { OnOk result (flat_map (λ s. flat_map (λ c. repeated DuplicateCallee [] (callees_of c)) (statements_of s.body))
+        (sections_view text.now sections.now) ≡ []) }
+    ensures fault { IfErr result (IfFault (λ f. head_of (flat_map (λ s.
+        flat_map (λ c. repeated DuplicateCallee [] (callees_of c)) (statements_of s.body)) (sections_view text.now sections.now)) ≡ Some f)) }
 {
     let mut found = Vec::new(alloc);
     for section in sections {
@@ -313,7 +324,8 @@ pub fn check_main(procedures: &NameTable) -> Option<Fault>
 /// The fault `TooManyProcedures` at the name of the first procedure beyond those that the limits allow,
 /// where there is one.
 pub fn check_count(sections: &[Section<'_>], limits: Limits) -> Option<Fault>
-    ensures { (text : List ℕ) → result ≡ head_of (flat_map (λ t. at TooManyProcedures t.start) (drop (most_procedures limits) (titles_of (sections_view text sections.now)))) }
+    ensures { (text : List ℕ) → result
+        ≡ head_of (flat_map (λ t. at TooManyProcedures t.start) (drop (most_procedures limits) (titles_of (sections_view text sections.now)))) }
 {
     let most = limits.procedures() as usize;
     if sections.len() <= most {

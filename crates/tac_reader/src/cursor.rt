@@ -21,7 +21,8 @@ impl<'a> Model for LineCursor<'a> {
 
     ghost view = { λ cursor. cursor.text.now };
 
-    ghost invariant = { λ cursor. (length cursor.text.now + 1 < 2 ^ 32) × (cursor.at ≤ length cursor.text.now) × (cursor.line ≡ line_after (take cursor.at cursor.text.now)) };
+    ghost invariant = { λ cursor. (length cursor.text.now + 1 < 2 ^ 32) × (cursor.at ≤ length cursor.text.now)
+        × (cursor.line ≡ line_after (take cursor.at cursor.text.now)) };
 }
 
 impl<'a> LineCursor<'a> {

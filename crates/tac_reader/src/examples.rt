@@ -12,7 +12,9 @@ ghost use Rattle.tac_program.specs.declared.limits.Limits.TheVariants.{Large};
 ghost use Rattle.tac_program.specs.declared.program.Op.TheVariants.{Less, Plus, Tilde};
 ghost use Rattle.tac_program.specs.declared.program.Operand.TheVariants.{Variable, Number};
 ghost use Rattle.tac_program.specs.declared.program.StmtKind.TheVariants.{Copy, Unary, Binary, Goto, IfCompare, Call};
-ghost use Rattle.tac_lines.specs.declared.refusal.RefusalKind.TheVariants.{BadByte, NumberTooLarge, NameTooLong, Syntax, Unclosed, NoMain, DuplicateProcedure, DuplicateLabel, UnknownLabel, UnknownProcedure, TooManyProcedures, DuplicateCallee};
+ghost use Rattle.tac_lines.specs.declared.refusal.RefusalKind.TheVariants.{BadByte, NumberTooLarge, NameTooLong, Syntax, Unclosed, NoMain};
+ghost use Rattle.tac_lines.specs.declared.refusal.RefusalKind.TheVariants.{DuplicateProcedure, DuplicateLabel, UnknownLabel, UnknownProcedure};
+ghost use Rattle.tac_lines.specs.declared.refusal.RefusalKind.TheVariants.{TooManyProcedures, DuplicateCallee};
 
 /// Every beginning of the smallest program is refused at its place, until it is whole.
 pub fn beginnings()
@@ -107,7 +109,8 @@ pub fn line_ends()
 /// Names of 64 bytes, numbers, procedures.
 pub fn limits()
     ensures name_of_64 { refusal_of (codes "proc main\naaaaaaaaaaaaaaaaaaaaaaaaaaaaaaaaaaaaaaaaaaaaaaaaaaaaaaaaaaaaaaaa = 1\nend\n") ≡ None }
-    ensures name_of_65 { refusal_of (codes "proc main\naaaaaaaaaaaaaaaaaaaaaaaaaaaaaaaaaaaaaaaaaaaaaaaaaaaaaaaaaaaaaaaaa = 1\nend\n") ≡ refused NameTooLong 2 1 }
+    ensures name_of_65 { refusal_of (codes "proc main\naaaaaaaaaaaaaaaaaaaaaaaaaaaaaaaaaaaaaaaaaaaaaaaaaaaaaaaaaaaaaaaaa = 1\nend\n")
+        ≡ refused NameTooLong 2 1 }
     ensures procedures_256 { refusal_of (codes "proc main\nend\n" ++ procedures_before 255 []) ≡ None }
     ensures procedures_257 { refusal_of (codes "proc main\nend\n" ++ procedures_before 256 []) ≡ refused TooManyProcedures 513 6 }
     ensures procedures_257_within_large { refusal_within Large (codes "proc main\nend\n" ++ procedures_before 256 []) ≡ None }
@@ -115,26 +118,35 @@ pub fn limits()
 
 /// The tokens of a line are the longest that begin at their places.
 pub fn tokens()
-    ensures double_equals { (row_from 0 0 (codes "x==y")).tokens ≡ word_from 0 1 (name (codes "x")) ∷ word_from 1 3 (fixed (codes "==")) ∷ word_from 3 4 (name (codes "y")) ∷ [] }
+    ensures double_equals { (row_from 0 0 (codes "x==y")).tokens ≡ word_from 0 1 (name (codes "x")) ∷ word_from 1 3 (fixed (codes "=="))
+        ∷ word_from 3 4 (name (codes "y")) ∷ [] }
     ensures number_then_name { (row_from 0 0 (codes "12ab")).tokens ≡ word_from 0 2 (number 12) ∷ word_from 2 4 (name (codes "ab")) ∷ [] }
-    ensures minus { (row_from 0 0 (codes "x=-5")).tokens ≡ word_from 0 1 (name (codes "x")) ∷ word_from 1 2 (fixed (codes "=")) ∷ word_from 2 3 (fixed (codes "-")) ∷ word_from 3 4 (number 5) ∷ [] }
-    ensures labels { (row_from 0 0 (codes "L:M: x=y+007 # c")).tokens ≡ word_from 0 1 (name (codes "L")) ∷ word_from 1 2 (fixed (codes ":")) ∷ word_from 2 3 (name (codes "M")) ∷ word_from 3 4 (fixed (codes ":")) ∷ word_from 5 6 (name (codes "x")) ∷ word_from 6 7 (fixed (codes "=")) ∷ word_from 7 8 (name (codes "y")) ∷ word_from 8 9 (fixed (codes "+")) ∷ word_from 9 12 (number 7) ∷ [] }
-    ensures callees { (row_from 0 0 (codes "call p|q")).tokens ≡ word_from 0 4 (fixed (codes "call")) ∷ word_from 5 6 (name (codes "p")) ∷ word_from 6 7 (fixed (codes "|")) ∷ word_from 7 8 (name (codes "q")) ∷ [] }
+    ensures minus { (row_from 0 0 (codes "x=-5")).tokens ≡ word_from 0 1 (name (codes "x")) ∷ word_from 1 2 (fixed (codes "="))
+        ∷ word_from 2 3 (fixed (codes "-")) ∷ word_from 3 4 (number 5) ∷ [] }
+    ensures labels { (row_from 0 0 (codes "L:M: x=y+007 # c")).tokens ≡ word_from 0 1 (name (codes "L")) ∷ word_from 1 2 (fixed (codes ":"))
+        ∷ word_from 2 3 (name (codes "M")) ∷ word_from 3 4 (fixed (codes ":")) ∷ word_from 5 6 (name (codes "x")) ∷ word_from 6 7 (fixed (codes "="))
+        ∷ word_from 7 8 (name (codes "y")) ∷ word_from 8 9 (fixed (codes "+")) ∷ word_from 9 12 (number 7) ∷ [] }
+    ensures callees { (row_from 0 0 (codes "call p|q")).tokens ≡ word_from 0 4 (fixed (codes "call")) ∷ word_from 5 6 (name (codes "p"))
+        ∷ word_from 6 7 (fixed (codes "|")) ∷ word_from 7 8 (name (codes "q")) ∷ [] }
 {}
 
 /// The listing has one layout; read again, it is the same program.
 pub fn listings()
     ensures accepted { refusal_of (codes "proc main # start\nL:M: x=y+007\nz=- x\nif x<3 goto L\nend\n") ≡ None }
-    ensures listing { listing_of (program_of (codes "proc main # start\nL:M: x=y+007\nz=- x\nif x<3 goto L\nend\n")) ≡ codes "proc main\nL:\nM:\n  x = y + 7\n  z = -x\n  if x < 3 goto L\nend\n" }
-    ensures again { listing_of (program_of (codes "proc main\nL:\nM:\n  x = y + 7\n  z = -x\n  if x < 3 goto L\nend\n")) ≡ codes "proc main\nL:\nM:\n  x = y + 7\n  z = -x\n  if x < 3 goto L\nend\n" }
+    ensures listing { listing_of (program_of (codes "proc main # start\nL:M: x=y+007\nz=- x\nif x<3 goto L\nend\n"))
+        ≡ codes "proc main\nL:\nM:\n  x = y + 7\n  z = -x\n  if x < 3 goto L\nend\n" }
+    ensures again { listing_of (program_of (codes "proc main\nL:\nM:\n  x = y + 7\n  z = -x\n  if x < 3 goto L\nend\n"))
+        ≡ codes "proc main\nL:\nM:\n  x = y + 7\n  z = -x\n  if x < 3 goto L\nend\n" }
     ensures straight_line { listing_of (program_of (codes "proc main # start\nL:M: x=007\nend\n")) ≡ codes "proc main\nL:\nM:\n  x = 7\nend\n" }
-    ensures labels_of_the_end { listing_of (program_of (codes "proc main\nx = 1\nL:\n\n M: # c\nend\n\nproc q\nskip\ncall q|main\nend")) ≡ codes "proc main\n  x = 1\nL:\nM:\nend\nproc q\n  skip\n  call q | main\nend\n" }
+    ensures labels_of_the_end { listing_of (program_of (codes "proc main\nx = 1\nL:\n\n M: # c\nend\n\nproc q\nskip\ncall q|main\nend"))
+        ≡ codes "proc main\n  x = 1\nL:\nM:\nend\nproc q\n  skip\n  call q | main\nend\n" }
     ensures each_statement { listing_of (program_of (codes "proc main\na=b\na=~b\na=b<<2\ngoto L\nif a goto L\nifFalse 0 goto L\nL: call main\nreturn\nread a\nprint 00\nend\n")) ≡ codes "proc main\n  a = b\n  a = ~b\n  a = b << 2\n  goto L\n  if a goto L\n  ifFalse 0 goto L\nL:\n  call main\n  return\n  read a\n  print 0\nend\n" }
 {}
 
 /// Names are numbered by first occurrence, labels in their procedure, and a label stands for the next statement.
 pub fn numbers()
-    ensures program { program_of (codes "proc main\nL: x = y\nM:end1:\nend\nproc p\nread z\nx = -7\nM: if y > z goto M\ncall p | main\nend\n") ≡ numbered_example }
+    ensures program { program_of (codes "proc main\nL: x = y\nM:end1:\nend\nproc p\nread z\nx = -7\nM: if y > z goto M\ncall p | main\nend\n")
+        ≡ numbered_example }
 {}
 
 /// A statement is sound where all that it names is there, and not by one less.

@@ -4,7 +4,8 @@ ghost use Rattle.std.specs.Prelude.{All, ◌≡◌, ◌+◌, ◌*◌, ◌<◌, �
 ghost use Rattle.tac_reader.specs.code.Built.{names_view};
 ghost use Rattle.tac_reader.specs.code.Occurrences.{IsNumberedIn};
 ghost use Rattle.tac_reader.specs.code.Procedures.{labels_at};
-ghost use Rattle.tac_reader.specs.Parses.{label_places, labels_from, names_in, procedure_of, procedures_from, start_of as start_in, statement_of, variables_in};
+ghost use Rattle.tac_reader.specs.Parses.{label_places, labels_from, names_in, procedure_of, procedures_from, start_of as start_in, statement_of};
+ghost use Rattle.tac_reader.specs.Parses.{variables_in};
 ghost use Rattle.tac_program.specs.Names.{noted};
 ghost use Rattle.tac_reader.specs.code.SectionViews.{lines_view, section_view, sections_view};
 ghost use Rattle.tac_reader.specs.Sections.{labels_in, only_name, statements_of, variables_of};
@@ -69,7 +70,8 @@ fn statements(
     progress: &mut Progress,
 ) -> Result<Vec<Stmt>, AllocError>
     requires { names.variables.text.now ≡ cursor.old }
-    ensures statements { IfOk result (λ stmts. stmts.items ≡ map (statement_of cursor.old (names_view names.entry)) (statements_of (lines_view cursor.old lines.entry))) }
+    ensures statements { IfOk result
+        (λ stmts. stmts.items ≡ map (statement_of cursor.old (names_view names.entry)) (statements_of (lines_view cursor.old lines.entry))) }
     ensures text { cursor.new ≡ cursor.old }
 {
     let mut stmts = Vec::with_capacity(alloc, lines.statements())?;
@@ -122,7 +124,8 @@ fn procedure(
 ) -> Result<Proc, AllocError>
     requires text { tables.variables.text.now ≡ cursor.old }
     requires labels { labels ≡ names_in (labels_in (section_view cursor.old section)) }
-    ensures procedure { IfOk result (λ p. p ≡ procedure_of cursor.old tables.entry.procedures.now tables.entry.variables.table.now number (section_view cursor.old section.entry)) }
+    ensures procedure { IfOk result (λ p.
+        p ≡ procedure_of cursor.old tables.entry.procedures.now tables.entry.variables.table.now number (section_view cursor.old section.entry)) }
     ensures text { cursor.new ≡ cursor.old }
 {
     let places = section_labels(alloc, labels.len(), section.lines)?;
@@ -144,7 +147,8 @@ fn procedures(
 ) -> Result<Vec<Proc>, AllocError>
     requires short { length tables.variables.text.now + 1 < 2 ^ 32 }
     requires labels { labels.items ≡ map (λ s. names_in (labels_in s)) (sections_view tables.variables.text.now sections.now) }
-    ensures { IfOk result (λ procs. procs.items ≡ procedures_from tables.entry.variables.text.now tables.entry.procedures.now tables.entry.variables.table.now 0 (sections_view tables.entry.variables.text.now sections.now)) }
+    ensures { IfOk result (λ procs. procs.items ≡ procedures_from tables.entry.variables.text.now tables.entry.procedures.now
+        tables.entry.variables.table.now 0 (sections_view tables.entry.variables.text.now sections.now)) }
 {
     let mut procs = Vec::with_capacity(alloc, sections.len())?;
     let mut cursor = LineCursor::new(tables.variables.text);
@@ -182,8 +186,16 @@ pub fn program(
     requires short { length text.now + 1 < 2 ^ 32 }
     requires labels { labels.items ≡ map (λ s. names_in (labels_in s)) (sections_view text.now sections.now) }
     requires numbered { All (IsNumberedIn text.now variables) occurrences.items }
-    requires sound { IsSound (record { procedures = procedures_from text.now procedures variables 0 (sections_view text.now sections.now); procedure_names = procedures; variable_names = variables }) }
-    ensures { IfOk result (λ p. p ≡ record { procedures = procedures_from text.now procedures variables 0 (sections_view text.now sections.now); procedure_names = procedures; variable_names = variables }) }
+    requires sound { IsSound (record {
+      procedures = procedures_from text.now procedures variables 0 (sections_view text.now sections.now);
+      procedure_names = procedures;
+      variable_names = variables;
+    }) }
+    ensures { IfOk result (λ p. p ≡ record {
+      procedures = procedures_from text.now procedures variables 0 (sections_view text.now sections.now);
+      procedure_names = procedures;
+      variable_names = variables;
+    }) }
 {
     let tables = Tables {
         procedures: &procedures,
@@ -257,7 +269,8 @@ fn note_lines(
     found: &mut Vec<Token>,
 ) -> Result<(), AllocError>
     requires { All (IsNumberedIn text.now table.old) occurrences.old.items }
-    ensures noted { OnOk result (table.new ≡ fold noted table.old (names_in (flat_map variables_of (statements_of (lines_view text.now lines.entry))))) }
+    ensures noted { OnOk result
+        (table.new ≡ fold noted table.old (names_in (flat_map variables_of (statements_of (lines_view text.now lines.entry))))) }
     ensures numbered { OnOk result (All (IsNumberedIn text.now table.new) occurrences.new.items) }
 {
     for at in 0..lines.len() {

@@ -30,7 +30,8 @@ fn is_inner(line: &[Token]) -> bool
 /// The lines from the place `first` on, up to the next one that opens or closes a procedure.
 fn inner_lines<'a>(lines: Lines<'a>, first: usize) -> Lines<'a>
     requires { first ≤ length lines.ranges.now }
-    ensures { (text : List ℕ) → lines_view text result ≡ take_while is_inner_line (map (range_view text lines.entry.tokens.now) (drop first lines.entry.ranges.now)) }
+    ensures { (text : List ℕ)
+        → lines_view text result ≡ take_while is_inner_line (map (range_view text lines.entry.tokens.now) (drop first lines.entry.ranges.now)) }
 {
     let mut at = first;
     while at < lines.len() && is_inner(lines.line(at).tokens) {
@@ -61,7 +62,8 @@ pub fn sections<'a>(alloc: Global, lines: Lines<'a>) -> Result<Vec<Section<'a>>,
 /// Appends the labels of a line.
 fn line_labels(found: &mut Vec<Token>, line: &[Token]) -> Result<(), AllocError>
     ensures kept { take (vec_len found.old) found.new.items ≡ found.old.items }
-    ensures appended { OnOk result ((text : List ℕ) → tokens_view text found.new.items ≡ tokens_view text found.old.items ++ labels_of (tokens_view text line.now)) }
+    ensures appended { OnOk result
+        ((text : List ℕ) → tokens_view text found.new.items ≡ tokens_view text found.old.items ++ labels_of (tokens_view text line.now)) }
 {
     let mut at = 0;
     while label_at(line, at) {
@@ -74,7 +76,8 @@ fn line_labels(found: &mut Vec<Token>, line: &[Token]) -> Result<(), AllocError>
 /// Appends all labels of the lines. What is found already stays, also where memory runs out.
 pub fn labels(found: &mut Vec<Token>, lines: Lines<'_>) -> Result<(), AllocError>
     ensures kept { take (vec_len found.old) found.new.items ≡ found.old.items }
-    ensures appended { OnOk result ((text : List ℕ) → tokens_view text found.new.items ≡ tokens_view text found.old.items ++ flat_map labels_of (lines_view text lines.entry)) }
+    ensures appended { OnOk result
+        ((text : List ℕ) → tokens_view text found.new.items ≡ tokens_view text found.old.items ++ flat_map labels_of (lines_view text lines.entry)) }
 {
     for at in 0..lines.len() {
         line_labels(found, lines.line(at).tokens)?;
@@ -92,7 +95,8 @@ pub fn line_cells(
 ) -> Result<(), AllocError>
     requires { at < length lines.ranges.now }
     ensures kept { take (vec_len found.old) found.new.items ≡ found.old.items }
-    ensures appended { OnOk result ((text : List ℕ) (r : LineRange) → tokens_view text found.new.items ≡ tokens_view text found.old.items ++ in_slot (role_test role) (cells_of (behind_labels (range_view text lines.entry.tokens.now (slice_index_or lines.entry.ranges.now at r))))) }
+    ensures appended { OnOk result ((text : List ℕ) (r : LineRange) → tokens_view text found.new.items ≡ tokens_view text found.old.items ++ in_slot
+        (role_test role) (cells_of (behind_labels (range_view text lines.entry.tokens.now (slice_index_or lines.entry.ranges.now at r))))) }
 {
     if !lines.plays(at, role) {
         return Ok(());
@@ -105,7 +109,8 @@ pub fn line_cells(
 /// already stays, also where memory runs out.
 pub fn section_cells(found: &mut Vec<Token>, role: Role, lines: Lines<'_>) -> Result<(), AllocError>
     ensures kept { take (vec_len found.old) found.new.items ≡ found.old.items }
-    ensures appended { OnOk result ((text : List ℕ) → tokens_view text found.new.items ≡ tokens_view text found.old.items ++ flat_map (λ statement. in_slot (role_test role) (cells_of statement)) (statements_of (lines_view text lines.entry))) }
+    ensures appended { OnOk result ((text : List ℕ) → tokens_view text found.new.items ≡ tokens_view text found.old.items
+        ++ flat_map (λ statement. in_slot (role_test role) (cells_of statement)) (statements_of (lines_view text lines.entry))) }
 {
     for at in 0..lines.len() {
         line_cells(found, role, lines, at)?;

@@ -9,16 +9,32 @@ use worked_programs::{listed, recursion, refused, smallest};
 
 /// Every statement form.
 const FORMS: &[u8] =
-    b"proc main\r\nL:M: x=y+007 # seven\nz=- x\nx=~x\nx=!0\nx=x\nif x<3 goto L\nif x goto M\nifFalse 10 goto N\ngoto N\n\ncall f|main\nN: read y\nprint 18\nskip\nreturn\nend\nproc f\nx=1-2\nx=x*x\nx=x/y\nx=x%y\nx=x&y\nx=x|y\nx=x^y\nx=x<<y\nx=x>>y\nx=x<=y\nx=x>=y\nx=x==y\nx=x!=y\nx=x>y\nend";
+    b"proc main\r\nL:M: x=y+007 # seven\nz=- x\nx=~x\nx=!0\nx=x\nif x<3 goto L\nif x goto M\n\
+    ifFalse 10 goto N\ngoto N\n\ncall f|main\nN: read y\nprint 18\nskip\nreturn\nend\nproc f\n\
+    x=1-2\nx=x*x\nx=x/y\nx=x%y\nx=x&y\nx=x|y\nx=x^y\nx=x<<y\nx=x>>y\nx=x<=y\nx=x>=y\nx=x==y\nx=x!=y\nx=x>y\nend";
 
 const FORMS_LISTING: &str =
-    "proc main\nL:\nM:\n  x = y + 7\n  z = -x\n  x = ~x\n  x = !0\n  x = x\n  if x < 3 goto L\n  if x goto M\n  ifFalse 10 goto N\n  goto N\n  call f | main\nN:\n  read y\n  print 18\n  skip\n  return\nend\nproc f\n  x = 1 - 2\n  x = x * x\n  x = x / y\n  x = x % y\n  x = x & y\n  x = x | y\n  x = x ^ y\n  x = x << y\n  x = x >> y\n  x = x <= y\n  x = x >= y\n  x = x == y\n  x = x != y\n  x = x > y\nend\n";
+    "proc main\nL:\nM:\n  x = y + 7\n  z = -x\n  x = ~x\n  x = !0\n  x = x\n  if x < 3 goto L\n  \
+    if x goto M\n  ifFalse 10 goto N\n  goto N\n  call f | main\nN:\n  read y\n  print 18\n  \
+    skip\n  return\nend\nproc f\n  x = 1 - 2\n  x = x * x\n  x = x / y\n  x = x % y\n  \
+    x = x & y\n  x = x | y\n  x = x ^ y\n  x = x << y\n  x = x >> y\n  x = x <= y\n  x = x >= y\n  x = x == y\n  x = x != y\n  x = x > y\nend\n";
 
 const NAME_64: &str = "nnnnnnnnnnnnnnnnnnnnnnnnnnnnnnnnnnnnnnnnnnnnnnnnnnnnnnnnnnnnnnnn";
 
 /// Labels whose names fall together in a table, if no digest of the text is hashed before them.
 const FALLING_TOGETHER: &[u8] =
-    b"aaclN:aacou:aacSa:aadzl:aafLs:aakj_:aaoeZ:aarFo:aav8S:aayiC:aazv0:aazAO:aaBPd:aaBRe:aaC2C:aaEaq:aaHT1:aaINk:aaJOU:aaMcN:aaMjO:aaNld:aaNrZ:aaQlw:aaQs8:aaQIY:aaRgy:aaV7v:aaWwp:aaXJU:aaXZI:aa_nh:aa2h1:aa4c4:aa4A7:aa6xw:aa7eC:aa7Kj:aa9r0:abaf5:abbLs:abb4Y:abnFo:abpGz:abqmd:abtIc:abtL4:abvJz:abvKK:abw5e:abxCt:abAjS:abCRb:abJau:abJsG:abM6T:abNag:abOWD:abO09:abQij:abR0J:abTRa:abVk_:ab2oP:ab3Tg:ab4tY:ab5BR:ab5C6:ab6Of:acdDn:acfuG:acipF:acixh:aclKQ:acmB_:acpOk:actrU:acv6B:aczVi:acC7e:acGAz:acMHI:acOwA:acQbZ:acQlZ:acRjW:acVNu:acW20:ac_sN:ac4mh:ac8FA:ac9Dh:adcSr:adeMo:adgAk:adlL_:adl6g:adm0Z:adnE5:adnVX:adroh:advvv:adx9H:adzv7:adBYY:adCWp:adKm8:adKOO:adLms:adMEh:adNs1:adOuW:adQX2:adQ6I:adRF3:adTkd:adT5B:adYHF:ad_dG:ad0nf:ad0AR:ad1He:ad7us:aeaVa:aefIg:aejra:aekOb:aeuxL:aeuRG:aexkG:aeybL:aezqe:aeAuQ:aeC0E:aeDxO:aeEvk:aeEwM:aeE2m:aeFtJ:aeF6n:aeGrQ:aeHte:aeHBI:aeJdK:aeJFt:aeKEm:aePfa:aeReA:aeVyE:aeYA8:ae_dS:ae4_U:ae5bg:ae5JT:ae61v:afb3a:afcZW:affnT:afhmY:afjzd:afpOy:afrbP:afrdF:afrsX:afu4m:afABo:afE7L:afHkb:afIK0:afKvq:afL3e:afOpp:afO8X:afQEL:afRuC:afWBu:afYFD:af04D:af3Zr:af6YB:af7oy:af9uS:af9vP:agbzk:agdX0:aggAm:aggEK:agg7Y:agi8_:agjIR:agj_F:agj8O:agmgy:agoJg:agph9:agtB_:ague3:agA6G:agCd0:agCvk:agCRT:agK5F:agPji:agRnc:agVsZ:agX0t:ag0OX:ag6QF:ag6_w:ag8Y3:ahaXp:ahbpK:ahdEc:ahdJN:ahmR0:ahnM1:ahp9u:ahrbG:ahtDb:ahtM8:ahudO:ahuzw:ahyGe:ahCze:ahCOb:ahDkg:ahElb:ahGFN:ahHgD:ahHAK:ahIDI:ahK2R:ahL5H:ahQpa:ahQAu:ahR9R:ahSZK:ahUbF:ahVOv:ahWIH:ahXOz:ah2BR:ah2Ce:ah6h1:ah6Tg:ah7Bw:ah9wF:aidM5:aifir:aihfg:aij3a:aikQV:aioZy:aiqAS:ait4h:aiuLu:aivzZ:aiv2R:aiwW2:aiyKH:aiAuc:aiBi5:aiBCC:aiCqe:aiC01:aiDLW:aiFu1:aiKhy:aiKzr:aiLUz:";
+    b"aaclN:aacou:aacSa:aadzl:aafLs:aakj_:aaoeZ:aarFo:aav8S:aayiC:aazv0:aazAO:aaBPd:aaBRe:aaC2C:aaEaq:aaHT1:aaINk:aaJOU:aaMcN:aaMjO:aaNld:aaNrZ:aaQlw\
+    :aaQs8:aaQIY:aaRgy:aaV7v:aaWwp:aaXJU:aaXZI:aa_nh:aa2h1:aa4c4:aa4A7:aa6xw:aa7eC:aa7Kj:aa9r0:abaf5:abbLs:abb4Y:abnFo:abpGz:abqmd:abtIc:abtL4:abvJz:\
+    abvKK:abw5e:abxCt:abAjS:abCRb:abJau:abJsG:abM6T:abNag:abOWD:abO09:abQij:abR0J:abTRa:abVk_:ab2oP:ab3Tg:ab4tY:ab5BR:ab5C6:ab6Of:acdDn:acfuG:acipF:a\
+    cixh:aclKQ:acmB_:acpOk:actrU:acv6B:aczVi:acC7e:acGAz:acMHI:acOwA:acQbZ:acQlZ:acRjW:acVNu:acW20:ac_sN:ac4mh:ac8FA:ac9Dh:adcSr:adeMo:adgAk:adlL_:ad\
+    l6g:adm0Z:adnE5:adnVX:adroh:advvv:adx9H:adzv7:adBYY:adCWp:adKm8:adKOO:adLms:adMEh:adNs1:adOuW:adQX2:adQ6I:adRF3:adTkd:adT5B:adYHF:ad_dG:ad0nf:ad0\
+    AR:ad1He:ad7us:aeaVa:aefIg:aejra:aekOb:aeuxL:aeuRG:aexkG:aeybL:aezqe:aeAuQ:aeC0E:aeDxO:aeEvk:aeEwM:aeE2m:aeFtJ:aeF6n:aeGrQ:aeHte:aeHBI:aeJdK:aeJF\
+    t:aeKEm:aePfa:aeReA:aeVyE:aeYA8:ae_dS:ae4_U:ae5bg:ae5JT:ae61v:afb3a:afcZW:affnT:afhmY:afjzd:afpOy:afrbP:afrdF:afrsX:afu4m:afABo:afE7L:afHkb:afIK0\
+    :afKvq:afL3e:afOpp:afO8X:afQEL:afRuC:afWBu:afYFD:af04D:af3Zr:af6YB:af7oy:af9uS:af9vP:agbzk:agdX0:aggAm:aggEK:agg7Y:agi8_:agjIR:agj_F:agj8O:agmgy:\
+    agoJg:agph9:agtB_:ague3:agA6G:agCd0:agCvk:agCRT:agK5F:agPji:agRnc:agVsZ:agX0t:ag0OX:ag6QF:ag6_w:ag8Y3:ahaXp:ahbpK:ahdEc:ahdJN:ahmR0:ahnM1:ahp9u:a\
+    hrbG:ahtDb:ahtM8:ahudO:ahuzw:ahyGe:ahCze:ahCOb:ahDkg:ahElb:ahGFN:ahHgD:ahHAK:ahIDI:ahK2R:ahL5H:ahQpa:ahQAu:ahR9R:ahSZK:ahUbF:ahVOv:ahWIH:ahXOz:ah\
+    2BR:ah2Ce:ah6h1:ah6Tg:ah7Bw:ah9wF:aidM5:aifir:aihfg:aij3a:aikQV:aioZy:aiqAS:ait4h:aiuLu:aivzZ:aiv2R:aiwW2:aiyKH:aiAuc:aiBi5:aiBCC:aiCqe:aiC01:aiD\
+    LW:aiFu1:aiKhy:aiKzr:aiLUz:";
 
 /// The listing of a program that is lent, so that its owner below makes one call and leaves in one way.
 fn listed_program(alloc: Global, program: &Program) -> Result<Vec<u8>, ReadFault> {

@@ -1,5 +1,6 @@
 -- What the words of a may form tell of an analysis's table.
-use Rattle.std.proofs.Common.{◌≡◌, ◌↔◌, ℕ, ◌+◌, ◌*◌, ◌<◌, ◌≤◌, Bool, true, false, not, ◌&&◌, inl, inr, if◌then◌else◌, refl, sym, ap, subst, ◌∙◌, arith, true≢false}
+use Rattle.std.proofs.Common.{◌≡◌, ◌↔◌, ℕ, ◌+◌, ◌*◌, ◌<◌, ◌≤◌, Bool, true, false, not, ◌&&◌, inl, inr, if◌then◌else◌, refl, sym, ap, subst, ◌∙◌}
+use Rattle.std.proofs.Common.{arith, true≢false}
 use Rattle.std.proofs.lemmas.Bool.{cases_lt}
 use Rattle.bit_rows.specs.RowSet.{RowSet, contains, full_set}
 use Rattle.bit_rows.specs.Words.{has_bit}
@@ -59,18 +60,21 @@ must_told Table Some lo hi b false inside law is within = (
 
 pub fact_word : (form : MayForm) (slice : SliceTable) (point word told : ℕ) → IsSliceOf form slice → AreMeetWords form slice
     → point < slice.points → slice.from ≤ word → word < slice.until
-    → ((k : ℕ) → k < 64 → has_bit told k ≡ told_place (is_must form.analysis) (has_bit (word_at slice point word) k) (contains (full_set slice.lo slice.hi) (64 * word + k)))
+    → ((k : ℕ) → k < 64 → has_bit told k
+    ≡ told_place (is_must form.analysis) (has_bit (word_at slice point word) k) (contains (full_set slice.lo slice.hi) (64 * word + k)))
     → IsFactWord form.program form.analysis slice.lo slice.hi point word told
 fact_word form slice point word told of meets there from until places k small = go (is_must form.analysis) refl
   where
     go : (must : Bool) → is_must form.analysis ≡ must
-        → (has_bit told k ≡ true) ↔ ((slice.lo ≤ 64 * word + k) × (64 * word + k < slice.hi) × IsInTable form.program form.analysis point (64 * word + k))
+        → (has_bit told k ≡ true)
+        ↔ ((slice.lo ≤ 64 * word + k) × (64 * word + k < slice.hi) × IsInTable form.program form.analysis point (64 * word + k))
     go true is =
         let law = must_tables_are_may_forms form.program form.analysis point (64 * word + k) is in
         let here = SomePathHas (may_shape form.program form.analysis) (may_transfer form.program form.analysis (64 * word + k)) point in
         let set = has_bit (word_at slice point word) k in
         let inside = contains (full_set slice.lo slice.hi) (64 * word + k) in
-        subst (λ (b : Bool). (b ≡ true) ↔ ((slice.lo ≤ 64 * word + k) × (64 * word + k < slice.hi) × IsInTable form.program form.analysis point (64 * word + k)))
+        subst (λ (b : Bool). (b ≡ true)
+        ↔ ((slice.lo ≤ 64 * word + k) × (64 * word + k < slice.hi) × IsInTable form.program form.analysis point (64 * word + k)))
         (sym (places k small ∙ ap (λ (m : Bool). told_place m set inside) is))
         (must_told (IsInTable form.program form.analysis point (64 * word + k)) here slice.lo slice.hi (64 * word + k) set inside
         (law.1, law.0) (meets point word k there from until small)
@@ -80,7 +84,8 @@ fact_word form slice point word told of meets there from until places k small = 
         let here = SomePathHas (may_shape form.program form.analysis) (may_transfer form.program form.analysis (64 * word + k)) point in
         let set = has_bit (word_at slice point word) k in
         let inside = contains (full_set slice.lo slice.hi) (64 * word + k) in
-        subst (λ (b : Bool). (b ≡ true) ↔ ((slice.lo ≤ 64 * word + k) × (64 * word + k < slice.hi) × IsInTable form.program form.analysis point (64 * word + k)))
+        subst (λ (b : Bool). (b ≡ true)
+        ↔ ((slice.lo ≤ 64 * word + k) × (64 * word + k < slice.hi) × IsInTable form.program form.analysis point (64 * word + k)))
         (sym (places k small ∙ ap (λ (m : Bool). told_place m set inside) is))
         (may_told (IsInTable form.program form.analysis point (64 * word + k)) here slice.lo slice.hi (64 * word + k) set
         (law.1, law.0) (meets point word k there from until small))

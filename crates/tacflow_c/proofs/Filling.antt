@@ -13,7 +13,8 @@ no_word tells at first start words = record {
 }
 
 pub one_word : (tells : ℕ → ℕ → Type 0) (at first start word i value : ℕ) (old mid : List ℕ) → IsRowFilled tells at first start word old mid
-    → first ≤ word → start ≤ word → first + i ≡ at + word → i < length mid → tells word value → IsRowFilled tells at first start (word + 1) old (slice_set mid i value)
+    → first ≤ word → start ≤ word → first + i ≡ at + word → i < length mid → tells word value
+    → IsRowFilled tells at first start (word + 1) old (slice_set mid i value)
 one_word tells at first start word i value old mid before low from place there told = record {
   size = length-set mid i value ∙ before.size;
   filled = λ w low_w high. elim (cases_eq (first + w) word) [
@@ -77,7 +78,8 @@ one_point tells point count first start end old mid new low high before row = re
 
 -- words that are filled further
 pub filled_on : (tells : ℕ → ℕ → ℕ → Type 0) (points count first start mid end : ℕ) (old now new : List ℕ) → start ≤ mid → mid ≤ end
-    → AreFilled tells points count first start mid old now → AreFilled tells points count first mid end now new → AreFilled tells points count first start end old new
+    → AreFilled tells points count first start mid old now → AreFilled tells points count first mid end now new
+    → AreFilled tells points count first start end old new
 filled_on tells points count first start mid end old now new low high one two = record {
   size = two.size ∙ one.size;
   filled = λ p w there small from until. elim (cases_lt (first + w) mid) [
@@ -85,6 +87,12 @@ filled_on tells points count first start mid end old now new low high one two = 
     | inr after ↦ two.filled p w there small after until
   ];
   kept = λ p w small outside.
-      two.kept p w small (elim outside [ inl past ↦ inl past | inr apart ↦ inr (elim apart [ inl below ↦ inl (omega (arith, below, low)) | inr above ↦ inr above ]) ])
-      ∙ one.kept p w small (elim outside [ inl past ↦ inl past | inr apart ↦ inr (elim apart [ inl below ↦ inl below | inr above ↦ inr (omega (arith, above, high)) ]) ]);
+      two.kept p w small (elim outside [
+        | inl past ↦ inl past
+        | inr apart ↦ inr (elim apart [ inl below ↦ inl (omega (arith, below, low)) | inr above ↦ inr above ])
+      ])
+      ∙ one.kept p w small (elim outside [
+        | inl past ↦ inl past
+        | inr apart ↦ inr (elim apart [ inl below ↦ inl below | inr above ↦ inr (omega (arith, above, high)) ])
+      ]);
 }

@@ -1,3 +1,4 @@
+pub mod Answered
 pub mod FactWords
 pub mod Filling
 pub mod Graphs

@@ -1,7 +1,8 @@
 -- The names of a program, one after the other.
 use Rattle.std.specs.Prelude.{◌≡◌, ℕ, ◌+◌, ◌<◌, ◌≤◌, None, Some, List, ◌++◌, length, take, drop, slice_index}
 use Rattle.std.specs.List.{concat}
-use Rattle.tac_reader.specs.Faults.{refusal_of}
+use Rattle.tac_program.specs.declared.limits.Limits.{Limits}
+use Rattle.tac_reader.specs.Faults.{refusal_within}
 use Rattle.tac_program.specs.Programs.{Program}
 use Rattle.tac_reader.specs.Parses.{program_of}
 use Rattle.tacflow_c.specs.declared.names.Named.{Named}
@@ -19,10 +20,11 @@ pub record AreNames (names : List (List ℕ)) (ends old new : List ℕ) : Type 0
   pub end : (n : ℕ) → n < length names → slice_index ends n ≡ length (concat (take (n + 1) names))
   pub bytes : new ≡ concat names ++ drop (length (concat names)) old
 
--- why a text has no names in so many ends and bytes
-abbrev pub IsNamesFault : List ℕ → Named → ℕ → ℕ → Fault → Type 0
-IsNamesFault text named ends bytes (fault.Refused refusal) = refusal_of text ≡ Some refusal
-IsNamesFault text named ends bytes fault.BadRoom =
-    (refusal_of text ≡ None) × (¬ ((ends ≡ length (names_of named (program_of text))) × (length (concat (names_of named (program_of text))) ≤ bytes)))
-IsNamesFault text named ends bytes fault.OutOfMemory = Unit {0}
-IsNamesFault text named ends bytes _ = ⊥
+-- why a text has no names within limits in so many ends and bytes
+abbrev pub IsNamesFault : Limits → List ℕ → Named → ℕ → ℕ → Fault → Type 0
+IsNamesFault limits text named ends bytes (fault.Refused refusal) = refusal_within limits text ≡ Some refusal
+IsNamesFault limits text named ends bytes fault.BadRoom =
+    (refusal_within limits text ≡ None)
+    × (¬ ((ends ≡ length (names_of named (program_of text))) × (length (concat (names_of named (program_of text))) ≤ bytes)))
+IsNamesFault limits text named ends bytes fault.OutOfMemory = Unit {0}
+IsNamesFault limits text named ends bytes _ = ⊥

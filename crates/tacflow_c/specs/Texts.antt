@@ -1,8 +1,9 @@
 -- A text that is made for a caller, in room of the caller's.
 use Rattle.std.specs.Prelude.{◌≡◌, ℕ, ◌<◌, None, List, ◌++◌, length, drop}
 use Rattle.flow_texts.specs.Reports.{ListsSafely}
-use Rattle.tac_reader.specs.Faults.{refusal_of}
+use Rattle.tac_reader.specs.Faults.{refusal_within}
 use Rattle.tac_program.specs.Listings.{listing_of}
+use Rattle.tac_program.specs.declared.limits.Limits.{Limits}
 use Rattle.tac_reader.specs.Parses.{program_of}
 use Rattle.tacflow_c.specs.Statuses.{HasGraph, IsFaultOf, IsUnread}
 use Rattle.tacflow_c.specs.declared.fault.Fault.{Fault}
@@ -22,18 +23,23 @@ pub record NeedsRoom (IsText : List ℕ → Type 0) (room size : ℕ) : Type 0 w
   pub size_is : size ≡ length text
   pub too_small : room < length text
 
--- the listing, and the report, of a text's program
-abbrev pub IsListingOf : List ℕ → List ℕ → Type 0
-IsListingOf text out = (refusal_of text ≡ None) × (out ≡ listing_of (program_of text))
+-- the listing, and the report, of a text's program within limits
+abbrev pub IsListingOf : Limits → List ℕ → List ℕ → Type 0
+IsListingOf limits text out = (refusal_within limits text ≡ None) × (out ≡ listing_of (program_of text))
 
-abbrev pub IsReportOf : List ℕ → List ℕ → Type 0
-IsReportOf text out = HasGraph text × ListsSafely (program_of text) out
+abbrev pub IsReportOf : Limits → List ℕ → List ℕ → Type 0
+IsReportOf limits text out = HasGraph limits text × ListsSafely (program_of text) out
 
--- why there is none in such room; its length is told where it is room that lacks
-abbrev pub IsListingFault : List ℕ → ℕ → ℕ → ℕ → Fault → Type 0
-IsListingFault text room old new fault.BadRoom = NeedsRoom (IsListingOf text) room new
-IsListingFault text room old new fault = IsUnread text fault × (new ≡ old)
+-- After a fault the bytes are as they were, and so is the size, but where it is room that lacks.
+abbrev pub IsTextKept : List ℕ → List ℕ → ℕ → ℕ → Fault → Type 0
+IsTextKept old new size_before size fault.BadRoom = new ≡ old
+IsTextKept old new size_before size _ = (new ≡ old) × (size ≡ size_before)
 
-abbrev pub IsReportFault : List ℕ → ℕ → ℕ → ℕ → Fault → Type 0
-IsReportFault text room old new fault.BadRoom = NeedsRoom (IsReportOf text) room new
-IsReportFault text room old new fault = IsFaultOf text fault × (new ≡ old)
+-- why there is none within limits in such room; its length is told where it is room that lacks
+abbrev pub IsListingFault : Limits → List ℕ → ℕ → ℕ → Fault → Type 0
+IsListingFault limits text room size fault.BadRoom = NeedsRoom (IsListingOf limits text) room size
+IsListingFault limits text room size fault = IsUnread limits text fault
+
+abbrev pub IsReportFault : Limits → List ℕ → ℕ → ℕ → Fault → Type 0
+IsReportFault limits text room size fault.BadRoom = NeedsRoom (IsReportOf limits text) room size
+IsReportFault limits text room size fault = IsFaultOf limits text fault

@@ -2,13 +2,13 @@
 
 ghost use Rattle.std.specs.Prelude.{◌≡◌, ◌≤◌, None, length, IfErr, OnOk, OnErr};
 ghost use Rattle.flow_graph.specs.Points.{point_count};
-ghost use Rattle.flow_graph.specs.Universes.{bits as bits_of, definitions as definitions_in, expressions as expressions_in};
+ghost use Rattle.flow_graph.specs.Universes.{definitions as definitions_in, expressions as expressions_in};
 ghost use Rattle.tac_reader.specs.Parses.{program_of as program_in};
 ghost use Rattle.tacflow_c.specs.Facts.{AreFactsOfText, IsTableFault};
-ghost use Rattle.tac_reader.specs.Faults.{refusal_of};
+ghost use Rattle.tac_reader.specs.Faults.{refusal_within};
 ghost use Rattle.tacflow_c.specs.Names.{AreNames, IsNamesFault, names_of as names_in};
 ghost use Rattle.tacflow_c.specs.Parts.{AreParts, ArePartsOf, definition_part, expression_part, point_part, sizes_of};
-ghost use Rattle.tacflow_c.specs.Statuses.{HasGraph, HasRoom, IsBadTable, IsFaultOf, IsRoomFault, analysis_of};
+ghost use Rattle.tacflow_c.specs.Statuses.{AreInRange, HasGraph, HasRoom, IsBadTable, IsFaultOf, IsRoomFault, analysis_of, end_of};
 
 use crate::fault::Fault;
 use crate::names::{Named, count_names, have_room, put_names};
@@ -19,29 +19,40 @@ use crate::table::put_facts;
 use crate::text::{graph_of, program_of};
 use flow_graph::{Analysis, Graph};
 use std::alloc::Global;
+use tac_program::Limits;
 
-/// How large a text's program is.
-pub(crate) fn sizes_of_text(alloc: Global, text: &[u8], sizes: &mut Sizes) -> Result<(), Fault>
-    ensures graph { OnOk result (HasGraph text.now) }
+/// How large a text's program within limits is.
+pub(crate) fn sizes_of_text(
+    alloc: Global,
+    text: &[u8],
+    limits: Limits,
+    sizes: &mut Sizes,
+) -> Result<(), Fault>
+    ensures graph { OnOk result (HasGraph limits text.now) }
     ensures sizes { OnOk result (sizes.new ≡ sizes_of (program_in text.now)) }
     ensures kept { OnErr result (sizes.new ≡ sizes.old) }
-    ensures fault { IfErr result (IsFaultOf text.now) }
+    ensures fault { IfErr result (IsFaultOf limits text.now) }
 {
-    let program = program_of(alloc, text)?;
-    let graph = graph_of(alloc, &program)?;
+    let program = program_of(alloc, text, limits)?;
+    let graph = graph_of(alloc, &program, limits)?;
     *sizes = find_sizes(&graph);
     Ok(())
 }
 
-/// What the points of a text's program are.
-pub(crate) fn points_of_text(alloc: Global, text: &[u8], points: &mut [Point]) -> Result<(), Fault>
-    ensures graph { OnOk result (HasGraph text.now) }
+/// What the points of a text's program within limits are.
+pub(crate) fn points_of_text(
+    alloc: Global,
+    text: &[u8],
+    limits: Limits,
+    points: &mut [Point],
+) -> Result<(), Fault>
+    ensures graph { OnOk result (HasGraph limits text.now) }
     ensures points { OnOk result (AreParts (point_part (program_in text.now)) (point_count (program_in text.now)) points.new) }
     ensures kept { OnErr result (points.new ≡ points.old) }
-    ensures fault { IfErr result (IsRoomFault text.now (length points.old) (point_count (program_in text.now))) }
+    ensures fault { IfErr result (IsRoomFault limits text.now (length points.old) (point_count (program_in text.now))) }
 {
-    let program = program_of(alloc, text)?;
-    let graph = graph_of(alloc, &program)?;
+    let program = program_of(alloc, text, limits)?;
+    let graph = graph_of(alloc, &program, limits)?;
     if points.len() != graph.points() as usize {
         return Err(Fault::BadRoom);
     }
@@ -49,19 +60,20 @@ pub(crate) fn points_of_text(alloc: Global, text: &[u8], points: &mut [Point]) -
     Ok(())
 }
 
-/// What the definitions of a text's program are.
+/// What the definitions of a text's program within limits are.
 pub(crate) fn definitions_of_text(
     alloc: Global,
     text: &[u8],
+    limits: Limits,
     definitions: &mut [Definition],
 ) -> Result<(), Fault>
-    ensures graph { OnOk result (HasGraph text.now) }
+    ensures graph { OnOk result (HasGraph limits text.now) }
     ensures definitions { OnOk result (ArePartsOf definition_part (definitions_in (program_in text.now)) definitions.new) }
     ensures kept { OnErr result (definitions.new ≡ definitions.old) }
-    ensures fault { IfErr result (IsRoomFault text.now (length definitions.old) (length (definitions_in (program_in text.now)))) }
+    ensures fault { IfErr result (IsRoomFault limits text.now (length definitions.old) (length (definitions_in (program_in text.now)))) }
 {
-    let program = program_of(alloc, text)?;
-    let graph = graph_of(alloc, &program)?;
+    let program = program_of(alloc, text, limits)?;
+    let graph = graph_of(alloc, &program, limits)?;
     if definitions.len() != graph.bits(Analysis::Reach) as usize {
         return Err(Fault::BadRoom);
     }
@@ -69,19 +81,20 @@ pub(crate) fn definitions_of_text(
     Ok(())
 }
 
-/// What the expressions of a text's program are.
+/// What the expressions of a text's program within limits are.
 pub(crate) fn expressions_of_text(
     alloc: Global,
     text: &[u8],
+    limits: Limits,
     expressions: &mut [Expression],
 ) -> Result<(), Fault>
-    ensures graph { OnOk result (HasGraph text.now) }
+    ensures graph { OnOk result (HasGraph limits text.now) }
     ensures expressions { OnOk result (ArePartsOf expression_part (expressions_in (program_in text.now)) expressions.new) }
     ensures kept { OnErr result (expressions.new ≡ expressions.old) }
-    ensures fault { IfErr result (IsRoomFault text.now (length expressions.old) (length (expressions_in (program_in text.now)))) }
+    ensures fault { IfErr result (IsRoomFault limits text.now (length expressions.old) (length (expressions_in (program_in text.now)))) }
 {
-    let program = program_of(alloc, text)?;
-    let graph = graph_of(alloc, &program)?;
+    let program = program_of(alloc, text, limits)?;
+    let graph = graph_of(alloc, &program, limits)?;
     if expressions.len() != graph.bits(Analysis::Avail) as usize {
         return Err(Fault::BadRoom);
     }
@@ -102,71 +115,88 @@ fn find_analysis(number: u32) -> Option<Analysis>
     }
 }
 
-// Whether a range is none of the analysis's bits, or room is not what its facts need.
+// Where a range of points ends: the largest number stands for the end of all points.
+fn find_end(graph: &Graph<'_>, until: u32) -> u32
+    ensures { result ≡ end_of graph.now until }
+{
+    if until == u32::MAX {
+        graph.points()
+    } else {
+        until
+    }
+}
+
+// Whether points are none of the program, bits none of the analysis, or room is not what their facts need.
 fn check_table(
     graph: &Graph<'_>,
     analysis: Analysis,
-    range: (u32, u32),
+    points: (u32, u32),
+    bits: (u32, u32),
     flags: usize,
     words: usize,
 ) -> Result<(), Fault>
-    ensures range { OnOk result ((range.0 ≤ range.1) × (range.1 ≤ bits_of graph.now analysis)) }
-    ensures room { OnOk result (HasRoom graph.now range.0 range.1 flags words) }
-    ensures fault { IfErr result (IsBadTable graph.now analysis range.0 range.1 flags words) }
+    ensures in_range { OnOk result (AreInRange graph.now analysis points.0 points.1 bits.0 bits.1) }
+    ensures room { OnOk result (HasRoom points.0 points.1 bits.0 bits.1 flags words) }
+    ensures fault { IfErr result (IsBadTable graph.now analysis points.0 points.1 bits.0 bits.1 flags words) }
 {
-    let (lo, hi) = range;
-    if hi < lo || graph.bits(analysis) < hi {
+    let (from, until) = points;
+    let (lo, hi) = bits;
+    if until < from || graph.points() < until || hi < lo || graph.bits(analysis) < hi {
         return Err(Fault::BadRange);
     }
-    let points = graph.points() as usize;
+    let rows = (until - from) as usize;
     let count = (hi.div_ceil(64) - lo / 64) as usize;
-    if flags != points || words != points * count {
+    if flags != rows || words != rows * count {
         return Err(Fault::BadRoom);
     }
     Ok(())
 }
 
-/// The facts of an analysis of a text's program, on a range of its bits.
+/// The facts of an analysis of a text's program within limits: at a range of its points, on a range of the analysis's bits.
 pub(crate) fn facts_of_text(
     alloc: Global,
     text: &[u8],
+    limits: Limits,
     number: u32,
-    range: (u32, u32),
+    points: (u32, u32),
+    bits: (u32, u32),
     flags: &mut [u8],
     words: &mut [u64],
 ) -> Result<(), Fault>
-    ensures facts { OnOk result (AreFactsOfText text.now number range.0 range.1 flags.new words.new) }
+    ensures facts { OnOk result (AreFactsOfText limits text.now number points.0 points.1 bits.0 bits.1 flags.new words.new) }
     ensures kept { OnErr result ((flags.new ≡ flags.old) × (words.new ≡ words.old)) }
-    ensures fault { IfErr result (IsTableFault text.now number range.0 range.1 (length flags.old) (length words.old)) }
+    ensures fault { IfErr result (IsTableFault limits text.now number points.0 points.1 bits.0 bits.1 (length flags.old) (length words.old)) }
 {
     let Some(analysis) = find_analysis(number) else {
         return Err(Fault::BadAnalysis);
     };
-    let program = program_of(alloc, text)?;
-    let graph = graph_of(alloc, &program)?;
-    if let Err(fault) = check_table(&graph, analysis, range, flags.len(), words.len()) {
+    let program = program_of(alloc, text, limits)?;
+    let graph = graph_of(alloc, &program, limits)?;
+    let points = (points.0, find_end(&graph, points.1));
+    if let Err(fault) = check_table(&graph, analysis, points, bits, flags.len(), words.len()) {
         return Err(fault);
     }
-    match put_facts(alloc, &graph, analysis, range, flags, words) {
+    match put_facts(alloc, &graph, analysis, points, bits, flags, words) {
         Ok(()) => Ok(()),
         Err(_) => Err(Fault::OutOfMemory),
     }
 }
 
-/// The names of a text's procedures or variables.
+/// The names of a text's procedures or variables within limits.
 pub(crate) fn names_of_text(
     alloc: Global,
     text: &[u8],
+    limits: Limits,
     named: Named,
     ends: &mut [usize],
     bytes: &mut [u8],
 ) -> Result<(), Fault>
-    ensures accepted { OnOk result (refusal_of text.now ≡ None) }
+    ensures accepted { OnOk result (refusal_within limits text.now ≡ None) }
     ensures names { OnOk result (AreNames (names_in named (program_in text.now)) ends.new bytes.old bytes.new) }
     ensures kept { OnErr result ((ends.new ≡ ends.old) × (bytes.new ≡ bytes.old)) }
-    ensures fault { IfErr result (IsNamesFault text.now named (length ends.old) (length bytes.old)) }
+    ensures fault { IfErr result (IsNamesFault limits text.now named (length ends.old) (length bytes.old)) }
 {
-    let program = program_of(alloc, text)?;
+    let program = program_of(alloc, text, limits)?;
     if ends.len() != count_names(&program, named) as usize
         || !have_room(&program, named, bytes.len())
     {

@@ -16,9 +16,11 @@ pub(crate) enum Fault {
     TooManyBits,
     /// Memory was refused.
     OutOfMemory,
+    /// There are no limits of this number.
+    BadLimits,
     /// There is no analysis of this number.
     BadAnalysis,
-    /// The bits are none of the analysis.
+    /// The points are none of the program, or the bits none of the analysis.
     BadRange,
     /// The room does not fit the answer.
     BadRoom,
@@ -33,8 +35,8 @@ pub struct Place {
     pub column: u32,
 }
 
-// The status of a fault. The place of a refusal is told too.
-fn told_fault(fault: Fault, place: &mut Place) -> u32
+/// The status of a fault. The place of a refusal is told too.
+pub(crate) fn told_fault(fault: Fault, place: &mut Place) -> u32
     ensures status { result ≡ status_of (Some fault) }
     ensures place { place.new ≡ place_after (Some fault) place.old }
 {
@@ -51,6 +53,7 @@ fn told_fault(fault: Fault, place: &mut Place) -> u32
         Fault::BadAnalysis => 3,
         Fault::BadRange => 4,
         Fault::BadRoom => 5,
+        Fault::BadLimits => 7,
         Fault::TooManyPoints => 21,
         Fault::TooManyBits => 22,
     }

@@ -1,8 +1,9 @@
 //! The analyses as a static library, for programs in C and for whatever calls C (`bindings/c/tacflow.h`).
 //!
-//! Each call reads the text anew, keeps nothing behind, and answers a status: 0, or the number of a fault. After a fault nothing is
-//! changed but, where the text is refused, the place of the refusal. No call starts a thread or waits: a caller who has several
-//! asks for ranges of bits in threads of its own, and together they are the table.
+//! Each call reads the text anew within limits, 0 for the standard and 1 for the large ones, keeps nothing behind, and answers a status: 0,
+//! or the number of a fault. A number of no limits is told before all else. After a fault nothing is changed but the place of a refusal, and
+//! the size of a text for which there is too little room. No call starts a thread or waits: a caller who has several asks for ranges of
+//! bits in threads of its own, and together they are the table.
 #![tactic(auto)]
 
 mod calls;
@@ -18,11 +19,11 @@ ghost use Rattle.flow_graph.specs.Points.{point_count};
 ghost use Rattle.flow_graph.specs.Universes.{definitions as definitions_in, expressions as expressions_in};
 ghost use Rattle.tac_reader.specs.Parses.{program_of};
 ghost use Rattle.tacflow_c.specs.Facts.{AreFactsOfText, IsTableFault};
-ghost use Rattle.tac_reader.specs.Faults.{refusal_of};
+ghost use Rattle.tac_reader.specs.Faults.{refusal_within};
 ghost use Rattle.tacflow_c.specs.Names.{AreNames, IsNamesFault};
 ghost use Rattle.tacflow_c.specs.declared.names.Named.TheVariants.{Procedures, Variables};
 ghost use Rattle.tacflow_c.specs.Parts.{AreParts, ArePartsOf, definition_part, expression_part, point_part, sizes_of};
-ghost use Rattle.tacflow_c.specs.Texts.{HoldsText, IsListingFault, IsListingOf, IsReportFault, IsReportOf};
+ghost use Rattle.tacflow_c.specs.Texts.{HoldsText, IsListingFault, IsListingOf, IsReportFault, IsReportOf, IsTextKept};
 ghost use Rattle.tacflow_c.specs.Statuses.{HasGraph, IsAnswered, IsFaultOf, IsRoomFault};
 
 use calls::{
@@ -30,157 +31,222 @@ use calls::{
     sizes_of_text,
 };
 pub use fault::Place;
-use fault::told_status;
+use fault::{told_fault, told_status};
 use names::Named;
 pub use parts::{Definition, Expression, Part, Point, Sizes};
 use std::alloc::Global;
+use text::find_limits;
 use texts::{listing_of_text, report_of_text};
 
 /// How large a text's program is.
 #[unsafe(no_mangle)]
+#[tactic(auto, using(crate::proofs::Answered::no_limits))]
 pub extern "C" fn tacflow_c_sizes(
     alloc: Global,
     text: &[u8],
+    limits: u32,
     sizes: &mut Sizes,
     place: &mut Place,
 ) -> u32
-    ensures { IsAnswered result place.old place.new (HasGraph text.now × (sizes.new ≡ sizes_of (program_of text.now))) (sizes.new ≡ sizes.old)
-        (IsFaultOf text.now) }
+    ensures { IsAnswered result limits place.old place.new (λ l. HasGraph l text.now × (sizes.new ≡ sizes_of (program_of text.now)))
+        (λ _. sizes.new ≡ sizes.old) (λ l. IsFaultOf l text.now) }
 {
-    told_status(sizes_of_text(alloc, text, sizes), place)
+    match find_limits(limits) {
+        Ok(within) => told_status(sizes_of_text(alloc, text, within, sizes), place),
+        Err(fault) => told_fault(fault, place),
+    }
 }
 
 /// What each point of a text's program is. There is room for as many as it has.
 #[unsafe(no_mangle)]
+#[tactic(auto, using(crate::proofs::Answered::no_limits))]
 pub extern "C" fn tacflow_c_points(
     alloc: Global,
     text: &[u8],
+    limits: u32,
     points: &mut [Point],
     place: &mut Place,
 ) -> u32
-    ensures { IsAnswered result place.old place.new
-        (HasGraph text.now × AreParts (point_part (program_of text.now)) (point_count (program_of text.now)) points.new) (points.new ≡ points.old)
-        (IsRoomFault text.now (length points.old) (point_count (program_of text.now))) }
+    ensures { IsAnswered result limits place.old place.new
+        (λ l. HasGraph l text.now × AreParts (point_part (program_of text.now)) (point_count (program_of text.now)) points.new)
+        (λ _. points.new ≡ points.old) (λ l. IsRoomFault l text.now (length points.old) (point_count (program_of text.now))) }
 {
-    told_status(points_of_text(alloc, text, points), place)
+    match find_limits(limits) {
+        Ok(within) => told_status(points_of_text(alloc, text, within, points), place),
+        Err(fault) => told_fault(fault, place),
+    }
 }
 
 /// What each definition of a text's program is: the bits of reaching definitions. There is room for as many as it has.
 #[unsafe(no_mangle)]
+#[tactic(auto, using(crate::proofs::Answered::no_limits))]
 pub extern "C" fn tacflow_c_definitions(
     alloc: Global,
     text: &[u8],
+    limits: u32,
     definitions: &mut [Definition],
     place: &mut Place,
 ) -> u32
-    ensures { IsAnswered result place.old place.new (HasGraph text.now × ArePartsOf definition_part (definitions_in (program_of text.now)) definitions.new)
-        (definitions.new ≡ definitions.old) (IsRoomFault text.now (length definitions.old) (length (definitions_in (program_of text.now)))) }
+    ensures { IsAnswered result limits place.old place.new
+        (λ l. HasGraph l text.now × ArePartsOf definition_part (definitions_in (program_of text.now)) definitions.new)
+        (λ _. definitions.new ≡ definitions.old)
+        (λ l. IsRoomFault l text.now (length definitions.old) (length (definitions_in (program_of text.now)))) }
 {
-    told_status(definitions_of_text(alloc, text, definitions), place)
+    match find_limits(limits) {
+        Ok(within) => told_status(definitions_of_text(alloc, text, within, definitions), place),
+        Err(fault) => told_fault(fault, place),
+    }
 }
 
 /// What each expression of a text's program is: the bits of available and of very busy expressions. There is room for as many as it has.
 #[unsafe(no_mangle)]
+#[tactic(auto, using(crate::proofs::Answered::no_limits))]
 pub extern "C" fn tacflow_c_expressions(
     alloc: Global,
     text: &[u8],
+    limits: u32,
     expressions: &mut [Expression],
     place: &mut Place,
 ) -> u32
-    ensures { IsAnswered result place.old place.new (HasGraph text.now × ArePartsOf expression_part (expressions_in (program_of text.now)) expressions.new)
-        (expressions.new ≡ expressions.old) (IsRoomFault text.now (length expressions.old) (length (expressions_in (program_of text.now)))) }
+    ensures { IsAnswered result limits place.old place.new
+        (λ l. HasGraph l text.now × ArePartsOf expression_part (expressions_in (program_of text.now)) expressions.new)
+        (λ _. expressions.new ≡ expressions.old)
+        (λ l. IsRoomFault l text.now (length expressions.old) (length (expressions_in (program_of text.now)))) }
 {
-    told_status(expressions_of_text(alloc, text, expressions), place)
+    match find_limits(limits) {
+        Ok(within) => told_status(expressions_of_text(alloc, text, within, expressions), place),
+        Err(fault) => told_fault(fault, place),
+    }
 }
 
 /// The names of a text's procedures, one after the other, and where each ends. There is an end for each; what is left of the bytes
 /// stays as it is. A name has at most 64 bytes.
 #[unsafe(no_mangle)]
+#[tactic(auto, using(crate::proofs::Answered::no_limits))]
 pub extern "C" fn tacflow_c_procedures(
     alloc: Global,
     text: &[u8],
+    limits: u32,
     ends: &mut [usize],
     bytes: &mut [u8],
     place: &mut Place,
 ) -> u32
-    ensures { IsAnswered result place.old place.new
-        ((refusal_of text.now ≡ None) × AreNames (program_of text.now).procedure_names ends.new bytes.old bytes.new)
-        ((ends.new ≡ ends.old) × (bytes.new ≡ bytes.old)) (IsNamesFault text.now Procedures (length ends.old) (length bytes.old)) }
+    ensures { IsAnswered result limits place.old place.new
+        (λ l. (refusal_within l text.now ≡ None) × AreNames (program_of text.now).procedure_names ends.new bytes.old bytes.new)
+        (λ _. (ends.new ≡ ends.old) × (bytes.new ≡ bytes.old)) (λ l. IsNamesFault l text.now Procedures (length ends.old) (length bytes.old)) }
 {
-    told_status(
-        names_of_text(alloc, text, Named::Procedures, ends, bytes),
-        place,
-    )
+    match find_limits(limits) {
+        Ok(within) => told_status(
+            names_of_text(alloc, text, within, Named::Procedures, ends, bytes),
+            place,
+        ),
+        Err(fault) => told_fault(fault, place),
+    }
 }
 
 /// The names of a text's variables, as [`tacflow_c_procedures`] has those of its procedures. They are the bits of live variables.
 #[unsafe(no_mangle)]
+#[tactic(auto, using(crate::proofs::Answered::no_limits))]
 pub extern "C" fn tacflow_c_variables(
     alloc: Global,
     text: &[u8],
+    limits: u32,
     ends: &mut [usize],
     bytes: &mut [u8],
     place: &mut Place,
 ) -> u32
-    ensures { IsAnswered result place.old place.new
-        ((refusal_of text.now ≡ None) × AreNames (program_of text.now).variable_names ends.new bytes.old bytes.new)
-        ((ends.new ≡ ends.old) × (bytes.new ≡ bytes.old)) (IsNamesFault text.now Variables (length ends.old) (length bytes.old)) }
+    ensures { IsAnswered result limits place.old place.new
+        (λ l. (refusal_within l text.now ≡ None) × AreNames (program_of text.now).variable_names ends.new bytes.old bytes.new)
+        (λ _. (ends.new ≡ ends.old) × (bytes.new ≡ bytes.old)) (λ l. IsNamesFault l text.now Variables (length ends.old) (length bytes.old)) }
 {
-    told_status(
-        names_of_text(alloc, text, Named::Variables, ends, bytes),
-        place,
-    )
+    match find_limits(limits) {
+        Ok(within) => told_status(
+            names_of_text(alloc, text, within, Named::Variables, ends, bytes),
+            place,
+        ),
+        Err(fault) => told_fault(fault, place),
+    }
 }
 
-/// The facts of an analysis of a text's program on the bits `lo..hi`: for each point a flag, 1 where it has a valid path, and the words
-/// `lo / 64` to `(hi + 63) / 64` of its set. The analyses are 0 for reaching definitions, 1 for live variables, 2 for available
-/// and 3 for very busy expressions (Aho, Lam, Sethi, Ullman, 2nd edition, 9.2 and 9.5; over valid paths as in Reps, Horwitz, Sagiv 1995).
+/// The facts of an analysis of a text's program at the points `from..until` and on the bits `lo..hi`: for each of these points a flag, 1
+/// where it has a valid path, and the words `lo / 64` to `(hi + 63) / 64` of its set. 4294967295 stands for the end of all points. The
+/// analyses are 0 for reaching definitions, 1 for live variables, 2 for available and 3 for very busy expressions (Aho, Lam, Sethi,
+/// Ullman, 2nd edition, 9.2 and 9.5; over valid paths as in Reps, Horwitz, Sagiv 1995).
 #[unsafe(no_mangle)]
+#[tactic(auto, using(crate::proofs::Answered::no_limits))]
 pub extern "C" fn tacflow_c_facts(
     alloc: Global,
     text: &[u8],
+    limits: u32,
     analysis: u32,
+    from: u32,
+    until: u32,
     lo: u32,
     hi: u32,
     flags: &mut [u8],
     words: &mut [u64],
     place: &mut Place,
 ) -> u32
-    ensures { IsAnswered result place.old place.new (AreFactsOfText text.now analysis lo hi flags.new words.new)
-        ((flags.new ≡ flags.old) × (words.new ≡ words.old)) (IsTableFault text.now analysis lo hi (length flags.old) (length words.old)) }
+    ensures { IsAnswered result limits place.old place.new (λ l. AreFactsOfText l text.now analysis from until lo hi flags.new words.new)
+        (λ _. (flags.new ≡ flags.old) × (words.new ≡ words.old))
+        (λ l. IsTableFault l text.now analysis from until lo hi (length flags.old) (length words.old)) }
 {
-    told_status(
-        facts_of_text(alloc, text, analysis, (lo, hi), flags, words),
-        place,
-    )
+    match find_limits(limits) {
+        Ok(within) => told_status(
+            facts_of_text(
+                alloc,
+                text,
+                within,
+                analysis,
+                (from, until),
+                (lo, hi),
+                flags,
+                words,
+            ),
+            place,
+        ),
+        Err(fault) => told_fault(fault, place),
+    }
 }
 
 /// The listing of a text's program, and how long it is. Where there is too little room its length alone is told.
 #[unsafe(no_mangle)]
+#[tactic(auto, using(crate::proofs::Answered::no_limits))]
 pub extern "C" fn tacflow_c_listing(
     alloc: Global,
     text: &[u8],
+    limits: u32,
     bytes: &mut [u8],
     size: &mut usize,
     place: &mut Place,
 ) -> u32
-    ensures { IsAnswered result place.old place.new (HoldsText (IsListingOf text.now) bytes.old bytes.new size.new) (bytes.new ≡ bytes.old)
-        (IsListingFault text.now (length bytes.old) size.old size.new) }
+    ensures { IsAnswered result limits place.old place.new (λ l. HoldsText (IsListingOf l text.now) bytes.old bytes.new size.new)
+        (IsTextKept bytes.old bytes.new size.old size.new)
+        (λ l. IsListingFault l text.now (length bytes.old) size.new) }
 {
-    told_status(listing_of_text(alloc, text, bytes, size), place)
+    match find_limits(limits) {
+        Ok(within) => told_status(listing_of_text(alloc, text, within, bytes, size), place),
+        Err(fault) => told_fault(fault, place),
+    }
 }
 
 /// The report on a text's program, and how long it is. Where there is too little room its length alone is told.
 #[unsafe(no_mangle)]
+#[tactic(auto, using(crate::proofs::Answered::no_limits))]
 pub extern "C" fn tacflow_c_report(
     alloc: Global,
     text: &[u8],
+    limits: u32,
     bytes: &mut [u8],
     size: &mut usize,
     place: &mut Place,
 ) -> u32
-    ensures { IsAnswered result place.old place.new (HoldsText (IsReportOf text.now) bytes.old bytes.new size.new) (bytes.new ≡ bytes.old)
-        (IsReportFault text.now (length bytes.old) size.old size.new) }
+    ensures { IsAnswered result limits place.old place.new (λ l. HoldsText (IsReportOf l text.now) bytes.old bytes.new size.new)
+        (IsTextKept bytes.old bytes.new size.old size.new)
+        (λ l. IsReportFault l text.now (length bytes.old) size.new) }
 {
-    told_status(report_of_text(alloc, text, bytes, size), place)
+    match find_limits(limits) {
+        Ok(within) => told_status(report_of_text(alloc, text, within, bytes, size), place),
+        Err(fault) => told_fault(fault, place),
+    }
 }

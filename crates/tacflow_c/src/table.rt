@@ -1,14 +1,13 @@
 // The facts of an analysis in a caller's memory.
 
-ghost use Rattle.std.specs.Prelude.{◌≡◌, ℕ, ◌+◌, ◌*◌, ◌/◌, ◌<◌, ◌≤◌, ◌&&◌, not, List, length, slice_index, IfErr, OnOk, OnErr, if◌then◌else◌};
+ghost use Rattle.std.specs.Prelude.{◌≡◌, ℕ, ◌+◌, ◌-◌, ◌*◌, ◌/◌, ◌<◌, ◌≤◌, ◌&&◌, not, List, length, slice_index, IfErr, OnOk, OnErr, if◌then◌else◌};
 ghost use Rattle.bit_rows.specs.RowSet.{contains, full_set};
-ghost use Rattle.bit_rows.specs.Words.{has_bit, word_count};
+ghost use Rattle.bit_rows.specs.Words.{has_bit};
 ghost use Rattle.flow_graph.specs.Analyses.{is_must};
-ghost use Rattle.flow_graph.specs.Points.{point_count};
-ghost use Rattle.flow_graph.specs.Universes.{bits as bits_of};
 ghost use Rattle.gk_solve.specs.Solved.{AreMeetWords, HasPathFlags, IsSliceOf, direction_of};
-ghost use Rattle.tacflow_c.specs.Facts.{AreFactsOf, IsFactWord};
+ghost use Rattle.tacflow_c.specs.Facts.{AreFactsOf, IsRowWord};
 ghost use Rattle.tacflow_c.specs.code.Filled.{AreFilled, IsRowFilled};
+ghost use Rattle.tacflow_c.specs.Statuses.{AreInRange, HasRoom};
 ghost use Rattle.tacflow_c.specs.code.Flags.{AreNumbers};
 
 use bit_rows::Row;
@@ -23,22 +22,24 @@ fn told(bits: u64, full: &Row, word: u32, must: bool) -> u64
     if must { !bits & full.word(word) } else { bits }
 }
 
-// How a caller's words stand: how many each point has, the number of the first, and whether they are a complement.
+// How a caller's words stand: of which points, how many each point has, the number of the first, and whether they are a complement.
 #[derive(Clone, Copy)]
 struct Layout {
+    from: u32,
+    until: u32,
     count: u32,
     first: u32,
     must: bool,
 }
 
-// Puts the words that were solved last into those of a point: from one up to another.
+// Puts the words that were solved last into those of a point, by its row: from one up to another.
 fn put_row(
     solver: &Solver<'_, '_>,
     slice: &SliceWords,
     full: &Row,
     layout: Layout,
     solved: (u32, u32),
-    point: u32,
+    row: u32,
     words: &mut [u64],
 )
     requires slice { IsSliceOf solver.now slice.now }
@@ -50,19 +51,21 @@ fn put_row(
     requires ordered { solved.0 ≤ solved.1 }
     requires first { layout.first ≤ solved.0 }
     requires last { solved.1 ≤ layout.first + layout.count }
-    requires point { point < slice.now.points }
-    requires room { point * layout.count + layout.count ≤ length words.old }
-    ensures { IsRowFilled (IsFactWord solver.now.program solver.now.analysis slice.now.lo slice.now.hi point) (point * layout.count)
+    requires until { layout.until ≤ slice.now.points }
+    requires row { layout.from + row < layout.until }
+    requires room { row * layout.count + layout.count ≤ length words.old }
+    ensures { IsRowFilled (IsRowWord solver.now.program solver.now.analysis layout.from slice.now.lo slice.now.hi row) (row * layout.count)
         layout.first solved.0 solved.1 words.old words.new }
 {
-    let at = point as usize * layout.count as usize;
+    let point = layout.from + row;
+    let at = row as usize * layout.count as usize;
     for word in solved.0..solved.1 {
         let bits = slice.word(point, word);
         words[at + (word - layout.first) as usize] = told(bits, full, word, layout.must);
     }
 }
 
-// Puts the words that were solved last into those of all points: from one up to another.
+// Puts the words that were solved last into those of the layout's points: from one up to another.
 fn put_words(
     solver: &Solver<'_, '_>,
     slice: &SliceWords,
@@ -80,16 +83,18 @@ fn put_words(
     requires ordered { solved.0 ≤ solved.1 }
     requires first { layout.first ≤ solved.0 }
     requires last { solved.1 ≤ layout.first + layout.count }
-    requires room { length words.old ≡ slice.now.points * layout.count }
-    ensures { AreFilled (IsFactWord solver.now.program solver.now.analysis slice.now.lo slice.now.hi) slice.now.points layout.count
-        layout.first solved.0 solved.1 words.old words.new }
+    requires from { layout.from ≤ layout.until }
+    requires until { layout.until ≤ slice.now.points }
+    requires room { length words.old ≡ (layout.until - layout.from) * layout.count }
+    ensures { AreFilled (IsRowWord solver.now.program solver.now.analysis layout.from slice.now.lo slice.now.hi) (layout.until - layout.from)
+        layout.count layout.first solved.0 solved.1 words.old words.new }
 {
-    for point in 0..slice.points() {
-        put_row(solver, slice, full, layout, solved, point, words);
+    for row in 0..layout.until - layout.from {
+        put_row(solver, slice, full, layout, solved, row, words);
     }
 }
 
-// Solves a slice's words up to the last one, group by group, and puts them into those of all points.
+// Solves a slice's words up to the last one, group by group, and puts them into those of the layout's points.
 fn put_groups<'a, 'g, 'p>(
     solver: &'a Solver<'g, 'p>,
     routes: &'a Routes<'g, 'p>,
@@ -106,9 +111,11 @@ fn put_groups<'a, 'g, 'p>(
     requires first { layout.first ≡ slice.old.lo / 64 }
     requires last { end ≡ (slice.old.hi + 63) / 64 }
     requires count { layout.first + layout.count ≡ end }
-    requires room { length words.old ≡ slice.old.points * layout.count }
-    ensures { AreFilled (IsFactWord solver.now.program solver.now.analysis slice.old.lo slice.old.hi) slice.old.points layout.count
-        layout.first layout.first end words.old words.new }
+    requires from { layout.from ≤ layout.until }
+    requires until { layout.until ≤ slice.old.points }
+    requires room { length words.old ≡ (layout.until - layout.from) * layout.count }
+    ensures { AreFilled (IsRowWord solver.now.program solver.now.analysis layout.from slice.old.lo slice.old.hi) (layout.until - layout.from)
+        layout.count layout.first layout.first end words.old words.new }
 {
     let mut word = layout.first;
     while word < end {
@@ -118,13 +125,13 @@ fn put_groups<'a, 'g, 'p>(
     }
 }
 
-// Puts the path flags of all points, 1 or 0 each.
-fn put_flags(paths: &[bool], flags: &mut [u8])
-    requires { length flags.old ≡ length paths.now }
-    ensures { AreNumbers paths.now flags.new }
+// Puts the path flags of the points from one on, 1 or 0 each.
+fn put_flags(paths: &[bool], from: u32, flags: &mut [u8])
+    requires { from + length flags.old ≤ length paths.now }
+    ensures { AreNumbers paths.now from flags.old flags.new }
 {
-    for point in 0..paths.len() {
-        flags[point] = paths[point] as u8;
+    for row in 0..flags.len() {
+        flags[row] = paths[from as usize + row] as u8;
     }
 }
 
@@ -133,26 +140,28 @@ fn put_solved<'a, 'g, 'p>(
     alloc: Global,
     solver: &'a Solver<'g, 'p>,
     routes: &'a Routes<'g, 'p>,
-    range: (u32, u32),
+    points: (u32, u32),
+    bits: (u32, u32),
     flags: &mut [u8],
     words: &mut [u64],
 ) -> Result<(), AllocError>
     requires routes { routes.now ≡ direction_of solver.now }
-    requires ordered { range.0 ≤ range.1 }
-    requires within { range.1 ≤ bits_of solver.now.program solver.now.analysis }
-    requires flags { length flags.old ≡ point_count solver.now.program }
-    requires words { length words.old ≡ point_count solver.now.program * word_count range.0 range.1 }
-    ensures facts { OnOk result (AreFactsOf solver.now.program solver.now.analysis range.0 range.1 flags.new words.new) }
+    requires in_range { AreInRange solver.now.program solver.now.analysis points.0 points.1 bits.0 bits.1 }
+    requires room { HasRoom points.0 points.1 bits.0 bits.1 (length flags.old) (length words.old) }
+    ensures facts { OnOk result (AreFactsOf solver.now.program solver.now.analysis points.0 points.1 bits.0 bits.1 flags.new words.new) }
     ensures kept { OnErr result ((flags.new ≡ flags.old) × (words.new ≡ words.old)) }
 {
-    let (lo, hi) = range;
+    let (from, until) = points;
+    let (lo, hi) = bits;
     let paths = solver.flags(alloc, routes)?;
     let full = Row::full(alloc, lo, hi)?;
     let mut slice = solver.slice(alloc, routes, lo, hi)?;
-    put_flags(&paths, flags);
+    put_flags(&paths, from, flags);
     let first = lo / 64;
     let end = hi.div_ceil(64);
     let layout = Layout {
+        from,
+        until,
         count: end - first,
         first,
         must: solver.problem().complements(),
@@ -161,24 +170,23 @@ fn put_solved<'a, 'g, 'p>(
     Ok(())
 }
 
-/// Puts the facts of an analysis on the bits `lo..hi` into flags and words.
+/// Puts the facts of an analysis at a range of points and on a range of bits into flags and words.
 pub(crate) fn put_facts(
     alloc: Global,
     graph: &Graph<'_>,
     analysis: Analysis,
-    range: (u32, u32),
+    points: (u32, u32),
+    bits: (u32, u32),
     flags: &mut [u8],
     words: &mut [u64],
 ) -> Result<(), AllocError>
-    requires ordered { range.0 ≤ range.1 }
-    requires within { range.1 ≤ bits_of graph.now analysis }
-    requires flags { length flags.old ≡ point_count graph.now }
-    requires words { length words.old ≡ point_count graph.now * word_count range.0 range.1 }
-    ensures facts { OnOk result (AreFactsOf graph.now analysis range.0 range.1 flags.new words.new) }
+    requires in_range { AreInRange graph.now analysis points.0 points.1 bits.0 bits.1 }
+    requires room { HasRoom points.0 points.1 bits.0 bits.1 (length flags.old) (length words.old) }
+    ensures facts { OnOk result (AreFactsOf graph.now analysis points.0 points.1 bits.0 bits.1 flags.new words.new) }
     ensures kept { OnErr result ((flags.new ≡ flags.old) × (words.new ≡ words.old)) }
 {
     let problem = Problem::of(alloc, graph, analysis)?;
     let routes = Routes::of(alloc, &problem)?;
     let solver = Solver::of(alloc, problem)?;
-    put_solved(alloc, &solver, &routes, range, flags, words)
+    put_solved(alloc, &solver, &routes, points, bits, flags, words)
 }

@@ -1,13 +1,13 @@
 // Listings and reports in room of a caller's.
 
-ghost use Rattle.std.specs.Prelude.{◌≡◌, ◌<◌, ◌≤◌, ◌++◌, drop, length, IfErr, OnOk, OnErr, MatchBool, IfOk};
-ghost use Rattle.tacflow_c.specs.Texts.{HoldsText, IsListingFault, IsListingOf, IsReportFault, IsReportOf};
+ghost use Rattle.std.specs.Prelude.{◌≡◌, ◌<◌, ◌≤◌, ◌++◌, drop, length, IfErr, OnOk, MatchBool};
+ghost use Rattle.tacflow_c.specs.Texts.{HoldsText, IsListingFault, IsListingOf, IsReportFault, IsReportOf, IsTextKept};
 
 use crate::fault::Fault;
 use crate::text::{graph_of, program_of};
 use flow_texts::report_here;
 use std::alloc::Global;
-use tac_program::listing;
+use tac_program::{Limits, listing};
 
 // Puts a text where there is room for it, and tells how long it is.
 fn put_text(text: &[u8], bytes: &mut [u8], size: &mut usize) -> bool
@@ -23,18 +23,19 @@ fn put_text(text: &[u8], bytes: &mut [u8], size: &mut usize) -> bool
     true
 }
 
-/// The listing of a text's program.
+/// The listing of a text's program within limits.
 pub(crate) fn listing_of_text(
     alloc: Global,
     text: &[u8],
+    limits: Limits,
     bytes: &mut [u8],
     size: &mut usize,
 ) -> Result<(), Fault>
-    ensures held { OnOk result (HoldsText (IsListingOf text.now) bytes.old bytes.new size.new) }
-    ensures kept { OnErr result (bytes.new ≡ bytes.old) }
-    ensures fault { IfErr result (IsListingFault text.now (length bytes.old) size.old size.new) }
+    ensures held { OnOk result (HoldsText (IsListingOf limits text.now) bytes.old bytes.new size.new) }
+    ensures kept { IfErr result (IsTextKept bytes.old bytes.new size.old size.new) }
+    ensures fault { IfErr result (IsListingFault limits text.now (length bytes.old) size.new) }
 {
-    let program = program_of(alloc, text)?;
+    let program = program_of(alloc, text, limits)?;
     let Ok(out) = listing(alloc, &program) else {
         return Err(Fault::OutOfMemory);
     };
@@ -45,19 +46,20 @@ pub(crate) fn listing_of_text(
     }
 }
 
-/// The report on a text's program.
+/// The report on a text's program within limits.
 pub(crate) fn report_of_text(
     alloc: Global,
     text: &[u8],
+    limits: Limits,
     bytes: &mut [u8],
     size: &mut usize,
 ) -> Result<(), Fault>
-    ensures held { OnOk result (HoldsText (IsReportOf text.now) bytes.old bytes.new size.new) }
-    ensures kept { OnErr result (bytes.new ≡ bytes.old) }
-    ensures fault { IfErr result (IsReportFault text.now (length bytes.old) size.old size.new) }
+    ensures held { OnOk result (HoldsText (IsReportOf limits text.now) bytes.old bytes.new size.new) }
+    ensures kept { IfErr result (IsTextKept bytes.old bytes.new size.old size.new) }
+    ensures fault { IfErr result (IsReportFault limits text.now (length bytes.old) size.new) }
 {
-    let program = program_of(alloc, text)?;
-    let graph = graph_of(alloc, &program)?;
+    let program = program_of(alloc, text, limits)?;
+    let graph = graph_of(alloc, &program, limits)?;
     let Ok(out) = report_here(alloc, &graph) else {
         return Err(Fault::OutOfMemory);
     };

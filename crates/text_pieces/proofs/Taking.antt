@@ -1,5 +1,6 @@
 -- What is taken in two steps is taken in one.
-use Rattle.std.proofs.Common.{◌≡◌, ℕ, ◌+◌, ◌-◌, ◌^◌, ◌<◌, Bool, true, false, List, [], ◌++◌, length, take, drop, refl, sym, ap, subst, ◌∙◌, arith, append_assoc, append-nil, Option, Some, None, true≢false}
+use Rattle.std.proofs.Common.{◌≡◌, ℕ, ◌+◌, ◌-◌, ◌^◌, ◌<◌, Bool, true, false, List, [], ◌++◌, length, take, drop, refl, sym, ap, subst, ◌∙◌, arith}
+use Rattle.std.proofs.Common.{append_assoc, append-nil, Option, Some, None, true≢false}
 use Rattle.std.proofs.Math.Seq.{take-append-add, take-append_seam}
 use Rattle.std.proofs.lemmas.List.{append_cancel_left, take-append-drop}
 use Rattle.std.proofs.KnownBytes.{Appends-kept, Appends-nil, Appends-trans, Keeps-refl, Keeps-trans}
@@ -20,7 +21,8 @@ take_longer n xs ys =
 out_further : (x y z p w v t u : List ℕ) (m : ℕ) → y ≡ x ++ p → y ++ v ≡ (x ++ w) ++ t → z ≡ y ++ take m (v ++ u)
     → z ≡ x ++ take (length p + m) (w ++ (t ++ u))
 out_further x y z p w v t u m out stands further =
-    let same : p ++ v ≡ w ++ t = append_cancel_left x (p ++ v) (w ++ t) (sym (append_assoc x p v) ∙ ap (λ l. l ++ v) (sym out) ∙ stands ∙ append_assoc x w t) in
+    let same : p ++ v ≡ w ++ t =
+    append_cancel_left x (p ++ v) (w ++ t) (sym (append_assoc x p v) ∙ ap (λ l. l ++ v) (sym out) ∙ stands ∙ append_assoc x w t) in
     let all : w ++ (t ++ u) ≡ p ++ (v ++ u) = sym (append_assoc w t u) ∙ ap (λ l. l ++ u) (sym same) ∙ append_assoc p v u in
     further ∙ ap (λ l. l ++ take m (v ++ u)) out ∙ append_assoc x p (take m (v ++ u))
     ∙ ap (λ l. x ++ l) (sym (take-append-add p (v ++ u) m) ∙ ap (take (length p + m)) (sym all))
@@ -52,15 +54,18 @@ counted_then false false true n m o one two p q = omega (arith, p, q)
 counted_then false false false n m o one two p q = omega (arith, p, q)
 
 none_met : (old new : Bool) (n m : ℕ) → old ≡ false → new ≡ false → m ≡ n + faults_met old new → n < 2 ^ 32 - 1 → m < 2 ^ 32 - 1
-none_met old new n m is whole counted below = omega (arith, subst (λ i. m ≡ n + faults_met i false) is (subst (λ j. m ≡ n + faults_met old j) whole counted), below)
+none_met old new n m is whole counted below =
+    omega (arith, subst (λ i. m ≡ n + faults_met i false) is (subst (λ j. m ≡ n + faults_met old j) whole counted), below)
 
 -- What is put behind what waits is taken.
-pub takes_waiting : (old new : Outlet) (text : List ℕ) → new.pushed ≡ old.pushed → new.failed ≡ old.failed → new.faults ≡ old.faults → new.waiting ≡ old.waiting ++ text
+pub takes_waiting : (old new : Outlet) (text : List ℕ) → new.pushed ≡ old.pushed → new.failed ≡ old.failed → new.faults ≡ old.faults
+    → new.waiting ≡ old.waiting ++ text
     → Takes old new text
 takes_waiting old new text pushed failed faults waiting = record {
   beginning = λ _. (0, subst (λ p. Appends old.pushed p []) (sym pushed) (Appends-nil old.pushed));
   all = λ _ _. subst (λ p. Appends (append_known old.pushed old.waiting) (append_known p new.waiting) text) (sym pushed)
-      (subst (λ w. Appends (append_known old.pushed old.waiting) (append_known old.pushed w) text) (sym waiting) (behind old.pushed old.waiting text));
+      (subst (λ w. Appends (append_known old.pushed old.waiting) (append_known old.pushed w) text) (sym waiting)
+      (behind old.pushed old.waiting text));
   stays = λ broken. (failed ∙ broken, subst (Keeps old.pushed) (sym pushed) (Keeps-refl old.pushed));
   counted = faults ∙ none_met old.faults old.failed new.failed failed;
 }
@@ -89,13 +94,15 @@ takes_nothing at = record {
     none_met n false = omega arith
 
 -- What is taken first and what is taken then.
-pub takes_then : (first second third : Outlet) (text more : List ℕ) → Takes first second text → Takes second third more → Takes first third (text ++ more)
+pub takes_then : (first second third : Outlet) (text more : List ℕ) → Takes first second text → Takes second third more
+    → Takes first third (text ++ more)
 takes_then first second third text more one two = go second.failed refl
   where
     go : (broken : Bool) → second.failed ≡ broken → Takes first third (text ++ more)
     go true is = record {
       beginning = λ whole.
-          begin_kept _ _ _ _ (subst (AppendsBeginning _ _) (append_assoc first.waiting text more) (begin_longer _ _ _ more (one.beginning whole))) (two.stays is).1;
+          begin_kept _ _ _ _ (subst (AppendsBeginning _ _) (append_assoc first.waiting text more) (begin_longer _ _ _ more (one.beginning whole)))
+          (two.stays is).1;
       all = λ _ whole. absurd (true≢false (sym (two.stays is).0 ∙ whole));
       stays = λ broken. ((two.stays is).0, Keeps-trans _ _ _ (one.stays broken).1 (two.stays is).1);
       counted = counted_then first.failed second.failed third.failed _ _ _ (λ b. (one.stays b).0) (λ b. (two.stays b).0) one.counted two.counted;
@@ -116,7 +123,8 @@ stays_open old new text is_open taken = go old.failed refl
     go false is whole = none_met old.failed new.failed old.faults new.faults is whole taken.counted (is_open is)
 
 -- What was taken from the beginning on, and then pushed: a beginning of it has gone out.
-pub begun : (held : Option (List ℕ)) (faults : ℕ) (start after ended : Outlet) (text : List ℕ) → start ≡ fresh held faults → Takes start after text → Takes after ended []
+pub begun : (held : Option (List ℕ)) (faults : ℕ) (start after ended : Outlet) (text : List ℕ) → start ≡ fresh held faults → Takes start after text
+    → Takes after ended []
     → AppendsBeginning held ended.pushed text
 begun held faults start after ended text new taken last =
     let all : Takes (fresh held faults) ended (text ++ []) = takes_then _ _ _ _ _ (subst (λ (o : Outlet). Takes o after text) new taken) last in

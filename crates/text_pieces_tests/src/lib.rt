@@ -4,4 +4,6 @@
 #[cfg(test)]
 mod piece_tests;
 #[cfg(test)]
+mod pull_tests;
+#[cfg(test)]
 mod refusal_tests;

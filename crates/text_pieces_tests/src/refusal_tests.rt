@@ -1,7 +1,8 @@
 // Each call on bytes that takes memory, as `refusal_probes` has it.
 
-use failing_streams::blank_page;
+use failing_streams::{Pieces, blank_page};
 use refusal_probes::{all_or_nothing, named};
+use std::io::ErrorKind;
 use std::process::Abort;
 use std::test::Fail;
 use text_pieces::{Bytes, FromRead, Source, ToWrite, TransferFault, deliver, pull_all};
@@ -43,5 +44,33 @@ fn pull_is_refused(rt: HostRuntime) -> Result<(), Fail> {
         Err(TransferFault::Device) => return Err(Fail::from("a fault of the source")),
     };
     assert_eq!(rt; pulled.as_slice(), text);
+    named(refused)
+}
+
+// All bytes of a text longer than the first block. Where that block was refused, nothing was pulled; where a longer one was, the first
+// was full, and a new source gives all.
+#[test]
+fn longer_pull_is_refused(rt: HostRuntime) -> Result<(), Fail> {
+    let text = vec![in rt.alloc(); b'x'; 1_048_578]?;
+    let mut refused = None;
+    let mut reader = Pieces {
+        rest: &text,
+        piece: usize::MAX,
+        left: usize::MAX,
+        fault: ErrorKind::Other,
+    };
+    let pulled = match pull_all(rt.alloc(), &mut FromRead::new(&mut reader), 2_000_000) {
+        Ok(pulled) => pulled,
+        Err(TransferFault::OutOfMemory) => {
+            refused = match reader.rest.len() {
+                1_048_578 => Some("pull_all"),
+                1 => Some("pull_all, a longer block"),
+                _ => return Err(Fail::from("a part of a block was pulled")),
+            };
+            pull_all(rt.alloc(), &mut FromRead::new(text.as_slice()), 2_000_000)?
+        }
+        Err(TransferFault::Device) => return Err(Fail::from("a fault of the source")),
+    };
+    assert!(rt; pulled.as_slice() == text.as_slice());
     named(refused)
 }

@@ -13,9 +13,11 @@ use Rattle.view_commands.specs.Kinds.{formats, sizes}
 use Rattle.view_commands.specs.declared.options.Options.{Options}
 
 -- an error of facts that are known is want of memory
-known_refused : (rows : List Row) (r : Result Options Error) → FailsBy (facts_kinds rows) r → IfErr r (λ e. knows_facts rows ≡ true → kind_of e ≡ OutOfMemory)
+known_refused : (rows : List Row) (r : Result Options Error) → FailsBy (facts_kinds rows) r
+    → IfErr r (λ e. knows_facts rows ≡ true → kind_of e ≡ OutOfMemory)
 known_refused rows (Ok options) fails = tt
-known_refused rows (Err e) fails = λ known. elim (none_but_memory (subst (λ (b : Bool). HasKind (if b then [] else InvalidValue ∷ []) e) known fails)) [ inl is ↦ is | inr none ↦ absurd none ]
+known_refused rows (Err e) fails = λ known. elim (none_but_memory
+    (subst (λ (b : Bool). HasKind (if b then [] else InvalidValue ∷ []) e) known fails)) [ inl is ↦ is | inr none ↦ absurd none ]
   where
     none_but_memory : HasKind [] e → (kind_of e ≡ OutOfMemory) ⊎ ⊥
     none_but_memory h = h
@@ -35,7 +37,8 @@ answered words values bounds are_formats are_limits r rows is named fails faultl
   are_formats = are_formats;
   are_limits = are_limits;
   named = subst (λ (x : List Row). IfOk r (NamesOptions x)) is named;
-  refused = unless_taken _ r _ (subst (λ (x : List Row). IfErr r (λ e. knows_facts x ≡ true → kind_of e ≡ OutOfMemory)) is (known_refused rows r fails));
+  refused =
+      unless_taken _ r _ (subst (λ (x : List Row). IfErr r (λ e. knows_facts x ≡ true → kind_of e ≡ OutOfMemory)) is (known_refused rows r fails));
   faults = subst (λ (k : Kinds). FailsBy (or_else k (facts_kinds (matches_of (tacview_command values bounds) words))) r) (sym faultless)
       (subst (λ (x : List Row). FailsBy (facts_kinds x) r) is fails);
 }

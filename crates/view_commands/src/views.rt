@@ -5,18 +5,18 @@ ghost use Rattle.std.specs.Thread.{IsSync};
 ghost use Rattle.flow_graph.specs.Limits.{HasFewBits, HasFewPoints};
 ghost use Rattle.flow_runs.specs.Faults.{Delivers, OfProgram, write_faults_in};
 ghost use Rattle.flow_runs.specs.Runs.{IsOverLimit};
-ghost use Rattle.flow_team.specs.AllTables.{AreTablesOf};
 ghost use Rattle.flow_texts.specs.code.Reported.{TellReport};
 ghost use Rattle.flow_views.specs.Dots.{IsDot};
 ghost use Rattle.flow_views.specs.Json.{IsJson};
+ghost use Rattle.flow_views.specs.ShownTables.{AreShownTables};
 ghost use Rattle.view_commands.specs.Commands.{name_asked};
 ghost use Rattle.view_commands.specs.Views.{HasProcedure, IsShown, IsText, LacksProcedure, ShowsProcedure};
 
 use crate::options::{Format, Options};
 use flow_graph::Graph;
 use flow_runs::{Fault, Shown, graph_of, push_report, push_text};
-use flow_texts::{ReportAnswers, Tables};
-use flow_views::{DotText, JsonText, View};
+use flow_texts::ReportAnswers;
+use flow_views::{DotText, JsonText, ShownTables, View};
 use std::alloc::Global;
 use std::thread::Threads;
 use tac_program::{Limits, Program};
@@ -61,12 +61,12 @@ fn view_of(program: &Program, options: &Options) -> Result<View, Fault>
 fn push_dot<K: Sink>(
     alloc: Global,
     graph: &Graph<'_>,
-    tables: &Tables,
+    tables: &ShownTables,
     answers: &ReportAnswers,
     view: View,
     sink: &mut K,
 ) -> Result<(), Fault>
-    requires tables { AreTablesOf graph.now tables.now }
+    requires tables { AreShownTables graph.now view.facts tables.now }
     requires answers { TellReport graph.now answers.now }
     requires below { K.faults sink.old < 2 ^ 32 - 1 }
     requires there { IfSome view.procedure (λ number. number < length graph.now.procedure_names) }
@@ -83,12 +83,12 @@ fn push_dot<K: Sink>(
 fn push_json<K: Sink>(
     alloc: Global,
     graph: &Graph<'_>,
-    tables: &Tables,
+    tables: &ShownTables,
     answers: &ReportAnswers,
     view: View,
     sink: &mut K,
 ) -> Result<(), Fault>
-    requires tables { AreTablesOf graph.now tables.now }
+    requires tables { AreShownTables graph.now view.facts tables.now }
     requires answers { TellReport graph.now answers.now }
     requires below { K.faults sink.old < 2 ^ 32 - 1 }
     requires there { IfSome view.procedure (λ number. number < length graph.now.procedure_names) }
@@ -118,8 +118,9 @@ fn dot_of_graph<R: Threads + Sync, K: Sink>(
     ensures fault { IfErr result (OfProgram (λ _. ⊥) ⊥) }
     ensures faults { K.faults sink.new ≡ K.faults sink.old + write_faults_in result }
 {
-    let tables = Tables::of(rt, alloc, graph, options.workers, options.cut)?;
-    let answers = ReportAnswers::of_tables(alloc, graph, &tables)?;
+    let (workers, cut) = (options.workers, options.cut);
+    let tables = ShownTables::of(rt, alloc, graph, view.facts, workers, cut)?;
+    let answers = ReportAnswers::of(rt, alloc, graph, workers, cut)?;
     push_dot(alloc, graph, &tables, &answers, view, sink)
 }
 
@@ -140,8 +141,9 @@ fn json_of_graph<R: Threads + Sync, K: Sink>(
     ensures fault { IfErr result (OfProgram (λ _. ⊥) ⊥) }
     ensures faults { K.faults sink.new ≡ K.faults sink.old + write_faults_in result }
 {
-    let tables = Tables::of(rt, alloc, graph, options.workers, options.cut)?;
-    let answers = ReportAnswers::of_tables(alloc, graph, &tables)?;
+    let (workers, cut) = (options.workers, options.cut);
+    let tables = ShownTables::of(rt, alloc, graph, view.facts, workers, cut)?;
+    let answers = ReportAnswers::of(rt, alloc, graph, workers, cut)?;
     push_json(alloc, graph, &tables, &answers, view, sink)
 }
 

@@ -20,10 +20,15 @@ use std::alloc::{AllocError, Global};
 use tac_program::Limits;
 
 const ABOUT: &str =
-    "Reads a program of three-address code from standard input, and writes its flow graph to standard output, with what holds at its points, or the report on it.";
+    "Reads a program of three-address code from standard input, and writes its flow graph to standard output, with what holds at its points, or the \
+    report on it.";
 
-const AFTER_HELP: &str =
-    "Examples:\n  tacview < program.tac | dot -Tsvg > program.svg\n  tacview --format json --facts reach,live --procedure main < program.tac\n  tacview --format report --limits large < program.tac\n\nExit status:\n  0  it was written, or help was asked for\n  1  the text was refused, the procedure is not there, or reading, writing or memory failed; standard error has one line on it\n  2  the words were refused";
+const AFTER_HELP: &str = "Examples:\n  tacview < program.tac | dot -Tsvg > program.svg\n  \
+    tacview --format json --facts reach,live --procedure main < program.tac\n  \
+    tacview --format report --limits large < program.tac\n\nExit status:\n  \
+    0  it was written, or help was asked for\n  \
+    1  the text was refused, the procedure is not there, or reading, writing or memory failed; standard error has one line on it\n  \
+    2  the words were refused";
 
 const NO_FACTS: &str =
     "the value of '--facts <LIST>' is none, all, or words of reach, live, avail and busy with commas between them";
@@ -96,7 +101,8 @@ fn facts_option<'a>(alloc: Global) -> Arg<'a>
         .value_name("LIST")
         .action(ArgAction::Set)
         .help(
-            "What is shown of each point: none, all, or words of reach, live, avail and busy with commas between them; without it none in a graph and all in JSON",
+            "What is shown of each point: none, all, or words of reach, live, avail and busy with commas between them; without it none in a graph \
+            and all in JSON",
         )
 }
 

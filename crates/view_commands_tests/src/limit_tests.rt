@@ -43,8 +43,8 @@ const AROUND_NUMBERS: (&str, &str) = ("proc q", "\nend\n");
 
 const LINE_BEFORE_NAMES: &str = "{\"type\":\"program\",\"points\":257,\"procedures\":[\"main\"";
 
-const LINES_BEHIND_NAMES: &str =
-    "],\"variables\":[],\"definitions\":0,\"expressions\":0}\n{\"type\":\"point\",\"point\":0,\"procedure\":\"main\",\"place\":0,\"line\":null,\"first\":null,\"last\":null,\"statement\":null,\"edges\":[]}\n";
+const LINES_BEHIND_NAMES: &str = "],\"variables\":[],\"definitions\":0,\"expressions\":0}\n\
+    {\"type\":\"point\",\"point\":0,\"procedure\":\"main\",\"place\":0,\"line\":null,\"first\":null,\"last\":null,\"statement\":null,\"edges\":[]}\n";
 
 const BEHIND_NAME: &str =
     "\",\"place\":0,\"line\":null,\"first\":null,\"last\":null,\"statement\":null,\"edges\":[]}\n";

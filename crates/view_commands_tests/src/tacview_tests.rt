@@ -163,22 +163,57 @@ fn check<R: Threads + Sync + Abort + AllocGlobal>(
 }
 
 pub(crate) const SMALL_GRAPH: &str =
-    "digraph \"tacflow\" {\n  graph [fontname=\"monospace\", labeljust=l];\n  node [shape=box, fontname=\"monospace\", fontsize=11];\n  edge [fontname=\"monospace\", fontsize=10];\n  subgraph \"cluster_0\" {\n    label=\"main\";\n    0 [label=\"2: x = 1\\lassignment to x is dead\\l\", style=filled, fillcolor=khaki];\n    1 [label=\"end of main\\l\"];\n  }\n  0 -> 1;\n}\n";
+    "digraph \"tacflow\" {\n  graph [fontname=\"monospace\", labeljust=l];\n  \
+    node [shape=box, fontname=\"monospace\", fontsize=11];\n  \
+    edge [fontname=\"monospace\", fontsize=10];\n  subgraph \"cluster_0\" {\n    \
+    label=\"main\";\n    \
+    0 [label=\"2: x = 1\\lassignment to x is dead\\l\", style=filled, fillcolor=khaki];\n    1 [label=\"end of main\\l\"];\n  }\n  0 -> 1;\n}\n";
 
 pub(crate) const SMALL_LINES: &str =
-    "{\"type\":\"program\",\"points\":2,\"procedures\":[\"main\"],\"variables\":[\"x\"],\"definitions\":2,\"expressions\":0}\n{\"type\":\"point\",\"point\":0,\"procedure\":\"main\",\"place\":0,\"line\":2,\"first\":14,\"last\":18,\"statement\":\"x = 1\",\"edges\":[{\"kind\":\"step\",\"to\":1}],\"reach\":{\"path\":true,\"bits\":[0],\"names\":[\"x@entry\"]},\"live\":{\"path\":true,\"bits\":[],\"names\":[]},\"avail\":{\"path\":true,\"bits\":[],\"names\":[]},\"busy\":{\"path\":true,\"bits\":[],\"names\":[]}}\n{\"type\":\"point\",\"point\":1,\"procedure\":\"main\",\"place\":1,\"line\":null,\"first\":null,\"last\":null,\"statement\":null,\"edges\":[],\"reach\":{\"path\":true,\"bits\":[1],\"names\":[\"x@2\"]},\"live\":{\"path\":true,\"bits\":[],\"names\":[]},\"avail\":{\"path\":true,\"bits\":[],\"names\":[]},\"busy\":{\"path\":true,\"bits\":[],\"names\":[]}}\n{\"type\":\"remark\",\"point\":0,\"line\":2,\"first\":14,\"last\":18,\"kind\":\"dead\",\"variable\":\"x\"}\n";
+    "{\"type\":\"program\",\"points\":2,\"procedures\":[\"main\"],\"variables\":[\"x\"],\"definitions\":2,\"expressions\":0}\n\
+    {\"type\":\"point\",\"point\":0,\"procedure\":\"main\",\"place\":0,\"line\":2,\"first\":14,\"last\":18,\"statement\":\"x = 1\",\
+    \"edges\":[{\"kind\":\"step\",\"to\":1}],\"reach\":{\"path\":true,\"bits\":[0],\"names\":[\"x@entry\"]},\"live\":{\"path\":true,\"bits\":[],\
+    \"names\":[]},\"avail\":{\"path\":true,\"bits\":[],\"names\":[]},\"busy\":{\"path\":true,\"bits\":[],\"names\":[]}}\n\
+    {\"type\":\"point\",\"point\":1,\"procedure\":\"main\",\"place\":1,\"line\":null,\"first\":null,\"last\":null,\"statement\":null,\"edges\":[],\
+    \"reach\":{\"path\":true,\"bits\":[1],\"names\":[\"x@2\"]},\"live\":{\"path\":true,\"bits\":[],\"names\":[]},\"avail\":{\"path\":true,\
+    \"bits\":[],\"names\":[]},\"busy\":{\"path\":true,\"bits\":[],\"names\":[]}}\n\
+    {\"type\":\"remark\",\"point\":0,\"line\":2,\"first\":14,\"last\":18,\"kind\":\"dead\",\"variable\":\"x\"}\n";
 
 const SMALL_REPORT: &str =
     "points 2, variables 1, definitions 2, expressions 0\n2: assignment to x is dead\n";
 
 const RECURSION_GRAPH: &str =
-    "digraph \"tacflow\" {\n  graph [fontname=\"monospace\", labeljust=l];\n  node [shape=box, fontname=\"monospace\", fontsize=11];\n  edge [fontname=\"monospace\", fontsize=10];\n  subgraph \"cluster_0\" {\n    label=\"main\";\n    0 [label=\"2: x = 1\\l\"];\n    1 [label=\"3: call f\\l\"];\n    2 [label=\"4: print x\\l\"];\n    3 [label=\"end of main\\l\"];\n  }\n  subgraph \"cluster_1\" {\n    label=\"f\";\n    4 [label=\"7: if x goto L\\l\"];\n    5 [label=\"8: call f\\l\"];\n    6 [label=\"9: x = 2\\l\"];\n    7 [label=\"end of f\\l\"];\n  }\n  0 -> 1;\n  1 -> 4 [style=dashed, label=\"call 3\"];\n  2 -> 3;\n  4 -> 5;\n  4 -> 7;\n  5 -> 4 [style=dashed, label=\"call 8\"];\n  6 -> 7;\n  7 -> 2 [style=dashed, label=\"return 3\"];\n  7 -> 6 [style=dashed, label=\"return 8\"];\n}\n";
+    "digraph \"tacflow\" {\n  graph [fontname=\"monospace\", labeljust=l];\n  \
+    node [shape=box, fontname=\"monospace\", fontsize=11];\n  \
+    edge [fontname=\"monospace\", fontsize=10];\n  subgraph \"cluster_0\" {\n    \
+    label=\"main\";\n    0 [label=\"2: x = 1\\l\"];\n    1 [label=\"3: call f\\l\"];\n    \
+    2 [label=\"4: print x\\l\"];\n    3 [label=\"end of main\\l\"];\n  }\n  \
+    subgraph \"cluster_1\" {\n    label=\"f\";\n    4 [label=\"7: if x goto L\\l\"];\n    \
+    5 [label=\"8: call f\\l\"];\n    6 [label=\"9: x = 2\\l\"];\n    7 [label=\"end of f\\l\"];\n  \
+    }\n  0 -> 1;\n  1 -> 4 [style=dashed, label=\"call 3\"];\n  2 -> 3;\n  4 -> 5;\n  4 -> 7;\n  \
+    5 -> 4 [style=dashed, label=\"call 8\"];\n  6 -> 7;\n  \
+    7 -> 2 [style=dashed, label=\"return 3\"];\n  7 -> 6 [style=dashed, label=\"return 8\"];\n}\n";
 
 pub(crate) const F_GRAPH: &str =
-    "digraph \"tacflow\" {\n  graph [fontname=\"monospace\", labeljust=l];\n  node [shape=box, fontname=\"monospace\", fontsize=11];\n  edge [fontname=\"monospace\", fontsize=10];\n  subgraph \"cluster_1\" {\n    label=\"f\";\n    4 [label=\"7: if x goto L\\lreach: x@2\\l\"];\n    5 [label=\"8: call f\\lreach: x@2\\l\"];\n    6 [label=\"9: x = 2\\lreach: x@2, x@9\\l\"];\n    7 [label=\"end of f\\lreach: x@2, x@9\\l\"];\n  }\n  4 -> 5;\n  4 -> 7;\n  5 -> 4 [style=dashed, label=\"call 8\"];\n  5 -> 6 [style=dashed, label=\"call\"];\n  6 -> 7;\n  7 -> 6 [style=dashed, label=\"return 8\"];\n}\n";
+    "digraph \"tacflow\" {\n  graph [fontname=\"monospace\", labeljust=l];\n  \
+    node [shape=box, fontname=\"monospace\", fontsize=11];\n  \
+    edge [fontname=\"monospace\", fontsize=10];\n  subgraph \"cluster_1\" {\n    label=\"f\";\n    \
+    4 [label=\"7: if x goto L\\lreach: x@2\\l\"];\n    \
+    5 [label=\"8: call f\\lreach: x@2\\l\"];\n    \
+    6 [label=\"9: x = 2\\lreach: x@2, x@9\\l\"];\n    \
+    7 [label=\"end of f\\lreach: x@2, x@9\\l\"];\n  }\n  4 -> 5;\n  4 -> 7;\n  \
+    5 -> 4 [style=dashed, label=\"call 8\"];\n  5 -> 6 [style=dashed, label=\"call\"];\n  6 -> 7;\n  7 -> 6 [style=dashed, label=\"return 8\"];\n}\n";
 
 const F_LINES: &str =
-    "{\"type\":\"program\",\"points\":8,\"procedures\":[\"main\",\"f\"],\"variables\":[\"x\"],\"definitions\":3,\"expressions\":0}\n{\"type\":\"point\",\"point\":4,\"procedure\":\"f\",\"place\":0,\"line\":7,\"first\":43,\"last\":53,\"statement\":\"if x goto L\",\"edges\":[{\"kind\":\"step\",\"to\":5},{\"kind\":\"step\",\"to\":7}]}\n{\"type\":\"point\",\"point\":5,\"procedure\":\"f\",\"place\":1,\"line\":8,\"first\":55,\"last\":60,\"statement\":\"call f\",\"edges\":[{\"kind\":\"call\",\"site\":5,\"to\":4}]}\n{\"type\":\"point\",\"point\":6,\"procedure\":\"f\",\"place\":2,\"line\":9,\"first\":62,\"last\":66,\"statement\":\"x = 2\",\"edges\":[{\"kind\":\"step\",\"to\":7}]}\n{\"type\":\"point\",\"point\":7,\"procedure\":\"f\",\"place\":3,\"line\":null,\"first\":null,\"last\":null,\"statement\":null,\"edges\":[{\"kind\":\"return\",\"site\":1,\"to\":2},{\"kind\":\"return\",\"site\":5,\"to\":6}]}\n";
+    "{\"type\":\"program\",\"points\":8,\"procedures\":[\"main\",\"f\"],\"variables\":[\"x\"],\"definitions\":3,\"expressions\":0}\n\
+    {\"type\":\"point\",\"point\":4,\"procedure\":\"f\",\"place\":0,\"line\":7,\"first\":43,\"last\":53,\"statement\":\"if x goto L\",\
+    \"edges\":[{\"kind\":\"step\",\"to\":5},{\"kind\":\"step\",\"to\":7}]}\n\
+    {\"type\":\"point\",\"point\":5,\"procedure\":\"f\",\"place\":1,\"line\":8,\"first\":55,\"last\":60,\"statement\":\"call f\",\
+    \"edges\":[{\"kind\":\"call\",\"site\":5,\"to\":4}]}\n\
+    {\"type\":\"point\",\"point\":6,\"procedure\":\"f\",\"place\":2,\"line\":9,\"first\":62,\"last\":66,\"statement\":\"x = 2\",\
+    \"edges\":[{\"kind\":\"step\",\"to\":7}]}\n\
+    {\"type\":\"point\",\"point\":7,\"procedure\":\"f\",\"place\":3,\"line\":null,\"first\":null,\"last\":null,\"statement\":null,\
+    \"edges\":[{\"kind\":\"return\",\"site\":1,\"to\":2},{\"kind\":\"return\",\"site\":5,\"to\":6}]}\n";
 
 // Each text is answered so.
 fn check_all<R: Threads + Sync + Abort + AllocGlobal>(

@@ -1,5 +1,6 @@
 // A set of points, kept in words of 64 bits by their ranks, from which one is taken at a time.
-ghost use Rattle.std.specs.Prelude.{◌≡◌, ℕ, ◌+◌, ◌*◌, ◌<◌, ◌≤◌, ◌^◌, IfOk, MatchOption, IfSome, false, true, length, replicate, slice_index, slice_index_or, slice_set};
+ghost use Rattle.std.specs.Prelude.{◌≡◌, ℕ, ◌+◌, ◌*◌, ◌<◌, ◌≤◌, ◌^◌, IfOk, MatchOption, IfSome, false, true, length, replicate, slice_index};
+ghost use Rattle.std.specs.Prelude.{slice_index_or, slice_set};
 ghost use Rattle.work_list.specs.Marks.{IsMarked, AreClear};
 ghost use Rattle.work_list.specs.Tables.MarkWords.{AreFull, is_marked_in};
 

@@ -87,7 +87,8 @@ pub mod call_each_other {
 
     /// The definitions that reach each point.
     pub const REACH: &str =
-        "main 0: x@entry, y@entry\nmain 1: x@entry, y@entry, y@10\na 0: x@entry, y@entry, y@10\na 1: x@entry, y@entry, y@10\na 2: x@entry, y@entry, y@10\nb 0: x@entry, y@entry, y@10\nb 1: x@entry, y@10\nb 2: x@entry, y@10\n";
+        "main 0: x@entry, y@entry\nmain 1: x@entry, y@entry, y@10\na 0: x@entry, y@entry, y@10\n\
+        a 1: x@entry, y@entry, y@10\na 2: x@entry, y@entry, y@10\nb 0: x@entry, y@entry, y@10\nb 1: x@entry, y@10\nb 2: x@entry, y@10\n";
 
     /// The variables that are live at each point.
     pub const LIVE: &str = "main 0: x\nmain 1: -\na 0: x\na 1: x\na 2: -\nb 0: x\nb 1: x\nb 2: -\n";
@@ -143,7 +144,9 @@ pub mod call_between {
 
     /// Its report.
     pub const REPORT: &str =
-        "points 7, variables 4, definitions 7, expressions 1\n2: b may be used before it is set\n2: c may be used before it is set\n2: assignment to a is dead\n4: b may be used before it is set\n4: c may be used before it is set\n4: assignment to d is dead\n7: c may be used before it is set\n";
+        "points 7, variables 4, definitions 7, expressions 1\n2: b may be used before it is set\n\
+        2: c may be used before it is set\n2: assignment to a is dead\n\
+        4: b may be used before it is set\n4: c may be used before it is set\n4: assignment to d is dead\n7: c may be used before it is set\n";
 }
 
 /// One expression on both sides of a test.
@@ -247,12 +250,18 @@ pub mod small {
 pub mod factorial {
     /// The text.
     pub const TEXT: &str =
-        "# Factorial by recursion over global variables.\nproc main\n  read n\n  result = 1\n  call factorial\n  print result\nend\n\nproc factorial\n  if n <= 1 goto base\n  result = result * n\n  n = n - 1\n  call factorial        # comes back here, and nowhere else\nbase:\nend\n";
+        "# Factorial by recursion over global variables.\nproc main\n  read n\n  result = 1\n  \
+        call factorial\n  print result\nend\n\nproc factorial\n  if n <= 1 goto base\n  \
+        result = result * n\n  n = n - 1\n  call factorial        # comes back here, and nowhere else\nbase:\nend\n";
 }
 
 /// Each kind of remark that a report makes, once, as `examples/remarks.tac` has it.
 pub mod remarks {
     /// The text.
     pub const TEXT: &str =
-        "# Each kind of remark that a report makes, once.\nproc main\n  read a\n  read b\n  x = a + b\n  y = a + b               # computed just above\n  if x < y goto larger    # a * b comes next on both sides\n  z = a * b\n  goto shown\nlarger:\n  z = a * b\n  x = 0                   # nothing reads x from here on\nshown:\n  print z\n  print count             # never set\n  return\n  print y                 # never reached\nend\n";
+        "# Each kind of remark that a report makes, once.\nproc main\n  read a\n  read b\n  \
+        x = a + b\n  y = a + b               # computed just above\n  \
+        if x < y goto larger    # a * b comes next on both sides\n  z = a * b\n  goto shown\n\
+        larger:\n  z = a * b\n  x = 0                   # nothing reads x from here on\nshown:\n  \
+        print z\n  print count             # never set\n  return\n  print y                 # never reached\nend\n";
 }

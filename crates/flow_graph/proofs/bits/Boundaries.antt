@@ -1,5 +1,6 @@
 -- The boundary of a may form
-use Rattle.std.proofs.Common.{◌≡◌, ℕ, zero, suc, ◌-◌, ◌<◌, ◌≤◌, ◌⊎◌, Bool, true, false, not, List, [], ◌∷◌, ◌++◌, map, flat_map, length, Option, Some, None, is_some, nat_lt, inl, inr, refl, sym, ◌∙◌, arith}
+use Rattle.std.proofs.Common.{◌≡◌, ℕ, zero, suc, ◌-◌, ◌<◌, ◌≤◌, ◌⊎◌, Bool, true, false, not, List, [], ◌∷◌, ◌++◌, map, flat_map, length, Option, Some}
+use Rattle.std.proofs.Common.{None, is_some, nat_lt, inl, inr, refl, sym, ◌∙◌, arith}
 use Rattle.std.specs.List.{range_with_len}
 use Rattle.std.proofs.lemmas.Bool.{cases_lt}
 use Rattle.std.proofs.lemmas.List.{length-map}
@@ -33,16 +34,20 @@ pub dummies_come_first : (program : Program) (bit : ℕ) → nat_lt bit (length 
 dummies_come_first program bit = by_place (cases_lt bit (length program.variable_names))
   where
     count : length (dummies program) ≡ length program.variable_names
-    count = length-map (range_with_len 0 (length program.variable_names)) (λ x. let d : Definition = (x, None) in d) ∙ length-range_with_len 0 (length program.variable_names)
+    count = length-map (range_with_len 0 (length program.variable_names)) (λ x. let d : Definition = (x, None) in d)
+        ∙ length-range_with_len 0 (length program.variable_names)
 
-    by_place : (bit < length program.variable_names) ⊎ (length program.variable_names ≤ bit) → nat_lt bit (length program.variable_names) ≡ is_in_boundary program Reach bit
+    by_place : (bit < length program.variable_names) ⊎ (length program.variable_names ≤ bit)
+        → nat_lt bit (length program.variable_names) ≡ is_in_boundary program Reach bit
     by_place (inl below) =
         let is : nat_lt bit (length program.variable_names) ≡ true = grind arith in
         is
-        ∙ sym (all_dummies (range_with_len 0 (length program.variable_names)) bit (omega (arith, below, length-range_with_len 0 (length program.variable_names))))
+        ∙ sym (all_dummies (range_with_len 0 (length program.variable_names)) bit
+        (omega (arith, below, length-range_with_len 0 (length program.variable_names))))
         ∙ sym (is_at-left is_dummy (dummies program) (flat_map (definition_at program) (points program)) bit (omega (arith, below, count)))
     by_place (inr past) =
         let is : nat_lt bit (length program.variable_names) ≡ false = grind arith in
         is
         ∙ sym (no_dummies program (points program) (bit - length (dummies program)))
-        ∙ sym (is_at-right is_dummy (dummies program) (flat_map (definition_at program) (points program)) bit (bit - length (dummies program)) (omega (arith, past, count)))
+        ∙ sym (is_at-right is_dummy (dummies program) (flat_map (definition_at program) (points program)) bit (bit - length (dummies program))
+        (omega (arith, past, count)))

@@ -13,10 +13,12 @@ dummy variable = (variable, None)
 pub dummies_have_numbers : DummiesComeFirst
 dummies_have_numbers program variable there =
     let others = flat_map (definition_at program) (points program) in
-    let count : length (dummies program) ≡ length program.variable_names = length-map-range_with_len (λ x. let d : Definition = (x, None) in d) 0 (length program.variable_names) in
+    let count : length (dummies program) ≡ length program.variable_names =
+    length-map-range_with_len (λ x. let d : Definition = (x, None) in d) 0 (length program.variable_names) in
     let within : variable < length (dummies program) = omega (arith, there, count) in
     let all : variable < length (definitions program) = omega (arith, within, length-append (dummies program) others) in
     slice_get-get_or (definitions program) variable (dummy 0) all
     ∙ ap (λ (d : Definition). Some d)
     (get_or_append_left (dummies program) others (dummy 0) variable within
-    ∙ get_or-map-range_with_len (λ x. let d : Definition = (x, None) in d) 0 (length program.variable_names) variable variable (dummy 0) there (omega arith))
+    ∙ get_or-map-range_with_len (λ x. let d : Definition = (x, None) in d) 0 (length program.variable_names) variable variable (dummy 0) there
+    (omega arith))

@@ -10,9 +10,11 @@ use Rattle.flow_graph.proofs.bits.OwnBits.{definition_is_own}
 use Rattle.flow_graph.proofs.lists.Ranges.{flat_map-range_more}
 
 pub definitions_more : (program : Program) (n : ℕ)
-    → length (flat_map (definition_at program) (range_with_len 0 (n + 1))) ≡ length (flat_map (definition_at program) (range_with_len 0 n)) + length (definition_at program n)
+    → length (flat_map (definition_at program) (range_with_len 0 (n + 1)))
+    ≡ length (flat_map (definition_at program) (range_with_len 0 n)) + length (definition_at program n)
 definitions_more program n =
-    ap length (flat_map-range_more (definition_at program) n) ∙ length-append (flat_map (definition_at program) (range_with_len 0 n)) (definition_at program n)
+    ap length (flat_map-range_more (definition_at program) n)
+    ∙ length-append (flat_map (definition_at program) (range_with_len 0 n)) (definition_at program n)
 
 pub effect_of_numbered : (program : Program) (analysis : Analysis) (number point : ℕ) (e : Effect) → point < point_count program
     → number ≡ length program.variable_names + length (flat_map (definition_at program) (range_with_len 0 point))

@@ -1,5 +1,6 @@
 -- In which words a statement generates or kills bits
-use Rattle.std.proofs.Common.{◌≡◌, ◌∙◌, ◌⊎◌, ℕ, ◌+◌, ◌*◌, ◌/◌, ◌%◌, ◌<◌, Bool, true, false, ◌||◌, option_map, unwrap_or, List, length, inl, inr, refl, sym, ap, bit_or, arith}
+use Rattle.std.proofs.Common.{◌≡◌, ◌∙◌, ◌⊎◌, ℕ, ◌+◌, ◌*◌, ◌/◌, ◌%◌, ◌<◌, Bool, true, false, ◌||◌, option_map, unwrap_or, List, length, inl, inr, refl}
+use Rattle.std.proofs.Common.{sym, ap, bit_or, arith}
 use Rattle.bit_rows.specs.Words.{has_bit}
 use Rattle.bit_rows.proofs.WordBits.{has_bit-or}
 use Rattle.tac_program.specs.Programs.{Program}
@@ -47,26 +48,30 @@ one_of true b is = inl refl
 one_of false b is = inr is
 
 -- the word of a bit that depends on a variable is marked
-pub dependent_word : (program : Program) (analysis : Analysis) (words : List ℕ) (width variable bit result : ℕ) → AreDependentWords program analysis words width
+pub dependent_word : (program : Program) (analysis : Analysis) (words : List ℕ) (width variable bit result : ℕ)
+    → AreDependentWords program analysis words width
     → variable < length program.variable_names → bit < bits program analysis → depends program analysis variable bit ≡ true
     → ((k : ℕ) → k < 64 → 0 < width → has_bit result k ≡ table_has words width variable (64 * 0 + k)) → has_bit result (bit / 64 % 64) ≡ true
 dependent_word program analysis words width variable bit result are there below depend is =
     let low : bit / 64 % 64 < 64 = omega arith in
     let some : 0 < width = omega (arith, are.one) in
-    is (bit / 64 % 64) low some ∙ ap (table_has words width variable) (let e : 64 * 0 + bit / 64 % 64 ≡ bit / 64 % 64 = omega arith in e) ∙ are.each variable bit there below depend
+    is (bit / 64 % 64) low some ∙ ap (table_has words width variable) (let e : 64 * 0 + bit / 64 % 64 ≡ bit / 64 % 64 = omega arith in e)
+    ∙ are.each variable bit there below depend
 
 -- so is the word of a bit that the statement generates or kills
-pub affected_word : (program : Program) (analysis : Analysis) (point bit : ℕ) (e : Effect) (first second touched : ℕ) → IsEffect program analysis point e
+pub affected_word : (program : Program) (analysis : Analysis) (point bit : ℕ) (e : Effect) (first second touched : ℕ)
+    → IsEffect program analysis point e
     → ((bit : ℕ) → marks e.first bit ≡ true → has_bit first (bit / 64 % 64) ≡ true)
     → ((bit : ℕ) → marks e.second bit ≡ true → has_bit second (bit / 64 % 64) ≡ true)
     → (unwrap_or (option_map (λ x. depends program analysis x bit) e.written) false ≡ true → has_bit touched (bit / 64 % 64) ≡ true)
     → IsAffected (record { program = program; analysis = analysis }) point bit
     → has_bit (bit_or (bit_or first second) touched) (bit / 64 % 64) ≡ true
-affected_word program analysis point bit e first second touched effect firsts seconds touches_it affected = elim (affected_from program analysis point bit affected) [
-  | inl own ↦ elim (one_of (marks e.first bit) (marks e.second bit) (effect.own bit ∙ own)) [
-    | inl is ↦ set_left (bit_or first second) touched (bit / 64 % 64) (set_left first second (bit / 64 % 64) (firsts bit is))
-    | inr is ↦ set_left (bit_or first second) touched (bit / 64 % 64) (set_right first second (bit / 64 % 64) (seconds bit is))
-  ]
-  | inr is ↦ set_right (bit_or first second) touched (bit / 64 % 64)
-      (touches_it (ap (λ o. unwrap_or (option_map (λ x. depends program analysis x bit) o) false) effect.written ∙ is))
-]
+affected_word program analysis point bit e first second touched effect firsts seconds touches_it affected =
+    elim (affected_from program analysis point bit affected) [
+      | inl own ↦ elim (one_of (marks e.first bit) (marks e.second bit) (effect.own bit ∙ own)) [
+        | inl is ↦ set_left (bit_or first second) touched (bit / 64 % 64) (set_left first second (bit / 64 % 64) (firsts bit is))
+        | inr is ↦ set_left (bit_or first second) touched (bit / 64 % 64) (set_right first second (bit / 64 % 64) (seconds bit is))
+      ]
+      | inr is ↦ set_right (bit_or first second) touched (bit / 64 % 64)
+          (touches_it (ap (λ o. unwrap_or (option_map (λ x. depends program analysis x bit) o) false) effect.written ∙ is))
+    ]

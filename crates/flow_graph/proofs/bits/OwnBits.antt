@@ -1,5 +1,7 @@
 -- The bits that a statement owns, by number
-use Rattle.std.proofs.Common.{◌≡◌, ℕ, zero, suc, ◌+◌, ◌-◌, ◌<◌, ◌≤◌, ◌⊎◌, Bool, true, false, not, ◌||◌, List, [], ◌∷◌, ◌++◌, map, flat_map, length, Option, Some, None, cond, option_map, option_and_then, slice_get, unwrap_or, nat_eq, nat_lt, position, fold, if◌then◌else◌, inl, inr, refl, sym, ap, ◌∙◌, subst, append_assoc, length-append, arith}
+use Rattle.std.proofs.Common.{◌≡◌, ℕ, zero, suc, ◌+◌, ◌-◌, ◌<◌, ◌≤◌, ◌⊎◌, Bool, true, false, not, ◌||◌, List, [], ◌∷◌, ◌++◌, map, flat_map, length}
+use Rattle.std.proofs.Common.{Option, Some, None, cond, option_map, option_and_then, slice_get, unwrap_or, nat_eq, nat_lt, position, fold}
+use Rattle.std.proofs.Common.{if◌then◌else◌, inl, inr, refl, sym, ap, ◌∙◌, subst, append_assoc, length-append, arith}
 use Rattle.std.specs.List.{list_any, prefix_len, range_with_len}
 use Rattle.std.proofs.lemmas.Bool.{cases_lt, cases_eq, both_ways}
 use Rattle.std.proofs.lemmas.List.{length-map}
@@ -9,7 +11,8 @@ use Rattle.tac_program.specs.Programs.{Program}
 use Rattle.flow_graph.specs.code.Effects.{marks, owns, numbered}
 use Rattle.flow_graph.specs.Points.{point_count, points}
 use Rattle.flow_graph.specs.Transfers.{is_made_at}
-use Rattle.flow_graph.specs.Universes.{Definition, Expr, Reach, Avail, definition_at, dummies, evaluated_at, expression_at, expressions, noted, same_expression, some_expression, target_at}
+use Rattle.flow_graph.specs.Universes.{Definition, Expr, Reach, Avail, definition_at, dummies, evaluated_at, expression_at, expressions, noted}
+use Rattle.flow_graph.specs.Universes.{same_expression, some_expression, target_at}
 use Rattle.flow_graph.proofs.bits.ExpressionEquality.{same_is_equal}
 use Rattle.flow_graph.proofs.bits.Noted.{is_itself}
 use Rattle.flow_graph.proofs.lists.Ranges.{flat_map-range_more}
@@ -42,7 +45,8 @@ module _ {A : Type 0} where
           → (prefix_len (λ y. not (p y)) xs < length xs → is_at p xs (prefix_len (λ y. not (p y)) xs) ≡ true)
           → is_at p (x ∷ xs) (cond (not t) (1 + prefix_len (λ y. not (p y)) xs) 0) ≡ true
       by_test true is below rest = is
-      by_test false is below rest = ap (is_at p (x ∷ xs)) (let e : 1 + prefix_len (λ y. not (p y)) xs ≡ suc (prefix_len (λ y. not (p y)) xs) = omega arith in e) ∙ rest (omega arith)
+      by_test false is below rest = ap (is_at p (x ∷ xs))
+          (let e : 1 + prefix_len (λ y. not (p y)) xs ≡ suc (prefix_len (λ y. not (p y)) xs) = omega arith in e) ∙ rest (omega arith)
 
   none-passes : (p : A → Bool) (xs : List A) (n : ℕ) → length xs ≤ prefix_len (λ x. not (p x)) xs → is_at p xs n ≡ false
   none-passes p [] n past = refl
@@ -55,7 +59,8 @@ module _ {A : Type 0} where
       by_test false is past rest (suc n) = rest n (omega arith)
 
   -- where one element alone passes, it is at the position of the first
-  pub is_at-position : (p : A → Bool) (xs : List A) → ((i j : ℕ) → is_at p xs i ≡ true → is_at p xs j ≡ true → i ≡ j) → (n : ℕ) → is_at p xs n ≡ marks (position p xs) n
+  pub is_at-position : (p : A → Bool) (xs : List A) → ((i j : ℕ) → is_at p xs i ≡ true → is_at p xs j ≡ true → i ≡ j) → (n : ℕ)
+      → is_at p xs n ≡ marks (position p xs) n
   is_at-position p xs alone n = by_test (nat_lt (prefix_len (λ x. not (p x)) xs) (length xs)) refl
     where
       first : ℕ
@@ -63,9 +68,11 @@ module _ {A : Type 0} where
 
       at_first : is_at p xs (prefix_len (λ x. not (p x)) xs) ≡ true → (t : Bool) → is_at p xs n ≡ t → t ≡ nat_eq n (prefix_len (λ x. not (p x)) xs)
       at_first passes true is = sym (nat_eq-same n (prefix_len (λ x. not (p x)) xs) (alone n (prefix_len (λ x. not (p x)) xs) is passes))
-      at_first passes false is = sym (nat_eq-other n (prefix_len (λ x. not (p x)) xs) (λ same. both_ways (is_at p xs n) is (ap (is_at p xs) same ∙ passes)))
+      at_first passes false is =
+          sym (nat_eq-other n (prefix_len (λ x. not (p x)) xs) (λ same. both_ways (is_at p xs n) is (ap (is_at p xs) same ∙ passes)))
 
-      by_test : (t : Bool) → nat_lt (prefix_len (λ x. not (p x)) xs) (length xs) ≡ t → is_at p xs n ≡ marks (cond t (let o : Option ℕ = Some (prefix_len (λ x. not (p x)) xs) in o) None) n
+      by_test : (t : Bool) → nat_lt (prefix_len (λ x. not (p x)) xs) (length xs) ≡ t
+          → is_at p xs n ≡ marks (cond t (let o : Option ℕ = Some (prefix_len (λ x. not (p x)) xs) in o) None) n
       by_test true is =
           let below : prefix_len (λ x. not (p x)) xs < length xs = grind arith in
           at_first (first-passes p xs below) (is_at p xs n) refl
@@ -116,7 +123,8 @@ not_yet : (program : Program) (n point bit : ℕ) → n ≤ point → is_at (is_
 not_yet program zero point bit later = by_place (cases_lt bit (length (dummies program)))
   where
     by_place : (bit < length (dummies program)) ⊎ (length (dummies program) ≤ bit) → is_at (is_made_at point) (so_far program zero) bit ≡ false
-    by_place (inl below) = is_at-left (is_made_at point) (dummies program) [] bit below ∙ no_dummy point (range_with_len 0 (length program.variable_names)) bit
+    by_place (inl below) =
+        is_at-left (is_made_at point) (dummies program) [] bit below ∙ no_dummy point (range_with_len 0 (length program.variable_names)) bit
     by_place (inr past) = is_at-right (is_made_at point) (dummies program) [] bit (bit - length (dummies program)) (omega arith)
 not_yet program (suc n) point bit later =
     ap (λ ds. is_at (is_made_at point) ds bit) (ap (so_far program) (let e : suc n ≡ n + 1 = omega arith in e) ∙ so_far-more program n)
@@ -130,7 +138,8 @@ not_yet program (suc n) point bit later =
         ∙ added-other point n (target_at program n) (bit - length (so_far program n)) (λ e. absurd (omega arith))
 
 -- the definition of the last point stands last
-added-here : (point : ℕ) (target : Option ℕ) (before bit : ℕ) → before ≤ bit → is_at (is_made_at point) (added point target) (bit - before) ≡ marks (option_map (λ x. before) target) bit
+added-here : (point : ℕ) (target : Option ℕ) (before bit : ℕ) → before ≤ bit
+    → is_at (is_made_at point) (added point target) (bit - before) ≡ marks (option_map (λ x. before) target) bit
 added-here point None before bit past = refl
 added-here point (Some x) before bit past = by_place (bit - before) refl
   where
@@ -142,7 +151,8 @@ marked-below : (target : Option ℕ) (before bit : ℕ) → bit < before → fal
 marked-below None before bit below = refl
 marked-below (Some x) before bit below = sym (nat_eq-other bit before (λ e. absurd (omega arith)))
 
-made_by : (program : Program) (n point bit : ℕ) → point < n → is_at (is_made_at point) (so_far program n) bit ≡ marks (numbered program (length (so_far program point)) point) bit
+made_by : (program : Program) (n point bit : ℕ) → point < n
+    → is_at (is_made_at point) (so_far program n) bit ≡ marks (numbered program (length (so_far program point)) point) bit
 made_by program zero point bit earlier = absurd (omega arith)
 made_by program (suc n) point bit earlier =
     ap (λ ds. is_at (is_made_at point) ds bit) (ap (so_far program) (let e : suc n ≡ n + 1 = omega arith in e) ∙ so_far-more program n)
@@ -150,15 +160,18 @@ made_by program (suc n) point bit earlier =
   where
     by_point : (point ≡ n) ⊎ (point ≡ n → ⊥) → (bit < length (so_far program n)) ⊎ (length (so_far program n) ≤ bit)
         → (point < n → is_at (is_made_at point) (so_far program n) bit ≡ marks (numbered program (length (so_far program point)) point) bit)
-        → is_at (is_made_at point) (so_far program n ++ definition_at program n) bit ≡ marks (numbered program (length (so_far program point)) point) bit
+        → is_at (is_made_at point) (so_far program n ++ definition_at program n) bit
+        ≡ marks (numbered program (length (so_far program point)) point) bit
     by_point (inl same) (inl below) rest =
         is_at-left (is_made_at point) (so_far program n) (definition_at program n) bit below
         ∙ not_yet program n point bit (omega arith)
         ∙ marked-below (target_at program point) (length (so_far program point)) bit (subst (λ m. bit < length (so_far program m)) (sym same) below)
     by_point (inl same) (inr past) rest =
         is_at-right (is_made_at point) (so_far program n) (definition_at program n) bit (bit - length (so_far program n)) (omega arith)
-        ∙ subst (λ m. is_at (is_made_at point) (definition_at program m) (bit - length (so_far program m)) ≡ marks (numbered program (length (so_far program point)) point) bit) same
-        (added-here point (target_at program point) (length (so_far program point)) bit (subst (λ m. length (so_far program m) ≤ bit) (sym same) past))
+        ∙ subst (λ m. is_at (is_made_at point) (definition_at program m) (bit - length (so_far program m))
+        ≡ marks (numbered program (length (so_far program point)) point) bit) same
+        (added-here point (target_at program point) (length (so_far program point)) bit
+        (subst (λ m. length (so_far program m) ≤ bit) (sym same) past))
     by_point (inr apart) (inl below) rest =
         is_at-left (is_made_at point) (so_far program n) (definition_at program n) bit below ∙ rest (omega arith)
     by_point (inr apart) (inr past) rest =
@@ -172,8 +185,10 @@ pub definition_is_own : (program : Program) (number point bit : ℕ) → point <
     → marks (numbered program number point) bit ≡ owns program Reach point bit
 definition_is_own program number point bit below is =
     let dummy_count : length (dummies program) ≡ length program.variable_names =
-    length-map (range_with_len 0 (length program.variable_names)) (λ x. let d : Definition = (x, None) in d) ∙ length-range_with_len 0 (length program.variable_names) in
-    let same : number ≡ length (so_far program point) = omega (arith, is, dummy_count, length-append (dummies program) (flat_map (definition_at program) (range_with_len 0 point))) in
+    length-map (range_with_len 0 (length program.variable_names)) (λ x. let d : Definition = (x, None) in d)
+    ∙ length-range_with_len 0 (length program.variable_names) in
+    let same : number ≡ length (so_far program point) =
+    omega (arith, is, dummy_count, length-append (dummies program) (flat_map (definition_at program) (range_with_len 0 point))) in
     ap (λ m. marks (numbered program m point) bit) same ∙ sym (made_by program (point_count program) point bit below)
 
 -- ---- expressions
@@ -197,7 +212,8 @@ put-once : (known : List Expr) (e : Expr) → list_any (same_expression e) known
 put-once known e none once i j x at_i at_j = by_place (cases_lt i (length known)) (cases_lt j (length known))
   where
     apart : (k : ℕ) → k < length known → slice_get (known ++ e ∷ []) k ≡ Some x → x ≡ e → ⊥
-    apart k below at same = both_ways (same_expression e x) (none-is_at (same_expression e) known k x none (sym (get-left known (e ∷ []) k below) ∙ at)) (ap (same_expression e) same ∙ is_itself e)
+    apart k below at same = both_ways (same_expression e x)
+        (none-is_at (same_expression e) known k x none (sym (get-left known (e ∷ []) k below) ∙ at)) (ap (same_expression e) same ∙ is_itself e)
 
     by_place : (i < length known) ⊎ (length known ≤ i) → (j < length known) ⊎ (length known ≤ j) → i ≡ j
     by_place (inl p) (inl q) = once i j x (sym (get-left known (e ∷ []) i p) ∙ at_i) (sym (get-left known (e ∷ []) j q) ∙ at_j)
@@ -241,13 +257,16 @@ pub expression_is_own : (program : Program) (point bit : ℕ) → marks (evaluat
 expression_is_own program point bit = by_expression (expression_at program point)
   where
     once : StandOnce (expressions program)
-    once = all-noted-once [] (flat_map (λ point. some_expression (expression_at program point)) (points program)) (λ i j e at_i at_j. absurd (cc at_i))
+    once =
+        all-noted-once [] (flat_map (λ point. some_expression (expression_at program point)) (points program)) (λ i j e at_i at_j. absurd (cc at_i))
 
-    alone : (e : Expr) (i j : ℕ) → is_at (same_expression e) (expressions program) i ≡ true → is_at (same_expression e) (expressions program) j ≡ true → i ≡ j
+    alone : (e : Expr) (i j : ℕ) → is_at (same_expression e) (expressions program) i ≡ true → is_at (same_expression e) (expressions program) j ≡ true
+        → i ≡ j
     alone e i j p q =
         let (x, at_x, is_x) = passing (same_expression e) (slice_get (expressions program) i) p in
         let (y, at_y, is_y) = passing (same_expression e) (slice_get (expressions program) j) q in
-        once i j e (at_x ∙ ap (λ z. let o : Option Expr = Some z in o) (sym (same_is_equal e x is_x))) (at_y ∙ ap (λ z. let o : Option Expr = Some z in o) (sym (same_is_equal e y is_y)))
+        once i j e (at_x ∙ ap (λ z. let o : Option Expr = Some z in o) (sym (same_is_equal e x is_x)))
+        (at_y ∙ ap (λ z. let o : Option Expr = Some z in o) (sym (same_is_equal e y is_y)))
 
     by_expression : (o : Option Expr) → marks (option_and_then (λ e. position (same_expression e) (expressions program)) o) bit
         ≡ unwrap_or (option_map (λ e. unwrap_or (option_map (same_expression e) o) false) (slice_get (expressions program) bit)) false

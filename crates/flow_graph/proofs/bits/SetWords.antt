@@ -1,5 +1,6 @@
 -- Words of sets of bits
-use Rattle.std.proofs.Common.{◌≡◌, ℕ, ◌+◌, ◌-◌, ◌*◌, ◌/◌, ◌%◌, ◌^◌, ◌<◌, ◌≤◌, ◌⊎◌, Bool, true, false, ◌&&◌, ◌||◌, eqb, nat_eq, nat_lt, List, length, get_or, set, bit_or, inl, inr, refl, sym, ap, ap₂, ◌∙◌, arith}
+use Rattle.std.proofs.Common.{◌≡◌, ℕ, ◌+◌, ◌-◌, ◌*◌, ◌/◌, ◌%◌, ◌^◌, ◌<◌, ◌≤◌, ◌⊎◌, Bool, true, false, ◌&&◌, ◌||◌, eqb, nat_eq, nat_lt, List, length}
+use Rattle.std.proofs.Common.{get_or, set, bit_or, inl, inr, refl, sym, ap, ap₂, ◌∙◌, arith}
 use Rattle.std.proofs.lemmas.Bool.{cases_eq, cases_lt, and_right}
 use Rattle.std.proofs.lemmas.List.{get_or_read, get_or-set_same, get_or-set_other}
 use Rattle.std.proofs.lemmas.Nat.{one_shl, same_from_place}
@@ -47,7 +48,8 @@ pub word_of_another : (n word k : ℕ) → k < 64 → (n / 64 ≡ word → ⊥) 
 word_of_another n word k within other = has_bit-zero k ∙ sym (nat_eq-other (64 * word + k) n (λ e. other (omega arith)))
 
 -- the word of all bits below a number
-pub low_word : (bits word count k : ℕ) → k < 64 → count ≡ bits - 64 * word → count < 64 → has_bit (1 * 2 ^ count % 2 ^ 64 - 1) k ≡ nat_lt (64 * word + k) bits
+pub low_word : (bits word count k : ℕ) → k < 64 → count ≡ bits - 64 * word → count < 64
+    → has_bit (1 * 2 ^ count % 2 ^ 64 - 1) k ≡ nat_lt (64 * word + k) bits
 unfolding has_bit
 low_word bits word count k within is few = ap (λ m. has_bit (m - 1) k) (one_shl count 64 few) ∙ by_case (cases_lt k count)
   where
@@ -60,7 +62,8 @@ unfolding has_bit
 whole_word bits word k within many = ap (λ x. eqb x 1) (bit_at_ones 64 k within) ∙ sym (nat_lt-below (64 * word + k) bits (omega arith))
 
 -- a bit that is set in a block of words
-module _ (words : List ℕ) (width row bit word : ℕ) (there : HasRow words width row) (inside : bit / 64 < width) (found : word ≡ get_or words (row * width + bit / 64) word) where
+module _ (words : List ℕ) (width row bit word : ℕ) (there : HasRow words width row) (inside : bit / 64 < width)
+    (found : word ≡ get_or words (row * width + bit / 64) word) where
   abbrev written : List ℕ
   written = set words (row * width + bit / 64) (bit_or word (1 * 2 ^ (bit % 64) % 2 ^ 64))
 
@@ -70,16 +73,20 @@ module _ (words : List ℕ) (width row bit word : ℕ) (there : HasRow words wid
   is_word : word ≡ get_or words (row * width + bit / 64) 0
   is_word = get_or_read words (row * width + bit / 64) word place found 0
 
-  pub set_bit : (r b : ℕ) → b / 64 < width → table_has (set words (row * width + bit / 64) (bit_or word (1 * 2 ^ (bit % 64) % 2 ^ 64))) width r b ≡ (table_has words width r b || (nat_eq r row && nat_eq b bit))
+  pub set_bit : (r b : ℕ) → b / 64 < width → table_has (set words (row * width + bit / 64) (bit_or word (1 * 2 ^ (bit % 64) % 2 ^ 64))) width r b
+      ≡ (table_has words width r b || (nat_eq r row && nat_eq b bit))
   set_bit r b below = by_word (cases_eq (r * width + b / 64) (row * width + bit / 64))
     where
-      by_bit : (r ≡ row) → (b / 64 ≡ bit / 64) → (b % 64 ≡ bit % 64) ⊎ (b % 64 ≡ bit % 64 → ⊥) → has_bit (1 * 2 ^ (bit % 64) % 2 ^ 64) (b % 64) ≡ (nat_eq r row && nat_eq b bit)
+      by_bit : (r ≡ row) → (b / 64 ≡ bit / 64) → (b % 64 ≡ bit % 64) ⊎ (b % 64 ≡ bit % 64 → ⊥)
+          → has_bit (1 * 2 ^ (bit % 64) % 2 ^ 64) (b % 64) ≡ (nat_eq r row && nat_eq b bit)
       by_bit same_row same_word (inl same) =
           let fits : bit % 64 < 64 = omega arith in
-          ap (has_bit (1 * 2 ^ (bit % 64) % 2 ^ 64)) same ∙ has_bit-shifted_same (bit % 64) fits ∙ ap₂ ◌&&◌ (sym (nat_eq-same r row same_row)) (sym (nat_eq-same b bit (omega arith)))
+          ap (has_bit (1 * 2 ^ (bit % 64) % 2 ^ 64)) same ∙ has_bit-shifted_same (bit % 64) fits
+          ∙ ap₂ ◌&&◌ (sym (nat_eq-same r row same_row)) (sym (nat_eq-same b bit (omega arith)))
       by_bit same_row same_word (inr other) =
           let fits : bit % 64 < 64 = omega arith in
-          has_bit-shifted_other (bit % 64) (b % 64) fits other ∙ sym (and_right (nat_eq r row) (nat_eq b bit) (nat_eq-other b bit (λ e. other (ap (λ n. n % 64) e))))
+          has_bit-shifted_other (bit % 64) (b % 64) fits other
+          ∙ sym (and_right (nat_eq r row) (nat_eq b bit) (nat_eq-other b bit (λ e. other (ap (λ n. n % 64) e))))
 
       apart : (r * width + b / 64 ≡ row * width + bit / 64 → ⊥) → (t u : Bool) → nat_eq r row ≡ t → nat_eq b bit ≡ u → false ≡ (t && u)
       apart other false u is_t is_u = refl
@@ -90,14 +97,17 @@ module _ (words : List ℕ) (width row bit word : ℕ) (there : HasRow words wid
           absurd (other (ap₂ (λ m n. m * width + n / 64) same_row same_bit))
 
       by_word : (r * width + b / 64 ≡ row * width + bit / 64) ⊎ (r * width + b / 64 ≡ row * width + bit / 64 → ⊥)
-          → table_has (set words (row * width + bit / 64) (bit_or word (1 * 2 ^ (bit % 64) % 2 ^ 64))) width r b ≡ (table_has words width r b || (nat_eq r row && nat_eq b bit))
+          → table_has (set words (row * width + bit / 64) (bit_or word (1 * 2 ^ (bit % 64) % 2 ^ 64))) width r b
+          ≡ (table_has words width r b || (nat_eq r row && nat_eq b bit))
       by_word (inl same) =
           let (same_row, same_word) = same_from_place r (b / 64) row (bit / 64) width below inside same in
           ap (λ i. has_bit (get_or written i 0) (b % 64)) same
           ∙ ap (λ v. has_bit v (b % 64)) (get_or-set_same words (row * width + bit / 64) (bit_or word (1 * 2 ^ (bit % 64) % 2 ^ 64)) 0 place)
           ∙ has_bit-or word (1 * 2 ^ (bit % 64) % 2 ^ 64) (b % 64)
-          ∙ ap₂ ◌||◌ (ap (λ v. has_bit v (b % 64)) (is_word ∙ ap (λ i. get_or words i 0) (sym same))) (by_bit same_row same_word (cases_eq (b % 64) (bit % 64)))
+          ∙ ap₂ ◌||◌ (ap (λ v. has_bit v (b % 64)) (is_word ∙ ap (λ i. get_or words i 0) (sym same)))
+          (by_bit same_row same_word (cases_eq (b % 64) (bit % 64)))
       by_word (inr other) =
-          ap (λ v. has_bit v (b % 64)) (get_or-set_other words (row * width + bit / 64) (r * width + b / 64) (bit_or word (1 * 2 ^ (bit % 64) % 2 ^ 64)) 0 other)
+          ap (λ v. has_bit v (b % 64))
+          (get_or-set_other words (row * width + bit / 64) (r * width + b / 64) (bit_or word (1 * 2 ^ (bit % 64) % 2 ^ 64)) 0 other)
           ∙ or_same (table_has words width r b)
           ∙ ap (λ t. table_has words width r b || t) (apart other (nat_eq r row) (nat_eq b bit) refl refl)

@@ -10,7 +10,8 @@ use Rattle.flow_graph.specs.Universes.{Analysis, Reach, Live, Avail, Busy}
 use Rattle.flow_graph.proofs.paths.Reversal.{edges-twice}
 
 -- edges that are those of the graph, once they are turned round
-pub turned_are_directed : (program : Program) (analysis : Analysis) (turned : List Edge) → is_backward analysis ≡ true → map reversed_edge turned ≡ edges program
+pub turned_are_directed : (program : Program) (analysis : Analysis) (turned : List Edge) → is_backward analysis ≡ true
+    → map reversed_edge turned ≡ edges program
     → turned ≡ (may_shape program analysis).edges
 turned_are_directed program Reach turned backward are = absurd (cc backward)
 turned_are_directed program Live turned backward are = sym (edges-twice turned) ∙ ap (map reversed_edge) are

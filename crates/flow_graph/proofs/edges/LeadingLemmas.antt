@@ -1,5 +1,7 @@
 -- The search backwards from the marked points
-use Rattle.std.proofs.Common.{◌≡◌, ◌≢◌, ◌⊎◌, inl, inr, ℕ, suc, ◌+◌, ◌<◌, ◌≤◌, Bool, true, false, List, [], ◌∷◌, ◌++◌, length, get_or, set, fold, sum_by, All, Contains, nat_eq, if◌then◌else◌, refl, sym, ap, ◌∙◌, subst, arith, length-append, length-set, get_or-set_same, get_or-set_other}
+use Rattle.std.proofs.Common.{◌≡◌, ◌≢◌, ◌⊎◌, inl, inr, ℕ, suc, ◌+◌, ◌<◌, ◌≤◌, Bool, true, false, List, [], ◌∷◌, ◌++◌, length, get_or, set, fold}
+use Rattle.std.proofs.Common.{sum_by, All, Contains, nat_eq, if◌then◌else◌, refl, sym, ap, ◌∙◌, subst, arith, length-append, length-set}
+use Rattle.std.proofs.Common.{get_or-set_same, get_or-set_other}
 use Rattle.std.specs.List.{filter, range_with_len}
 use Rattle.std.proofs.lemmas.Bool.{cases_lt}
 use Rattle.std.proofs.lemmas.List.{get_or_past, get_or-map, length-map}
@@ -14,7 +16,8 @@ use Rattle.flow_graph.specs.code.Searching.{AreSources, sources_of, Search, sear
 use Rattle.flow_graph.specs.code.NumberLists.{contents}
 use Rattle.flow_graph.specs.Paths.{Edge, IsPath, target_of}
 use Rattle.flow_graph.specs.Points.{point_count}
-use Rattle.flow_graph.proofs.lists.Membership.{Contains-first, Contains-later, Contains-nil, Contains-cons, Contains-one, Contains-in_range, Contains-range}
+use Rattle.flow_graph.proofs.lists.Membership.{Contains-first, Contains-later, Contains-nil, Contains-cons, Contains-one, Contains-in_range}
+use Rattle.flow_graph.proofs.lists.Membership.{Contains-range}
 use Rattle.flow_graph.proofs.edges.SourceLemmas.{HasEdge, get_or_any, sources_have_edges, edges_have_sources}
 
 -- whether a point is known
@@ -55,7 +58,9 @@ one_known old x below = by_test (get_or old.known x false) refl
     made_known = get_or-set_same old.known x true false below
 
     kept_known : (z : ℕ) → (b : Bool) → nat_eq z x ≡ b → Knows old.known z → Knows (set old.known x true) z
-    kept_known z true test is = let same : z ≡ x = grind arith in subst (Knows (set old.known x true)) (sym same) (get_or-set_same old.known x true false below)
+    kept_known z true test is =
+        let same : z ≡ x = grind arith in
+        subst (Knows (set old.known x true)) (sym same) (get_or-set_same old.known x true false below)
     kept_known z false test is = let other : z ≢ x = grind arith in get_or-set_other old.known x z true false other ∙ is
 
     known_before : (z : ℕ) → z ≢ x → Knows (set old.known x true) z → Knows old.known z
@@ -64,7 +69,8 @@ one_known old x below = by_test (get_or old.known x false) refl
     counted : unknown (set old.known x true) + one_if_not (get_or old.known x false) ≡ unknown old.known + 0
     counted = sum_by-set one_if_not old.known x true false below
 
-    by_test : (b : Bool) → get_or old.known x false ≡ b → HaveBecomeKnown (x ∷ []) old (search_of (set old.known x true) (if b then old.work else old.work ++ x ∷ []))
+    by_test : (b : Bool) → get_or old.known x false ≡ b
+        → HaveBecomeKnown (x ∷ []) old (search_of (set old.known x true) (if b then old.work else old.work ++ x ∷ []))
     by_test true was = record {
       count = length-set old.known x true;
       made = λ z at. subst (Knows (set old.known x true)) (sym (Contains-one x z at)) (get_or-set_same old.known x true false below);
@@ -88,10 +94,14 @@ one_known old x below = by_test (get_or old.known x false) refl
       remains = omega (arith, counted, ap one_if_not was, length-append old.work (x ∷ []));
     }
       where
-        new_or_old : (z : ℕ) (c : Bool) → nat_eq z x ≡ c → Knows (set old.known x true) z → Knows old.known z ⊎ (Contains (x ∷ []) z × Contains (old.work ++ x ∷ []) z)
+        new_or_old : (z : ℕ) (c : Bool) → nat_eq z x ≡ c → Knows (set old.known x true) z
+            → Knows old.known z ⊎ (Contains (x ∷ []) z × Contains (old.work ++ x ∷ []) z)
         new_or_old z true test is =
             let same : x ≡ z = grind arith in
-            inr (subst (Contains (x ∷ [])) same (Contains-first x []), Contains-append_right old.work (x ∷ []) z (subst (Contains (x ∷ [])) same (Contains-first x [])))
+            inr (
+              subst (Contains (x ∷ [])) same (Contains-first x []),
+              Contains-append_right old.work (x ∷ []) z (subst (Contains (x ∷ [])) same (Contains-first x [])),
+            )
         new_or_old z false test is = inl (known_before z (grind arith) is)
 
 -- and each of some
@@ -107,7 +117,8 @@ all_known old [] inside = record {
 }
 all_known old (x ∷ xs) inside =
     let first : HaveBecomeKnown (x ∷ []) old (with_known old x) = one_known old x (inside 0 0 (omega arith)) in
-    let rest : HaveBecomeKnown xs (with_known old x) (fold with_known (with_known old x) xs) = all_known (with_known old x) xs (λ k d below. omega (arith, inside (suc k) d (omega arith), first.count)) in
+    let rest : HaveBecomeKnown xs (with_known old x) (fold with_known (with_known old x) xs) =
+    all_known (with_known old x) xs (λ k d below. omega (arith, inside (suc k) d (omega arith), first.count)) in
     record {
       count = rest.count ∙ first.count;
       made = λ z at.
@@ -160,7 +171,8 @@ leads_back program marked x y (edge, at, from, to) (path, ahead, is_path, is_mar
 
 -- the sources of one point looked at
 pub one_looked_at : (program : Program) (marked known : List Bool) (work : List ℕ) (point : ℕ) (new : Search) → IsSound program
-    → Searches program marked (search_of known (work ++ point ∷ [])) → HaveBecomeKnown (sources_of program point) (search_of known work) new → Searches program marked new
+    → Searches program marked (search_of known (work ++ point ∷ [])) → HaveBecomeKnown (sources_of program point) (search_of known work) new
+    → Searches program marked new
 one_looked_at program marked known work point new sound searches become = record {
   count = become.count ∙ searches.count;
   inside = λ x at. inside_step x (become.only_work x at);
@@ -179,7 +191,8 @@ one_looked_at program marked known work point new sound searches become = record
 
     sound_step : (x : ℕ) → Knows known x ⊎ (Contains (sources_of program point) x × Contains new.work x) → LeadsTo program marked x
     sound_step x (inl is) = searches.sound x is
-    sound_step x (inr (at, working)) = leads_back program marked x point (sources_have_edges program sound x point at).1 (searches.sound point (searches.found point (Contains-append_right work (point ∷ []) point (Contains-first point []))))
+    sound_step x (inr (at, working)) = leads_back program marked x point (sources_have_edges program sound x point at).1
+        (searches.sound point (searches.found point (Contains-append_right work (point ∷ []) point (Contains-first point []))))
 
     found_step : (x : ℕ) → Contains work x ⊎ Contains (sources_of program point) x → Knows new.known x
     found_step x (inl at) = become.kept x (searches.found x (Contains-append_left work (point ∷ []) x at))
@@ -187,9 +200,11 @@ one_looked_at program marked known work point new sound searches become = record
 
     looked : (x y : ℕ) → HasEdge program x y → Contains work y ⊎ Contains (point ∷ []) y → Knows new.known x ⊎ Contains new.work y
     looked x y edge (inl at) = inr (become.work y at)
-    looked x y edge (inr here) = inl (become.made x (edges_have_sources program sound x point (subst (HasEdge program x) (Contains-one point y here) edge)))
+    looked x y edge (inr here) =
+        inl (become.made x (edges_have_sources program sound x point (subst (HasEdge program x) (Contains-one point y here) edge)))
 
-    closed_step : (x y : ℕ) → HasEdge program x y → Knows known y ⊎ (Contains (sources_of program point) y × Contains new.work y) → Knows new.known x ⊎ Contains new.work y
+    closed_step : (x y : ℕ) → HasEdge program x y → Knows known y ⊎ (Contains (sources_of program point) y × Contains new.work y)
+        → Knows new.known x ⊎ Contains new.work y
     closed_step x y edge (inr (at, working)) = inr working
     closed_step x y edge (inl is) =
         elim (searches.closed x y edge is) [
@@ -198,18 +213,21 @@ one_looked_at program marked known work point new sound searches become = record
         ]
 
 -- what stands in the table of sources
-pub reads_sources : (program : Program) (lists : List (SmallVec ℕ)) (point : ℕ) (list : SmallVec ℕ) (sources : List ℕ) → AreSources program (contents lists)
+pub reads_sources : (program : Program) (lists : List (SmallVec ℕ)) (point : ℕ) (list : SmallVec ℕ) (sources : List ℕ)
+    → AreSources program (contents lists)
     → point < point_count program → list ≡ get_or lists point list → sources ≡ list.items → sources ≡ sources_of program point
 reads_sources program lists point list sources are below read is =
     let there : point < length lists = omega (arith, are.count, length-map lists (λ (list : SmallVec ℕ). list.items)) in
-    is ∙ ap (λ (list : SmallVec ℕ). list.items) read ∙ sym (get_or-map (λ (list : SmallVec ℕ). list.items) lists point list [] there) ∙ are.each point [] below
+    is ∙ ap (λ (list : SmallVec ℕ). list.items) read ∙ sym (get_or-map (λ (list : SmallVec ℕ). list.items) lists point list [] there)
+    ∙ are.each point [] below
 
 pub sources_are_points : (program : Program) → IsSound program → (point : ℕ) → All (λ x. x < point_count program) (sources_of program point)
 sources_are_points program sound point k d inside =
     (sources_have_edges program sound (get_or (sources_of program point) k d) point (k, inside, get_or_any (sources_of program point) k _ d inside)).0
 
 -- the point that is looked at
-pub looked_at_inside : (program : Program) (marked known : List Bool) (work rest : List ℕ) (point : ℕ) → Searches program marked (search_of known work) → work ≡ rest ++ point ∷ [] → point < point_count program
+pub looked_at_inside : (program : Program) (marked known : List Bool) (work rest : List ℕ) (point : ℕ)
+    → Searches program marked (search_of known work) → work ≡ rest ++ point ∷ [] → point < point_count program
 looked_at_inside program marked known work rest point searches is =
     searches.inside point (subst (λ w. Contains w point) (sym is) (Contains-append_right rest (point ∷ []) point (Contains-first point [])))
 
@@ -219,14 +237,20 @@ pub record StepTaken (program : Program) (marked : List Bool) (old new : Search)
   pub smaller : remaining new < remaining old
 
 pub step_taken : (program : Program) (marked known : List Bool) (work rest : List ℕ) (point : ℕ) (sources : List ℕ) (new : Search) → IsSound program
-    → Searches program marked (search_of known work) → work ≡ rest ++ point ∷ [] → sources ≡ sources_of program point → new ≡ fold with_known (search_of known rest) sources
+    → Searches program marked (search_of known work) → work ≡ rest ++ point ∷ [] → sources ≡ sources_of program point
+    → new ≡ fold with_known (search_of known rest) sources
     → StepTaken program marked (search_of known work) new
 step_taken program marked known work rest point sources new sound searches work_is sources_are is =
-    let become : HaveBecomeKnown (sources_of program point) (search_of known rest) (fold with_known (search_of known rest) (sources_of program point)) =
-    all_known (search_of known rest) (sources_of program point) (λ k d inside. omega (arith, searches.count, sources_are_points program sound point k d inside)) in
-    let same : new ≡ fold with_known (search_of known rest) (sources_of program point) = is ∙ ap (λ xs. fold with_known (search_of known rest) xs) sources_are in
-    let become_new : HaveBecomeKnown (sources_of program point) (search_of known rest) new = subst (HaveBecomeKnown (sources_of program point) (search_of known rest)) (sym same) become in
-    let before : Searches program marked (search_of known (rest ++ point ∷ [])) = subst (λ w. Searches program marked (search_of known w)) work_is searches in
+    let become : HaveBecomeKnown (sources_of program point) (search_of known rest)
+    (fold with_known (search_of known rest) (sources_of program point)) =
+    all_known (search_of known rest) (sources_of program point)
+    (λ k d inside. omega (arith, searches.count, sources_are_points program sound point k d inside)) in
+    let same : new ≡ fold with_known (search_of known rest) (sources_of program point) =
+    is ∙ ap (λ xs. fold with_known (search_of known rest) xs) sources_are in
+    let become_new : HaveBecomeKnown (sources_of program point) (search_of known rest) new =
+    subst (HaveBecomeKnown (sources_of program point) (search_of known rest)) (sym same) become in
+    let before : Searches program marked (search_of known (rest ++ point ∷ [])) =
+    subst (λ w. Searches program marked (search_of known w)) work_is searches in
     record {
       searches = one_looked_at program marked known rest point new sound before become_new;
       smaller = omega (arith, become_new.remains, ap length work_is, length-append rest (point ∷ []));
@@ -236,7 +260,8 @@ Contains-in_filter : (p : ℕ → Bool) (xs : List ℕ) (x : ℕ) → Contains (
 Contains-in_filter p [] x at = absurd (Contains-nil x at)
 Contains-in_filter p (y ∷ ys) x at = by_test (p y) refl at (λ later. Contains-in_filter p ys x later)
   where
-    by_test : (b : Bool) → p y ≡ b → Contains (if b then y ∷ filter p ys else filter p ys) x → (Contains (filter p ys) x → Contains ys x × (p x ≡ true)) → Contains (y ∷ ys) x × (p x ≡ true)
+    by_test : (b : Bool) → p y ≡ b → Contains (if b then y ∷ filter p ys else filter p ys) x
+        → (Contains (filter p ys) x → Contains ys x × (p x ≡ true)) → Contains (y ∷ ys) x × (p x ≡ true)
     by_test true test at rest =
         elim (Contains-cons y (filter p ys) x at) [
           | inl same ↦ (subst (Contains (y ∷ ys)) (sym same) (Contains-first y ys), ap p same ∙ test)
@@ -248,7 +273,8 @@ Contains-filter : (p : ℕ → Bool) (xs : List ℕ) (x : ℕ) → Contains xs x
 Contains-filter p [] x at passes = absurd (Contains-nil x at)
 Contains-filter p (y ∷ ys) x at passes = by_test (p y) refl (Contains-cons y ys x at) (λ later. Contains-filter p ys x later passes)
   where
-    by_test : (b : Bool) → p y ≡ b → (x ≡ y) ⊎ Contains ys x → (Contains ys x → Contains (filter p ys) x) → Contains (if b then y ∷ filter p ys else filter p ys) x
+    by_test : (b : Bool) → p y ≡ b → (x ≡ y) ⊎ Contains ys x → (Contains ys x → Contains (filter p ys) x)
+        → Contains (if b then y ∷ filter p ys else filter p ys) x
     by_test true test (inl same) rest = subst (Contains (y ∷ filter p ys)) (sym same) (Contains-first y (filter p ys))
     by_test true test (inr later) rest = Contains-later y (filter p ys) x (rest later)
     by_test false test (inl same) rest = absurd (cc (sym test ∙ ap p (sym same) ∙ passes))
@@ -266,7 +292,8 @@ search_begins program marked count = record {
   sound = λ x is. ([], x, refl, is);
   found = λ x at. (Contains-in_filter (λ x. get_or marked x false) (range_with_len 0 (length marked)) x at).1;
   includes = λ x is. is;
-  closed = λ x y edge is. inr (Contains-filter (λ x. get_or marked x false) (range_with_len 0 (length marked)) y (Contains-range 0 (length marked) y (omega arith) (omega (arith, below y is))) is);
+  closed = λ x y edge is. inr (Contains-filter (λ x. get_or marked x false) (range_with_len 0 (length marked)) y
+      (Contains-range 0 (length marked) y (omega arith) (omega (arith, below y is))) is);
 }
   where
     below : (y : ℕ) → Knows marked y → y < length marked
@@ -286,7 +313,8 @@ complete program marked known searches (edge ∷ path) x ahead (at, from, rest) 
       | inr none ↦ absurd (Contains-nil (target_of edge) none)
     ]
 
-pub search_tells : (program : Program) (marked known : List Bool) (work : List ℕ) → Searches program marked (search_of known work) → work ≡ [] → TellLeading program marked known
+pub search_tells : (program : Program) (marked known : List Bool) (work : List ℕ) → Searches program marked (search_of known work) → work ≡ []
+    → TellLeading program marked known
 search_tells program marked known work searches none =
     let done : Searches program marked (search_of known []) = subst (λ w. Searches program marked (search_of known w)) none searches in
     record {

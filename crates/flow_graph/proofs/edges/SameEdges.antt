@@ -1,6 +1,8 @@
 -- Problems that agree in their edges and transfers
 use Rattle.std.proofs.Common.{◌≡◌, ℕ, Bool, List, [], ◌∷◌, refl, sym, ap, ◌∙◌}
-use Rattle.flow_graph.specs.Paths.{Edge, Step, Call, Ret, target_of, Shape, Transfer, IsEdge, IsPath, IsValidPath, value_across, value_after, HasPath, SomePathHas, EveryPathHas, IsBackwardValidPath, value_before, HasBackwardPath, SomeBackwardPathHas, EveryBackwardPathHas}
+use Rattle.flow_graph.specs.Paths.{Edge, Step, Call, Ret, target_of, Shape, Transfer, IsEdge, IsPath, IsValidPath, value_across, value_after, HasPath}
+use Rattle.flow_graph.specs.Paths.{SomePathHas, EveryPathHas, IsBackwardValidPath, value_before, HasBackwardPath, SomeBackwardPathHas}
+use Rattle.flow_graph.specs.Paths.{EveryBackwardPathHas}
 use Rattle.flow_graph.specs.WellFormed.{HasSameEdges, AgreesOnSteps}
 use Rattle.flow_graph.specs.PathLaws.{SameEdgesSamePaths, SameEdgesSameBackwardPaths}
 
@@ -11,7 +13,8 @@ same_edges-sym same = record {
   same_edges = λ edge. ((same.same_edges edge).1, (same.same_edges edge).0);
 }
 
-agrees-sym : {first second : Shape} {transfer other : Transfer} → HasSameEdges first second → AgreesOnSteps first transfer other → AgreesOnSteps second other transfer
+agrees-sym : {first second : Shape} {transfer other : Transfer} → HasSameEdges first second → AgreesOnSteps first transfer other
+    → AgreesOnSteps second other transfer
 agrees-sym same agrees = record {
   same_gen = λ x y edge. sym (agrees.same_gen x y ((same.same_edges (Step x y)).1 edge));
   same_kill = λ x y edge. sym (agrees.same_kill x y ((same.same_edges (Step x y)).1 edge));
@@ -25,7 +28,8 @@ path_same same (edge ∷ path) x y is_path = ((same.same_edges edge).0 is_path.0
 valid_same : {first second : Shape} → HasSameEdges first second → (path : List Edge) (x : ℕ) → IsValidPath first path x → IsValidPath second path x
 valid_same {second} same path x valid = (rw (← same.same_root) (path_same same path _ x valid.0), valid.1)
 
-backward_same : {first second : Shape} → HasSameEdges first second → (path : List Edge) (x : ℕ) → IsBackwardValidPath first path x → IsBackwardValidPath second path x
+backward_same : {first second : Shape} → HasSameEdges first second → (path : List Edge) (x : ℕ) → IsBackwardValidPath first path x
+    → IsBackwardValidPath second path x
 backward_same {second} same path x valid = (rw (← same.same_final) (path_same same path x _ valid.0), valid.1)
 
 across_same : {shape : Shape} {transfer other : Transfer} → AgreesOnSteps shape transfer other → (edge : Edge) (value : Bool) → IsEdge shape edge
@@ -34,28 +38,33 @@ across_same agrees (Step x y) value is_edge = rw (agrees.same_gen x y is_edge, a
 across_same agrees (Call site x y) value is_edge = refl
 across_same agrees (Ret site x y) value is_edge = refl
 
-after_same : {shape : Shape} {transfer other : Transfer} → AgreesOnSteps shape transfer other → (path : List Edge) (x y : ℕ) (value : Bool) → IsPath shape x path y
+after_same : {shape : Shape} {transfer other : Transfer} → AgreesOnSteps shape transfer other → (path : List Edge) (x y : ℕ) (value : Bool)
+    → IsPath shape x path y
     → value_after transfer path value ≡ value_after other path value
 after_same agrees [] x y value is_path = refl
 after_same {other} agrees (edge ∷ path) x y value is_path =
     after_same agrees path (target_of edge) y _ is_path.2 ∙ ap (value_after other path) (across_same agrees edge value is_path.0)
 
-before_same : {shape : Shape} {transfer other : Transfer} → AgreesOnSteps shape transfer other → (path : List Edge) (x y : ℕ) (value : Bool) → IsPath shape x path y
+before_same : {shape : Shape} {transfer other : Transfer} → AgreesOnSteps shape transfer other → (path : List Edge) (x y : ℕ) (value : Bool)
+    → IsPath shape x path y
     → value_before transfer path value ≡ value_before other path value
 before_same agrees [] x y value is_path = refl
 before_same {transfer} agrees (edge ∷ path) x y value is_path =
     ap (value_across transfer edge) (before_same agrees path (target_of edge) y value is_path.2) ∙ across_same agrees edge _ is_path.0
 
 -- the value that both have, each from its own boundary
-after_boundary : {shape : Shape} {transfer other : Transfer} → AgreesOnSteps shape transfer other → (path : List Edge) (x y : ℕ) → IsPath shape x path y
+after_boundary : {shape : Shape} {transfer other : Transfer} → AgreesOnSteps shape transfer other → (path : List Edge) (x y : ℕ)
+    → IsPath shape x path y
     → value_after transfer path transfer.boundary ≡ value_after other path other.boundary
 after_boundary {other} agrees path x y is_path = after_same agrees path x y _ is_path ∙ ap (value_after other path) agrees.same_boundary
 
-before_boundary : {shape : Shape} {transfer other : Transfer} → AgreesOnSteps shape transfer other → (path : List Edge) (x y : ℕ) → IsPath shape x path y
+before_boundary : {shape : Shape} {transfer other : Transfer} → AgreesOnSteps shape transfer other → (path : List Edge) (x y : ℕ)
+    → IsPath shape x path y
     → value_before transfer path transfer.boundary ≡ value_before other path other.boundary
 before_boundary {other} agrees path x y is_path = before_same agrees path x y _ is_path ∙ ap (value_before other path) agrees.same_boundary
 
-module _ (first second : Shape) (transfer other : Transfer) (point : ℕ) (same : HasSameEdges first second) (agrees : AgreesOnSteps first transfer other) where
+module _ (first second : Shape) (transfer other : Transfer) (point : ℕ) (same : HasSameEdges first second)
+    (agrees : AgreesOnSteps first transfer other) where
   has_same : HasPath first point → HasPath second point
   has_same has = (has.0, valid_same same has.0 point has.1)
 

@@ -1,5 +1,6 @@
 -- The call sites of procedures, point by point
-use Rattle.std.proofs.Common.{◌≡◌, ℕ, ◌+◌, ◌<◌, List, [], length, get_or, fold, All, Option, Some, None, option_map, unwrap_or, refl, sym, ap, ◌∙◌, arith}
+use Rattle.std.proofs.Common.{◌≡◌, ℕ, ◌+◌, ◌<◌, List, [], length, get_or, fold, All, Option, Some, None, option_map, unwrap_or, refl, sym, ap, ◌∙◌}
+use Rattle.std.proofs.Common.{arith}
 use Rattle.std.specs.List.{filter, range_with_len}
 use Rattle.tac_program.specs.Programs.{Program}
 use Rattle.tac_program.specs.Sound.{IsSound, AllDiffer}
@@ -24,7 +25,9 @@ callees_are program point sound below = by_kind (kind_at program point) refl
   where
     by_kind : (k : Option StmtKind) → kind_at program point ≡ k → AreCallees program (unwrap_or (option_map callees_named k) [])
     by_kind None is = no_callees program
-    by_kind (Some (kind.Call callees)) is = let stand = stands program sound point (kind.Call callees) below is in record { there = stand.sound.there; differ = stand.sound.differ }
+    by_kind (Some (kind.Call callees)) is =
+        let stand = stands program sound point (kind.Call callees) below is in
+        record { there = stand.sound.there; differ = stand.sound.differ }
     by_kind (Some (kind.Copy x y)) is = no_callees program
     by_kind (Some (kind.Unary x o y)) is = no_callees program
     by_kind (Some (kind.Binary o x y z)) is = no_callees program
@@ -47,7 +50,8 @@ pub one_site_more : (program : Program) (point : ℕ) (old new : List (List ℕ)
     → AreLists new (length program.procedures) (sites_before program (point + 1))
 one_site_more program point old new sound below are is =
     let callees : AreCallees program (callees_at program point) = callees_are program point sound below in
-    let put = put_in_each old (length program.procedures) (sites_before program point) point (callees_at program point) are callees.there callees.differ in
+    let put =
+    put_in_each old (length program.procedures) (sites_before program point) point (callees_at program point) are callees.there callees.differ in
     record {
       count = ap length is ∙ put.count;
       each = λ k d inside. ap (λ lists. get_or lists k d) is ∙ put.each k d inside ∙ sym (filter-range_more (λ site. calls program site k) point);

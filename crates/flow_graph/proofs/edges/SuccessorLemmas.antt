@@ -1,5 +1,6 @@
 -- The edges out of a point, as the code finds them
-use Rattle.std.proofs.Common.{◌≡◌, ℕ, zero, suc, ◌<◌, ◌≤◌, Bool, true, false, List, [], ◌∷◌, ◌++◌, length, map, flat_map, get_or, All, Some, None, option_map, slice_get, unwrap_or, if◌then◌else◌, refl, sym, ap, ap₂, ◌∙◌, subst, arith}
+use Rattle.std.proofs.Common.{◌≡◌, ℕ, zero, suc, ◌<◌, ◌≤◌, Bool, true, false, List, [], ◌∷◌, ◌++◌, length, map, flat_map, get_or, All, Some, None}
+use Rattle.std.proofs.Common.{option_map, slice_get, unwrap_or, if◌then◌else◌, refl, sym, ap, ap₂, ◌∙◌, subst, arith}
 use Rattle.std.specs.List.{filter}
 use Rattle.std.proofs.lemmas.List.{get_or-map, length-map}
 use Rattle.std.proofs.lemmas.List.FromFn.{get_or-range_with_len, length-range_with_len}
@@ -24,7 +25,8 @@ pub record Reads (program : Program) (point : ℕ) (p : Procedure) : Type 0 wher
   pub labels : p.labels ≡ labels_at program point
   pub ends : length p.statements ≡ end_place program (procedure_at program point)
 
-pub reads_procedure : (program : Program) (point n : ℕ) (p : Procedure) → point < point_count program → n ≡ procedure_at program point → p ≡ get_or program.procedures n p → Reads program point p
+pub reads_procedure : (program : Program) (point n : ℕ) (p : Procedure) → point < point_count program → n ≡ procedure_at program point
+    → p ≡ get_or program.procedures n p → Reads program point p
 reads_procedure program point n p below is read =
     let place : IsPlaceOf program point = points_have_places program point below in
     let at : p ≡ get_or program.procedures (procedure_at program point) p = read ∙ ap (λ k. get_or program.procedures k p) is in
@@ -81,12 +83,14 @@ pub record Ends (program : Program) (point procedure : ℕ) (statements : List S
   pub place : length statements ≤ end_place program procedure
   pub target : point_of program procedure (length statements) ≡ end_point program (procedure_at program point)
 
-pub reads_end : (program : Program) (point procedure : ℕ) (p : Procedure) (statements : List Stmt) → point < point_count program → procedure ≡ procedure_at program point
+pub reads_end : (program : Program) (point procedure : ℕ) (p : Procedure) (statements : List Stmt) → point < point_count program
+    → procedure ≡ procedure_at program point
     → p ≡ get_or program.procedures procedure p → statements ≡ p.statements → Ends program point procedure statements
 reads_end program point procedure p statements below same read is =
     let reads : Reads program point p = reads_procedure program point procedure p below same read in
     let ends : length statements ≡ end_place program (procedure_at program point) = ap length is ∙ reads.ends in
-    let (inside, back) = places_have_points program (procedure_at program point) (end_place program (procedure_at program point)) reads.there (omega arith) in
+    let (inside, back) =
+    places_have_points program (procedure_at program point) (end_place program (procedure_at program point)) reads.there (omega arith) in
     record {
       there = omega (arith, reads.there, same);
       few = omega (arith, inside, ends);
@@ -99,8 +103,10 @@ pub record SitesRead (program : Program) (point : ℕ) (sites : List ℕ) : Type
   pub few : All (λ site. site < point_count program) sites
   pub returns : statement_at program point ≡ None → map (λ site. Ret site point (suc site)) sites ≡ edges_from program point
 
-pub reads_sites : (program : Program) (lists : List (SmallVec ℕ)) (point procedure : ℕ) (list : SmallVec ℕ) (sites : List ℕ) → AreSites program (contents lists)
-    → point < point_count program → procedure ≡ procedure_at program point → list ≡ get_or lists procedure list → sites ≡ list.items → SitesRead program point sites
+pub reads_sites : (program : Program) (lists : List (SmallVec ℕ)) (point procedure : ℕ) (list : SmallVec ℕ) (sites : List ℕ)
+    → AreSites program (contents lists)
+    → point < point_count program → procedure ≡ procedure_at program point → list ≡ get_or lists procedure list → sites ≡ list.items
+    → SitesRead program point sites
 reads_sites program lists point procedure list sites are below same read is =
     let place : IsPlaceOf program point = points_have_places program point below in
     let there : procedure < length lists = omega (arith, same, place.procedure, are.count, length-map lists (λ (list : SmallVec ℕ). list.items)) in

@@ -4,7 +4,8 @@ use Rattle.std.specs.List.{list_any, list_all}
 use Rattle.std.proofs.lemmas.Map.Views.{Contains-from_any}
 use Rattle.std.proofs.lemmas.List.Sums.{AllPass-from_list_all}
 use Rattle.std.proofs.lemmas.List.Elements.{All-contains}
-use Rattle.flow_graph.specs.Paths.{Edge, Step, Call, Ret, source_of, target_of, Shape, Transfer, IsEdge, final, IsPath, value_across, value_before, HasBackwardPath, SomeBackwardPathHas}
+use Rattle.flow_graph.specs.Paths.{Edge, Step, Call, Ret, source_of, target_of, Shape, Transfer, IsEdge, final, IsPath, value_across, value_before}
+use Rattle.flow_graph.specs.Paths.{HasBackwardPath, SomeBackwardPathHas}
 use Rattle.flow_graph.specs.WellFormed.{IsWellFormed}
 use Rattle.flow_graph.specs.Runs.{IsDoubtful, CallsReturn}
 use Rattle.flow_graph.proofs.paths.PathLemmas.{nat_eq_same}
@@ -68,12 +69,14 @@ is_one_of points x = list_any (nat_eq x) points
 abbrev pub stays_inside : List ℕ → Edge → Bool
 stays_inside points edge = not (is_one_of points (source_of edge)) || is_one_of points (target_of edge)
 
-pub path_inside : (shape : Shape) (points : List ℕ) → list_all (stays_inside points) shape.edges ≡ true → (path : List Edge) (x y : ℕ) → IsPath shape x path y
+pub path_inside : (shape : Shape) (points : List ℕ) → list_all (stays_inside points) shape.edges ≡ true → (path : List Edge) (x y : ℕ)
+    → IsPath shape x path y
     → is_one_of points x ≡ true → is_one_of points y ≡ true
 path_inside shape points all [] x y is_path inside = rw is_path at inside
 path_inside shape points all (edge ∷ path) x y is_path inside =
     path_inside shape points all path (target_of edge) y is_path.2
-    (go (is_one_of points (source_of edge)) (is_one_of points (target_of edge)) (rw is_path.1 inside) (edges_pass shape (stays_inside points) all edge is_path.0))
+    (go (is_one_of points (source_of edge)) (is_one_of points (target_of edge)) (rw is_path.1 inside)
+    (edges_pass shape (stays_inside points) all edge is_path.0))
   where
     go : (a b : Bool) → a ≡ true → (not a || b) ≡ true → b ≡ true
     go true b a_true stays = stays
@@ -87,7 +90,8 @@ no_backward_path shape points all outside x inside has =
 
 -- whether an edge that begins at one of these points makes nothing live, and ends at one of them or of the dead ends
 abbrev pub makes_nothing : Transfer → List ℕ → List ℕ → Edge → Bool
-makes_nothing transfer points ends edge = not (is_one_of points (source_of edge)) || (not (value_across transfer edge false) && (is_one_of points (target_of edge) || is_one_of ends (target_of edge)))
+makes_nothing transfer points ends edge = not (is_one_of points (source_of edge))
+    || (not (value_across transfer edge false) && (is_one_of points (target_of edge) || is_one_of ends (target_of edge)))
 
 pub never_live : (shape : Shape) (transfer : Transfer) (points ends : List ℕ) → list_all (makes_nothing transfer points ends) shape.edges ≡ true
     → list_all (stays_inside ends) shape.edges ≡ true → is_one_of ends (final shape) ≡ false → transfer.boundary ≡ false
@@ -103,7 +107,8 @@ never_live shape transfer points ends all stuck outside none x inside some =
         go true is_not = absurd (cc is_not)
         go false is_not = refl
 
-    dead : (path : List Edge) (x : ℕ) → IsPath shape x path (final shape) → is_one_of points x ≡ true → value_before transfer path transfer.boundary ≡ false
+    dead : (path : List Edge) (x : ℕ) → IsPath shape x path (final shape) → is_one_of points x ≡ true
+        → value_before transfer path transfer.boundary ≡ false
     dead [] x is_path inside = none
     dead (edge ∷ path) x is_path inside =
         go (is_one_of points (source_of edge)) (is_one_of points (target_of edge)) (is_one_of ends (target_of edge)) (rw is_path.1 inside) refl refl
@@ -168,7 +173,8 @@ fits_call shape site x (Ret other u z) = not (nat_eq other site) || nat_eq (shap
 -- whether an edge of a well-formed shape may be there, beside the shape's other edges
 abbrev pub fits : Shape → Edge → Bool
 fits shape (Step x y) = nat_eq (shape.procedure_of x) (shape.procedure_of y)
-fits shape (Call site x y) = nat_lt (shape.procedure_of y) shape.procedures && (nat_eq y (shape.entry (shape.procedure_of y)) && list_all (fits_call shape site x) shape.edges)
+fits shape (Call site x y) =
+    nat_lt (shape.procedure_of y) shape.procedures && (nat_eq y (shape.entry (shape.procedure_of y)) && list_all (fits_call shape site x) shape.edges)
 fits shape (Ret site x y) = nat_lt (shape.procedure_of x) shape.procedures && nat_eq x (shape.exit (shape.procedure_of x))
 
 abbrev pub passes_well_formed : Shape → Bool

@@ -1,5 +1,6 @@
 -- Every program's graph is well formed, and its live variables are liveness
-use Rattle.std.proofs.Common.{◌≡◌, ℕ, suc, ◌<◌, Bool, true, List, [], ◌∷◌, length, map, Option, Some, None, option_map, slice_get, unwrap_or, position, Contains, nat_eq, codes, bytes_eq, refl, sym, ap, ◌∙◌, subst, arith}
+use Rattle.std.proofs.Common.{◌≡◌, ℕ, suc, ◌<◌, Bool, true, List, [], ◌∷◌, length, map, Option, Some, None, option_map, slice_get, unwrap_or}
+use Rattle.std.proofs.Common.{position, Contains, nat_eq, codes, bytes_eq, refl, sym, ap, ◌∙◌, subst, arith}
 use Rattle.std.specs.List.{list_any}
 use Rattle.std.proofs.lemmas.List.Quantifiers.{position-Some}
 use Rattle.std.proofs.lemmas.Map.Views.{Contains-from_any}
@@ -14,7 +15,8 @@ use Rattle.flow_graph.specs.Runs.{accesses_of}
 use Rattle.flow_graph.specs.Edges.{callees_named, callees_at, calls, edges_of, edges_from, edges, return_to, returns_of}
 use Rattle.flow_graph.specs.Paths.{Edge, Step, Call, Ret, source_of, target_of, IsEdge}
 use Rattle.flow_graph.specs.Points.{Place, points, procedure_at, kind_at, statements_of, end_place, end_point, entry_point, point_count}
-use Rattle.flow_graph.specs.ProgramLaws.{EdgesJoinPoints, GraphsAreWellFormed, MayFormsAreWellFormed, CallsOfProgramsReturn, CallsReturnBehindSites, ReturnsHaveCallsAtSites, LiveIsLiveness, DeadVariablesAreSafe}
+use Rattle.flow_graph.specs.ProgramLaws.{EdgesJoinPoints, GraphsAreWellFormed, MayFormsAreWellFormed, CallsOfProgramsReturn, CallsReturnBehindSites}
+use Rattle.flow_graph.specs.ProgramLaws.{ReturnsHaveCallsAtSites, LiveIsLiveness, DeadVariablesAreSafe}
 use Rattle.flow_graph.specs.Transfers.{reads, operands_of, names_variable}
 use Rattle.flow_graph.specs.Universes.{Reach, Live, Avail, Busy}
 use Rattle.flow_graph.proofs.edges.EdgeLemmas.{IsIn, IsFrom, a_step, a_call, a_return, in_procedure, next_in, edges_are, leaves}
@@ -25,7 +27,8 @@ use Rattle.flow_graph.proofs.paths.RunLemmas.{dead_is_safe}
 use Rattle.flow_graph.proofs.places.Standing.{stands}
 
 -- what an edge says of the point that it leaves
-step_of : (program : Program) (point x y : ℕ) (edge : Edge) → IsFrom program point edge → edge ≡ Step x y → (x ≡ point) × IsIn program (procedure_at program point) y
+step_of : (program : Program) (point x y : ℕ) (edge : Edge) → IsFrom program point edge → edge ≡ Step x y
+    → (x ≡ point) × IsIn program (procedure_at program point) y
 step_of program point x y edge (a_step target is_in) same =
     let target_is : target ≡ y = cc in
     (cc, subst (IsIn program (procedure_at program point)) target_is is_in)
@@ -39,7 +42,8 @@ pub record IsCall (program : Program) (site x y : ℕ) (callee : ℕ) : Type 0 w
   pub enters : y ≡ entry_point program callee
   pub calling : calls program site callee ≡ true
 
-call_of : (program : Program) (point site x y : ℕ) (edge : Edge) → IsFrom program point edge → edge ≡ Call site x y → (callee : ℕ) × (site ≡ point) × IsCall program site x y callee
+call_of : (program : Program) (point site x y : ℕ) (edge : Edge) → IsFrom program point edge → edge ≡ Call site x y
+    → (callee : ℕ) × (site ≡ point) × IsCall program site x y callee
 call_of program point site x y edge (a_step target is_in) same = absurd (cc same)
 call_of program point site x y edge (a_call callee there calling) same =
     let is_site : site ≡ point = cc in
@@ -53,7 +57,8 @@ pub record IsReturn (program : Program) (site x y : ℕ) : Type 0 where
   pub leaves : x ≡ end_point program (procedure_at program x)
   pub after : y ≡ suc site
 
-return_of : (program : Program) (point site x y : ℕ) (edge : Edge) → IsFrom program point edge → edge ≡ Ret site x y → (x ≡ point) × IsReturn program site x y
+return_of : (program : Program) (point site x y : ℕ) (edge : Edge) → IsFrom program point edge → edge ≡ Ret site x y
+    → (x ≡ point) × IsReturn program site x y
 return_of program point site x y edge (a_step target is_in) same = absurd (cc same)
 return_of program point site x y edge (a_call callee there calling) same = absurd (cc same)
 return_of program point site x y edge (a_return other below calling none ends) same =
@@ -62,7 +67,8 @@ return_of program point site x y edge (a_return other below calling none ends) s
     (is_point, record { below = rw is_site below; calling = rw (is_site, is_point) calling; leaves = rw is_point ends; after = cc })
 
 -- the statement at a site that calls some procedure is a call
-pub a_site_calls : (program : Program) (site procedure : ℕ) → calls program site procedure ≡ true → (callees : List ℕ) × (kind_at program site ≡ Some (kind.Call callees))
+pub a_site_calls : (program : Program) (site procedure : ℕ) → calls program site procedure ≡ true
+    → (callees : List ℕ) × (kind_at program site ≡ Some (kind.Call callees))
 a_site_calls program site procedure calling = by_kind (kind_at program site) refl calling
   where
     by_kind : (k : Option StmtKind) → kind_at program site ≡ k → list_any (nat_eq procedure) (unwrap_or (option_map callees_named k) []) ≡ true
@@ -82,7 +88,8 @@ a_site_calls program site procedure calling = by_kind (kind_at program site) ref
     by_kind (Some kind.Skip) is any = absurd (cc any)
 
 -- the point after a site stands in the same procedure
-pub after_site : (program : Program) → IsSound program → (site procedure : ℕ) → site < point_count program → calls program site procedure ≡ true → IsIn program (procedure_at program site) (suc site)
+pub after_site : (program : Program) → IsSound program → (site procedure : ℕ) → site < point_count program → calls program site procedure ≡ true
+    → IsIn program (procedure_at program site) (suc site)
 after_site program sound site procedure below calling =
     let (callees, is) = a_site_calls program site procedure calling in
     next_in program site (kind.Call callees) (stands program sound site (kind.Call callees) below is)
@@ -121,12 +128,16 @@ call_enters : (program : Program) → IsSound program → (site x y : ℕ) → I
 call_enters program sound site x y is_edge =
     let (point, below, here, is) = edges_are program sound (Call site x y) is_edge in
     let (callee, same, call) = call_of program point site x y (Call site x y) is refl in
-    let inside : callee ≡ procedure_at program y = sym (ap (procedure_at program) call.enters ∙ (entry_in program callee call.there).inside) in
-    (subst (λ p. p < point_count program) (sym same) below, subst (λ p. p < length program.procedures) inside call.there, subst (IsCall program site x y) inside call)
+    let inside : callee ≡ procedure_at program y = sym (ap (procedure_at program) call.enters ∙ (entry_in program callee call.there).inside) in (
+      subst (λ p. p < point_count program) (sym same) below,
+      subst (λ p. p < length program.procedures) inside call.there,
+      subst (IsCall program site x y) inside call,
+    )
 
 pub graphs_are_well_formed : GraphsAreWellFormed
 graphs_are_well_formed program sound = record {
-  root_in_range = subst (λ n. main_procedure program < n) sound.named (number_below (bytes_eq (codes "main")) program.procedure_names (omega (arith, sound.main.1)));
+  root_in_range = subst (λ n. main_procedure program < n) sound.named
+      (number_below (bytes_eq (codes "main")) program.procedure_names (omega (arith, sound.main.1)));
   entry_inside = λ procedure there. (entry_in program procedure there).inside;
   exit_inside = λ procedure there. (end_in program procedure there).inside;
   step_inside = λ x y is_edge.
@@ -142,7 +153,8 @@ graphs_are_well_formed program sound = record {
   site_inside = λ site x y u z is_call is_return.
       let (below, there, call) = call_enters program sound site x y is_call in
       let (there', return) = return_leaves program sound site u z is_return in
-      let after : procedure_at program (suc site) ≡ procedure_at program site = (after_site program sound site (procedure_at program u) return.below return.calling).inside in
+      let after : procedure_at program (suc site) ≡ procedure_at program site =
+      (after_site program sound site (procedure_at program u) return.below return.calling).inside in
       ap (procedure_at program) call.at_site ∙ sym after ∙ sym (ap (procedure_at program) return.after);
 }
 
@@ -153,17 +165,22 @@ may_forms_are_well_formed program Live sound = reversed_is_well_formed (shape_of
 may_forms_are_well_formed program Busy sound = reversed_is_well_formed (shape_of program) (graphs_are_well_formed program sound)
 
 -- a procedure's end has a return to each site that calls it
-pub has_return : (program : Program) (site procedure : ℕ) → site < point_count program → procedure < length program.procedures → calls program site procedure ≡ true
+pub has_return : (program : Program) (site procedure : ℕ) → site < point_count program → procedure < length program.procedures
+    → calls program site procedure ≡ true
     → Contains (edges program) (Ret site (end_point program procedure) (suc site))
 has_return program site procedure below there calling =
     let edge : Edge = Ret site (end_point program procedure) (suc site) in
     let in_list : return_to program procedure site ≡ edge ∷ [] = rw calling refl in
     let one : Contains (return_to program procedure site) edge = subst (λ es. Contains es edge) (sym in_list) (Contains-first edge []) in
     let among : Contains (returns_of program procedure) edge =
-    Contains-flat_map (return_to program procedure) (points program) site edge (Contains-range 0 (point_count program) site (omega arith) (omega arith)) one in
+    Contains-flat_map (return_to program procedure) (points program) site edge
+    (Contains-range 0 (point_count program) site (omega arith) (omega arith)) one in
     let ends : IsIn program procedure (end_point program procedure) = end_in program procedure there in
     let from : edges_from program (end_point program procedure) ≡ returns_of program procedure =
-    ap (λ k. elim k [ Some k ↦ edges_of program (end_point program procedure) k | None ↦ returns_of program (procedure_at program (end_point program procedure)) ]) (none_at_end program procedure there)
+    ap (λ k. elim k [
+      | Some k ↦ edges_of program (end_point program procedure) k
+      | None ↦ returns_of program (procedure_at program (end_point program procedure))
+    ]) (none_at_end program procedure there)
     ∙ ap (returns_of program) ends.inside in
     leaves program (end_point program procedure) edge ends.below (subst (λ es. Contains es edge) (sym from) among)
 
@@ -180,7 +197,8 @@ has_call program site procedure below calling =
     let enter = λ (callee : ℕ). Call site site (entry_point program callee) in
     let (callees, is) = a_site_calls program site procedure calling in
     let listed : callees_at program site ≡ callees = ap (λ o. unwrap_or (option_map callees_named o) []) is in
-    let among : Contains callees procedure = Contains-from_any {eq = nat_eq} (λ x y same. grind arith) procedure callees (sym (ap (list_any (nat_eq procedure)) listed) ∙ calling) in
+    let among : Contains callees procedure =
+    Contains-from_any {eq = nat_eq} (λ x y same. grind arith) procedure callees (sym (ap (list_any (nat_eq procedure)) listed) ∙ calling) in
     let from : edges_from program site ≡ map enter callees =
     ap (λ k. elim k [ Some k ↦ edges_of program site k | None ↦ returns_of program (procedure_at program site) ]) is in
     leaves program site edge below (subst (λ es. Contains es edge) (sym from) (Contains-map enter callees procedure among))
@@ -208,7 +226,8 @@ reads_of : (program : Program) (point variable : ℕ) (k : Option StmtKind) → 
 reads_of program point variable k is = ap (λ o. list_any (names_variable variable) (unwrap_or (option_map operands_of o) [])) is
 
 -- only steps leave a statement that reads
-reader_steps_of : (program : Program) (point variable : ℕ) (edge : Edge) → IsFrom program point edge → reads program point variable ≡ true → (x : ℕ) × (y : ℕ) × (edge ≡ Step x y)
+reader_steps_of : (program : Program) (point variable : ℕ) (edge : Edge) → IsFrom program point edge → reads program point variable ≡ true
+    → (x : ℕ) × (y : ℕ) × (edge ≡ Step x y)
 reader_steps_of program point variable edge (a_step target is_in) reading = (point, target, refl)
 reader_steps_of program point variable edge (a_call callee there calling) reading =
     let (callees, is) = a_site_calls program point callee calling in
@@ -228,7 +247,8 @@ live_is_liveness program variable sound = record {
   reader_steps = λ edge is_edge reading.
       let (point, below, here, is) = edges_are program sound edge is_edge in
       reader_steps_of program point variable edge is (subst (λ p. reads program p variable ≡ true) (source_is program point edge is) reading);
-  final_reads_nothing = reads_of program (end_point program (main_procedure program)) variable None (none_at_end program (main_procedure program) (graphs_are_well_formed program sound).root_in_range);
+  final_reads_nothing = reads_of program (end_point program (main_procedure program)) variable None
+      (none_at_end program (main_procedure program) (graphs_are_well_formed program sound).root_in_range);
 }
 
 pub dead_variables_are_safe : DeadVariablesAreSafe
@@ -240,7 +260,8 @@ dead_variables_are_safe program point variable sound =
 target_below : (program : Program) → IsSound program → (point : ℕ) (edge : Edge) → IsFrom program point edge → target_of edge < point_count program
 target_below program sound point edge (a_step target is_in) = is_in.below
 target_below program sound point edge (a_call callee there calling) = (entry_in program callee there).below
-target_below program sound point edge (a_return site below calling none ends) = (after_site program sound site (procedure_at program point) below calling).below
+target_below program sound point edge (a_return site below calling none ends) =
+    (after_site program sound site (procedure_at program point) below calling).below
 
 pub edges_join_points : EdgesJoinPoints
 edges_join_points program sound edge at =

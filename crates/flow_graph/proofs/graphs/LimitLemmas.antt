@@ -28,7 +28,8 @@ pub large_bits : (limits : Limits) (program : Program) → HasFewBits limits pro
 large_bits limits program few analysis = let here = few analysis in let most = bits_in_large limits analysis in omega (arith, here, most)
 
 -- the bits of all analyses are few where definitions, variables and expressions are
-pub few_bits : (limits : Limits) (program : Program) → length (definitions program) ≤ most_definitions limits → length program.variable_names ≤ most_variables limits
+pub few_bits : (limits : Limits) (program : Program) → length (definitions program) ≤ most_definitions limits
+    → length program.variable_names ≤ most_variables limits
     → length (expressions program) ≤ most_expressions limits → HasFewBits limits program
 few_bits limits program defined named evaluated Reach = defined
 few_bits limits program defined named evaluated Live = named
@@ -37,7 +38,8 @@ few_bits limits program defined named evaluated Busy = evaluated
 
 -- and those of some analysis many where one of these are
 pub many_bits : (limits : Limits) (program : Program)
-    → (most_definitions limits < length (definitions program)) ⊎ ((most_variables limits < length program.variable_names) ⊎ (most_expressions limits < length (expressions program)))
+    → (most_definitions limits < length (definitions program))
+    ⊎ ((most_variables limits < length program.variable_names) ⊎ (most_expressions limits < length (expressions program)))
     → (analysis : Analysis) × (most_bits limits analysis < bits program analysis)
 many_bits limits program (inl defined) = (Reach, defined)
 many_bits limits program (inr (inl named)) = (Live, named)

@@ -33,8 +33,10 @@ pub steps_have_statements : StepsHaveStatements
 steps_have_statements form x y bit = by_analysis form.analysis
   where
     by_analysis : (analysis : Analysis)
-        → ((may_transfer form.program analysis bit).gen x y ≡ may_gens (record { program = form.program; analysis = analysis }) (if is_backward analysis then y else x) bit)
-        × ((may_transfer form.program analysis bit).kill x y ≡ may_kills (record { program = form.program; analysis = analysis }) (if is_backward analysis then y else x) bit)
+        → ((may_transfer form.program analysis bit).gen x y
+        ≡ may_gens (record { program = form.program; analysis = analysis }) (if is_backward analysis then y else x) bit)
+        × ((may_transfer form.program analysis bit).kill x y
+        ≡ may_kills (record { program = form.program; analysis = analysis }) (if is_backward analysis then y else x) bit)
         × ((may_transfer form.program analysis bit).boundary ≡ may_boundary (record { program = form.program; analysis = analysis }) bit)
     by_analysis Reach = (refl, refl, refl)
     by_analysis Live = (refl, refl, refl)

@@ -1,5 +1,6 @@
 -- Elements of lists that are joined, mapped, or are ranges
-use Rattle.std.proofs.Common.{◌≡◌, ◌⊎◌, ℕ, zero, suc, ◌+◌, ◌<◌, ◌≤◌, List, [], ◌∷◌, map, flat_map, Contains, inl, inr, refl, sym, subst, eq-or-lt_of_le, arith}
+use Rattle.std.proofs.Common.{◌≡◌, ◌⊎◌, ℕ, zero, suc, ◌+◌, ◌<◌, ◌≤◌, List, [], ◌∷◌, map, flat_map, Contains, inl, inr, refl, sym, subst}
+use Rattle.std.proofs.Common.{eq-or-lt_of_le, arith}
 use Rattle.std.specs.List.{range_with_len}
 use Rattle.std.proofs.lemmas.List.Elements.{Contains-append_left, Contains-append_right, Contains-append_cases}
 
@@ -27,7 +28,8 @@ Contains-in_map f (x ∷ xs) y at =
       | inr later ↦ (let (z, among, is) = Contains-in_map f xs y later in (z, Contains-later x xs z among, is))
     ]
 
-pub Contains-in_flat_map : {A B : Type 0} (f : A → List B) (xs : List A) (y : B) → Contains (flat_map f xs) y → (x : A) × Contains xs x × Contains (f x) y
+pub Contains-in_flat_map : {A B : Type 0} (f : A → List B) (xs : List A) (y : B) → Contains (flat_map f xs) y
+    → (x : A) × Contains xs x × Contains (f x) y
 Contains-in_flat_map f [] y at = absurd (Contains-nil y at)
 Contains-in_flat_map f (x ∷ xs) y at =
     elim (Contains-append_cases (f x) (flat_map f xs) y at) [

@@ -1,5 +1,6 @@
 -- Tables of lists of numbers, one number longer
-use Rattle.std.proofs.Common.{◌≡◌, ◌≢◌, ℕ, suc, ◌+◌, ◌<◌, Bool, true, false, ◌||◌, List, [], ◌∷◌, ◌++◌, length, get_or, set, fold, All, AllPairs, nat_eq, if◌then◌else◌, refl, sym, ap, ◌∙◌, subst, append-nil, arith, get_or-set_same, get_or-set_other, length-set}
+use Rattle.std.proofs.Common.{◌≡◌, ◌≢◌, ℕ, suc, ◌+◌, ◌<◌, Bool, true, false, ◌||◌, List, [], ◌∷◌, ◌++◌, length, get_or, set, fold, All, AllPairs}
+use Rattle.std.proofs.Common.{nat_eq, if◌then◌else◌, refl, sym, ap, ◌∙◌, subst, append-nil, arith, get_or-set_same, get_or-set_other, length-set}
 use Rattle.std.specs.List.{list_any, filter, range_with_len}
 use Rattle.std.proofs.lemmas.List.{map-set, get_or-map}
 use Rattle.std.proofs.lemmas.List.Elements.{filter-append}
@@ -18,7 +19,8 @@ put_lists lists many list_of index x are below = record {
     within : index < length lists
     within = omega (arith, are.count)
 
-    by_test : (k : ℕ) (d : List ℕ) → k < many → (b : Bool) → nat_eq k index ≡ b → get_or (with_last lists index x) k d ≡ list_of k ++ (if b then x ∷ [] else [])
+    by_test : (k : ℕ) (d : List ℕ) → k < many → (b : Bool) → nat_eq k index ≡ b
+        → get_or (with_last lists index x) k d ≡ list_of k ++ (if b then x ∷ [] else [])
     by_test k d inside true test =
         let same : k ≡ index = grind arith in
         subst (λ j. get_or (with_last lists index x) j d ≡ list_of j ++ x ∷ []) (sym same)
@@ -28,11 +30,13 @@ put_lists lists many list_of index x are below = record {
         get_or-set_other lists index k (get_or lists index [] ++ x ∷ []) d other ∙ are.each k d inside ∙ sym (append-nil (list_of k))
 
 -- a list of the table that is written is the list that was read, one number longer
-pub contents-put : (lists : List (SmallVec ℕ)) (index x : ℕ) (old new : SmallVec ℕ) → index < length lists → old ≡ get_or lists index old → new.items ≡ old.items ++ x ∷ []
+pub contents-put : (lists : List (SmallVec ℕ)) (index x : ℕ) (old new : SmallVec ℕ) → index < length lists → old ≡ get_or lists index old
+    → new.items ≡ old.items ++ x ∷ []
     → contents (set lists index new) ≡ with_last (contents lists) index x
 contents-put lists index x old new below read is =
     map-set (λ (list : SmallVec ℕ). list.items) lists index new
-    ∙ ap (λ xs. set (contents lists) index xs) (is ∙ ap (λ xs. xs ++ x ∷ []) (ap (λ (list : SmallVec ℕ). list.items) read ∙ sym (get_or-map (λ (list : SmallVec ℕ). list.items) lists index old [] below)))
+    ∙ ap (λ xs. set (contents lists) index xs) (is ∙ ap (λ xs. xs ++ x ∷ []) (ap (λ (list : SmallVec ℕ). list.items) read
+    ∙ sym (get_or-map (λ (list : SmallVec ℕ). list.items) lists index old [] below)))
 
 -- there are as many lists
 pub length-put : (lists : List (List ℕ)) (x : ℕ) (indices : List ℕ) → length (fold (λ known k. with_last known k x) lists indices) ≡ length lists
@@ -51,15 +55,18 @@ absent x (y ∷ ys) differ =
 pub put_in_each : (lists : List (List ℕ)) (many : ℕ) (list_of : ℕ → List ℕ) (x : ℕ) (indices : List ℕ) → AreLists lists many list_of
     → All (λ k. k < many) indices → AllPairs (λ a b. a ≢ b) indices
     → AreLists (fold (λ known k. with_last known k x) lists indices) many (λ k. list_of k ++ (if list_any (nat_eq k) indices then x ∷ [] else []))
-put_in_each lists many list_of x [] are there differ = record { count = are.count; each = λ k d inside. are.each k d inside ∙ sym (append-nil (list_of k)) }
+put_in_each lists many list_of x [] are there differ =
+    record { count = are.count; each = λ k d inside. are.each k d inside ∙ sym (append-nil (list_of k)) }
 put_in_each lists many list_of x (index ∷ indices) are there differ =
-    let first : AreLists (with_last lists index x) many (λ k. list_of k ++ (if nat_eq k index then x ∷ [] else [])) = put_lists lists many list_of index x are (there 0 0 (omega arith)) in
+    let first : AreLists (with_last lists index x) many (λ k. list_of k ++ (if nat_eq k index then x ∷ [] else [])) =
+    put_lists lists many list_of index x are (there 0 0 (omega arith)) in
     let rest = put_in_each (with_last lists index x) many (λ k. list_of k ++ (if nat_eq k index then x ∷ [] else [])) x indices first
     (λ k d below. there (suc k) d (omega arith)) (λ i j d before below. differ (suc i) (suc j) d (omega arith) (omega arith)) in
     record { count = rest.count; each = λ k d inside. rest.each k d inside ∙ by_test k (nat_eq k index) refl }
   where
     by_test : (k : ℕ) (b : Bool) → nat_eq k index ≡ b
-        → (list_of k ++ (if b then x ∷ [] else [])) ++ (if list_any (nat_eq k) indices then x ∷ [] else []) ≡ list_of k ++ (if b || list_any (nat_eq k) indices then x ∷ [] else [])
+        → (list_of k ++ (if b then x ∷ [] else [])) ++ (if list_any (nat_eq k) indices then x ∷ [] else []) ≡ list_of k
+        ++ (if b || list_any (nat_eq k) indices then x ∷ [] else [])
     by_test k true test =
         let same : k ≡ index = grind arith in
         let others : All (λ y. index ≢ y) indices = λ j d below. differ 0 (suc j) d (omega arith) (omega arith) in

@@ -1,5 +1,6 @@
 -- Ranges of numbers, one number longer
-use Rattle.std.proofs.Common.{◌≡◌, ℕ, zero, suc, ◌⊎◌, ◌+◌, ◌<◌, ◌≤◌, List, [], ◌∷◌, ◌++◌, length, get_or, map, flat_map, inl, inr, subst, sym, ap, ◌∙◌, append-nil, arith}
+use Rattle.std.proofs.Common.{◌≡◌, ℕ, zero, suc, ◌⊎◌, ◌+◌, ◌<◌, ◌≤◌, List, [], ◌∷◌, ◌++◌, length, get_or, map, flat_map, inl, inr, subst, sym, ap}
+use Rattle.std.proofs.Common.{◌∙◌, append-nil, arith}
 use Rattle.std.specs.List.{range_with_len}
 use Rattle.std.proofs.Math.ListN.{get_or-append}
 use Rattle.std.proofs.Math.Seq.{get_or-append_seam}
@@ -32,7 +33,8 @@ flat_map-range_more f n =
     ∙ ap (λ xs. flat_map f (range_with_len 0 n) ++ xs) (append-nil (f n))
 
 -- what holds of each element holds of one more
-pub pushed_each : {A : Type 0} (P : ℕ → A → Type 0) (old : List A) (v : A) (n : ℕ) → length old ≡ n → ((k : ℕ) (d : A) → k < n → P k (get_or old k d)) → P n v
+pub pushed_each : {A : Type 0} (P : ℕ → A → Type 0) (old : List A) (v : A) (n : ℕ) → length old ≡ n → ((k : ℕ) (d : A) → k < n → P k (get_or old k d))
+    → P n v
     → (k : ℕ) (d : A) → k < n + 1 → P k (get_or (old ++ v ∷ []) k d)
 pushed_each P old v n so_many each last k d below = by_case (cases_lt k n)
   where

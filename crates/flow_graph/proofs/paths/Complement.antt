@@ -14,18 +14,23 @@ transfer_complement false true false = refl
 transfer_complement false false true = refl
 transfer_complement false false false = refl
 
-value_across-complemented : (transfer : Transfer) (edge : Edge) (value : Bool) → not (value_across transfer edge value) ≡ value_across (complemented_transfer transfer) edge (not value)
+value_across-complemented : (transfer : Transfer) (edge : Edge) (value : Bool)
+    → not (value_across transfer edge value) ≡ value_across (complemented_transfer transfer) edge (not value)
 value_across-complemented transfer (Step x y) value = transfer_complement (transfer.gen x y) (transfer.kill x y) value
 value_across-complemented transfer (Call site x y) value = refl
 value_across-complemented transfer (Ret site x y) value = refl
 
-pub value_after-complemented : (transfer : Transfer) (path : List Edge) (value : Bool) → value_after (complemented_transfer transfer) path (not value) ≡ not (value_after transfer path value)
+pub value_after-complemented : (transfer : Transfer) (path : List Edge) (value : Bool)
+    → value_after (complemented_transfer transfer) path (not value) ≡ not (value_after transfer path value)
 value_after-complemented transfer [] value = refl
-value_after-complemented transfer (edge ∷ path) value = rw (← value_across-complemented transfer edge value) (value_after-complemented transfer path (value_across transfer edge value))
+value_after-complemented transfer (edge ∷ path) value =
+    rw (← value_across-complemented transfer edge value) (value_after-complemented transfer path (value_across transfer edge value))
 
-pub value_before-complemented : (transfer : Transfer) (path : List Edge) (value : Bool) → value_before (complemented_transfer transfer) path (not value) ≡ not (value_before transfer path value)
+pub value_before-complemented : (transfer : Transfer) (path : List Edge) (value : Bool)
+    → value_before (complemented_transfer transfer) path (not value) ≡ not (value_before transfer path value)
 value_before-complemented transfer [] value = refl
-value_before-complemented transfer (edge ∷ path) value = rw (value_before-complemented transfer path value, value_across-complemented transfer edge (value_before transfer path value))
+value_before-complemented transfer (edge ∷ path) value =
+    rw (value_before-complemented transfer path value, value_across-complemented transfer edge (value_before transfer path value))
 
 pub values_complement : ValuesComplement
 values_complement transfer path value = (value_after-complemented transfer path value, value_before-complemented transfer path value)
@@ -48,9 +53,11 @@ none_has_opposite IsPathTo opposite value is_not = (
 pub meets_complement : MeetsComplement
 meets_complement shape transfer x =
     let opposite = complemented_transfer transfer in (
-      none_has_opposite (λ path. IsValidPath shape path x) (λ path. value_after opposite path opposite.boundary) (λ path. value_after transfer path transfer.boundary)
+      none_has_opposite (λ path. IsValidPath shape path x) (λ path. value_after opposite path opposite.boundary)
+          (λ path. value_after transfer path transfer.boundary)
           (λ path. value_after-complemented transfer path transfer.boundary),
-      none_has_opposite (λ path. IsBackwardValidPath shape path x) (λ path. value_before opposite path opposite.boundary) (λ path. value_before transfer path transfer.boundary)
+      none_has_opposite (λ path. IsBackwardValidPath shape path x) (λ path. value_before opposite path opposite.boundary)
+          (λ path. value_before transfer path transfer.boundary)
           (λ path. value_before-complemented transfer path transfer.boundary),
     )
 

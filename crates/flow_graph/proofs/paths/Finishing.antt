@@ -6,7 +6,8 @@ use Rattle.flow_graph.specs.Reversals.{reversed_shape, reversed_path}
 use Rattle.flow_graph.specs.WellFormed.{IsWellFormed}
 use Rattle.flow_graph.specs.MatchedPaths.{IsPathFromEntry, IsEnteringPath}
 use Rattle.flow_graph.specs.RunLaws.{UndoubtedFinishes, UndoubtedRunsExtend}
-use Rattle.flow_graph.proofs.FiniteSearch.{nat_eq_is, or_left, or_right, or_either, and_parts, and_both, contains_any, any_contains, decided, least_test}
+use Rattle.flow_graph.proofs.FiniteSearch.{nat_eq_is, or_left, or_right, or_either, and_parts, and_both, contains_any, any_contains, decided}
+use Rattle.flow_graph.proofs.FiniteSearch.{least_test}
 use Rattle.flow_graph.proofs.graphs.ExampleLemmas.{is_one_of}
 use Rattle.flow_graph.proofs.paths.PathLemmas.{open_sites_after-none, some_sites, nat_eq_same, same_site}
 use Rattle.flow_graph.proofs.paths.Reversal.{Contains-map, valid_reversed, valid_back, reversed_is_well_formed}
@@ -32,14 +33,18 @@ is_next shape found z = nat_eq (root shape) z || list_any (leads_on shape found 
 abbrev Came : Shape → (ℕ → Bool) → ℕ → List ℕ → Type 0
 Came shape found procedure [] = procedure ≡ procedure
 Came shape found procedure (site ∷ sites) =
-    (x : ℕ) × (y : ℕ) × IsEdge shape (Call site x y) × (shape.procedure_of y ≡ procedure) × (found x ≡ true) × Came shape found (shape.procedure_of x) sites
+    (x : ℕ) × (y : ℕ) × IsEdge shape (Call site x y) × (shape.procedure_of y ≡ procedure) × (found x ≡ true)
+    × Came shape found (shape.procedure_of x) sites
 
 module _ (shape : Shape) (well : IsWellFormed shape) where
   -- a valid path goes on by a step, by a call, and by a return where its procedure is called from a point with a path
   path_by_step : (x y : ℕ) → IsEdge shape (Step x y) → HasPath shape x → HasPath shape y
   path_by_step x y edge has =
-      let (front, back, same, entering, from_entry) = valid_split shape has.0 x well has.1 in
-      (front ++ (back ++ Step x y ∷ []), valid_join shape front _ y (subst (IsEnteringPath shape front) (well.step_inside x y edge) entering) (steps_join shape back x y well edge from_entry))
+      let (front, back, same, entering, from_entry) = valid_split shape has.0 x well has.1 in (
+        front ++ (back ++ Step x y ∷ []),
+        valid_join shape front _ y (subst (IsEnteringPath shape front) (well.step_inside x y edge) entering)
+            (steps_join shape back x y well edge from_entry),
+      )
 
   path_by_call : (site x y : ℕ) → IsEdge shape (Call site x y) → HasPath shape x → HasPath shape y
   path_by_call site x y edge has =
@@ -52,7 +57,8 @@ module _ (shape : Shape) (well : IsWellFormed shape) where
   path_by_return site u z x y edge call inside has_u has_x =
       let exit = well.return_from_exit site u z edge in
       let p = shape.procedure_of u in
-      let called : IsEdge shape (Call site x (shape.entry p)) = subst (λ n. IsEdge shape (Call site x n)) ((well.call_to_entry site x y call).1 ∙ ap shape.entry inside) call in
+      let called : IsEdge shape (Call site x (shape.entry p)) =
+      subst (λ n. IsEdge shape (Call site x n)) ((well.call_to_entry site x y call).1 ∙ ap shape.entry inside) call in
       let returned : IsEdge shape (Ret site (shape.exit p) z) = subst (λ n. IsEdge shape (Ret site n z)) exit.1 edge in
       let (into, inner, same_u, entering_u, from_entry_u) = valid_split shape has_u.0 u well has_u.1 in
       let (front, back, same_x, entering, from_entry) = valid_split shape has_x.0 x well has_x.1 in
@@ -78,7 +84,8 @@ module _ (shape : Shape) (well : IsWellFormed shape) where
           let (call, at_call, is_call) = any_contains (calls_found shape found site (shape.procedure_of u)) shape.edges called in
           subst (HasPath shape) (nat_eq_is y z same) (returned call at_call is_call has)
         where
-          returned : (call : Edge) → IsEdge shape call → calls_found shape found site (shape.procedure_of u) call ≡ true → found u ≡ true → HasPath shape y
+          returned : (call : Edge) → IsEdge shape call → calls_found shape found site (shape.procedure_of u) call ≡ true → found u ≡ true
+              → HasPath shape y
           returned (Step i j) at_call is_call has = absurd (cc is_call)
           returned (Ret other i j) at_call is_call has = absurd (cc is_call)
           returned (Call other i j) at_call is_call has =
@@ -116,8 +123,10 @@ module _ (shape : Shape) (well : IsWellFormed shape) where
         let call : IsEdge shape (Call site u v) = subst (λ n. IsEdge shape (Call n u v)) (sym same) at_latest in
         let callee : shape.procedure_of v ≡ shape.procedure_of i = inside ∙ sym (ap shape.procedure_of is_path.1) in
         let called = contains_any (calls_found shape found site (shape.procedure_of i)) shape.edges (Call site u v) call
-        (and_both _ _ (and_both _ _ (nat_eq_same site) (ap (λ n. nat_eq n (shape.procedure_of i)) callee ∙ nat_eq_same (shape.procedure_of i))) has_u) in
-        found_after path j y sites after is_path.2 rest (next_by (Ret site i j) j is_path.0 (and_both _ _ (nat_eq_same j) (and_both _ _ has_i called)))
+        (and_both _ _ (and_both _ _ (nat_eq_same site) (ap (λ n. nat_eq n (shape.procedure_of i)) callee ∙ nat_eq_same (shape.procedure_of i)))
+        has_u) in
+        found_after path j y sites after is_path.2 rest
+        (next_by (Ret site i j) j is_path.0 (and_both _ _ (nat_eq_same j) (and_both _ _ has_i called)))
         (subst (λ p. Came shape found p sites) (well.site_inside site u v i j call is_path.0) outer)
 
     all_found : (x : ℕ) → HasPath shape x → found x ≡ true
@@ -141,7 +150,8 @@ module _ (shape : Shape) (well : IsWellFormed shape) where
       go (inr any) =
           let (edge, at, passes) = any_contains (leads_on shape found z) shape.edges any in
           subst (λ n. is_one_of candidates n ≡ true) (ends_at edge passes)
-          (or_right (nat_eq (target_of edge) (root shape)) _ (contains_any (nat_eq (target_of edge)) (map target_of shape.edges) (target_of edge) (Contains-map target_of shape.edges edge at) (nat_eq_same (target_of edge))))
+          (or_right (nat_eq (target_of edge) (root shape)) _ (contains_any (nat_eq (target_of edge)) (map target_of shape.edges) (target_of edge)
+          (Contains-map target_of shape.edges edge at) (nat_eq_same (target_of edge))))
 
   pub has_path_decided : (x : ℕ) → HasPath shape x ⊎ (¬ (HasPath shape x))
   has_path_decided x = decided (least_test (HasPath shape) (is_next shape) candidates next_sound all_found next_within) x

@@ -1,11 +1,14 @@
 -- A run is extended to a backward valid path
-use Rattle.std.proofs.Common.{◌≡◌, ℕ, Bool, true, false, not, ◌&&◌, ◌||◌, List, [], ◌∷◌, ◌++◌, Option, Some, None, option_and_then, nat_eq, if◌then◌else◌, IsSome, refl, sym, ap, ◌∙◌, arith}
-use Rattle.flow_graph.specs.Paths.{Edge, Step, Call, Ret, source_of, Shape, Transfer, IsEdge, final, IsPath, open_sites_after, value_across, HasBackwardPath, IsBackwardValidPath, sites_before_edge, open_sites_before, value_before}
+use Rattle.std.proofs.Common.{◌≡◌, ℕ, Bool, true, false, not, ◌&&◌, ◌||◌, List, [], ◌∷◌, ◌++◌, Option, Some, None, option_and_then, nat_eq}
+use Rattle.std.proofs.Common.{if◌then◌else◌, IsSome, refl, sym, ap, ◌∙◌, arith}
+use Rattle.flow_graph.specs.Paths.{Edge, Step, Call, Ret, source_of, Shape, Transfer, IsEdge, final, IsPath, open_sites_after, value_across}
+use Rattle.flow_graph.specs.Paths.{HasBackwardPath, IsBackwardValidPath, sites_before_edge, open_sites_before, value_before}
 use Rattle.flow_graph.specs.Reversals.{reversed_path, reversed_shape}
 use Rattle.flow_graph.specs.WellFormed.{IsWellFormed}
 use Rattle.flow_graph.specs.Runs.{run_sites_after, IsRun, Accesses, is_unwritten_along, CallsReturn, IsLiveness}
 use Rattle.flow_graph.specs.RunLaws.{ContinuationsAreRuns, FrontsOfRunsAreRuns, WhatFinishesIsNotDoubtful, RunsExtend, DeadIsSafe}
-use Rattle.flow_graph.proofs.paths.PathLemmas.{IsPath-append, path_split, valid_front, open_sites_after-append, open_sites_after-none, some_sites, nat_eq_same, same_site}
+use Rattle.flow_graph.proofs.paths.PathLemmas.{IsPath-append, path_split, valid_front, open_sites_after-append, open_sites_after-none, some_sites}
+use Rattle.flow_graph.proofs.paths.PathLemmas.{nat_eq_same, same_site}
 use Rattle.flow_graph.proofs.paths.Reversal.{path_back, open_sites_after-reversed, reversed_path-twice, valid_reversed, reversed_is_well_formed}
 use Rattle.flow_graph.proofs.paths.Splitting.{sites_kept, valid_split, OpenCalls}
 
@@ -13,7 +16,8 @@ run_sites_after-none : (path : List Edge) → run_sites_after path None ≡ None
 run_sites_after-none [] = refl
 run_sites_after-none (edge ∷ path) = run_sites_after-none path
 
-same_run_site : (site latest : ℕ) (path : List Edge) (sites after : List ℕ) → run_sites_after path (if nat_eq site latest then Some sites else None) ≡ Some after
+same_run_site : (site latest : ℕ) (path : List Edge) (sites after : List ℕ)
+    → run_sites_after path (if nat_eq site latest then Some sites else None) ≡ Some after
     → (site ≡ latest) × (run_sites_after path (Some sites) ≡ Some after)
 same_run_site site latest path sites after = go (nat_eq site latest) refl
   where
@@ -22,7 +26,8 @@ same_run_site site latest path sites after = go (nat_eq site latest) refl
     go true same opens = (grind arith, opens)
     go false same opens = absurd (cc (opens, run_sites_after-none path))
 
-run_sites_after-append : (front back : List Edge) (sites : Option (List ℕ)) → run_sites_after (front ++ back) sites ≡ run_sites_after back (run_sites_after front sites)
+run_sites_after-append : (front back : List Edge) (sites : Option (List ℕ))
+    → run_sites_after (front ++ back) sites ≡ run_sites_after back (run_sites_after front sites)
 run_sites_after-append [] back sites = refl
 run_sites_after-append (edge ∷ front) back sites = run_sites_after-append front back _
 
@@ -58,11 +63,13 @@ what_finishes_is_not_doubtful shape point can doubtful =
     let (path, ahead, is_path, none) = doubtful in
     none (can path ahead is_path)
 
-open_sites_before-append : (front back : List Edge) (sites : Option (List ℕ)) → open_sites_before (front ++ back) sites ≡ open_sites_before front (open_sites_before back sites)
+open_sites_before-append : (front back : List Edge) (sites : Option (List ℕ))
+    → open_sites_before (front ++ back) sites ≡ open_sites_before front (open_sites_before back sites)
 open_sites_before-append [] back sites = refl
 open_sites_before-append (edge ∷ front) back sites = ap (option_and_then (sites_before_edge edge)) (open_sites_before-append front back sites)
 
-value_before-append : (transfer : Transfer) (front back : List Edge) (value : Bool) → value_before transfer (front ++ back) value ≡ value_before transfer front (value_before transfer back value)
+value_before-append : (transfer : Transfer) (front back : List Edge) (value : Bool)
+    → value_before transfer (front ++ back) value ≡ value_before transfer front (value_before transfer back value)
 value_before-append transfer [] back value = refl
 value_before-append transfer (edge ∷ front) back value = ap (value_across transfer edge) (value_before-append transfer front back value)
 
@@ -96,11 +103,13 @@ record Finish (shape : Shape) (x : ℕ) : Type 0 where
 finish : (shape : Shape) → IsWellFormed shape → (x : ℕ) → HasBackwardPath shape x → Finish shape x
 finish shape well x has =
     let valid = valid_reversed shape has.0 x has.1 in
-    let (front, back, same, entering, from_entry) = valid_split (reversed_shape shape) (reversed_path has.0) x (reversed_is_well_formed shape well) valid in
+    let (front, back, same, entering, from_entry) =
+    valid_split (reversed_shape shape) (reversed_path has.0) x (reversed_is_well_formed shape well) valid in
     record {
       path = reversed_path back;
       to_exit = path_back shape back _ x from_entry.0;
-      sites = λ behind. sym (open_sites_after-reversed (reversed_path back) (Some behind)) ∙ (rw (reversed_path-twice back) (sites_kept back from_entry.1 behind));
+      sites = λ behind. sym (open_sites_after-reversed (reversed_path back) (Some behind))
+          ∙ (rw (reversed_path-twice back) (sites_kept back from_entry.1 behind));
     }
 
 -- the calls that a run has open, whatever procedure it began in
@@ -120,8 +129,10 @@ module _ (shape : Shape) (well : IsWellFormed shape) (returns : CallsReturn shap
   calls_run [] x y sites after is_path opens calls =
       let same : sites ≡ after = cc in
       rw (← is_path, ← same) calls
-  calls_run (Step i j ∷ path) x y sites after is_path opens calls = calls_run path j y sites after is_path.2 opens (rw (← well.step_inside i j is_path.0, is_path.1) calls)
-  calls_run (Call site i j ∷ path) x y sites after is_path opens calls = calls_run path j y (site ∷ sites) after is_path.2 opens (i, j, is_path.0, refl, rw is_path.1 calls)
+  calls_run (Step i j ∷ path) x y sites after is_path opens calls =
+      calls_run path j y sites after is_path.2 opens (rw (← well.step_inside i j is_path.0, is_path.1) calls)
+  calls_run (Call site i j ∷ path) x y sites after is_path opens calls =
+      calls_run path j y (site ∷ sites) after is_path.2 opens (i, j, is_path.0, refl, rw is_path.1 calls)
   calls_run (Ret site i j ∷ path) x y [] after is_path opens calls = calls_run path j y [] after is_path.2 opens tt
   calls_run (Ret site i j ∷ path) x y (latest ∷ sites) after is_path opens calls =
       let (same, rest) = same_run_site site latest path sites after opens in
@@ -130,7 +141,8 @@ module _ (shape : Shape) (well : IsWellFormed shape) (returns : CallsReturn shap
 
   -- a path to the end that returns to these open sites first
   Rest : ℕ → List ℕ → Type 0
-  Rest x sites = (path : List Edge) × IsPath shape x path (final shape) × (pending : List ℕ) × (open_sites_before path (Some []) ≡ Some (sites ++ pending))
+  Rest x sites =
+      (path : List Edge) × IsPath shape x path (final shape) × (pending : List ℕ) × (open_sites_before path (Some []) ≡ Some (sites ++ pending))
 
   -- each open call is finished inside its callee, then the path leaves as the last point's own path does
   rest : (R : Type 0) (sites : List ℕ) (x : ℕ) → CanFinishFor R shape x → RunCalls shape (shape.procedure_of x) sites → (Rest x sites → R) → R
@@ -181,16 +193,20 @@ runs_extend shape start finish run well returns can is_run =
 
 module _ (shape : Shape) (transfer : Transfer) (accesses : Accesses) (live : IsLiveness shape transfer accesses) where
   -- what is live behind steps that do not write it is live before them
-  unwritten_live : (path : List Edge) (x y : ℕ) → IsPath shape x path y → is_unwritten_along accesses path ≡ true → value_before transfer path true ≡ true
+  unwritten_live : (path : List Edge) (x y : ℕ) → IsPath shape x path y → is_unwritten_along accesses path ≡ true
+      → value_before transfer path true ≡ true
   unwritten_live [] x y is_path unwritten = refl
   unwritten_live (Step i j ∷ path) x y is_path unwritten =
       let (here, ahead) = both (accesses.writes i) (is_unwritten_along accesses path) unwritten in
       rw (unwritten_live path j y is_path.2 ahead, live.kill_writes i j is_path.0, here) (or_true (transfer.gen i j))
-  unwritten_live (Call site i j ∷ path) x y is_path unwritten = unwritten_live path j y is_path.2 (both (accesses.writes i) (is_unwritten_along accesses path) unwritten).1
-  unwritten_live (Ret site i j ∷ path) x y is_path unwritten = unwritten_live path j y is_path.2 (both (accesses.writes i) (is_unwritten_along accesses path) unwritten).1
+  unwritten_live (Call site i j ∷ path) x y is_path unwritten =
+      unwritten_live path j y is_path.2 (both (accesses.writes i) (is_unwritten_along accesses path) unwritten).1
+  unwritten_live (Ret site i j ∷ path) x y is_path unwritten =
+      unwritten_live path j y is_path.2 (both (accesses.writes i) (is_unwritten_along accesses path) unwritten).1
 
   -- a path that begins where the variable is read makes it live there
-  live_at : (path : List Edge) (x : ℕ) → accesses.reads x ≡ true → IsPath shape x path (final shape) → value_before transfer path transfer.boundary ≡ true
+  live_at : (path : List Edge) (x : ℕ) → accesses.reads x ≡ true → IsPath shape x path (final shape)
+      → value_before transfer path transfer.boundary ≡ true
   live_at [] x reads is_path = absurd (cc (ap accesses.reads is_path, live.final_reads_nothing))
   live_at (edge ∷ path) x reads is_path =
       let (i, j, same) = live.reader_steps edge is_path.0 (rw is_path.1 reads) in
@@ -203,4 +219,9 @@ dead_is_safe shape transfer accesses point well returns live undoubted dead read
     let (run, finish, is_run, unwritten, reads) = reader in
     extend shape well returns ⊥ run point finish
     (λ path ahead is_path done. undoubted (path, ahead, is_path, done)) is_run (λ rest to_end valid.
-    dead (run ++ rest, valid, value_before-append transfer run rest transfer.boundary ∙ rw (live_at shape transfer accesses live rest finish reads to_end) (unwritten_live shape transfer accesses live run point finish is_run.0 unwritten)))
+    dead (
+      run ++ rest,
+      valid,
+      value_before-append transfer run rest transfer.boundary ∙ rw (live_at shape transfer accesses live rest finish reads to_end)
+          (unwritten_live shape transfer accesses live run point finish is_run.0 unwritten),
+    ))

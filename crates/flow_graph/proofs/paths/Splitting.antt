@@ -3,14 +3,17 @@ use Rattle.std.proofs.Common.{◌≡◌, ℕ, List, [], ◌∷◌, ◌++◌, Opt
 use Rattle.flow_graph.specs.Paths.{Edge, Step, Call, Ret, Shape, IsEdge, root, IsPath, open_sites_after, IsValidPath}
 use Rattle.flow_graph.specs.WellFormed.{IsWellFormed}
 use Rattle.flow_graph.specs.MatchedPaths.{IsPathFromEntry, IsEnteringPath}
-use Rattle.flow_graph.specs.PathLaws.{MatchedReturnsLeaveTheirCallee, StepsJoin, CalleePathsJoin, CallsEnter, ValidPathsSplit, PathsCompose, FrontsAreValid}
-use Rattle.flow_graph.proofs.paths.PathLemmas.{IsPath-append, path_split, open_sites_after-append, open_sites_after-none, open_sites_after-below, some_sites, nat_eq_same, same_site, valid_front}
+use Rattle.flow_graph.specs.PathLaws.{MatchedReturnsLeaveTheirCallee, StepsJoin, CalleePathsJoin, CallsEnter, ValidPathsSplit, PathsCompose}
+use Rattle.flow_graph.specs.PathLaws.{FrontsAreValid}
+use Rattle.flow_graph.proofs.paths.PathLemmas.{IsPath-append, path_split, open_sites_after-append, open_sites_after-none, open_sites_after-below}
+use Rattle.flow_graph.proofs.paths.PathLemmas.{some_sites, nat_eq_same, same_site, valid_front}
 
 -- a matched path leaves the sites that were open before it as they were
 pub sites_kept : (path : List Edge) → open_sites_after path (Some []) ≡ Some [] → (sites : List ℕ) → open_sites_after path (Some sites) ≡ Some sites
 sites_kept path matched sites = open_sites_after-below path [] [] sites matched
 
-pub at_entry : (shape : Shape) → IsWellFormed shape → (procedure : ℕ) → procedure < shape.procedures → IsPathFromEntry shape [] (shape.entry procedure)
+pub at_entry : (shape : Shape) → IsWellFormed shape → (procedure : ℕ) → procedure < shape.procedures
+    → IsPathFromEntry shape [] (shape.entry procedure)
 at_entry shape well procedure in_range = (ap shape.entry (well.entry_inside procedure in_range), refl)
 
 pub steps_join : StepsJoin
@@ -40,7 +43,8 @@ calls_enter shape path site x procedure call valid =
     )
 
 -- a path by which a procedure is entered and a matched path in that procedure
-pub valid_join : (shape : Shape) (front back : List Edge) (x : ℕ) → IsEnteringPath shape front (shape.procedure_of x) → IsPathFromEntry shape back x → IsValidPath shape (front ++ back) x
+pub valid_join : (shape : Shape) (front back : List Edge) (x : ℕ) → IsEnteringPath shape front (shape.procedure_of x) → IsPathFromEntry shape back x
+    → IsValidPath shape (front ++ back) x
 valid_join shape front back x entering from_entry =
     let (sites, opens) = some_sites _ entering.0.1 in (
       IsPath-append shape front back _ _ x entering.0.0 from_entry.0,
@@ -63,7 +67,8 @@ record Split (shape : Shape) (x : ℕ) (sites : List ℕ) (path : List Edge) : T
   from_entry : IsPathFromEntry shape back x
 
 module _ (shape : Shape) (well : IsWellFormed shape) where
-  split_step : (path : List Edge) (x y : ℕ) (sites : List ℕ) → IsEdge shape (Step x y) → Split shape x sites path → Split shape y sites (path ++ Step x y ∷ [])
+  split_step : (path : List Edge) (x y : ℕ) (sites : List ℕ) → IsEdge shape (Step x y) → Split shape x sites path
+      → Split shape y sites (path ++ Step x y ∷ [])
   split_step path x y sites edge s = record {
     front = s.front;
     back = s.back ++ Step x y ∷ [];
@@ -72,7 +77,8 @@ module _ (shape : Shape) (well : IsWellFormed shape) where
     from_entry = steps_join shape s.back x y well edge s.from_entry;
   }
 
-  split_call : (path : List Edge) (site x y : ℕ) (sites : List ℕ) → IsEdge shape (Call site x y) → Split shape x sites path → Split shape y (site ∷ sites) (path ++ Call site x y ∷ [])
+  split_call : (path : List Edge) (site x y : ℕ) (sites : List ℕ) → IsEdge shape (Call site x y) → Split shape x sites path
+      → Split shape y (site ∷ sites) (path ++ Call site x y ∷ [])
   unfolding Frames
   split_call path site x y sites edge s =
       let target = well.call_to_entry site x y edge in
@@ -93,7 +99,8 @@ module _ (shape : Shape) (well : IsWellFormed shape) where
         from_entry = rw target.1 (at_entry shape well _ target.0);
       }
 
-  split_return : (path : List Edge) (site x z : ℕ) (sites : List ℕ) → IsEdge shape (Ret site x z) → Split shape x (site ∷ sites) path → Split shape z sites (path ++ Ret site x z ∷ [])
+  split_return : (path : List Edge) (site x z : ℕ) (sites : List ℕ) → IsEdge shape (Ret site x z) → Split shape x (site ∷ sites) path
+      → Split shape z sites (path ++ Ret site x z ∷ [])
   unfolding Frames
   split_return path site x z sites edge s =
       let (outer, before, y, in_range, same, call, from_entry, frames) = s.frames in
@@ -104,25 +111,32 @@ module _ (shape : Shape) (well : IsWellFormed shape) where
         back = before ++ Call site y (shape.entry callee) ∷ (s.back ++ Ret site x z ∷ []);
         same = rw (s.same, same) (simp append_assoc);
         frames = rw (← well.site_inside site y _ x z call edge) frames;
-        from_entry = subst (λ (n : ℕ). IsPathFromEntry shape (before ++ Call site y (shape.entry callee) ∷ (s.back ++ Ret site n z ∷ [])) z) (sym at_exit)
-            (callee_paths_join shape before s.back site y callee z well in_range call (subst (λ (n : ℕ). IsEdge shape (Ret site n z)) at_exit edge) from_entry
+        from_entry =
+            subst (λ (n : ℕ). IsPathFromEntry shape (before ++ Call site y (shape.entry callee) ∷ (s.back ++ Ret site n z ∷ [])) z) (sym at_exit)
+            (callee_paths_join shape before s.back site y callee z well in_range call (subst (λ (n : ℕ). IsEdge shape (Ret site n z)) at_exit edge)
+            from_entry
             (subst (λ (n : ℕ). IsPathFromEntry shape s.back n) at_exit s.from_entry));
       }
 
-  split_path : (path : List Edge) (before : List Edge) (x y : ℕ) (sites after : List ℕ) → IsPath shape x path y → open_sites_after path (Some sites) ≡ Some after
+  split_path : (path : List Edge) (before : List Edge) (x y : ℕ) (sites after : List ℕ) → IsPath shape x path y
+      → open_sites_after path (Some sites) ≡ Some after
       → Split shape x sites before → Split shape y after (before ++ path)
   split_path [] before x y sites after is_path opens s =
       let same : sites ≡ after = cc in
       rw (← is_path, ← same, append-nil before) s
-  split_path (Step i j ∷ path) before x y sites after is_path opens s = subst (λ (l : List Edge). Split shape y after l) (append_assoc before (Step i j ∷ []) path)
+  split_path (Step i j ∷ path) before x y sites after is_path opens s =
+      subst (λ (l : List Edge). Split shape y after l) (append_assoc before (Step i j ∷ []) path)
       (split_path path (before ++ Step i j ∷ []) j y sites after is_path.2 opens (split_step before i j sites is_path.0 (rw is_path.1 s)))
-  split_path (Call site i j ∷ path) before x y sites after is_path opens s = subst (λ (l : List Edge). Split shape y after l) (append_assoc before (Call site i j ∷ []) path)
-      (split_path path (before ++ Call site i j ∷ []) j y (site ∷ sites) after is_path.2 opens (split_call before site i j sites is_path.0 (rw is_path.1 s)))
+  split_path (Call site i j ∷ path) before x y sites after is_path opens s =
+      subst (λ (l : List Edge). Split shape y after l) (append_assoc before (Call site i j ∷ []) path)
+      (split_path path (before ++ Call site i j ∷ []) j y (site ∷ sites) after is_path.2 opens
+      (split_call before site i j sites is_path.0 (rw is_path.1 s)))
   split_path (Ret site i j ∷ path) before x y [] after is_path opens s = absurd (cc (opens, open_sites_after-none path))
   split_path (Ret site i j ∷ path) before x y (latest ∷ sites) after is_path opens s =
       let (same, rest) = same_site site latest path sites after opens in
       subst (λ (l : List Edge). Split shape y after l) (append_assoc before (Ret site i j ∷ []) path)
-      (split_path path (before ++ Ret site i j ∷ []) j y sites after is_path.2 rest (split_return before site i j sites is_path.0 (rw (is_path.1, same) s)))
+      (split_path path (before ++ Ret site i j ∷ []) j y sites after is_path.2 rest
+      (split_return before site i j sites is_path.0 (rw (is_path.1, same) s)))
 
   frames_enter : (procedure : ℕ) (sites : List ℕ) (front : List Edge) → Frames shape procedure sites front → IsEnteringPath shape front procedure
   unfolding Frames
@@ -133,7 +147,8 @@ module _ (shape : Shape) (well : IsWellFormed shape) where
       rw (same, ← append_assoc outer path (Call site x (shape.entry procedure) ∷ [])) (calls_enter shape (outer ++ path) site x procedure call valid)
 
 pub valid_split : (shape : Shape) (path : List Edge) (x : ℕ) → IsWellFormed shape → IsValidPath shape path x
-    → (front : List Edge) × (back : List Edge) × (path ≡ front ++ back) × IsEnteringPath shape front (shape.procedure_of x) × IsPathFromEntry shape back x
+    → (front : List Edge) × (back : List Edge) × (path ≡ front ++ back) × IsEnteringPath shape front (shape.procedure_of x)
+    × IsPathFromEntry shape back x
 unfolding Frames
 valid_split shape path x well valid =
     let (sites, opens) = some_sites _ valid.1 in
@@ -192,7 +207,8 @@ matched_returns_leave_their_callee shape before between after site x y site' u z
     let whole = Call site x y ∷ (between ++ Ret site' u z ∷ after) in
     let (middle, first, second) = path_split shape before whole (root shape) finish valid.0 in
     let (end, inner, last) = path_split shape between (Ret site' u z ∷ after) y finish second.2 in
-    let same_procedure : shape.procedure_of end ≡ shape.procedure_of y = calls_path (λ q. q ≡ shape.procedure_of y) shape well between y end [] [] inner matched refl in
+    let same_procedure : shape.procedure_of end ≡ shape.procedure_of y =
+    calls_path (λ q. q ≡ shape.procedure_of y) shape well between y end [] [] inner matched refl in
     let at_exit = (well.return_from_exit site' u z last.0).1 in
     let (sites, opens) = some_sites _ valid.1 in
     (site_of sites opens, at_exit ∙ ap (λ n. shape.exit (shape.procedure_of n)) last.1 ∙ ap shape.exit same_procedure)
@@ -200,10 +216,12 @@ matched_returns_leave_their_callee shape before between after site x y site' u z
     go : (sites final : List ℕ) → open_sites_after (between ++ Ret site' u z ∷ after) (Some (site ∷ sites)) ≡ Some final → site' ≡ site
     go sites final opens =
         let along : open_sites_after (Ret site' u z ∷ after) (Some (site ∷ sites)) ≡ Some final =
-        ap (λ s. open_sites_after (Ret site' u z ∷ after) s) (sym (open_sites_after-below between [] [] (site ∷ sites) matched)) ∙ sym (open_sites_after-append between (Ret site' u z ∷ after) (Some (site ∷ sites))) ∙ opens in
+        ap (λ s. open_sites_after (Ret site' u z ∷ after) s) (sym (open_sites_after-below between [] [] (site ∷ sites) matched))
+        ∙ sym (open_sites_after-append between (Ret site' u z ∷ after) (Some (site ∷ sites))) ∙ opens in
         (same_site site' site after sites final along).0
 
-    start : (opened : Option (List ℕ)) (final : List ℕ) → open_sites_after (Call site x y ∷ (between ++ Ret site' u z ∷ after)) opened ≡ Some final → site' ≡ site
+    start : (opened : Option (List ℕ)) (final : List ℕ) → open_sites_after (Call site x y ∷ (between ++ Ret site' u z ∷ after)) opened ≡ Some final
+        → site' ≡ site
     start None final opens = absurd (cc (opens, open_sites_after-none (between ++ Ret site' u z ∷ after)))
     start (Some sites) final opens = go sites final opens
 

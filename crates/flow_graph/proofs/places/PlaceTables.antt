@@ -1,5 +1,7 @@
 -- What the tables of points answer
-use Rattle.std.proofs.Common.{◌≡◌, ℕ, zero, suc, ◌+◌, ◌-◌, ◌<◌, ◌≤◌, List, [], ◌∷◌, length, take, get_or, slice_get, slice_index_or, option_copied, option_map, unwrap_or, inl, inr, ◌⊎◌, is_some, IfSome, nat_lt, Bor, Option, Some, None, sum_by, refl, sym, ap, ap₂, ◌∙◌, arith}
+use Rattle.std.proofs.Common.{◌≡◌, ℕ, zero, suc, ◌+◌, ◌-◌, ◌<◌, ◌≤◌, List, [], ◌∷◌, length, take, get_or, slice_get, slice_index_or, option_copied}
+use Rattle.std.proofs.Common.{option_map, unwrap_or, inl, inr, ◌⊎◌, is_some, IfSome, nat_lt, Bor, Option, Some, None, sum_by, refl, sym, ap, ap₂, ◌∙◌}
+use Rattle.std.proofs.Common.{arith}
 use Rattle.std.proofs.lemmas.List.Sums.{sum_by-cons, sum_by_more}
 use Rattle.std.proofs.lemmas.Bool.{cases_lt}
 use Rattle.std.proofs.lemmas.Option.{slice_get_past, slice_get-get_or, slice_get_read}
@@ -16,7 +18,8 @@ pub record Found (program : Program) (firsts : List ℕ) (point p f : ℕ) : Typ
   pub first : f ≤ point
   pub place : record { procedure = p; place = point - f } ≡ place_of program point
 
-pub procedure_found : (program : Program) (firsts procedures : List ℕ) (point p : ℕ) → AreFirstPoints program firsts → AreProcedures program procedures
+pub procedure_found : (program : Program) (firsts procedures : List ℕ) (point p : ℕ) → AreFirstPoints program firsts
+    → AreProcedures program procedures
     → point < point_count program → p ≡ get_or procedures point p → (p ≡ procedure_at program point) × (p < length firsts)
 procedure_found program firsts procedures point p are_firsts are_procedures below is_p =
     let same : p ≡ procedure_at program point = is_p ∙ are_procedures.each point p below in
@@ -28,7 +31,8 @@ pub found : (program : Program) (firsts procedures : List ℕ) (point p f : ℕ)
 found program firsts procedures point p f are_firsts are_procedures below is_p is_f =
     let (same, there) = procedure_found program firsts procedures point p are_firsts are_procedures below is_p in
     let place : IsPlaceOf program point = points_have_places program point below in
-    let first : f ≡ first_point program (procedure_at program point) = is_f ∙ are_firsts.each p f (omega (arith, are_firsts.count)) ∙ ap (first_point program) same in
+    let first : f ≡ first_point program (procedure_at program point) =
+    is_f ∙ are_firsts.each p f (omega (arith, are_firsts.count)) ∙ ap (first_point program) same in
     record {
       procedure = same;
       there = there;
@@ -36,14 +40,16 @@ found program firsts procedures point p f are_firsts are_procedures below is_p i
       place = ap₂ (λ a b. record { procedure = a; place = b }) same (omega (arith, place.back));
     }
 
-pub point_fits : (program : Program) (firsts : List ℕ) (procedure place f : ℕ) → AreFirstPoints program firsts → procedure < length program.procedures → place ≤ end_place program procedure
+pub point_fits : (program : Program) (firsts : List ℕ) (procedure place f : ℕ) → AreFirstPoints program firsts → procedure < length program.procedures
+    → place ≤ end_place program procedure
     → f ≡ get_or firsts procedure f → f + place < point_count program
 point_fits program firsts procedure place f are_firsts there within is_f =
     let (below, is) = places_have_points program procedure place there within in
     omega (arith, is_f, are_firsts.each procedure f there)
 
 -- what `get` of a slice lends is what is there
-pub copied_is_get : {A : Type 0} (found : Option (Bor A)) (xs : List A) (i : ℕ) → is_some found ≡ nat_lt i (length xs) → IfSome found (λ x. x.now ≡ slice_index_or xs i x.now) → option_copied found ≡ slice_get xs i
+pub copied_is_get : {A : Type 0} (found : Option (Bor A)) (xs : List A) (i : ℕ) → is_some found ≡ nat_lt i (length xs)
+    → IfSome found (λ x. x.now ≡ slice_index_or xs i x.now) → option_copied found ≡ slice_get xs i
 copied_is_get None xs i some value =
     let past : length xs ≤ i = grind arith in
     sym (slice_get_past xs i past)

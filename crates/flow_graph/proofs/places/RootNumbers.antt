@@ -1,5 +1,6 @@
 -- The number of the procedure `main`
-use Rattle.std.proofs.Common.{◌≡◌, ℕ, ◌<◌, ◌≤◌, ◌⊎◌, true, false, List, Option, Some, None, option_map, slice_get, unwrap_or, position, bytes_eq, inl, inr, refl, sym, ap, ◌∙◌, arith}
+use Rattle.std.proofs.Common.{◌≡◌, ℕ, ◌<◌, ◌≤◌, ◌⊎◌, true, false, List, Option, Some, None, option_map, slice_get, unwrap_or, position, bytes_eq, inl}
+use Rattle.std.proofs.Common.{inr, refl, sym, ap, ◌∙◌, arith}
 use Rattle.std.proofs.lemmas.Bool.{cases_lt}
 use Rattle.std.proofs.lemmas.Option.{get_or_from_slice_get, slice_get_within}
 use Rattle.std.proofs.lemmas.Slice.Eq.{bytes_eq-Decides}
@@ -28,7 +29,8 @@ module _ (names : List (List ℕ)) (differ : AllDiffer names) (s : List ℕ) whe
       at ∙ ap (λ y. let o : Option (List ℕ) = Some y in o) (sym ((bytes_eq-Decides s x).0 same))
 
   pub number_found : (n : ℕ) → slice_get names n ≡ Some s → n ≡ number_of names s
-  number_found n at = by_position (position (bytes_eq s) names) (sym (is_at-position (bytes_eq s) names (λ i j p q. one_place i j (named i p) (named j q)) n) ∙ here)
+  number_found n at =
+      by_position (position (bytes_eq s) names) (sym (is_at-position (bytes_eq s) names (λ i j p q. one_place i j (named i p) (named j q)) n) ∙ here)
     where
       here : is_at (bytes_eq s) names n ≡ true
       here = ap (λ o. unwrap_or (option_map (bytes_eq s) o) false) at ∙ (bytes_eq-Decides s s).1 refl

@@ -1,5 +1,6 @@
 -- A statement of a program that can be read, by the point before it
-use Rattle.std.proofs.Common.{◌≡◌, ℕ, zero, suc, ◌<◌, List, [], ◌∷◌, length, Option, Some, None, option_map, slice_get, unwrap_or, All, refl, sym, ap, ◌∙◌, subst, arith}
+use Rattle.std.proofs.Common.{◌≡◌, ℕ, zero, suc, ◌<◌, List, [], ◌∷◌, length, Option, Some, None, option_map, slice_get, unwrap_or, All, refl, sym, ap}
+use Rattle.std.proofs.Common.{◌∙◌, subst, arith}
 use Rattle.std.proofs.lemmas.Option.{slice_get_within, get_or_from_slice_get}
 use Rattle.std.proofs.lemmas.List.Elements.{All-get_or}
 use Rattle.tac_program.specs.Programs.{Procedure, Program}
@@ -36,16 +37,21 @@ pub record Stands (program : Program) (point : ℕ) (kind : StmtKind) : Type 0 w
   pub sound_procedure : IsSoundProcedure (length program.variable_names) (length program.procedures) at
   pub sound : IsSoundStatement (length program.variable_names) (length at.labels) (length program.procedures) kind
 
-pub stands : (program : Program) → IsSound program → (point : ℕ) (kind : StmtKind) → point < point_count program → kind_at program point ≡ Some kind → Stands program point kind
+pub stands : (program : Program) → IsSound program → (point : ℕ) (kind : StmtKind) → point < point_count program → kind_at program point ≡ Some kind
+    → Stands program point kind
 stands program sound point kind below is =
     let place : IsPlaceOf program point = points_have_places program point below in
     let pr : ℕ = procedure_at program point in
     let (p, known) : (p : Procedure) × (slice_get program.procedures pr ≡ Some p) = slice_get_some program.procedures pr place.procedure in
     let (s, at, same) = mapped_some (λ (s : Stmt). s.kind) (statement_at program point) kind is in
     let statements : statements_of program pr ≡ p.statements = ap (λ o. unwrap_or (option_map (λ (p : Procedure). p.statements) o) []) known in
-    let there : slice_get p.statements (place_of program point).place ≡ Some s = sym (ap (λ xs. slice_get xs (place_of program point).place) statements) ∙ at in
-    let sound_procedure : IsSoundProcedure (length program.variable_names) (length program.procedures) p = All-slice_get (IsSoundProcedure (length program.variable_names) (length program.procedures)) program.procedures pr p sound.procedures known in
-    let sound_statement = All-slice_get (λ (s : Stmt). IsSoundStatement (length program.variable_names) (length p.labels) (length program.procedures) s.kind) p.statements (place_of program point).place s sound_procedure.statements there in
+    let there : slice_get p.statements (place_of program point).place ≡ Some s =
+    sym (ap (λ xs. slice_get xs (place_of program point).place) statements) ∙ at in
+    let sound_procedure : IsSoundProcedure (length program.variable_names) (length program.procedures) p =
+    All-slice_get (IsSoundProcedure (length program.variable_names) (length program.procedures)) program.procedures pr p sound.procedures known in
+    let sound_statement =
+    All-slice_get (λ (s : Stmt). IsSoundStatement (length program.variable_names) (length p.labels) (length program.procedures) s.kind)
+    p.statements (place_of program point).place s sound_procedure.statements there in
     record {
       at = p;
       known = known;

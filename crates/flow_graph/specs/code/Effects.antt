@@ -1,6 +1,7 @@
 -- What the statement at a point does with the bits of an analysis: it has at most two bits of its own, and it touches those
 -- that depend on the variable that it writes. Gen and kill are made of the two.
-use Rattle.std.specs.Prelude.{◌≡◌, ◌<◌, ℕ, ◌+◌, ◌*◌, ◌/◌, ◌%◌, Bool, true, false, not, ◌&&◌, ◌||◌, List, IfSome, length, get_or, Option, Some, None, option_map, slice_get, unwrap_or, nat_eq}
+use Rattle.std.specs.Prelude.{◌≡◌, ◌<◌, ℕ, ◌+◌, ◌*◌, ◌/◌, ◌%◌, Bool, true, false, not, ◌&&◌, ◌||◌, List, IfSome, length, get_or, Option, Some, None}
+use Rattle.std.specs.Prelude.{option_map, slice_get, unwrap_or, nat_eq}
 use Rattle.tac_program.specs.Programs.{Program}
 use Rattle.flow_graph.specs.code.BitTables.{table_has}
 use Rattle.flow_graph.specs.Points.{point_count}

@@ -68,9 +68,12 @@ abbrev pub edge_at : List Edge → ℕ → Edge
 edge_at edges place = slice_index_or edges place (Step 0 0)
 
 -- At the places of each number stands what its edges lead to, and nothing else.
-pub record AreListed {Value : Type 0} (edges : List Edge) (key : Edge → ℕ) (value : Edge → Value) (count : ℕ) (starts : List ℕ) (items : List Value) : Type 0 where
+pub record AreListed {Value : Type 0} (edges : List Edge) (key : Edge → ℕ) (value : Edge → Value) (count : ℕ) (starts : List ℕ)
+    (items : List Value) : Type 0 where
   pub start_count : count < length starts
   pub rising : (k : ℕ) → k < count → slice_index starts k ≤ slice_index starts (k + 1)
   pub within : (k : ℕ) → k < count → slice_index starts (k + 1) ≤ length items
-  pub listed : (edge : Edge) → Contains edges edge → key edge < count → (j : ℕ) × IsPlaceOf starts (key edge) j × ((d : Value) → slice_index_or items j d ≡ value edge)
-  pub only : (k j : ℕ) → k < count → IsPlaceOf starts k j → (edge : Edge) × Contains edges edge × (key edge ≡ k) × ((d : Value) → slice_index_or items j d ≡ value edge)
+  pub listed : (edge : Edge) → Contains edges edge → key edge < count
+      → (j : ℕ) × IsPlaceOf starts (key edge) j × ((d : Value) → slice_index_or items j d ≡ value edge)
+  pub only : (k j : ℕ) → k < count → IsPlaceOf starts k j
+      → (edge : Edge) × Contains edges edge × (key edge ≡ k) × ((d : Value) → slice_index_or items j d ≡ value edge)

@@ -22,7 +22,8 @@ abbrev pub shape_of_form : MayForm → Shape
 shape_of_form form = may_shape form.program form.analysis
 
 -- what the tables of all kinds say of a form
-pub record AreTables (form : MayForm) (backward : Bool) (root : ℕ) (entries exits procedures step_starts steps call_starts : List ℕ) (calls : List CallLink)
+pub record AreTables (form : MayForm) (backward : Bool) (root : ℕ) (entries exits procedures step_starts steps call_starts : List ℕ)
+    (calls : List CallLink)
     (caller_starts callers site_starts : List ℕ) (sites : List SiteLink) (order call_order : List ℕ) : Type 0 where
   pub same_direction : backward ≡ is_backward form.analysis
   pub few : HasFewPoints Large form.program
@@ -32,9 +33,13 @@ pub record AreTables (form : MayForm) (backward : Bool) (root : ℕ) (entries ex
   pub entries_are : AreEach entries (shape_of_form form).procedures (shape_of_form form).entry
   pub exits_are : AreEach exits (shape_of_form form).procedures (shape_of_form form).exit
   pub procedures_are : AreEach procedures (point_count form.program) (shape_of_form form).procedure_of
-  pub steps_are : AreListed (shape_of_form form).edges (key_of Steps (shape_of_form form) (point_count form.program)) step_target (point_count form.program) step_starts steps
-  pub calls_are : AreListed (shape_of_form form).edges (key_of Calls (shape_of_form form) (point_count form.program)) (call_link (shape_of_form form) (is_backward form.analysis)) (point_count form.program) call_starts calls
-  pub callers_are : AreListed (shape_of_form form).edges (key_of Callers (shape_of_form form) (point_count form.program)) call_source (point_count form.program) caller_starts callers
-  pub sites_are : AreListed (shape_of_form form).edges (key_of Sites (shape_of_form form) (point_count form.program)) (site_link (shape_of_form form)) (shape_of_form form).procedures site_starts sites
+  pub steps_are : AreListed (shape_of_form form).edges (key_of Steps (shape_of_form form) (point_count form.program)) step_target
+      (point_count form.program) step_starts steps
+  pub calls_are : AreListed (shape_of_form form).edges (key_of Calls (shape_of_form form) (point_count form.program))
+      (call_link (shape_of_form form) (is_backward form.analysis)) (point_count form.program) call_starts calls
+  pub callers_are : AreListed (shape_of_form form).edges (key_of Callers (shape_of_form form) (point_count form.program)) call_source
+      (point_count form.program) caller_starts callers
+  pub sites_are : AreListed (shape_of_form form).edges (key_of Sites (shape_of_form form) (point_count form.program)) (site_link (shape_of_form form))
+      (shape_of_form form).procedures site_starts sites
   pub points_ordered : length order ≡ point_count form.program
   pub procedures_ordered : length call_order ≡ (shape_of_form form).procedures

@@ -22,7 +22,8 @@ pub record Asks (program : Program) (old new : List Ask) (most : ℕ) : Type 0 w
 pub record AsksReads (asks : List Ask) (place point : ℕ) (kind : StmtKind) : Type 0 where
   pub each : (variables : List ℕ) → AreRead kind variables → (i variable : ℕ) → slice_get variables i ≡ Some variable
       → slice_get asks (place + i) ≡ Some (ask_for Reach point variable)
-  pub all : (variable : ℕ) → list_any (names_variable variable) (operands_of kind) ≡ true → (q : ℕ) × (slice_get asks q ≡ Some (ask_for Reach point variable))
+  pub all : (variable : ℕ) → list_any (names_variable variable) (operands_of kind) ≡ true
+      → (q : ℕ) × (slice_get asks q ≡ Some (ask_for Reach point variable))
 
 -- at a place the one for the expression that it evaluates,
 abbrev pub AsksEvaluated : Program → List Ask → ℕ → ℕ → Type 0

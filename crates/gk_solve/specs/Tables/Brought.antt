@@ -29,11 +29,13 @@ AreSoundBrought group table = (w : ℕ) → w < group.width → AreSoundWords (I
 
 -- a bit is there exactly where it is brought
 abbrev pub AreExactBrought : Group → List (List ℕ) → Type 0
-AreExactBrought group table = (w p k : ℕ) → w < group.width → k < 64 → HasBit (brought_word table w) p k ↔ IsBrought group.shape (group.transfer w) k p
+AreExactBrought group table = (w p k : ℕ) → w < group.width → k < 64
+    → HasBit (brought_word table w) p k ↔ IsBrought group.shape (group.transfer w) k p
 
 -- what is brought is closed under an edge, in each word
 abbrev pub IsBroughtClosedAt : {W : ℕ} → Group → List Bool → List (Summary W) → List (List ℕ) → Edge → Type 0
-IsBroughtClosedAt group paths summaries table edge = (w : ℕ) → w < group.width → IsBringClosedAt group.shape paths (kept_word summaries w) (made_word summaries w) (brought_word table w) edge
+IsBroughtClosedAt group paths summaries table edge = (w : ℕ) → w < group.width
+    → IsBringClosedAt group.shape paths (kept_word summaries w) (made_word summaries w) (brought_word table w) edge
 
 -- a part of a visit of a procedure adds to what is brought
 abbrev pub BroughtSpreads : {W : ℕ} → Group → List Bool → List (Summary W) → List (List ℕ) → List Bool → List (List ℕ) → List Bool → Type 0
@@ -43,9 +45,11 @@ BroughtSpreads group paths summaries =
 
 -- the bits of a group's words are brought to a procedure
 abbrev pub AreBroughtOf : Group → List ℕ → ℕ → Type 0
-AreBroughtOf group words procedure = (w k : ℕ) → w < group.width → k < 64 → has_bit (slice_index words w) k ≡ true → IsBrought group.shape (group.transfer w) k procedure
+AreBroughtOf group words procedure = (w k : ℕ) → w < group.width → k < 64 → has_bit (slice_index words w) k ≡ true
+    → IsBrought group.shape (group.transfer w) k procedure
 
 -- each call of which a site tells is settled
-pub record IsBringSettled {W : ℕ} (group : Group) (paths : List Bool) (summaries : List (Summary W)) (table : List (List ℕ)) (dirty : List Bool) (link : SiteLink) : Type 0 where
+pub record IsBringSettled {W : ℕ} (group : Group) (paths : List Bool) (summaries : List (Summary W)) (table : List (List ℕ)) (dirty : List Bool)
+    (link : SiteLink) : Type 0 where
   pub settled : (site x y : ℕ) → IsEdge group.shape (Call site x y) → link.point ≡ x → link.callee ≡ group.shape.procedure_of y
       → IsSettled (IsBroughtClosedAt group paths summaries) (source_procedure group.shape) table dirty (Call site x y)

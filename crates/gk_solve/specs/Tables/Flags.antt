@@ -58,7 +58,8 @@ ReachSpreads shape backward = Spreads unset_flags FlagsGrow (IsSettled (IsReachC
 
 -- a part of a visit of a procedure sets flags of procedures
 abbrev pub EntrySpreads : Shape → List Bool → List Bool → List Bool → List Bool → List Bool → Type 0
-EntrySpreads shape reached = Spreads unset_flags FlagsGrow (IsSettled (IsEntryClosedAt shape reached) (source_procedure shape)) (AreSound (Entered shape)) shape
+EntrySpreads shape reached =
+    Spreads unset_flags FlagsGrow (IsSettled (IsEntryClosedAt shape reached) (source_procedure shape)) (AreSound (Entered shape)) shape
 
 -- each call of which a link tells is settled
 pub record IsCallSettled (shape : Shape) (backward : Bool) (at : ℕ) (flags dirty : List Bool) (link : CallLink) : Type 0 where

@@ -1,5 +1,6 @@
 -- A group of words side by side: the table of what is kept and made by point, and the table of what is brought by procedure.
-use Rattle.std.specs.Prelude.{◌≡◌, ◌<◌, ◌≤◌, ◌+◌, ◌*◌, ◌-◌, ◌%◌, ◌^◌, ◌⊎◌, ℕ, Bool, true, false, not, ◌&&◌, ◌||◌, List, [], length, slice_index, slice_index_or, sum_by}
+use Rattle.std.specs.Prelude.{◌≡◌, ◌<◌, ◌≤◌, ◌+◌, ◌*◌, ◌-◌, ◌%◌, ◌^◌, ◌⊎◌, ℕ, Bool, true, false, not, ◌&&◌, ◌||◌, List, [], length, slice_index}
+use Rattle.std.specs.Prelude.{slice_index_or, sum_by}
 use Rattle.bit_rows.specs.Words.{has_bit}
 use Rattle.flow_graph.specs.declared.edge.Edge.{Edge}
 use Rattle.flow_graph.specs.declared.edge.Edge.TheVariants.{Step, Call, Ret}
@@ -13,7 +14,8 @@ use Rattle.work_list.specs.Marks.{IsMarked}
 use Rattle.flow_links.specs.Shapes.{IsNumbered, after_site, directed_shape}
 use Rattle.gk_solve.specs.Tables.Flags.{AreExactly}
 use Rattle.gk_solve.specs.Tables.Visits.{Spreads}
-use Rattle.gk_solve.specs.Tables.Words.{HasBit, WordsGrow, AreSoundWords, IsKeepClosedAt, IsMakeClosedAt, IsKept, IsMade, place_gens, place_kills, place_transfer}
+use Rattle.gk_solve.specs.Tables.Words.{HasBit, WordsGrow, AreSoundWords, IsKeepClosedAt, IsMakeClosedAt, IsKept, IsMade, place_gens, place_kills}
+use Rattle.gk_solve.specs.Tables.Words.{place_transfer}
 use Rattle.gk_solve.specs.declared.group_frame.GroupFrame.{GroupFrame}
 use Rattle.flow_links.specs.declared.link.CallLink.{CallLink}
 use Rattle.gk_solve.specs.declared.summary.Summary.{Summary}
@@ -57,13 +59,15 @@ SummariesGrow width old new = (w : ℕ) → w < width → WordsGrow (kept_word o
 abbrev pub AreSoundSummaries : {W : ℕ} → Group → List (Summary W) → Type 0
 AreSoundSummaries group table =
     (w : ℕ) → w < group.width
-    → AreSoundWords (IsKept group.shape (group.transfer w)) (kept_word table w) × AreSoundWords (IsMade group.shape (group.transfer w)) (made_word table w)
+    → AreSoundWords (IsKept group.shape (group.transfer w)) (kept_word table w)
+    × AreSoundWords (IsMade group.shape (group.transfer w)) (made_word table w)
 
 -- each bit of a family is there, at the points with a path
 abbrev pub AreCompleteSummaries : {W : ℕ} → Group → List (Summary W) → Type 0
 AreCompleteSummaries group table =
     (w x k : ℕ) → w < group.width → k < 64 → HasFlag group.shape x
-    → (IsKept group.shape (group.transfer w) k x → HasBit (kept_word table w) x k) × (IsMade group.shape (group.transfer w) k x → HasBit (made_word table w) x k)
+    → (IsKept group.shape (group.transfer w) k x → HasBit (kept_word table w) x k)
+    × (IsMade group.shape (group.transfer w) k x → HasBit (made_word table w) x k)
 
 -- both are closed under an edge, in each word
 abbrev pub IsSummaryClosedAt : {W : ℕ} → Group → List Bool → List (Summary W) → Edge → Type 0
@@ -85,7 +89,8 @@ IsSummarySettled group paths table dirty edge =
 
 -- a part of a visit of a point adds to summaries
 abbrev pub SummarySpreads : {W : ℕ} → Group → List Bool → List (Summary W) → List Bool → List (Summary W) → List Bool → Type 0
-SummarySpreads group paths = Spreads room_of_summaries (SummariesGrow group.width) (IsSummarySettled group paths) (AreSoundSummaries group) group.shape
+SummarySpreads group paths =
+    Spreads room_of_summaries (SummariesGrow group.width) (IsSummarySettled group paths) (AreSoundSummaries group) group.shape
 
 -- The summary of each point is what it was, or it is the point that was added to, and is to be visited.
 abbrev pub AreSameBut : {W : ℕ} → ℕ → List (Summary W) → List (Summary W) → List Bool → Type 0
@@ -97,7 +102,8 @@ AreOf group Family words x = (w k : ℕ) → w < group.width → k < 64 → has_
 
 -- The bits of two words together.
 abbrev pub AreJoined : ℕ → List ℕ → List ℕ → List ℕ → Type 0
-AreJoined width first second joined = (w k : ℕ) → w < width → has_bit (slice_index joined w) k ≡ (has_bit (slice_index first w) k || has_bit (slice_index second w) k)
+AreJoined width first second joined = (w k : ℕ) → w < width
+    → has_bit (slice_index joined w) k ≡ (has_bit (slice_index first w) k || has_bit (slice_index second w) k)
 
 -- The bits after a step: those before it that its statement does not kill, and of what is made, those too that it generates.
 abbrev pub IsKeptAcross : Group → ℕ → ℕ → List ℕ → List ℕ → Type 0
@@ -127,7 +133,8 @@ pub record IsGroupFrame (width : ℕ) (frame : GroupFrame) : Type 0 where
   pub first : frame.first < 2 ^ 31
   pub narrow : width ≤ 8
   pub mask : (w : ℕ) → w < width → has_bit frame.mask ((frame.first + w) % 64) ≡ true
-  pub dependence : IsDependence frame.problem.now.program frame.problem.now.analysis frame.first frame.dependence.now.words.items frame.dependence.now.width
+  pub dependence : IsDependence frame.problem.now.program frame.problem.now.analysis frame.first frame.dependence.now.words.items
+      frame.dependence.now.width
   pub row_first : frame.dependence.now.first ≡ frame.first
   pub row_words : frame.dependence.now.width ≡ width
 
@@ -141,11 +148,14 @@ group_of frame width = record {
 }
 
 -- each call from a point that is left at an exit is settled
-pub record IsCallerSettled {W : ℕ} (group : Group) (paths : List Bool) (exit : ℕ) (table : List (Summary W)) (dirty : List Bool) (x : ℕ) : Type 0 where
+pub record IsCallerSettled {W : ℕ} (group : Group) (paths : List Bool) (exit : ℕ) (table : List (Summary W)) (dirty : List Bool)
+    (x : ℕ) : Type 0 where
   pub settled : (site y : ℕ) → IsEdge group.shape (Call site x y) → group.shape.exit (group.shape.procedure_of y) ≡ exit
       → IsSummarySettled group paths table dirty (Call site x y)
 
 -- each call of which a link tells is settled
-pub record IsSummaryCallSettled {W : ℕ} (group : Group) (paths : List Bool) (at : ℕ) (table : List (Summary W)) (dirty : List Bool) (link : CallLink) : Type 0 where
-  pub settled : (site y : ℕ) → IsEdge group.shape (Call site at y) → link.exit ≡ group.shape.exit (group.shape.procedure_of y) → link.after ≡ after_site group.backward site
+pub record IsSummaryCallSettled {W : ℕ} (group : Group) (paths : List Bool) (at : ℕ) (table : List (Summary W)) (dirty : List Bool)
+    (link : CallLink) : Type 0 where
+  pub settled : (site y : ℕ) → IsEdge group.shape (Call site at y) → link.exit ≡ group.shape.exit (group.shape.procedure_of y)
+      → link.after ≡ after_site group.backward site
       → IsSummarySettled group paths table dirty (Call site at y)

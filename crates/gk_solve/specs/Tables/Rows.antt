@@ -23,7 +23,8 @@ IsInWords slice point bit = (slice.from ≤ bit / 64) × (bit / 64 < slice.until
 
 -- the words that were solved last have no bit outside the slice
 abbrev pub AreWithin : SliceTable → Type 0
-AreWithin slice = (point word k : ℕ) → point < slice.points → slice.from ≤ word → word < slice.until → k < 64 → has_bit (word_at slice point word) k ≡ true
+AreWithin slice = (point word k : ℕ) → point < slice.points → slice.from ≤ word → word < slice.until → k < 64
+    → has_bit (word_at slice point word) k ≡ true
     → (slice.lo ≤ 64 * word + k) × (64 * word + k < slice.hi)
 
 -- The rows of a slice tell the problem's flags, and its solution at the bits below a limit.

@@ -46,7 +46,8 @@ pub record IsPutIn (words : List ℕ) (from point n : ℕ) (old new : RowTable) 
   pub uniform : IsUniform new
   pub others : new ≡ with_set old point (set_at new point)
   pub bits : (bit : ℕ) → bit < old.hi
-      → (contains (set_at new point) bit ≡ true) ↔ ((contains (set_at old point) bit ≡ true) ⊎ ((bit / 64 < n) × (row_bit words from (length old.flags) bit ≡ 1)))
+      → (contains (set_at new point) bit ≡ true)
+      ↔ ((contains (set_at old point) bit ≡ true) ⊎ ((bit / 64 < n) × (row_bit words from (length old.flags) bit ≡ 1)))
 
 -- the sets of the first n points have exactly the bits of their words, and the others are as they were
 pub record ArePutIn (words : List ℕ) (from n : ℕ) (old new : RowTable) : Type 0 where
@@ -54,5 +55,6 @@ pub record ArePutIn (words : List ℕ) (from n : ℕ) (old new : RowTable) : Typ
   pub lo : new.lo ≡ old.lo
   pub hi : new.hi ≡ old.hi
   pub flags : new.flags ≡ old.flags
-  pub bits : (point bit : ℕ) → point < n → bit < old.hi → (contains (set_at new point) bit ≡ true) ↔ (row_bit words (from + point) (length old.flags) bit ≡ 1)
+  pub bits : (point bit : ℕ) → point < n → bit < old.hi
+      → (contains (set_at new point) bit ≡ true) ↔ (row_bit words (from + point) (length old.flags) bit ≡ 1)
   pub left : (point : ℕ) → n ≤ point → set_at new point ≡ set_at old point

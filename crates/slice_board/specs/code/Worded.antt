@@ -22,4 +22,5 @@ word_of words first points point word = slice_index words (first + point + word 
 pub record ArePosted (words : List ℕ) (count first points bits : ℕ) : Type 0 where
   pub few : points < 2 ^ 32
   pub room : first + points * words_for bits ≤ count
-  pub clear : (point word k : ℕ) → point < points → word < words_for bits → k < 64 → bits ≤ 64 * word + k → has_bit (word_of words first points point word) k ≡ false
+  pub clear : (point word k : ℕ) → point < points → word < words_for bits → k < 64 → bits ≤ 64 * word + k
+      → has_bit (word_of words first points point word) k ≡ false

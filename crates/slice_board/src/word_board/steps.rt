@@ -1,5 +1,6 @@
 // The calls with which threads work on a board.
-ghost use Rattle.std.specs.Prelude.{◌≡◌, ℕ, ◌+◌, ◌-◌, ◌*◌, ◌^◌, ◌<◌, ◌≤◌, ◌↔◌, [], ◌∷◌, ◌++◌, length, Some, None, IfSome, IfNone, IfOk, IfErr, IsSome, IsErr, if◌then◌else◌, true};
+ghost use Rattle.std.specs.Prelude.{◌≡◌, ℕ, ◌+◌, ◌-◌, ◌*◌, ◌^◌, ◌<◌, ◌≤◌, ◌↔◌, [], ◌∷◌, ◌++◌, length, Some, None, IfSome, IfNone, IfOk, IfErr};
+ghost use Rattle.std.specs.Prelude.{IsSome, IsErr, if◌then◌else◌, true};
 ghost use Rattle.std.specs.List.{range_with_len};
 ghost use Rattle.bit_rows.specs.Words.{has_bit};
 ghost use Rattle.slice_board.specs.Boards.{IsOf, IsPlace, InSlice, fresh_pass, slice_count, about_board};

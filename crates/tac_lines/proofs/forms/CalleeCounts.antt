@@ -1,5 +1,6 @@
 -- No statement lists more than eight procedures.
-use Rattle.std.proofs.Common.{◌≡◌, ℕ, ◌+◌, ◌≤◌, Bool, true, false, cond, ◌&&◌, List, [], ◌∷◌, length, refl, arith, if◌then◌else◌, Option, Some, None, find, nat_le}
+use Rattle.std.proofs.Common.{◌≡◌, ℕ, ◌+◌, ◌≤◌, Bool, true, false, cond, ◌&&◌, List, [], ◌∷◌, length, refl, arith, if◌then◌else◌, Option, Some, None}
+use Rattle.std.proofs.Common.{find, nat_le}
 use Rattle.tac_lines.specs.Tokens.{Token}
 use Rattle.tac_lines.specs.Forms.{Slot, statements, has_form, paired, in_slot, is_callee, callees_of}
 use Rattle.tac_lines.specs.declared.form.Form.{Form}
@@ -35,11 +36,14 @@ both false b h = absurd (let e : false ≡ true = h in cc)
 at_most : (a n : ℕ) → nat_le a n ≡ true → a ≤ n
 at_most a n h = grind (arith, h)
 
-picked : (b : Bool) (ts : List Token) (row : Form × List Slot) (others : Option (Form × List Slot)) (n : ℕ) → length (in_slot is_callee (paired row.1 ts)) ≤ n → length (in_slot is_callee (row_cells ts others)) ≤ n → length (in_slot is_callee (row_cells ts (cond b (Some row) others))) ≤ n
+picked : (b : Bool) (ts : List Token) (row : Form × List Slot) (others : Option (Form × List Slot)) (n : ℕ)
+    → length (in_slot is_callee (paired row.1 ts)) ≤ n → length (in_slot is_callee (row_cells ts others)) ≤ n
+    → length (in_slot is_callee (row_cells ts (cond b (Some row) others))) ≤ n
 picked true ts row others n h k = h
 picked false ts row others n h k = k
 
-found_few : (rows : List (Form × List Slot)) (ts : List Token) (n : ℕ) → few_callees n rows ≡ true → length (in_slot is_callee (row_cells ts (find (λ row. has_form row.1 ts) rows))) ≤ n
+found_few : (rows : List (Form × List Slot)) (ts : List Token) (n : ℕ) → few_callees n rows ≡ true
+    → length (in_slot is_callee (row_cells ts (find (λ row. has_form row.1 ts) rows))) ≤ n
 unfolding few_callees
 found_few [] ts n h = omega arith
 found_few (row ∷ rows) ts n h =

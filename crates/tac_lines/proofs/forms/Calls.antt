@@ -1,5 +1,6 @@
 -- A call judges its tokens by one row: that of as many callees as the tokens could name.
-use Rattle.std.proofs.Common.{◌≡◌, ℕ, zero, suc, Bool, true, false, List, [], ◌∷◌, map, refl, ap, ◌∙◌, codes, if◌then◌else◌, length, take, min, ◌+◌, ◌*◌, ◌%◌, arith}
+use Rattle.std.proofs.Common.{◌≡◌, ℕ, zero, suc, Bool, true, false, List, [], ◌∷◌, map, refl, ap, ◌∙◌, codes, if◌then◌else◌, length, take, min, ◌+◌}
+use Rattle.std.proofs.Common.{◌*◌, ◌%◌, arith}
 use Rattle.tac_lines.specs.Tokens.{Token}
 use Rattle.tac_lines.specs.code.Views.{GoesAsFar, further_slots}
 use Rattle.tac_lines.specs.Forms.{Slot, fills, key, callee, further_callees, some_begins, some_form, first_wrong}
@@ -19,11 +20,15 @@ behind_led s t (q ∷ fs) = ap (λ r. if fills s t.word then q ∷ r else r) (be
   choose true = refl
   choose false = refl
 
-pub led_far : (s : Slot) (fs : List (List Slot)) (r : List Slot) (t : Token) (ts : List Token) → some_begins fs [] ≡ true → GoesAsFar fs (r ∷ []) ts → GoesAsFar (led s fs) ((s ∷ r) ∷ []) (t ∷ ts)
+pub led_far : (s : Slot) (fs : List (List Slot)) (r : List Slot) (t : Token) (ts : List Token) → some_begins fs [] ≡ true → GoesAsFar fs (r ∷ []) ts
+    → GoesAsFar (led s fs) ((s ∷ r) ∷ []) (t ∷ ts)
 led_far s fs r t ts live same =
     step (led s fs) ((s ∷ r) ∷ []) t ts
     (ap (λ x. some_begins x []) (behind_led s t fs) ∙ lives (fills s t.word))
-    (record { wrong = ap (λ x. first_wrong x [] ts) (behind_led s t fs) ∙ (far (fills s t.word)).wrong; whole = ap (λ x. some_form x ts) (behind_led s t fs) ∙ (far (fills s t.word)).whole }) where
+    (record {
+      wrong = ap (λ x. first_wrong x [] ts) (behind_led s t fs) ∙ (far (fills s t.word)).wrong;
+      whole = ap (λ x. some_form x ts) (behind_led s t fs) ∙ (far (fills s t.word)).whole;
+    }) where
       lives : (a : Bool) → some_begins (if a then fs else []) [] ≡ some_begins (if a then r ∷ [] else []) []
       lives true = live
       lives false = refl
@@ -56,7 +61,8 @@ callee_far zero ts = record { wrong = refl; whole = refl }
 callee_far (suc n) [] = record { wrong = refl; whole = refl }
 callee_far (suc n) (t ∷ []) =
     let rows = led callee (further_callees n) in
-    let there = led_far (key (codes "|")) rows (callee ∷ []) t [] (led_live callee n) (record { wrong = refl; whole = led_whole callee (further_callees n) }) in
+    let there = led_far (key (codes "|")) rows (callee ∷ []) t [] (led_live callee n)
+    (record { wrong = refl; whole = led_whole callee (further_callees n) }) in
     let skip = same_behind (further_callees (suc n)) (led (key (codes "|")) rows) t [] refl in
     record { wrong = skip.wrong ∙ there.wrong; whole = skip.whole ∙ there.whole }
 callee_far (suc n) (t ∷ u ∷ ts) =
@@ -84,4 +90,5 @@ further_front (suc n) zero = ap (λ m. take m (bars (suc n))) (let e : 0 ≡ min
 further_front (suc n) (suc zero) = ap (λ m. take m (bars (suc n))) (let e : 2 ≡ min 1 (2 * suc n) + min 1 (2 * suc n) % 2 = omega arith in e)
 further_front (suc n) (suc (suc k)) =
     ap (λ r. key (codes "|") ∷ callee ∷ r) (further_front n k)
-    ∙ ap (λ m. take m (bars (suc n))) (let e : suc (suc (min k (2 * n) + min k (2 * n) % 2)) ≡ min (suc (suc k)) (2 * suc n) + min (suc (suc k)) (2 * suc n) % 2 = omega arith in e)
+    ∙ ap (λ m. take m (bars (suc n)))
+    (let e : suc (suc (min k (2 * n) + min k (2 * n) % 2)) ≡ min (suc (suc k)) (2 * suc n) + min (suc (suc k)) (2 * suc n) % 2 = omega arith in e)

@@ -12,14 +12,17 @@ form_length (s ∷ ss) [] h = absurd (true≢false (sym h))
 form_length (s ∷ ss) (t ∷ ts) h = ap suc (form_length ss ts (and_parts (fills s t.word) (has_form ss ts) h).1)
 
 -- The row that is found has the tokens.
-pub found_row : (ts : List Token) (rows : List (Form × List Slot)) (row : Form × List Slot) → find (λ r. has_form r.1 ts) rows ≡ Some row → has_form row.1 ts ≡ true
+pub found_row : (ts : List Token) (rows : List (Form × List Slot)) (row : Form × List Slot) → find (λ r. has_form r.1 ts) rows ≡ Some row
+    → has_form row.1 ts ≡ true
 found_row ts [] row e = absurd (cc e)
 found_row ts (r ∷ rs) row e = go (has_form r.1 ts) refl e (λ k. found_row ts rs row k) where
   same : (x y : Form × List Slot) → ◌≡◌ {A = Option (Form × List Slot)} (Some x) (Some y) → x ≡ y
   same x y k = cc
 
-  go : (b : Bool) → has_form r.1 ts ≡ b → cond (has_form r.1 ts) (let o : Option (Form × List Slot) = Some r in o) (find (λ q. has_form q.1 ts) rs) ≡ Some row → (find (λ q. has_form q.1 ts) rs ≡ Some row → has_form row.1 ts ≡ true) → has_form row.1 ts ≡ true
-  go true f k later = ap (λ q. has_form q.1 ts) (sym (same r row (sym (ap (λ b. cond b (let o : Option (Form × List Slot) = Some r in o) (find (λ q. has_form q.1 ts) rs)) f) ∙ k))) ∙ f
+  go : (b : Bool) → has_form r.1 ts ≡ b → cond (has_form r.1 ts) (let o : Option (Form × List Slot) = Some r in o) (find (λ q. has_form q.1 ts) rs)
+      ≡ Some row → (find (λ q. has_form q.1 ts) rs ≡ Some row → has_form row.1 ts ≡ true) → has_form row.1 ts ≡ true
+  go true f k later = ap (λ q. has_form q.1 ts)
+      (sym (same r row (sym (ap (λ b. cond b (let o : Option (Form × List Slot) = Some r in o) (find (λ q. has_form q.1 ts) rs)) f) ∙ k))) ∙ f
   go false f k later = later (sym (ap (λ b. cond b (let o : Option (Form × List Slot) = Some r in o) (find (λ q. has_form q.1 ts) rs)) f) ∙ k)
 
 pub row_length : (ts : List Token) (row : Form × List Slot) → statement_row ts ≡ Some row → length ts ≡ length row.1

@@ -1,5 +1,6 @@
 -- The first fault of a line by its first tokens, where the rest cannot change it.
-use Rattle.std.proofs.Common.{◌≡◌, ℕ, zero, ◌+◌, ◌<◌, ◌≤◌, ◌⊎◌, inl, inr, Bool, true, false, ◌||◌, List, [], ◌∷◌, ◌++◌, length, refl, sym, ap, ◌∙◌, subst, arith, Option, Some, None, if◌then◌else◌, flat_map, is_some, append_assoc, append-nil}
+use Rattle.std.proofs.Common.{◌≡◌, ℕ, zero, ◌+◌, ◌<◌, ◌≤◌, ◌⊎◌, inl, inr, Bool, true, false, ◌||◌, List, [], ◌∷◌, ◌++◌, length, refl, sym, ap, ◌∙◌}
+use Rattle.std.proofs.Common.{subst, arith, Option, Some, None, if◌then◌else◌, flat_map, is_some, append_assoc, append-nil}
 use Rattle.tac_lines.specs.Tokens.{Token, row_from, stop_of}
 use Rattle.tac_lines.specs.Forms.{Slot, label_form, has_form, labels_of, behind_labels, forms_for, some_begins, some_form, first_wrong}
 use Rattle.tac_lines.specs.LineFaults.{at, word_fault, bad_fault, form_fault, row_faults, first_by_place, precedes, earlier}
@@ -45,7 +46,8 @@ insert_one (Some x) m (Some g) f later e = go (tells m g) (tells x g) where
   go (inr (t, h)) _ = ap (under x m g) t ∙ e
   go (inl (t, h)) (inl (u, k)) =
       let same : x ≡ f = some_is x f (sym (ap (λ v. pick v x g) u) ∙ e) in
-      ap (under x m g) t ∙ ap (λ v. pick v x m) (subst (λ y. precedes y m ≡ true) (sym same) (precedes_of f m (inl later))) ∙ ap (λ y. let r : Option Fault = Some y in r) same
+      ap (under x m g) t ∙ ap (λ v. pick v x m) (subst (λ y. precedes y m ≡ true) (sym same) (precedes_of f m (inl later)))
+      ∙ ap (λ y. let r : Option Fault = Some y in r) same
   go (inl (t, h)) (inr (u, k)) =
       let same : g ≡ f = some_is g f (sym (ap (λ v. pick v x g) u) ∙ e) in
       absurd (behind h (ap (λ y. y.place) same))
@@ -54,7 +56,8 @@ insert_one (Some x) m (Some g) f later e = go (tells m g) (tells x g) where
       behind (inl l) p = omega (arith, l, p, later)
       behind (inr l) p = omega (arith, l.0, p, later)
 
-pub insert_later : (xs ms ys : List Fault) (f : Fault) → Each (Later f) ms → first_by_place (xs ++ ys) ≡ Some f → first_by_place (xs ++ (ms ++ ys)) ≡ Some f
+pub insert_later : (xs ms ys : List Fault) (f : Fault) → Each (Later f) ms → first_by_place (xs ++ ys) ≡ Some f
+    → first_by_place (xs ++ (ms ++ ys)) ≡ Some f
 insert_later xs [] ys f h e = e
 insert_later xs (m ∷ ms) ys f h e =
     first-append xs (m ∷ (ms ++ ys))
@@ -62,24 +65,33 @@ insert_later xs (m ∷ ms) ys f h e =
 
 drop_front : (b : Fault) (o : Option Fault) (f : Fault) → Later f b → ◌≡◌ {A = Option Fault} (Some (earlier b o)) (Some f) → o ≡ Some f
 unfolding Tells pick
-drop_front b None f later e = absurd (let p : b.place ≡ f.place = ap (λ y. y.place) (some_is b f e) in let never : ⊥ = omega (arith, p, later) in never)
+drop_front b None f later e =
+    absurd (let p : b.place ≡ f.place = ap (λ y. y.place) (some_is b f e) in let never : ⊥ = omega (arith, p, later) in never)
 drop_front b (Some g) f later e = go (tells b g) where
   go : Tells b g → ◌≡◌ {A = Option Fault} (Some g) (Some f)
-  go (inl (t, h)) = absurd (let p : b.place ≡ f.place = ap (λ y. y.place) (some_is b f (sym (ap (λ v. pick v b g) t) ∙ e)) in let never : ⊥ = omega (arith, p, later) in never)
+  go (inl (t, h)) = absurd (let p : b.place ≡ f.place = ap (λ y. y.place) (some_is b f (sym (ap (λ v. pick v b g) t) ∙ e)) in
+      let never : ⊥ = omega (arith, p, later) in never)
   go (inr (t, h)) = sym (ap (λ v. pick v b g) t) ∙ e
 
 -- The walk along the forms goes on behind the first tokens.
-wrong_stays : (fs : List (List Slot)) (before xs ys : List Token) (t : Token) → first_wrong fs before xs ≡ Some t → first_wrong fs before (xs ++ ys) ≡ Some t
+wrong_stays : (fs : List (List Slot)) (before xs ys : List Token) (t : Token) → first_wrong fs before xs ≡ Some t
+    → first_wrong fs before (xs ++ ys) ≡ Some t
 wrong_stays fs before [] ys t e = absurd (cc e)
 wrong_stays fs before (x ∷ xs) ys t e = go (some_begins fs (before ++ x ∷ [])) e (λ k. wrong_stays fs (before ++ x ∷ []) xs ys t k) where
-  go : (b : Bool) → (elim b as (λ _. Option Token) [ true ↦ first_wrong fs (before ++ x ∷ []) xs | false ↦ Some x ]) ≡ Some t → (first_wrong fs (before ++ x ∷ []) xs ≡ Some t → first_wrong fs (before ++ x ∷ []) (xs ++ ys) ≡ Some t) → (elim b as (λ _. Option Token) [ true ↦ first_wrong fs (before ++ x ∷ []) (xs ++ ys) | false ↦ Some x ]) ≡ Some t
+  go : (b : Bool) → (elim b as (λ _. Option Token) [ true ↦ first_wrong fs (before ++ x ∷ []) xs | false ↦ Some x ]) ≡ Some t
+      → (first_wrong fs (before ++ x ∷ []) xs ≡ Some t → first_wrong fs (before ++ x ∷ []) (xs ++ ys) ≡ Some t)
+      → (elim b as (λ _. Option Token) [ true ↦ first_wrong fs (before ++ x ∷ []) (xs ++ ys) | false ↦ Some x ]) ≡ Some t
   go true k later = later k
   go false k later = k
 
-none_goes_on : (fs : List (List Slot)) (before xs ys : List Token) → first_wrong fs before xs ≡ None → first_wrong fs before (xs ++ ys) ≡ first_wrong fs (before ++ xs) ys
+none_goes_on : (fs : List (List Slot)) (before xs ys : List Token) → first_wrong fs before xs ≡ None
+    → first_wrong fs before (xs ++ ys) ≡ first_wrong fs (before ++ xs) ys
 none_goes_on fs before [] ys e = ap (λ r. first_wrong fs r ys) (sym (append-nil before))
 none_goes_on fs before (x ∷ xs) ys e = go (some_begins fs (before ++ x ∷ [])) e (λ k. none_goes_on fs (before ++ x ∷ []) xs ys k) where
-  go : (b : Bool) → (elim b as (λ _. Option Token) [ true ↦ first_wrong fs (before ++ x ∷ []) xs | false ↦ Some x ]) ≡ None → (first_wrong fs (before ++ x ∷ []) xs ≡ None → first_wrong fs (before ++ x ∷ []) (xs ++ ys) ≡ first_wrong fs ((before ++ x ∷ []) ++ xs) ys) → (elim b as (λ _. Option Token) [ true ↦ first_wrong fs (before ++ x ∷ []) (xs ++ ys) | false ↦ Some x ]) ≡ first_wrong fs (before ++ x ∷ xs) ys
+  go : (b : Bool) → (elim b as (λ _. Option Token) [ true ↦ first_wrong fs (before ++ x ∷ []) xs | false ↦ Some x ]) ≡ None
+      → (first_wrong fs (before ++ x ∷ []) xs ≡ None → first_wrong fs (before ++ x ∷ []) (xs ++ ys) ≡ first_wrong fs ((before ++ x ∷ []) ++ xs) ys)
+      → (elim b as (λ _. Option Token) [ true ↦ first_wrong fs (before ++ x ∷ []) (xs ++ ys) | false ↦ Some x ])
+      ≡ first_wrong fs (before ++ x ∷ xs) ys
   go true k later = later k ∙ ap (λ r. first_wrong fs r ys) (append_assoc before (x ∷ []) xs)
   go false k later = absurd (cc k)
 
@@ -99,17 +111,22 @@ module _ (low high : ℕ) (ended : Bool) (f : Fault) (before : f.place < low) wh
   pub all_later : (fs : List Fault) → Each (FaultIn low high ended) fs → Each (Later f) fs
   all_later fs h = weaken (FaultIn low high ended) (Later f) fs (λ g k. omega (arith, k.from, before)) h
 
-  judge_later : (fs : List (List Slot)) (xs ys : List Token) (cut : Bool) (stop : ℕ) → first_wrong fs [] xs ≡ None → EachToken (StandsIn low high ended) ys → low ≤ stop → Each (Later f) (judge fs (xs ++ ys) cut stop)
-  judge_later fs xs ys cut stop e h k = go (first_wrong fs [] (xs ++ ys)) (λ u w. wrong_in low high ended fs xs ys u h (sym (none_goes_on fs [] xs ys e) ∙ w)) refl where
-    yes_no : (b : Bool) → Each (Later f) (if b then [] else at kind.Syntax stop)
-    yes_no true = tt
-    yes_no false = (omega (arith, before, k), tt)
+  judge_later : (fs : List (List Slot)) (xs ys : List Token) (cut : Bool) (stop : ℕ) → first_wrong fs [] xs ≡ None
+      → EachToken (StandsIn low high ended) ys → low ≤ stop → Each (Later f) (judge fs (xs ++ ys) cut stop)
+  judge_later fs xs ys cut stop e h k =
+      go (first_wrong fs [] (xs ++ ys)) (λ u w. wrong_in low high ended fs xs ys u h (sym (none_goes_on fs [] xs ys e) ∙ w)) refl where
+        yes_no : (b : Bool) → Each (Later f) (if b then [] else at kind.Syntax stop)
+        yes_no true = tt
+        yes_no false = (omega (arith, before, k), tt)
 
-    go : (o : Option Token) → ((u : Token) → first_wrong fs [] (xs ++ ys) ≡ Some u → StandsIn low high ended u) → first_wrong fs [] (xs ++ ys) ≡ o → Each (Later f) (elim o as (λ _. List Fault) [ Some t ↦ at kind.Syntax t.start | None ↦ (if some_form fs (xs ++ ys) || cut then [] else at kind.Syntax stop) ])
-    go None w w' = yes_no (some_form fs (xs ++ ys) || cut)
-    go (Some u) w w' = (omega (arith, before, (w u w').from), tt)
+        go : (o : Option Token) → ((u : Token) → first_wrong fs [] (xs ++ ys) ≡ Some u → StandsIn low high ended u) → first_wrong fs [] (xs ++ ys) ≡ o
+            → Each (Later f) (elim o as (λ _.
+            List Fault) [ Some t ↦ at kind.Syntax t.start | None ↦ (if some_form fs (xs ++ ys) || cut then [] else at kind.Syntax stop) ])
+        go None w w' = yes_no (some_form fs (xs ++ ys) || cut)
+        go (Some u) w w' = (omega (arith, before, (w u w').from), tt)
 
-  judge_stays : (ws : List Fault) (fs : List (List Slot)) (xs ys : List Token) (cut : Bool) (stop0 stop : ℕ) → EachToken (StandsIn low high ended) ys → low ≤ stop → first_by_place (ws ++ judge fs xs true stop0) ≡ Some f → first_by_place (ws ++ judge fs (xs ++ ys) cut stop) ≡ Some f
+  judge_stays : (ws : List Fault) (fs : List (List Slot)) (xs ys : List Token) (cut : Bool) (stop0 stop : ℕ) → EachToken (StandsIn low high ended) ys
+      → low ≤ stop → first_by_place (ws ++ judge fs xs true stop0) ≡ Some f → first_by_place (ws ++ judge fs (xs ++ ys) cut stop) ≡ Some f
   unfolding told
   judge_stays ws fs xs ys cut stop0 stop h k e = go (first_wrong fs [] xs) refl where
     go : (o : Option Token) → first_wrong fs [] xs ≡ o → first_by_place (ws ++ judge fs (xs ++ ys) cut stop) ≡ Some f
@@ -145,38 +162,51 @@ stays (t ∷ []) ys h = absurd (h refl)
 stays (t ∷ u ∷ ts) ys h = go (has_form label_form (t ∷ u ∷ [])) h (λ k. stays ts ys k) where
   go : (b : Bool) → (length (if b then behind_labels ts else t ∷ u ∷ ts) ≡ 1 → ⊥) → ((length (behind_labels ts) ≡ 1 → ⊥) → Stays ts ys)
       → (((if b then behind_labels ts else t ∷ u ∷ ts) ≡ []) × ((if b then behind_labels (ts ++ ys) else t ∷ u ∷ (ts ++ ys)) ≡ behind_labels ys))
-      ⊎ (((if b then behind_labels (ts ++ ys) else t ∷ u ∷ (ts ++ ys)) ≡ (if b then behind_labels ts else t ∷ u ∷ ts) ++ ys) × (forms_for true (if b then t ∷ labels_of (ts ++ ys) else []) ≡ forms_for true (if b then t ∷ labels_of ts else [])))
+      ⊎ (((if b then behind_labels (ts ++ ys) else t ∷ u ∷ (ts ++ ys)) ≡ (if b then behind_labels ts else t ∷ u ∷ ts) ++ ys)
+      × (forms_for true (if b then t ∷ labels_of (ts ++ ys) else []) ≡ forms_for true (if b then t ∷ labels_of ts else [])))
   go true k later = sides (later k) where
-    sides : Stays ts ys → ((behind_labels ts ≡ []) × (behind_labels (ts ++ ys) ≡ behind_labels ys)) ⊎ ((behind_labels (ts ++ ys) ≡ behind_labels ts ++ ys) × (forms_for true (t ∷ labels_of (ts ++ ys)) ≡ forms_for true (t ∷ labels_of ts)))
+    sides : Stays ts ys → ((behind_labels ts ≡ []) × (behind_labels (ts ++ ys) ≡ behind_labels ys))
+        ⊎ ((behind_labels (ts ++ ys) ≡ behind_labels ts ++ ys) × (forms_for true (t ∷ labels_of (ts ++ ys)) ≡ forms_for true (t ∷ labels_of ts)))
     sides (inl p) = inl p
     sides (inr p) = inr (p.0, refl)
   go false k later = inr (refl, refl)
 
 words_append : (xs ys : List Token) → flat_map word_fault (xs ++ ys) ≡ flat_map word_fault xs ++ flat_map word_fault ys
 words_append [] ys = refl
-words_append (x ∷ xs) ys = ap (λ r. word_fault x ++ r) (words_append xs ys) ∙ sym (append_assoc (word_fault x) (flat_map word_fault xs) (flat_map word_fault ys))
+words_append (x ∷ xs) ys =
+    ap (λ r. word_fault x ++ r) (words_append xs ys) ∙ sym (append_assoc (word_fault x) (flat_map word_fault xs) (flat_map word_fault ys))
 
-form_stays : (low high : ℕ) (ended inside : Bool) (f : Fault) (ws : List Fault) (ts ys : List Token) (bad : Option ℕ) → f.place < low → low ≤ stop_of ts → (length (behind_labels ts) ≡ 1 → ⊥) → EachToken (StandsIn low high ended) ys → first_by_place (ws ++ form_fault inside (record { tokens = ts; bad = Some low })) ≡ Some f → first_by_place (ws ++ form_fault inside (record { tokens = ts ++ ys; bad = bad })) ≡ Some f
+form_stays : (low high : ℕ) (ended inside : Bool) (f : Fault) (ws : List Fault) (ts ys : List Token) (bad : Option ℕ) → f.place < low
+    → low ≤ stop_of ts → (length (behind_labels ts) ≡ 1 → ⊥) → EachToken (StandsIn low high ended) ys
+    → first_by_place (ws ++ form_fault inside (record { tokens = ts; bad = Some low })) ≡ Some f
+    → first_by_place (ws ++ form_fault inside (record { tokens = ts ++ ys; bad = bad })) ≡ Some f
 unfolding Stays
 form_stays low high ended false f ws ts ys bad before reach apart h e =
-    judge_stays low high ended f before ws (forms_for false []) ts ys (is_some bad) (stop_of ts) (stop_of (ts ++ ys)) h (stop_after low high ended f before ts ys reach h) e
+    judge_stays low high ended f before ws (forms_for false []) ts ys (is_some bad) (stop_of ts) (stop_of (ts ++ ys)) h
+    (stop_after low high ended f before ts ys reach h) e
 form_stays low high ended true f ws ts ys bad before reach apart h e = go (stays ts ys apart) where
   stop : low ≤ stop_of (ts ++ ys)
   stop = stop_after low high ended f before ts ys reach h
 
-  go : Stays ts ys → first_by_place (ws ++ judge (forms_for true (labels_of (ts ++ ys))) (behind_labels (ts ++ ys)) (is_some bad) (stop_of (ts ++ ys))) ≡ Some f
+  go : Stays ts ys
+      → first_by_place (ws ++ judge (forms_for true (labels_of (ts ++ ys))) (behind_labels (ts ++ ys)) (is_some bad) (stop_of (ts ++ ys))) ≡ Some f
   go (inl p) =
       let fs = forms_for true (labels_of ts) in
       let gs = forms_for true (labels_of (ts ++ ys)) in
-      let same : judge fs (behind_labels ts) true (stop_of ts) ≡ judge gs [] true (stop_of ts) = ap (λ xs. judge fs xs true (stop_of ts)) p.0 ∙ none_cut fs [] (stop_of ts) refl ∙ sym (none_cut gs [] (stop_of ts) refl) in
+      let same : judge fs (behind_labels ts) true (stop_of ts) ≡ judge gs [] true (stop_of ts) =
+      ap (λ xs. judge fs xs true (stop_of ts)) p.0 ∙ none_cut fs [] (stop_of ts) refl ∙ sym (none_cut gs [] (stop_of ts) refl) in
       ap (λ xs. first_by_place (ws ++ judge gs xs (is_some bad) (stop_of (ts ++ ys)))) p.1
-      ∙ judge_stays low high ended f before ws gs [] (behind_labels ys) (is_some bad) (stop_of ts) (stop_of (ts ++ ys)) (others_in low high ended ys h) stop (sym (ap (λ js. first_by_place (ws ++ js)) same) ∙ e)
+      ∙ judge_stays low high ended f before ws gs [] (behind_labels ys) (is_some bad) (stop_of ts) (stop_of (ts ++ ys))
+      (others_in low high ended ys h) stop (sym (ap (λ js. first_by_place (ws ++ js)) same) ∙ e)
   go (inr p) =
       (λ i. first_by_place (ws ++ judge (p.1 i) (p.0 i) (is_some bad) (stop_of (ts ++ ys))))
-      ∙ judge_stays low high ended f before ws (forms_for true (labels_of ts)) (behind_labels ts) ys (is_some bad) (stop_of ts) (stop_of (ts ++ ys)) h stop e
+      ∙ judge_stays low high ended f before ws (forms_for true (labels_of ts)) (behind_labels ts) ys (is_some bad) (stop_of ts) (stop_of (ts ++ ys))
+      h stop e
 
 -- The first fault of the tokens up to a place is the line's, where it stands before that place.
-pub early : (inside : Bool) (ts : List Token) (place : ℕ) (f : Fault) (rest : List ℕ) → place ≤ stop_of ts → (length (behind_labels ts) ≡ 1 → ⊥) → first_by_place (row_faults inside (record { tokens = ts; bad = Some place })) ≡ Some f → f.place < place → first_by_place (row_faults inside (record { tokens = ts ++ (row_from place zero rest).tokens; bad = (row_from place zero rest).bad })) ≡ Some f
+pub early : (inside : Bool) (ts : List Token) (place : ℕ) (f : Fault) (rest : List ℕ) → place ≤ stop_of ts → (length (behind_labels ts) ≡ 1 → ⊥)
+    → first_by_place (row_faults inside (record { tokens = ts; bad = Some place })) ≡ Some f → f.place < place
+    → first_by_place (row_faults inside (record { tokens = ts ++ (row_from place zero rest).tokens; bad = (row_from place zero rest).bad })) ≡ Some f
 early inside ts place f rest reach apart e before =
     let high = place + length rest in
     let ended = ends_line rest in
@@ -187,7 +217,9 @@ early inside ts place f rest reach apart e before =
     let form = form_fault inside (record { tokens = ts ++ row.tokens; bad = row.bad }) in
     let short = drop_front (record { kind = kind.BadByte; place = place }) _ f before e in
     let formed = form_stays place high ended inside f words ts row.tokens row.bad before reach apart within.tokens short in
-    let worded = insert_later words more form f (all_later place high ended f before more (words_in place high ended row.tokens within.tokens)) formed in
+    let worded =
+    insert_later words more form f (all_later place high ended f before more (words_in place high ended row.tokens within.tokens)) formed in
     ap first_by_place (append_assoc (bad_fault row.bad) (flat_map word_fault (ts ++ row.tokens)) form)
-    ∙ insert_later [] (bad_fault row.bad) (flat_map word_fault (ts ++ row.tokens) ++ form) f (all_later place high ended f before (bad_fault row.bad) (bad_in place high ended row.bad within.bad))
+    ∙ insert_later [] (bad_fault row.bad) (flat_map word_fault (ts ++ row.tokens) ++ form) f
+    (all_later place high ended f before (bad_fault row.bad) (bad_in place high ended row.bad within.bad))
     (ap (λ xs. first_by_place (xs ++ form)) (words_append ts row.tokens) ∙ ap first_by_place (append_assoc words more form) ∙ worded)

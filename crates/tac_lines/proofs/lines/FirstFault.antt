@@ -1,5 +1,6 @@
 -- The first fault of a list is the first of its parts' first faults.
-use Rattle.std.proofs.Common.{◌≡◌, ◌≢◌, ℕ, ◌<◌, ◌≤◌, ◌⊎◌, inl, inr, Bool, true, false, ◌&&◌, ◌||◌, List, [], ◌∷◌, ◌++◌, refl, sym, ap, ◌∙◌, subst, arith, Option, Some, None, nat_le, ◌==◌, eq-eqb, if◌then◌else◌}
+use Rattle.std.proofs.Common.{◌≡◌, ◌≢◌, ℕ, ◌<◌, ◌≤◌, ◌⊎◌, inl, inr, Bool, true, false, ◌&&◌, ◌||◌, List, [], ◌∷◌, ◌++◌, refl, sym, ap, ◌∙◌, subst}
+use Rattle.std.proofs.Common.{arith, Option, Some, None, nat_le, ◌==◌, eq-eqb, if◌then◌else◌}
 use Rattle.std.proofs.lemmas.Bool.{lt-ltb, le-ltb, eqb-true, cases_order}
 use Rattle.std.proofs.lemmas.Bool.Decides.{leb_tells}
 use Rattle.tac_lines.specs.LineFaults.{number_of_kind, precedes, earlier, first_by_place}
@@ -29,14 +30,20 @@ Tells a b = ((precedes a b ≡ true) × Before a b) ⊎ ((precedes a b ≡ false
 pub tells : (a b : Fault) → Tells a b
 unfolding Tells test
 tells a b = by_place (cases_order a.place b.place) where
-  by_number : a.place ≡ b.place → ((nat_le (number_of_kind a.kind) (number_of_kind b.kind) ≡ true) × (number_of_kind a.kind ≤ number_of_kind b.kind)) ⊎ ((nat_le (number_of_kind a.kind) (number_of_kind b.kind) ≡ false) × (number_of_kind b.kind < number_of_kind a.kind)) → Tells a b
+  by_number : a.place ≡ b.place → ((nat_le (number_of_kind a.kind) (number_of_kind b.kind) ≡ true) × (number_of_kind a.kind ≤ number_of_kind b.kind))
+      ⊎ ((nat_le (number_of_kind a.kind) (number_of_kind b.kind) ≡ false) × (number_of_kind b.kind < number_of_kind a.kind)) → Tells a b
   by_number e (inl (t, h)) = inl ((λ i. test (le-ltb a.place b.place (omega (arith, e)) i) (eq-eqb a.place b.place e i) (t i)), inr (e, h))
   by_number e (inr (t, h)) = inr ((λ i. test (le-ltb a.place b.place (omega (arith, e)) i) (eq-eqb a.place b.place e i) (t i)), inr (e, h))
 
   by_place : (a.place ≡ b.place) ⊎ ((a.place < b.place) ⊎ (b.place < a.place)) → Tells a b
   by_place (inl e) = by_number e (leb_tells (number_of_kind a.kind) (number_of_kind b.kind))
-  by_place (inr (inl h)) = inl (ap (λ t. test t (a.place == b.place) (nat_le (number_of_kind a.kind) (number_of_kind b.kind))) (lt-ltb a.place b.place h), inl h)
-  by_place (inr (inr h)) = inr ((λ i. test (le-ltb a.place b.place (omega (arith, h)) i) (ne_eqb a.place b.place (omega (arith, h)) i) (nat_le (number_of_kind a.kind) (number_of_kind b.kind))), inl h)
+  by_place (inr (inl h)) =
+      inl (ap (λ t. test t (a.place == b.place) (nat_le (number_of_kind a.kind) (number_of_kind b.kind))) (lt-ltb a.place b.place h), inl h)
+  by_place (inr (inr h)) = inr (
+    (λ i. test (le-ltb a.place b.place (omega (arith, h)) i) (ne_eqb a.place b.place (omega (arith, h)) i)
+        (nat_le (number_of_kind a.kind) (number_of_kind b.kind))),
+    inl h,
+  )
 
 pub precedes_of : (a b : Fault) → Before a b → precedes a b ≡ true
 unfolding Tells
@@ -90,7 +97,8 @@ earlier_merged x (Some f) (Some g) = earlier_three x f g
 
 pub first-append : (xs ys : List Fault) → first_by_place (xs ++ ys) ≡ merged (first_by_place xs) (first_by_place ys)
 first-append [] ys = refl
-first-append (x ∷ xs) ys = ap (λ o. let r : Option Fault = Some (earlier x o) in r) (first-append xs ys) ∙ ap (λ f. let r : Option Fault = Some f in r) (earlier_merged x (first_by_place xs) (first_by_place ys))
+first-append (x ∷ xs) ys = ap (λ o. let r : Option Fault = Some (earlier x o) in r) (first-append xs ys)
+    ∙ ap (λ f. let r : Option Fault = Some f in r) (earlier_merged x (first_by_place xs) (first_by_place ys))
 
 -- A fact of each fault of a list.
 abbrev pub Each : (Fault → Type 0) → List Fault → Type 0
@@ -108,7 +116,8 @@ some_fault f g e = cc
 pub first_each : (P : Fault → Type 0) (fs : List Fault) (f : Fault) → Each P fs → first_by_place fs ≡ Some f → P f
 first_each P [] f h e = absurd (cc e)
 first_each P (x ∷ xs) f h e = go (first_by_place xs) refl (λ g k. first_each P xs g h.1 k) (some_fault _ f e) where
-  one : (g : Fault) → (first_by_place xs ≡ Some g → P g) → first_by_place xs ≡ Some g → (t : Bool) → precedes x g ≡ t → (if precedes x g then x else g) ≡ f → P f
+  one : (g : Fault) → (first_by_place xs ≡ Some g → P g) → first_by_place xs ≡ Some g → (t : Bool) → precedes x g ≡ t
+      → (if precedes x g then x else g) ≡ f → P f
   one g rest k true t s = subst P (ap (λ u. if u then x else g) (sym t) ∙ s) h.0
   one g rest k false t s = subst P (ap (λ u. if u then x else g) (sym t) ∙ s) (rest k)
 
@@ -121,7 +130,8 @@ pub first_front : (xs ys : List Fault) (f : Fault) → first_by_place xs ≡ Som
 first_front xs ys f e h = first-append xs ys ∙ ap (λ o. merged o (first_by_place ys)) e ∙ go (first_by_place ys) refl where
   go : (o : Option Fault) → first_by_place ys ≡ o → merged (Some f) (first_by_place ys) ≡ Some f
   go None k = ap (merged (Some f)) k
-  go (Some g) k = ap (merged (Some f)) k ∙ ap (λ t. let r : Option Fault = Some (if t then f else g) in r) (precedes_of f g (first_each (Before f) ys g h k))
+  go (Some g) k =
+      ap (merged (Some f)) k ∙ ap (λ t. let r : Option Fault = Some (if t then f else g) in r) (precedes_of f g (first_each (Before f) ys g h k))
 
 pub none_first : (fs : List Fault) → first_by_place fs ≡ None → fs ≡ []
 none_first [] e = refl

@@ -1,5 +1,6 @@
 -- Lines by the places of their tokens, as tokens and lines are put last.
-use Rattle.std.proofs.Common.{◌≡◌, ℕ, zero, suc, ◌+◌, ◌-◌, ◌*◌, ◌<◌, ◌≤◌, List, [], ◌∷◌, ◌++◌, length, take, drop, map, refl, sym, ap, subst, ◌∙◌, arith, slice_range, slice_index_or, ◌==◌, false, true≢false, IsTrue, length-append, None}
+use Rattle.std.proofs.Common.{◌≡◌, ℕ, zero, suc, ◌+◌, ◌-◌, ◌*◌, ◌<◌, ◌≤◌, List, [], ◌∷◌, ◌++◌, length, take, drop, map, refl, sym, ap, subst, ◌∙◌}
+use Rattle.std.proofs.Common.{arith, slice_range, slice_index_or, ◌==◌, false, true≢false, IsTrue, length-append, None}
 use Rattle.std.proofs.lemmas.List.{take-append-le}
 use Rattle.std.proofs.lemmas.List.Elements.{All-push}
 use Rattle.tac_lines.specs.Forms.{behind_labels, labels_of}
@@ -22,9 +23,10 @@ range_stays (suc a) b [] row h = (λ i. take (none i) (drop (suc a) row)) ∙ sy
 range_stays (suc a) zero (t ∷ ts) row h = (λ i. take (none i) (drop a (ts ++ row))) ∙ sym (λ i. take (none i) (drop a ts)) where
   none : 0 - suc a ≡ 0
   none = omega arith
-range_stays (suc a) (suc b) (t ∷ ts) row h = (λ i. take (less i) (drop a (ts ++ row))) ∙ range_stays a b ts row (omega (arith, h)) ∙ sym (λ i. take (less i) (drop a ts)) where
-  less : suc b - suc a ≡ b - a
-  less = omega arith
+range_stays (suc a) (suc b) (t ∷ ts) row h =
+    (λ i. take (less i) (drop a (ts ++ row))) ∙ range_stays a b ts row (omega (arith, h)) ∙ sym (λ i. take (less i) (drop a ts)) where
+      less : suc b - suc a ≡ b - a
+      less = omega arith
 
 views_stay : (ts row : List Token) (lines : List LineRange) → EndsWithin (length ts) lines → range_views (ts ++ row) lines ≡ range_views ts lines
 views_stay ts row [] h = refl
@@ -38,13 +40,16 @@ last_views [] row = take_whole row where
     whole : (ys : List Token) → take (length ys) ys ≡ ys
     whole [] = refl
     whole (y ∷ ys) = ap (λ r. y ∷ r) (whole ys)
-last_views (t ∷ ts) row = ap (λ n. take n (drop (length ts) (ts ++ row))) (let e : suc (length (ts ++ row)) - suc (length ts) ≡ length (ts ++ row) - length ts = omega arith in e) ∙ last_views ts row
+last_views (t ∷ ts) row = ap (λ n. take n (drop (length ts) (ts ++ row)))
+    (let e : suc (length (ts ++ row)) - suc (length ts) ≡ length (ts ++ row) - length ts = omega arith in e) ∙ last_views ts row
 
 map-push : (f : LineRange → List Token) (xs : List LineRange) (x : LineRange) → map f (xs ++ x ∷ []) ≡ map f xs ++ f x ∷ []
 map-push f [] x = refl
 map-push f (y ∷ ys) x = ap (λ r. f y ∷ r) (map-push f ys x)
 
-pub views_push : (ts row all : List Token) (lines more : List LineRange) (line : LineRange) → EndsWithin (length ts) lines → all ≡ ts ++ row → more ≡ lines ++ line ∷ [] → line.first ≡ length ts → line.end ≡ length all → 0 < length row → range_views all more ≡ range_views ts lines ++ some_of row
+pub views_push : (ts row all : List Token) (lines more : List LineRange) (line : LineRange) → EndsWithin (length ts) lines → all ≡ ts ++ row
+    → more ≡ lines ++ line ∷ [] → line.first ≡ length ts → line.end ≡ length all → 0 < length row
+    → range_views all more ≡ range_views ts lines ++ some_of row
 views_push ts row all lines more line h e f a b some =
     (λ i. range_views (e i) (f i))
     ∙ map-push (λ line. slice_range (ts ++ row) line.first line.end) lines line
@@ -56,12 +61,15 @@ views_push ts row all lines more line h e f a b some =
     line_of (x ∷ xs) l = refl
 
 -- One line more, of the tokens that are put last.
-pub lines_push : (ts row all : List Token) (lines more : List LineRange) (line : LineRange) → AreLines ts lines → all ≡ ts ++ row → more ≡ lines ++ line ∷ [] → line.first ≡ length ts → line.end ≡ length all → ((text : List ℕ) → line.labels ≡ length (labels_of (tokens_view text row))) → ((text : List ℕ) → IsTrue (is_formed line.form (length row - 2 * line.labels) (behind_labels (tokens_view text row)))) → AreLines all more
+pub lines_push : (ts row all : List Token) (lines more : List LineRange) (line : LineRange) → AreLines ts lines → all ≡ ts ++ row → more ≡ lines
+    ++ line ∷ [] → line.first ≡ length ts → line.end ≡ length all → ((text : List ℕ) → line.labels ≡ length (labels_of (tokens_view text row)))
+    → ((text : List ℕ) → IsTrue (is_formed line.form (length row - 2 * line.labels) (behind_labels (tokens_view text row)))) → AreLines all more
 lines_push ts row all lines more line h e f a b labels form =
     let tokens = ts ++ row in
     let here : slice_range tokens line.first line.end ≡ row = (λ j. slice_range tokens (a j) ((b ∙ ap length e) j)) ∙ last_views ts row in
     let longer : length tokens ≡ length ts + length row = length-append ts row in
-    let stays = λ (k : ℕ) (d : LineRange) (below : k < length lines). range_stays (slice_index_or lines k d).first (slice_index_or lines k d).end ts row (h.within k d below) in
+    let stays = λ (k : ℕ) (d : LineRange) (below : k < length lines).
+    range_stays (slice_index_or lines k d).first (slice_index_or lines k d).end ts row (h.within k d below) in
     let pushed : AreLines tokens (lines ++ line ∷ []) = record {
       within = All-push (λ l. l.end ≤ length tokens) lines line
           (λ k d below. let old : (slice_index_or lines k d).end ≤ length ts = h.within k d below in omega (arith, old, longer))
@@ -70,8 +78,11 @@ lines_push ts row all lines more line h e f a b labels form =
           (λ k d below text. h.counted k d below text ∙ ap (λ r. length (labels_of (tokens_view text r))) (sym (stays k d below)))
           (λ text. labels text ∙ ap (λ r. length (labels_of (tokens_view text r))) (sym here));
       formed = All-push (IsFormedIn tokens) lines line
-          (λ k d below text. subst (λ r. IsTrue (is_formed (slice_index_or lines k d).form (length r - 2 * (slice_index_or lines k d).labels) (behind_labels (tokens_view text r)))) (sym (stays k d below)) (h.formed k d below text))
-          (λ text. subst (λ r. IsTrue (is_formed line.form (length r - 2 * line.labels) (behind_labels (tokens_view text r)))) (sym here) (form text));
+          (λ k d below text. subst (λ r. IsTrue
+          (is_formed (slice_index_or lines k d).form (length r - 2 * (slice_index_or lines k d).labels) (behind_labels (tokens_view text r))))
+          (sym (stays k d below)) (h.formed k d below text))
+          (λ text.
+          subst (λ r. IsTrue (is_formed line.form (length r - 2 * line.labels) (behind_labels (tokens_view text r)))) (sym here) (form text));
     } in
     subst (λ xs. AreLines xs more) (sym e) (subst (AreLines tokens) (sym f) pushed)
 

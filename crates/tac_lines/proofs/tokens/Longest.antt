@@ -1,5 +1,7 @@
 -- Where the longest piece at the front of a text ends.
-use Rattle.std.proofs.Common.{◌≡◌, ℕ, zero, suc, ◌+◌, ◌<◌, ◌≤◌, ◌⊎◌, inl, inr, Bool, true, false, cond, not, ◌&&◌, ◌||◌, List, [], ◌∷◌, take, length, refl, sym, ap, ◌∙◌, subst, arith, Option, Some, None, codes, eqb, bytes_eq, get_or, true≢false, eq-or-lt_of_le, ◌==◌, one-add, drop, ◌-◌, take_all}
+use Rattle.std.proofs.Common.{◌≡◌, ℕ, zero, suc, ◌+◌, ◌<◌, ◌≤◌, ◌⊎◌, inl, inr, Bool, true, false, cond, not, ◌&&◌, ◌||◌, List, [], ◌∷◌, take, length}
+use Rattle.std.proofs.Common.{refl, sym, ap, ◌∙◌, subst, arith, Option, Some, None, codes, eqb, bytes_eq, get_or, true≢false, eq-or-lt_of_le, ◌==◌}
+use Rattle.std.proofs.Common.{one-add, drop, ◌-◌, take_all}
 use Rattle.std.proofs.lemmas.Bool.{eqb-true}
 use Rattle.std.proofs.lemmas.List.Sums.{prefix_len-le-length}
 use Rattle.std.specs.List.{list_all, list_any, prefix_len}
@@ -15,18 +17,22 @@ step_none : (n : ℕ) (s : List ℕ) → piece_of (take (suc n) s) ≡ None → 
 step_none n s e = ap (λ o. elim o as (λ _. Option (ℕ × Piece)) [ Some q ↦ Some (suc n, q) | None ↦ longest_of n s ]) e
 
 -- It is the longest where it is a piece and no longer front is one.
-pub longest_is : (m n : ℕ) (s : List ℕ) (p : Piece) → n < m → piece_of (take (suc n) s) ≡ Some p → ((k : ℕ) → suc n < k → k ≤ m → piece_of (take k s) ≡ None) → longest_of m s ≡ Some (suc n, p)
+pub longest_is : (m n : ℕ) (s : List ℕ) (p : Piece) → n < m → piece_of (take (suc n) s) ≡ Some p
+    → ((k : ℕ) → suc n < k → k ≤ m → piece_of (take k s) ≡ None) → longest_of m s ≡ Some (suc n, p)
 longest_is zero n s p below piece none = absurd (let never : ⊥ = omega (arith, below) in never)
 longest_is (suc m) n s p below piece none =
     let cases : (n ≡ m) ⊎ (n < m) = eq-or-lt_of_le (omega (arith, below)) in
     elim cases [
-      | inl e ↦ step_some m s p (subst (λ k. piece_of (take (suc k) s) ≡ Some p) e piece) ∙ ap (λ k. let o : Option (ℕ × Piece) = Some (suc k, p) in o) (sym e)
-      | inr l ↦ step_none m s (none (suc m) (omega (arith, l)) (omega arith)) ∙ longest_is m n s p l piece (λ k low high. none k low (omega (arith, high)))
+      | inl e ↦ step_some m s p (subst (λ k. piece_of (take (suc k) s) ≡ Some p) e piece)
+          ∙ ap (λ k. let o : Option (ℕ × Piece) = Some (suc k, p) in o) (sym e)
+      | inr l ↦ step_none m s (none (suc m) (omega (arith, l)) (omega arith))
+          ∙ longest_is m n s p l piece (λ k low high. none k low (omega (arith, high)))
     ]
 
 pub longest_none : (m : ℕ) (s : List ℕ) → ((k : ℕ) → 0 < k → k ≤ m → piece_of (take k s) ≡ None) → longest_of m s ≡ None
 longest_none zero s none = refl
-longest_none (suc m) s none = step_none m s (none (suc m) (omega arith) (omega arith)) ∙ longest_none m s (λ k low high. none k low (omega (arith, high)))
+longest_none (suc m) s none =
+    step_none m s (none (suc m) (omega arith) (omega arith)) ∙ longest_none m s (λ k low high. none k low (omega (arith, high)))
 
 -- What a byte at the front rules out.
 abbrev pub first_fails : (ℕ → Bool) → List ℕ → Bool
@@ -47,14 +53,16 @@ differs test b c holds fails = differs_at (eqb b c) refl where
   differs_at true same = absurd (true≢false (sym holds ∙ ap test (eqb-true b c same) ∙ fails))
   differs_at false same = refl
 
-pub not_in : (test : ℕ → Bool) (b : ℕ) (t : List ℕ) (ts : List (List ℕ)) → list_all (first_fails test) ts ≡ true → test b ≡ true → list_any (bytes_eq (b ∷ t)) ts ≡ false
+pub not_in : (test : ℕ → Bool) (b : ℕ) (t : List ℕ) (ts : List (List ℕ)) → list_all (first_fails test) ts ≡ true → test b ≡ true
+    → list_any (bytes_eq (b ∷ t)) ts ≡ false
 not_in test b t [] h holds = refl
 not_in test b t ([] ∷ ts) h holds = not_in test b t ts h holds
 not_in test b t ((c ∷ cs) ∷ ts) h holds =
     let parts = and_parts (not (test c)) (list_all (first_fails test) ts) h in
     rw (differs test b c holds (not_true (test c) parts.0)) (not_in test b t ts parts.1 holds)
 
-pub piece_of-picked : (s : List ℕ) (a b c d : Bool) → is_name s ≡ a → is_number s ≡ b → is_one_of s signs ≡ c → (is_blank s || is_comment s) ≡ d → piece_of s ≡ picked a b c d s
+pub piece_of-picked : (s : List ℕ) (a b c d : Bool) → is_name s ≡ a → is_number s ≡ b → is_one_of s signs ≡ c → (is_blank s || is_comment s) ≡ d
+    → piece_of s ≡ picked a b c d s
 piece_of-picked s a b c d ea eb ec ed = λ i. picked (ea i) (eb i) (ec i) (ed i) s
 
 pub letter_no_digit : (b : ℕ) → is_letter b ≡ true → is_digit b ≡ false
@@ -74,7 +82,8 @@ piece_of-letter b t h =
 list_all-run : (p : ℕ → Bool) (bs : List ℕ) → list_all p (take (prefix_len p bs) bs) ≡ true
 list_all-run p [] = refl
 list_all-run p (b ∷ bs) = by_test (p b) refl (list_all-run p bs) where
-  by_test : (e : Bool) → p b ≡ e → list_all p (take (prefix_len p bs) bs) ≡ true → list_all p (take (cond (p b) (1 + prefix_len p bs) 0) (b ∷ bs)) ≡ true
+  by_test : (e : Bool) → p b ≡ e → list_all p (take (prefix_len p bs) bs) ≡ true
+      → list_all p (take (cond (p b) (1 + prefix_len p bs) 0) (b ∷ bs)) ≡ true
   by_test true h before = rw (h, one-add) (rw h before)
   by_test false h before = rw h refl
 
@@ -82,24 +91,30 @@ list_all-past : (p : ℕ → Bool) (bs : List ℕ) (j : ℕ) → prefix_len p bs
 list_all-past p [] j low high = absurd (let never : ⊥ = omega (arith, low, high) in never)
 list_all-past p (b ∷ bs) zero low high = absurd (let never : ⊥ = omega (arith, low) in never)
 list_all-past p (b ∷ bs) (suc j) low high = by_test (p b) refl low (list_all-past p bs j) where
-  by_test : (e : Bool) → p b ≡ e → cond (p b) (1 + prefix_len p bs) 0 < suc j → (prefix_len p bs < j → j ≤ length bs → list_all p (take j bs) ≡ false) → (p b && list_all p (take j bs)) ≡ false
+  by_test : (e : Bool) → p b ≡ e → cond (p b) (1 + prefix_len p bs) 0 < suc j → (prefix_len p bs < j → j ≤ length bs → list_all p (take j bs) ≡ false)
+      → (p b && list_all p (take j bs)) ≡ false
   by_test true h l before = rw h (before (let l2 : 1 + prefix_len p bs < suc j = rw h at l in omega (arith, l2)) (omega (arith, high)))
   by_test false h l before = rw h refl
 
-pub run_longest : (p : ℕ → Bool) (made : List ℕ → Piece) (b : ℕ) (bs : List ℕ) → ((t : List ℕ) → piece_of (b ∷ t) ≡ cond (list_all p t) (Some (made (b ∷ t))) None) → longest (b ∷ bs) ≡ Some (suc (prefix_len p bs), made (b ∷ take (prefix_len p bs) bs))
+pub run_longest : (p : ℕ → Bool) (made : List ℕ → Piece) (b : ℕ) (bs : List ℕ) → ((t : List ℕ) → piece_of (b ∷ t)
+    ≡ cond (list_all p t) (Some (made (b ∷ t))) None) → longest (b ∷ bs) ≡ Some (suc (prefix_len p bs), made (b ∷ take (prefix_len p bs) bs))
 run_longest p made b bs pieces =
     longest_is (suc (length bs)) (prefix_len p bs) (b ∷ bs) (made (b ∷ take (prefix_len p bs) bs))
     (let l : prefix_len p bs ≤ length bs = prefix_len-le-length p bs in omega (arith, l))
-    (pieces (take (prefix_len p bs) bs) ∙ ap (λ x. cond x (let o : Option Piece = Some (made (b ∷ take (prefix_len p bs) bs)) in o) None) (list_all-run p bs))
+    (pieces (take (prefix_len p bs) bs)
+    ∙ ap (λ x. cond x (let o : Option Piece = Some (made (b ∷ take (prefix_len p bs) bs)) in o) None) (list_all-run p bs))
     past where
       past : (k : ℕ) → suc (prefix_len p bs) < k → k ≤ suc (length bs) → piece_of (take k (b ∷ bs)) ≡ None
       past zero low high = absurd (let never : ⊥ = omega (arith, low) in never)
-      past (suc j) low high = pieces (take j bs) ∙ ap (λ x. cond x (let o : Option Piece = Some (made (b ∷ take j bs)) in o) None) (list_all-past p bs j (omega (arith, low)) (omega (arith, high)))
+      past (suc j) low high = pieces (take j bs) ∙ ap (λ x. cond x (let o : Option Piece = Some (made (b ∷ take j bs)) in o) None)
+          (list_all-past p bs j (omega (arith, low)) (omega (arith, high)))
 
-pub letter_longest : (b : ℕ) (bs : List ℕ) → is_letter b ≡ true → longest (b ∷ bs) ≡ Some (suc (prefix_len is_name_byte bs), name_or_keyword (b ∷ take (prefix_len is_name_byte bs) bs))
+pub letter_longest : (b : ℕ) (bs : List ℕ) → is_letter b ≡ true
+    → longest (b ∷ bs) ≡ Some (suc (prefix_len is_name_byte bs), name_or_keyword (b ∷ take (prefix_len is_name_byte bs) bs))
 letter_longest b bs h = run_longest is_name_byte name_or_keyword b bs (λ t. piece_of-letter b t h)
 
-pub name_front : (s : List ℕ) (n : ℕ) → 0 < length s → is_letter (get_or s 0 0) ≡ true → n ≡ prefix_len is_name_byte (take (length s - 1) (drop 1 s)) → longest s ≡ Some (1 + n, name_or_keyword (take (1 + n) s))
+pub name_front : (s : List ℕ) (n : ℕ) → 0 < length s → is_letter (get_or s 0 0) ≡ true → n ≡ prefix_len is_name_byte (take (length s - 1) (drop 1 s))
+    → longest s ≡ Some (1 + n, name_or_keyword (take (1 + n) s))
 name_front [] n some h e = absurd (let never : ⊥ = omega (arith, some) in never)
 name_front (b ∷ bs) n some h e =
     let whole : take (length (b ∷ bs) - 1) bs ≡ bs = take_all (length (b ∷ bs) - 1) bs (omega arith) in

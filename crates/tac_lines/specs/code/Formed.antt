@@ -21,7 +21,8 @@ abbrev pub IsCountedIn : List Placed → LineRange → Type 0
 IsCountedIn tokens line = (text : List ℕ) → line.labels ≡ length (labels_of (tokens_view text (slice_range tokens line.first line.end)))
 
 abbrev pub IsFormedIn : List Placed → LineRange → Type 0
-IsFormedIn tokens line = (text : List ℕ) → IsTrue (is_formed line.form (length (slice_range tokens line.first line.end) - 2 * line.labels) (behind_labels (tokens_view text (slice_range tokens line.first line.end))))
+IsFormedIn tokens line = (text : List ℕ) → IsTrue (is_formed line.form (length (slice_range tokens line.first line.end) - 2 * line.labels)
+    (behind_labels (tokens_view text (slice_range tokens line.first line.end))))
 
 -- Lines that stand within the tokens, each with its labels and its form.
 pub record AreLines (tokens : List Placed) (lines : List LineRange) : Type 0 where

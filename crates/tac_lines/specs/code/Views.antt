@@ -1,7 +1,9 @@
 -- What the code's tokens, lines and sections stand for.
-use Rattle.std.specs.Prelude.{◌≡◌, ℕ, zero, suc, ◌-◌, Bool, true, false, List, [], ◌∷◌, map, take, codes, Option, Some, None, slice_range, slice_get, ◌&&◌, if◌then◌else◌}
+use Rattle.std.specs.Prelude.{◌≡◌, ℕ, zero, suc, ◌-◌, Bool, true, false, List, [], ◌∷◌, map, take, codes, Option, Some, None, slice_range, slice_get}
+use Rattle.std.specs.Prelude.{◌&&◌, if◌then◌else◌}
 use Rattle.tac_lines.specs.Tokens.{Word, name, number, fixed, Piece, word, gap, Token, value_of}
-use Rattle.tac_lines.specs.Forms.{Slot, fills, key, procedure, variable, operand, label, callee, binary, unary, comparison, end_form, proc_form, statement_forms, labels_of, behind_labels, some_form, first_wrong}
+use Rattle.tac_lines.specs.Forms.{Slot, fills, key, procedure, variable, operand, label, callee, binary, unary, comparison, end_form, proc_form}
+use Rattle.tac_lines.specs.Forms.{statement_forms, labels_of, behind_labels, some_form, first_wrong}
 use Rattle.tac_lines.specs.LineFaults.{earlier, at}
 use Rattle.tac_lines.specs.declared.refusal.RefusalKind.TheVariants.{Syntax}
 use Rattle.tac_program.specs.Spelling.{sign_of}

@@ -1,5 +1,6 @@
 -- The number of a name that comes last.
-use Rattle.std.proofs.Common.{◌≡◌, refl, ℕ, ◌+◌, suc, Bool, true, false, true≢false, not, ◌||◌, List, [], ◌∷◌, ◌++◌, length, arith, Some, bytes_eq, position, cond}
+use Rattle.std.proofs.Common.{◌≡◌, refl, ℕ, ◌+◌, suc, Bool, true, false, true≢false, not, ◌||◌, List, [], ◌∷◌, ◌++◌, length, arith, Some, bytes_eq}
+use Rattle.std.proofs.Common.{position, cond}
 use Rattle.std.proofs.lemmas.Grind.{common_steps}
 use Rattle.std.proofs.lemmas.Slice.Eq.{bytes_eq-Decides}
 use Rattle.std.specs.List.{list_any, prefix_len}
@@ -8,7 +9,8 @@ use Rattle.tac_program.specs.Names.{is_one_of}
 none_among : (p : List ℕ → Bool) (names : List (List ℕ)) → list_any p names ≡ false → prefix_len (λ x. not (p x)) names ≡ length names
 none_among p [] e = refl
 none_among p (x ∷ xs) e = by_test (p x) e (none_among p xs) where
-  by_test : (t : Bool) → (t || list_any p xs) ≡ false → (list_any p xs ≡ false → prefix_len (λ y. not (p y)) xs ≡ length xs) → cond (not t) (1 + prefix_len (λ y. not (p y)) xs) 0 ≡ suc (length xs)
+  by_test : (t : Bool) → (t || list_any p xs) ≡ false → (list_any p xs ≡ false → prefix_len (λ y. not (p y)) xs ≡ length xs)
+      → cond (not t) (1 + prefix_len (λ y. not (p y)) xs) 0 ≡ suc (length xs)
   by_test true h further = absurd (true≢false h)
   by_test false h further = let e : prefix_len (λ y. not (p y)) xs ≡ length xs = further h in omega (arith, e)
 

@@ -1,6 +1,7 @@
 -- Names in a table, and what its keys say of them.
 use Prim.Native.Nat.compare
-use Rattle.std.proofs.Common.{◌≡◌, ℕ, suc, ◌+◌, Bool, true, false, not, ◌||◌, List, [], ◌∷◌, ◌++◌, refl, sym, ap, ◌∙◌, Option, Some, None, bytes_eq, if◌then◌else◌, position, is_some, length, cond, nat_lt, one-add, fold, subst, append-nil, append_assoc}
+use Rattle.std.proofs.Common.{◌≡◌, ℕ, suc, ◌+◌, Bool, true, false, not, ◌||◌, List, [], ◌∷◌, ◌++◌, refl, sym, ap, ◌∙◌, Option, Some, None, bytes_eq}
+use Rattle.std.proofs.Common.{if◌then◌else◌, position, is_some, length, cond, nat_lt, one-add, fold, subst, append-nil, append_assoc}
 use Rattle.std.proofs.Common.{arith}
 use Rattle.std.proofs.lemmas.Bool.{lt-ltb}
 use Rattle.std.proofs.lemmas.Map.Keys.{IsDistinct-head, IsDistinct-tail}
@@ -18,12 +19,15 @@ texts-push : (ks : List NameKey) (v : NameKey) → texts (ks ++ v ∷ []) ≡ te
 texts-push [] v = refl
 texts-push (k ∷ ks) v = ap (λ r. k.bytes.items ∷ r) (texts-push ks v)
 
-texts-choice : (b : Bool) (ks : List NameKey) (v : NameKey) → texts (if b then ks else ks ++ v ∷ []) ≡ (if b then texts ks else texts ks ++ v.bytes.items ∷ [])
+texts-choice : (b : Bool) (ks : List NameKey) (v : NameKey)
+    → texts (if b then ks else ks ++ v ∷ []) ≡ (if b then texts ks else texts ks ++ v.bytes.items ∷ [])
 texts-choice true ks v = refl
 texts-choice false ks v = texts-push ks v
 
-pub texts-insert : (ks : List NameKey) (v : NameKey) → texts (insert_key (λ x y. bytes_eq x.bytes.items y.bytes.items) ks v) ≡ noted (texts ks) v.bytes.items
-texts-insert ks v = texts-choice (list_any (λ k. bytes_eq v.bytes.items k.bytes.items) ks) ks v ∙ ap (λ b. if b then texts ks else texts ks ++ v.bytes.items ∷ []) (among v.bytes.items ks)
+pub texts-insert : (ks : List NameKey) (v : NameKey)
+    → texts (insert_key (λ x y. bytes_eq x.bytes.items y.bytes.items) ks v) ≡ noted (texts ks) v.bytes.items
+texts-insert ks v = texts-choice (list_any (λ k. bytes_eq v.bytes.items k.bytes.items) ks) ks v
+    ∙ ap (λ b. if b then texts ks else texts ks ++ v.bytes.items ∷ []) (among v.bytes.items ks)
 
 -- Keys that differ, put one by one into a set without any, are that set's.
 module _ (same : NameKey → NameKey → Bool) (flip : (x y : NameKey) → same x y ≡ same y x) where
@@ -44,7 +48,8 @@ module _ (same : NameKey → NameKey → Bool) (flip : (x y : NameKey) → same 
       ∙ put_anew (done ++ k ∷ []) rest (subst (IsDistinct same) (sym (append_assoc done (k ∷ []) rest)) h)
       ∙ append_assoc done (k ∷ []) rest
 
-run-texts : (name : List ℕ) (ks : List NameKey) → prefix_len (λ k. not (bytes_eq name k.bytes.items)) ks ≡ prefix_len (λ s. not (bytes_eq name s)) (texts ks)
+run-texts : (name : List ℕ) (ks : List NameKey)
+    → prefix_len (λ k. not (bytes_eq name k.bytes.items)) ks ≡ prefix_len (λ s. not (bytes_eq name s)) (texts ks)
 run-texts name [] = refl
 run-texts name (k ∷ ks) = ap (λ n. cond (not (bytes_eq name k.bytes.items)) (1 + n) 0) (run-texts name ks)
 
@@ -61,7 +66,8 @@ position-texts name ks = at (run-texts name ks) (sym (length-texts ks)) where
 below-any : (p : List ℕ → Bool) (xs : List (List ℕ)) → nat_lt (prefix_len (λ x. not (p x)) xs) (length xs) ≡ list_any p xs
 below-any p [] = refl
 below-any p (x ∷ xs) = by_test (p x) refl (below-any p xs) where
-  by_test : (t : Bool) → p x ≡ t → nat_lt (prefix_len (λ y. not (p y)) xs) (length xs) ≡ list_any p xs → nat_lt (cond (not (p x)) (1 + prefix_len (λ y. not (p y)) xs) 0) (suc (length xs)) ≡ (p x || list_any p xs)
+  by_test : (t : Bool) → p x ≡ t → nat_lt (prefix_len (λ y. not (p y)) xs) (length xs) ≡ list_any p xs
+      → nat_lt (cond (not (p x)) (1 + prefix_len (λ y. not (p y)) xs) 0) (suc (length xs)) ≡ (p x || list_any p xs)
   by_test true e before = rw e (lt-ltb 0 (suc (length xs)) (omega arith))
   by_test false e before = rw (e, one-add, compare.suc-suc) before
 

@@ -1,5 +1,6 @@
 -- Labels by place: those from a place on, and those behind it.
-use Rattle.std.proofs.Common.{◌≡◌, ◌≢◌, ℕ, ◌+◌, ◌-◌, ◌<◌, ◌≤◌, Bool, true, false, cond, List, [], ◌∷◌, map, filter, length, drop, get_or, nat_lt, nat_le, All, refl, length-drop, arith}
+use Rattle.std.proofs.Common.{◌≡◌, ◌≢◌, ℕ, ◌+◌, ◌-◌, ◌<◌, ◌≤◌, Bool, true, false, cond, List, [], ◌∷◌, map, filter, length, drop, get_or, nat_lt}
+use Rattle.std.proofs.Common.{nat_le, All, refl, length-drop, arith}
 use Rattle.std.proofs.lemmas.Bool.Decides.{nat_tests}
 use Rattle.std.proofs.lemmas.List.{get_or-drop, length-map}
 use Rattle.std.proofs.lemmas.List.Elements.{All-nil, All-cons, All-head, All-tail, All-get_or, All-from_get_or}
@@ -46,7 +47,8 @@ from-start (l ∷ ls) = more l ls (from-start ls) where
 pub behind-from : (place : ℕ) (ls : List Label) → behind place (from place ls) ≡ from (place + 1) ls
 behind-from place [] = refl
 behind-from place (l ∷ ls) = by_test (nat_le place l.place) refl (behind-from place ls) where
-  by_test : (t : Bool) → nat_le place l.place ≡ t → behind place (from place ls) ≡ from (place + 1) ls → behind place (cond t (l ∷ from place ls) (from place ls)) ≡ from (place + 1) (l ∷ ls)
+  by_test : (t : Bool) → nat_le place l.place ≡ t → behind place (from place ls) ≡ from (place + 1) ls
+      → behind place (cond t (l ∷ from place ls) (from place ls)) ≡ from (place + 1) (l ∷ ls)
   by_test true e before = kept place l.place l _ _ before
   by_test false e before = dropped place l.place l _ _ e before
 
@@ -61,7 +63,8 @@ behind-all place (l ∷ ls) h =
 pub All-from : (place : ℕ) (ls : List Label) → All (λ l. place ≤ l.place) (from place ls)
 All-from place [] = All-nil (λ (l : Label). place ≤ l.place)
 All-from place (l ∷ ls) = by_test (nat_le place l.place) refl (All-from place ls) where
-  by_test : (t : Bool) → nat_le place l.place ≡ t → All (λ l. place ≤ l.place) (from place ls) → All (λ l. place ≤ l.place) (cond t (l ∷ from place ls) (from place ls))
+  by_test : (t : Bool) → nat_le place l.place ≡ t → All (λ l. place ≤ l.place) (from place ls)
+      → All (λ l. place ≤ l.place) (cond t (l ∷ from place ls) (from place ls))
   by_test true e before = All-cons (λ (l : Label). place ≤ l.place) l _ (reached place l.place e) before
   by_test false e before = before
 
@@ -87,7 +90,8 @@ pub LabelsRise-from : (place : ℕ) (ls : List Label) → LabelsRise ls → Labe
 LabelsRise-from place ls h = places_rise (from place ls) (IsNonDecreasingBy-filter place_of (λ l. nat_le place l.place) ls (labels_rise ls h))
 
 -- from a label on that is not at the place, all stand behind the place
-pub StandBehind-drop : (place i : ℕ) (ls : List Label) (d : Label) → LabelsRise ls → All (λ l. place ≤ l.place) ls → i < length ls → (get_or ls i d).place ≢ place → StandBehind place (drop i ls)
+pub StandBehind-drop : (place i : ℕ) (ls : List Label) (d : Label) → LabelsRise ls → All (λ l. place ≤ l.place) ls → i < length ls
+    → (get_or ls i d).place ≢ place → StandBehind place (drop i ls)
 StandBehind-drop place i ls d rise ahead within other =
     All-from_get_or (λ (l : Label). place < l.place) (drop i ls) d (λ j h. each j (let n : j < length ls - i = rw length-drop at h in omega arith))
   where

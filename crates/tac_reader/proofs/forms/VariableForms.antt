@@ -1,9 +1,11 @@
 -- Forms in which all names are variables: their variables are their names.
-use Rattle.std.proofs.Common.{◌≡◌, ℕ, Bool, true, false, ◌&&◌, ◌||◌, List, [], ◌∷◌, ◌++◌, refl, sym, ap, ◌∙◌, Some, None, true≢false, flat_map, if◌then◌else◌}
+use Rattle.std.proofs.Common.{◌≡◌, ℕ, Bool, true, false, ◌&&◌, ◌||◌, List, [], ◌∷◌, ◌++◌, refl, sym, ap, ◌∙◌, Some, None, true≢false, flat_map}
+use Rattle.std.proofs.Common.{if◌then◌else◌}
 use Rattle.std.specs.List.{list_any}
 use Rattle.tac_lines.specs.Tokens.{Word, name, number, fixed, Token}
 use Rattle.tac_program.specs.Spelling.{binary_signs, unary_signs, comparison_signs}
-use Rattle.tac_lines.specs.Forms.{Slot, exactly, procedure, variable, operand, label, callee, binary, unary, comparison, fills, has_form, is_fixed_in, is_name_word, statement_row, statements, paired, in_slot, is_variable}
+use Rattle.tac_lines.specs.Forms.{Slot, exactly, procedure, variable, operand, label, callee, binary, unary, comparison, fills, has_form, is_fixed_in}
+use Rattle.tac_lines.specs.Forms.{is_name_word, statement_row, statements, paired, in_slot, is_variable}
 use Rattle.tac_reader.specs.Sections.{only_name, variables_of}
 use Rattle.tac_lines.specs.code.Formed.{has_only_variables}
 use Rattle.tac_lines.specs.code.Views.{form_slots}
@@ -56,14 +58,18 @@ neither : (a b : Bool) → (a || b) ≡ false → b ≡ false
 neither true b h = absurd (true≢false h)
 neither false b h = h
 
-names_are : (slots : List Slot) (ts : List Token) → list_any is_other slots ≡ false → has_form slots ts ≡ true → flat_map only_name (in_slot is_variable (paired slots ts)) ≡ flat_map only_name ts
+names_are : (slots : List Slot) (ts : List Token) → list_any is_other slots ≡ false → has_form slots ts ≡ true
+    → flat_map only_name (in_slot is_variable (paired slots ts)) ≡ flat_map only_name ts
 names_are [] [] a h = refl
 names_are [] (t ∷ ts) a h = absurd (true≢false (sym h))
 names_are (s ∷ slots) [] a h = absurd (true≢false (sym h))
 names_are (s ∷ slots) (t ∷ ts) a h =
-    one s a (first_holds (fills s t.word) (has_form slots ts) h) (names_are slots ts (neither (is_other s) (list_any is_other slots) a) (second_holds (fills s t.word) (has_form slots ts) h))
+    one s a (first_holds (fills s t.word) (has_form slots ts) h)
+    (names_are slots ts (neither (is_other s) (list_any is_other slots) a) (second_holds (fills s t.word) (has_form slots ts) h))
   where
-    one : (r : Slot) → (is_other r || list_any is_other slots) ≡ false → fills r t.word ≡ true → flat_map only_name (in_slot is_variable (paired slots ts)) ≡ flat_map only_name ts → flat_map only_name (if is_variable r then t ∷ in_slot is_variable (paired slots ts) else in_slot is_variable (paired slots ts)) ≡ only_name t ++ flat_map only_name ts
+    one : (r : Slot) → (is_other r || list_any is_other slots) ≡ false → fills r t.word ≡ true
+        → flat_map only_name (in_slot is_variable (paired slots ts)) ≡ flat_map only_name ts → flat_map only_name (if is_variable r then t
+        ∷ in_slot is_variable (paired slots ts) else in_slot is_variable (paired slots ts)) ≡ only_name t ++ flat_map only_name ts
     one (exactly w) b f others = skipped t _ _ others (w ∷ []) f
     one procedure b f others = absurd (true≢false b)
     one variable b f others = taken t _ _ others
@@ -74,7 +80,8 @@ names_are (s ∷ slots) (t ∷ ts) a h =
     one unary b f others = skipped t _ _ others unary_signs f
     one comparison b f others = skipped t _ _ others comparison_signs f
 
-pub variables_are : (f : Form) (n : ℕ) (ts : List Token) → statement_row ts ≡ Some (f, form_slots f n) → has_only_variables f ≡ true → flat_map only_name ts ≡ variables_of ts
+pub variables_are : (f : Form) (n : ℕ) (ts : List Token) → statement_row ts ≡ Some (f, form_slots f n) → has_only_variables f ≡ true
+    → flat_map only_name ts ≡ variables_of ts
 variables_are f n ts e h =
     sym (names_are (form_slots f n) ts (no_other f n h) (found_row ts statements (f, form_slots f n) e))
     ∙ ap (λ o. flat_map only_name (in_slot is_variable (elim o as (λ _. List (Slot × Token)) [ None ↦ [] | Some row ↦ paired row.1 ts ]))) (sym e)

@@ -1,5 +1,6 @@
 -- Names among others: their numbers, and that none stands twice.
-use Rattle.std.proofs.Common.{◌≡◌, ◌≢◌, ℕ, zero, suc, ◌+◌, ◌<◌, Bool, true, false, not, cond, ◌||◌, List, [], ◌∷◌, ◌++◌, map, fold, length, refl, sym, ap, ◌∙◌, subst, arith, Some, None, unwrap_or, bytes_eq, get_or, true≢false, one-add, if◌then◌else◌, Contains}
+use Rattle.std.proofs.Common.{◌≡◌, ◌≢◌, ℕ, zero, suc, ◌+◌, ◌<◌, Bool, true, false, not, cond, ◌||◌, List, [], ◌∷◌, ◌++◌, map, fold, length, refl, sym}
+use Rattle.std.proofs.Common.{ap, ◌∙◌, subst, arith, Some, None, unwrap_or, bytes_eq, get_or, true≢false, one-add, if◌then◌else◌, Contains}
 use Rattle.std.proofs.lemmas.Bool.{lt-ltb, or_parts}
 use Rattle.std.proofs.lemmas.Slice.Eq.{bytes_eq-Decides}
 use Rattle.std.proofs.lemmas.Option.{unwrap_or-slice_get}
@@ -41,7 +42,8 @@ number_below names s h = subst (λ n. n < length names) (sym (number_is names s 
 stands : (names : List (List ℕ)) (s : List ℕ) → Known names s → get_or names (place names s) s ≡ s
 stands [] s h = absurd (true≢false (sym h))
 stands (x ∷ xs) s h = by_test (bytes_eq s x) refl h (stands xs s) where
-  by_test : (b : Bool) → bytes_eq s x ≡ b → (b || is_one_of s xs) ≡ true → (Known xs s → get_or xs (place xs s) s ≡ s) → get_or (x ∷ xs) (cond (not b) (1 + place xs s) 0) s ≡ s
+  by_test : (b : Bool) → bytes_eq s x ≡ b → (b || is_one_of s xs) ≡ true → (Known xs s → get_or xs (place xs s) s ≡ s)
+      → get_or (x ∷ xs) (cond (not b) (1 + place xs s) 0) s ≡ s
   by_test true e k later = sym ((bytes_eq-Decides s x).0 e)
   by_test false e k later = rw one-add (later k)
 
@@ -70,7 +72,8 @@ same_number names a b h k e =
     ∙ stands names b k
 
 -- Numbers of different known names.
-numbers_apart : (names : List (List ℕ)) (a : List ℕ) (xs : List (List ℕ)) → Known names a → Each (Known names) xs → Each (λ b. a ≢ b) xs → Each (λ n. number_of names a ≢ n) (map (number_of names) xs)
+numbers_apart : (names : List (List ℕ)) (a : List ℕ) (xs : List (List ℕ)) → Known names a → Each (Known names) xs → Each (λ b. a ≢ b) xs
+    → Each (λ n. number_of names a ≢ n) (map (number_of names) xs)
 numbers_apart names a [] h k d = tt
 numbers_apart names a (x ∷ xs) h k d = (λ e. d.0 (same_number names a x h k.0 e), numbers_apart names a xs h k.1 d.1)
 
@@ -120,8 +123,14 @@ none_repeated kind before (t ∷ ts) e =
     let rest = none_repeated kind (before ++ s ∷ []) ts (no_right here behind e) in
     let apart = λ (x : List ℕ) (h : Unknown (before ++ s ∷ []) x). or_parts (is_one_of x before) (bytes_eq x s) (sym (known-push before s x) ∙ h) in
     record {
-      fresh = (none_at (is_one_of s before) kind t.start (no_left here behind e), each-weaker (Unknown (before ++ s ∷ [])) (Unknown before) (λ x h. (apart x h).0) (names_in ts) rest.fresh);
-      differ = (each-weaker (Unknown (before ++ s ∷ [])) (λ x. s ≢ x) (λ x h same. unlike x s (apart x h).1 (sym same)) (names_in ts) rest.fresh, rest.differ);
+      fresh = (
+        none_at (is_one_of s before) kind t.start (no_left here behind e),
+        each-weaker (Unknown (before ++ s ∷ [])) (Unknown before) (λ x h. (apart x h).0) (names_in ts) rest.fresh,
+      );
+      differ = (
+        each-weaker (Unknown (before ++ s ∷ [])) (λ x. s ≢ x) (λ x h same. unlike x s (apart x h).1 (sym same)) (names_in ts) rest.fresh,
+        rest.differ,
+      );
     }
 
 -- Each name once: none is lost, none stands twice, and what holds of all still does.

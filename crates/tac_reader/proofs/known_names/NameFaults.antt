@@ -20,19 +20,24 @@ seven a b c d e g h = a ++ b ++ c ++ d ++ e ++ g ++ h
 
 module _ (a b c d e g h : List Fault) (f : Fault) where
   pub first_1 : head_of a ≡ Some f → head_of (seven a b c d e g h) ≡ Some f
-  first_1 k = head-front (a ++ b ++ c ++ d ++ e ++ g) h f (head-front (a ++ b ++ c ++ d ++ e) g f (head-front (a ++ b ++ c ++ d) e f (head-front (a ++ b ++ c) d f (head-front (a ++ b) c f (head-front a b f k)))))
+  first_1 k = head-front (a ++ b ++ c ++ d ++ e ++ g) h f (head-front (a ++ b ++ c ++ d ++ e) g f
+      (head-front (a ++ b ++ c ++ d) e f (head-front (a ++ b ++ c) d f (head-front (a ++ b) c f (head-front a b f k)))))
 
   pub first_2 : a ≡ [] → head_of b ≡ Some f → head_of (seven a b c d e g h) ≡ Some f
-  first_2 ea k = head-front (a ++ b ++ c ++ d ++ e ++ g) h f (head-front (a ++ b ++ c ++ d ++ e) g f (head-front (a ++ b ++ c ++ d) e f (head-front (a ++ b ++ c) d f (head-front (a ++ b) c f (ap (λ x. head_of (x ++ b)) ea ∙ k)))))
+  first_2 ea k = head-front (a ++ b ++ c ++ d ++ e ++ g) h f (head-front (a ++ b ++ c ++ d ++ e) g f
+      (head-front (a ++ b ++ c ++ d) e f (head-front (a ++ b ++ c) d f (head-front (a ++ b) c f (ap (λ x. head_of (x ++ b)) ea ∙ k)))))
 
   pub first_3 : a ≡ [] → b ≡ [] → head_of c ≡ Some f → head_of (seven a b c d e g h) ≡ Some f
-  first_3 ea eb k = head-front (a ++ b ++ c ++ d ++ e ++ g) h f (head-front (a ++ b ++ c ++ d ++ e) g f (head-front (a ++ b ++ c ++ d) e f (head-front (a ++ b ++ c) d f ((λ i. head_of (ea i ++ eb i ++ c)) ∙ k))))
+  first_3 ea eb k = head-front (a ++ b ++ c ++ d ++ e ++ g) h f (head-front (a ++ b ++ c ++ d ++ e) g f
+      (head-front (a ++ b ++ c ++ d) e f (head-front (a ++ b ++ c) d f ((λ i. head_of (ea i ++ eb i ++ c)) ∙ k))))
 
   pub first_4 : a ≡ [] → b ≡ [] → c ≡ [] → head_of d ≡ Some f → head_of (seven a b c d e g h) ≡ Some f
-  first_4 ea eb ec k = head-front (a ++ b ++ c ++ d ++ e ++ g) h f (head-front (a ++ b ++ c ++ d ++ e) g f (head-front (a ++ b ++ c ++ d) e f ((λ i. head_of (ea i ++ eb i ++ ec i ++ d)) ∙ k)))
+  first_4 ea eb ec k = head-front (a ++ b ++ c ++ d ++ e ++ g) h f
+      (head-front (a ++ b ++ c ++ d ++ e) g f (head-front (a ++ b ++ c ++ d) e f ((λ i. head_of (ea i ++ eb i ++ ec i ++ d)) ∙ k)))
 
   pub first_5 : a ≡ [] → b ≡ [] → c ≡ [] → d ≡ [] → head_of e ≡ Some f → head_of (seven a b c d e g h) ≡ Some f
-  first_5 ea eb ec ed k = head-front (a ++ b ++ c ++ d ++ e ++ g) h f (head-front (a ++ b ++ c ++ d ++ e) g f ((λ i. head_of (ea i ++ eb i ++ ec i ++ ed i ++ e)) ∙ k))
+  first_5 ea eb ec ed k =
+      head-front (a ++ b ++ c ++ d ++ e ++ g) h f (head-front (a ++ b ++ c ++ d ++ e) g f ((λ i. head_of (ea i ++ eb i ++ ec i ++ ed i ++ e)) ∙ k))
 
 pub first_6 : (a b c d e g h : List Fault) → a ≡ [] → b ≡ [] → c ≡ [] → d ≡ [] → e ≡ [] → head_of (seven a b c d e g h) ≡ head_of (g ++ h)
 first_6 a b c d e g h ea eb ec ed ee = λ i. head_of (ea i ++ eb i ++ ec i ++ ed i ++ ee i ++ g ++ h)
@@ -52,7 +57,10 @@ main_some g h f k = head-front g h f k
 
 -- The fault of a text by what its length, its lines and its names show.
 told : Bool → Option Fault → Option Fault → Option Fault
-told long line names = elim long as (λ _. Option Fault) [ true ↦ Some (record { kind = kind.TextTooLong; place = 0 }) | false ↦ elim line as (λ _. Option Fault) [ Some f ↦ Some f | None ↦ names ] ]
+told long line names = elim long as (λ _. Option Fault) [
+  | true ↦ Some (record { kind = kind.TextTooLong; place = 0 })
+  | false ↦ elim line as (λ _. Option Fault) [ Some f ↦ Some f | None ↦ names ]
+]
 
 pub too_long : (limits : Limits) (text : List ℕ) → longest_text limits < length text
     → fault_within limits text ≡ Some (record { kind = kind.TextTooLong; place = 0 })

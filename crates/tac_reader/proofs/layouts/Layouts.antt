@@ -64,7 +64,8 @@ operand_starts (name s) rest h f = name_starts s rest h.spelled
 operand_starts (number n) rest h f = number_starts (decimal n) rest (is_number_decimal n h)
 operand_starts (fixed s) rest h f = absurd (true≢false (sym f))
 
-layout_starts : (s : Slot) (ss : List Slot) (ws : List Word) → is_operand s ≡ true → Filled (s ∷ ss) ws → Each IsSoundWord ws → starts_word (layout (s ∷ ss) ws) ≡ true
+layout_starts : (s : Slot) (ss : List Slot) (ws : List Word) → is_operand s ≡ true → Filled (s ∷ ss) ws → Each IsSoundWord ws
+    → starts_word (layout (s ∷ ss) ws) ≡ true
 layout_starts operand [] [] o h good = absurd h
 layout_starts operand [] (w ∷ ws) o h good = ap starts_word (sym (append-nil (spelled w))) ∙ operand_starts w [] good.0 h.0
 layout_starts operand (t ∷ ss) [] o h good = absurd h
@@ -81,11 +82,13 @@ layout_reads (s ∷ t ∷ ss) (w ∷ ws) h good l =
     let parts = and_parts (not (is_unary s) || is_operand t) (laid (t ∷ ss)) l in
     more s w h.0 good.0 parts.0 (layout_reads (t ∷ ss) ws h.1 good.1 parts.1)
   where
-    signed : (u : Word) → fills unary u ≡ true → IsSoundWord u → is_operand t ≡ true → ReadsLine (layout (t ∷ ss) ws) ws → ReadsLine (spelled u ++ layout (t ∷ ss) ws) (u ∷ ws)
+    signed : (u : Word) → fills unary u ≡ true → IsSoundWord u → is_operand t ≡ true → ReadsLine (layout (t ∷ ss) ws) ws
+        → ReadsLine (spelled u ++ layout (t ∷ ss) ws) (u ∷ ws)
     signed (fixed x) f g o r = line_unary x (layout (t ∷ ss) ws) ws f (layout_starts t ss ws o h.1 good.1) r
     signed (name x) f g o r = absurd (true≢false (sym f))
     signed (number n) f g o r = absurd (true≢false (sym f))
 
-    more : (p : Slot) (u : Word) → fills p u ≡ true → IsSoundWord u → (not (is_unary p) || is_operand t) ≡ true → ReadsLine (layout (t ∷ ss) ws) ws → ReadsLine (spelled u ++ (gap_behind p ++ layout (t ∷ ss) ws)) (u ∷ ws)
+    more : (p : Slot) (u : Word) → fills p u ≡ true → IsSoundWord u → (not (is_unary p) || is_operand t) ≡ true → ReadsLine (layout (t ∷ ss) ws) ws
+        → ReadsLine (spelled u ++ (gap_behind p ++ layout (t ∷ ss) ws)) (u ∷ ws)
     more unary u f g o r = signed u f g o r
     more _ u f g o r = line_more u (layout (t ∷ ss) ws) ws g r

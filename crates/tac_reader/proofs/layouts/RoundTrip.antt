@@ -1,5 +1,6 @@
 -- The listing of a text's program is a text of the same program but for spans.
-use Rattle.std.proofs.Common.{◌≡◌, ℕ, ◌≤◌, Bool, true, false, List, [], ◌∷◌, ◌++◌, length, map, refl, sym, ap, ◌∙◌, subst, None, option_map, true≢false, codes}
+use Rattle.std.proofs.Common.{◌≡◌, ℕ, ◌≤◌, Bool, true, false, List, [], ◌∷◌, ◌++◌, length, map, refl, sym, ap, ◌∙◌, subst, None, option_map}
+use Rattle.std.proofs.Common.{true≢false, codes}
 use Rattle.std.specs.List.{AllByRecursion as Each}
 use Rattle.tac_lines.specs.Tokens.{Word, fixed, Token, Row, rows, token_lines, unless_empty}
 use Rattle.tac_lines.specs.Forms.{labels_of, behind_labels}
@@ -41,12 +42,14 @@ behind_some (t ∷ ts) = (refl, tt)
 normal_some : (body : List (List Token)) → Each HasSome (normal body)
 normal_some [] = tt
 normal_some (line ∷ others) =
-    each-append HasSome (map label_line (labels_of line)) (map words_of (unless_empty (behind_labels line)) ++ normal others) (labels_some (labels_of line))
+    each-append HasSome (map label_line (labels_of line)) (map words_of (unless_empty (behind_labels line)) ++ normal others)
+    (labels_some (labels_of line))
     (each-append HasSome (map words_of (unless_empty (behind_labels line))) (normal others) (behind_some (behind_labels line)) (normal_some others))
 
 lines_some : (ss : List Section) → Each HasSome (section_lines ss)
 lines_some [] = tt
-lines_some (s ∷ ss) = (refl, each-append HasSome (normal s.body) ((fixed (codes "end") ∷ []) ∷ section_lines ss) (normal_some s.body) (refl, lines_some ss))
+lines_some (s ∷ ss) =
+    (refl, each-append HasSome (normal s.body) ((fixed (codes "end") ∷ []) ∷ section_lines ss) (normal_some s.body) (refl, lines_some ss))
 
 abbrev row_words : List Row → List (List Word)
 row_words rs = map (λ row. words_of row.tokens) rs
@@ -54,7 +57,8 @@ row_words rs = map (λ row. words_of row.tokens) rs
 bare_rows : (rs : List Row) → Each HasSome (row_words rs) → map all_erased (token_lines rs) ≡ bare_lines (row_words rs)
 bare_rows [] h = refl
 bare_rows (row ∷ others) h = go row.tokens h.0 (bare_rows others h.1) where
-  go : (ts : List Token) → HasSome (words_of ts) → map all_erased (token_lines others) ≡ bare_lines (row_words others) → map all_erased (unless_empty ts ++ token_lines others) ≡ map bare (words_of ts) ∷ bare_lines (row_words others)
+  go : (ts : List Token) → HasSome (words_of ts) → map all_erased (token_lines others) ≡ bare_lines (row_words others)
+      → map all_erased (unless_empty ts ++ token_lines others) ≡ map bare (words_of ts) ∷ bare_lines (row_words others)
   go [] k e = absurd (true≢false (sym k))
   go (t ∷ ts) k e = λ i. erased_words (t ∷ ts) i ∷ e i
 
@@ -74,21 +78,25 @@ module _ (limits : Limits) (text listing : List ℕ) (accepted : refusal_within 
   same_cores =
       let rs : List Row = rows listing in
       sym (cores-erased (token_lines rs))
-      ∙ ap (λ ls. map core (sections_in ls)) (bare_rows rs (subst (Each HasSome) (sym (reads.words 0)) (lines_some ss)) ∙ ap bare_lines (reads.words 0))
+      ∙ ap (λ ls. map core (sections_in ls))
+      (bare_rows rs (subst (Each HasSome) (sym (reads.words 0)) (lines_some ss)) ∙ ap bare_lines (reads.words 0))
       ∙ cores_listed (names_in (titles ss)) (variables_in ss) ss good
 
   not_refused : length listing ≤ longest_text limits → refusal_within limits listing ≡ None
   not_refused h =
       let lines_none : line_faults false (length listing) (rows listing) ≡ [] =
-      no_line_faults false (length listing) (rows listing) (reads.whole 0) (subst (LinesFine false) (sym (reads.words 0)) (sections_lines_fine (names_in (titles ss)) (variables_in ss) ss good)) in
+      no_line_faults false (length listing) (rows listing) (reads.whole 0)
+      (subst (LinesFine false) (sym (reads.words 0)) (sections_lines_fine (names_in (titles ss)) (variables_in ss) ss good)) in
       let faultless = no_faults limits text (none_refused limits text accepted) in
       let names_none : name_faults limits us ≡ [] = no_faults_by_core limits ss us same_cores (none_head (name_faults limits ss) faultless.names) in
       ap (option_map (refusal_at listing)) (name_fault limits listing h (ap first_by_place lines_none) ∙ ap head_of names_none)
 
   same_program : SameButSpans (program_of listing) (program_of text)
   same_program =
-      let titles_same : names_in (titles us) ≡ names_in (titles ss) = title_names us ∙ ap (λ cs. names_in (core_titles cs)) same_cores ∙ sym (title_names ss) in
-      let variables_same : variables_in us ≡ variables_in ss = variable_names us ∙ ap (λ cs. each_once (names_in (core_variables cs))) same_cores ∙ sym (variable_names ss) in
+      let titles_same : names_in (titles us) ≡ names_in (titles ss) =
+      title_names us ∙ ap (λ cs. names_in (core_titles cs)) same_cores ∙ sym (title_names ss) in
+      let variables_same : variables_in us ≡ variables_in ss =
+      variable_names us ∙ ap (λ cs. each_once (names_in (core_variables cs))) same_cores ∙ sym (variable_names ss) in
       record {
         procedures = outlines_are listing (names_in (titles us)) (variables_in us) 0 us
             ∙ (λ i. outlines (titles_same i) (variables_same i) 0 (same_cores i))

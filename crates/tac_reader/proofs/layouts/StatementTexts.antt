@@ -1,9 +1,11 @@
 -- The text of a statement is the layout of its words.
-use Rattle.std.proofs.Common.{◌≡◌, ℕ, Bool, true, false, ◌&&◌, List, [], ◌∷◌, ◌++◌, map, refl, sym, ap, ◌∙◌, bytes_eq, codes, append_assoc, true≢false, if◌then◌else◌}
+use Rattle.std.proofs.Common.{◌≡◌, ℕ, Bool, true, false, ◌&&◌, List, [], ◌∷◌, ◌++◌, map, refl, sym, ap, ◌∙◌, bytes_eq, codes, append_assoc}
+use Rattle.std.proofs.Common.{true≢false, if◌then◌else◌}
 use Rattle.std.specs.List.{AllByRecursion as Each, list_all}
 use Rattle.std.specs.Cmp.Lexicographic.{same_text}
 use Rattle.tac_lines.specs.Tokens.{Word, Token, bytes_of, spelling_of}
-use Rattle.tac_lines.specs.Forms.{Slot, exactly, procedure, variable, operand, label, callee, binary, unary, comparison, key, statements, plain_statements, further_callees, paired, in_slot, is_callee}
+use Rattle.tac_lines.specs.Forms.{Slot, exactly, procedure, variable, operand, label, callee, binary, unary, comparison, key, statements}
+use Rattle.tac_lines.specs.Forms.{plain_statements, further_callees, paired, in_slot, is_callee}
 use Rattle.tac_program.specs.Programs.{number_of}
 use Rattle.tac_reader.specs.Parses.{variable_of, label_of, operand_of, operator_of, kind_of}
 use Rattle.tac_program.specs.Spelling.{sign_of}
@@ -44,17 +46,21 @@ callee_numbers names [] ws = []
 callee_numbers names (s ∷ ss) [] = []
 callee_numbers names (s ∷ ss) (w ∷ ws) = if is_callee s then number_of names (bytes_of w) ∷ callee_numbers names ss ws else callee_numbers names ss ws
 
-pub numbers_are : (names : List (List ℕ)) (slots : List Slot) (ts : List Token) → map (λ t. number_of names (spelling_of t)) (in_slot is_callee (paired slots ts)) ≡ callee_numbers names slots (words_of ts)
+pub numbers_are : (names : List (List ℕ)) (slots : List Slot) (ts : List Token)
+    → map (λ t. number_of names (spelling_of t)) (in_slot is_callee (paired slots ts)) ≡ callee_numbers names slots (words_of ts)
 numbers_are names [] ts = refl
 numbers_are names (s ∷ ss) [] = refl
 numbers_are names (s ∷ ss) (t ∷ ts) = by_test (is_callee s) (numbers_are names ss ts) where
-  by_test : (b : Bool) → map (λ t. number_of names (spelling_of t)) (in_slot is_callee (paired ss ts)) ≡ callee_numbers names ss (words_of ts) → map (λ t. number_of names (spelling_of t)) (if b then t ∷ in_slot is_callee (paired ss ts) else in_slot is_callee (paired ss ts)) ≡ (if b then number_of names (spelling_of t) ∷ callee_numbers names ss (words_of ts) else callee_numbers names ss (words_of ts))
+  by_test : (b : Bool) → map (λ t. number_of names (spelling_of t)) (in_slot is_callee (paired ss ts)) ≡ callee_numbers names ss (words_of ts)
+      → map (λ t. number_of names (spelling_of t)) (if b then t ∷ in_slot is_callee (paired ss ts) else in_slot is_callee (paired ss ts))
+      ≡ (if b then number_of names (spelling_of t) ∷ callee_numbers names ss (words_of ts) else callee_numbers names ss (words_of ts))
   by_test true e = ap (λ r. number_of names (spelling_of t) ∷ r) e
   by_test false e = e
 
 -- Each row of the table.
 abbrev pub IsWritten : Names → Form × List Slot → Type 0
-IsWritten names row = (ws : List Word) → Resolved names row.1 ws → statement_text names (kind_of names (callee_numbers names.procedures row.1 ws) row.0 ws) ≡ layout row.1 ws
+IsWritten names row = (ws : List Word) → Resolved names row.1 ws
+    → statement_text names (kind_of names (callee_numbers names.procedures row.1 ws) row.0 ws) ≡ layout row.1 ws
 
 module _ (names : Names) where
   copy_written : IsWritten names (form.Copy, variable ∷ key (codes "=") ∷ operand ∷ [])
@@ -78,8 +84,10 @@ module _ (names : Names) where
 
   binary_written : IsWritten names (form.Binary, variable ∷ key (codes "=") ∷ operand ∷ binary ∷ operand ∷ [])
   binary_written (x ∷ e ∷ y ∷ o ∷ z ∷ []) h =
-      append_assoc (name_at names.variables (variable_of names x)) (codes " = ") (binary_text names (operand_of names y) (operator_of o) (operand_of names z))
-      ∙ ap (λ r. name_at names.variables (variable_of names x) ++ (codes " = " ++ r)) (five (operand_text names (operand_of names y)) (codes " ") (sign_of (operator_of o)) (codes " ") (operand_text names (operand_of names z)))
+      append_assoc (name_at names.variables (variable_of names x)) (codes " = ")
+      (binary_text names (operand_of names y) (operator_of o) (operand_of names z))
+      ∙ ap (λ r. name_at names.variables (variable_of names x) ++ (codes " = " ++ r))
+      (five (operand_text names (operand_of names y)) (codes " ") (sign_of (operator_of o)) (codes " ") (operand_text names (operand_of names z)))
       ∙ (λ i. h.0 i ++ 32 ∷ (sym h.1.0 i ++ 32 ∷ (h.1.1.0 i ++ 32 ∷ (h.1.1.1.0 i ++ 32 ∷ h.1.1.1.1.0 i))))
   binary_written [] h = absurd h
   binary_written (x ∷ []) h = absurd h.1
@@ -118,11 +126,14 @@ module _ (names : Names) where
   comparison_written (k ∷ y ∷ o ∷ z ∷ g ∷ l ∷ []) h =
       ap (λ r. codes "if " ++ r)
       (append_assoc (binary_text names (operand_of names y) (operator_of o) (operand_of names z)) (codes " ") (goto_text names (label_of names l))
-      ∙ five_more (operand_text names (operand_of names y)) (sign_of (operator_of o)) (operand_text names (operand_of names z)) (goto_text names (label_of names l)))
+      ∙ five_more (operand_text names (operand_of names y)) (sign_of (operator_of o)) (operand_text names (operand_of names z))
+      (goto_text names (label_of names l)))
       ∙ (λ i. sym h.0 i ++ 32 ∷ (h.1.0 i ++ 32 ∷ (h.1.1.0 i ++ 32 ∷ (h.1.1.1.0 i ++ 32 ∷ (sym h.1.1.1.1.0 i ++ 32 ∷ h.1.1.1.1.1.0 i)))))
     where
-      five_more : (a o b g : List ℕ) → ((((a ++ codes " ") ++ o) ++ codes " ") ++ b) ++ (codes " " ++ g) ≡ a ++ (codes " " ++ (o ++ (codes " " ++ (b ++ (codes " " ++ g)))))
-      five_more a o b g = append_assoc (((a ++ codes " ") ++ o) ++ codes " ") b (codes " " ++ g) ∙ five a (codes " ") o (codes " ") (b ++ (codes " " ++ g))
+      five_more : (a o b g : List ℕ)
+          → ((((a ++ codes " ") ++ o) ++ codes " ") ++ b) ++ (codes " " ++ g) ≡ a ++ (codes " " ++ (o ++ (codes " " ++ (b ++ (codes " " ++ g)))))
+      five_more a o b g =
+          append_assoc (((a ++ codes " ") ++ o) ++ codes " ") b (codes " " ++ g) ∙ five a (codes " ") o (codes " ") (b ++ (codes " " ++ g))
   comparison_written [] h = absurd h
   comparison_written (k ∷ []) h = absurd h.1
   comparison_written (k ∷ y ∷ []) h = absurd h.1.1
@@ -159,7 +170,8 @@ module _ (names : Names) where
   is_further (exactly k ∷ callee ∷ r) = bytes_eq k (codes "|") && is_further r
   is_further _ = false
 
-  callees_written : (r : List Slot) (p : Word) (ws : List Word) → is_further r ≡ true → Resolved names (callee ∷ r) (p ∷ ws) → callees_text names (callee_numbers names.procedures (callee ∷ r) (p ∷ ws)) ≡ layout (callee ∷ r) (p ∷ ws)
+  callees_written : (r : List Slot) (p : Word) (ws : List Word) → is_further r ≡ true → Resolved names (callee ∷ r) (p ∷ ws)
+      → callees_text names (callee_numbers names.procedures (callee ∷ r) (p ∷ ws)) ≡ layout (callee ∷ r) (p ∷ ws)
   callees_written [] p [] f h = h.0
   callees_written [] p (w ∷ ws) f h = absurd h.1
   callees_written (exactly k ∷ callee ∷ r) p [] f h = absurd h.1
@@ -167,7 +179,8 @@ module _ (names : Names) where
   callees_written (exactly k ∷ callee ∷ r) p (b ∷ q ∷ ws) f h =
       let parts = and_parts (bytes_eq k (codes "|")) (is_further r) f in
       let bar : codes "|" ≡ spelled b = sym (h.1.0 ∙ same_text k (codes "|") (sym parts.0)) in
-      append_assoc (name_at names.procedures (number_of names.procedures (bytes_of p))) (codes " | ") (callees_text names (callee_numbers names.procedures (callee ∷ r) (q ∷ ws)))
+      append_assoc (name_at names.procedures (number_of names.procedures (bytes_of p))) (codes " | ")
+      (callees_text names (callee_numbers names.procedures (callee ∷ r) (q ∷ ws)))
       ∙ (λ i. h.0 i ++ 32 ∷ (bar i ++ 32 ∷ callees_written r q ws parts.1 h.1.1 i))
   callees_written _ p ws f h = absurd (true≢false (sym f))
 
@@ -176,12 +189,24 @@ module _ (names : Names) where
   call_written r f [] h = absurd h
   call_written r f (k ∷ []) h = absurd h.1
 
-  calls_written : (rs : List (List Slot)) → list_all is_further rs ≡ true → Each (IsWritten names) (map (λ r. (form.Call, key (codes "call") ∷ callee ∷ r)) rs)
+  calls_written : (rs : List (List Slot)) → list_all is_further rs ≡ true
+      → Each (IsWritten names) (map (λ r. (form.Call, key (codes "call") ∷ callee ∷ r)) rs)
   calls_written [] h = tt
   calls_written (r ∷ rs) h = let parts = and_parts (is_further r) (list_all is_further rs) h in (call_written r parts.0, calls_written rs parts.1)
 
   pub all_written : Each (IsWritten names) statements
   all_written =
-      each-append (IsWritten names) plain_statements (map (λ r. (form.Call, key (codes "call") ∷ callee ∷ r)) (further_callees 7))
-      (copy_written, (unary_written, (binary_written, (jump_written, (test_written, (negated_written, (comparison_written, (return_written, (read_written, (print_written, (skip_written, tt)))))))))))
+      each-append (IsWritten names) plain_statements (map (λ r. (form.Call, key (codes "call") ∷ callee ∷ r)) (further_callees 7)) (
+        copy_written,
+        (
+          unary_written,
+          (
+            binary_written,
+            (
+              jump_written,
+              (test_written, (negated_written, (comparison_written, (return_written, (read_written, (print_written, (skip_written, tt))))))),
+            ),
+          ),
+        ),
+      )
       (calls_written (further_callees 7) refl)

@@ -1,8 +1,11 @@
 -- Lines without faults: their words, their forms, and the sections that they make.
-use Rattle.std.proofs.Common.{◌≡◌, ℕ, zero, suc, ◌+◌, ◌-◌, Bool, true, false, not, cond, ◌&&◌, ◌||◌, List, [], ◌∷◌, ◌++◌, flat_map, length, take, refl, sym, subst, Option, Some, None, is_some, true≢false, one-add, if◌then◌else◌, nat_lt, ◌≤◌, ◌⊎◌, inl, inr, codes}
+use Rattle.std.proofs.Common.{◌≡◌, ℕ, zero, suc, ◌+◌, ◌-◌, Bool, true, false, not, cond, ◌&&◌, ◌||◌, List, [], ◌∷◌, ◌++◌, flat_map, length, take}
+use Rattle.std.proofs.Common.{refl, sym, subst, Option, Some, None, is_some, true≢false, one-add, if◌then◌else◌, nat_lt, ◌≤◌, ◌⊎◌, inl, inr, codes}
 use Rattle.std.proofs.lemmas.Bool.{and_parts, ltb-false}
 use Rattle.std.specs.List.{AllByRecursion as Each, prefix_len, take_while}
-use Rattle.tac_lines.specs.Tokens.{Word, name, number, fixed, Token, Piece, word, gap, Row, is_number, is_blank, is_comment, signs, piece_of, picked, name_or_keyword, number_piece, longest, longest_of, before_row, row_from, rows_from, stop_of, bytes_of, spelling_of, unless_empty, token_lines}
+use Rattle.tac_lines.specs.Tokens.{Word, name, number, fixed, Token, Piece, word, gap, Row, is_number, is_blank, is_comment, signs, piece_of, picked}
+use Rattle.tac_lines.specs.Tokens.{name_or_keyword, number_piece, longest, longest_of, before_row, row_from, rows_from, stop_of, bytes_of}
+use Rattle.tac_lines.specs.Tokens.{spelling_of, unless_empty, token_lines}
 use Rattle.tac_program.specs.Spelling.{is_name, keywords}
 use Rattle.tac_program.specs.Names.{is_one_of}
 use Rattle.tac_lines.specs.Forms.{key, fills, is_name_word, has_form, proc_form, end_form, forms_for, some_form, first_wrong, is_inner}
@@ -61,11 +64,14 @@ piece_spelled s p e = go (is_name s) (is_number s) (is_one_of s signs) (is_blank
 longest_spelled : (n : ℕ) (bytes : List ℕ) (found : ℕ × Piece) → longest_of n bytes ≡ Some found → IsSpelledPiece found.1
 longest_spelled zero bytes found e = absurd (cc e)
 longest_spelled (suc n) bytes found e = go (piece_of (take (suc n) bytes)) refl e (longest_spelled n bytes found) where
-  go : (o : Option Piece) → piece_of (take (suc n) bytes) ≡ o → (elim o as (λ _. Option (ℕ × Piece)) [ Some p ↦ Some (suc n, p) | None ↦ longest_of n bytes ]) ≡ Some found → (longest_of n bytes ≡ Some found → IsSpelledPiece found.1) → IsSpelledPiece found.1
+  go : (o : Option Piece) → piece_of (take (suc n) bytes) ≡ o
+      → (elim o as (λ _. Option (ℕ × Piece)) [ Some p ↦ Some (suc n, p) | None ↦ longest_of n bytes ]) ≡ Some found
+      → (longest_of n bytes ≡ Some found → IsSpelledPiece found.1) → IsSpelledPiece found.1
   go (Some p) h k later = subst (λ f. IsSpelledPiece f.1) (same_found (suc n, p) found k) (piece_spelled (take (suc n) bytes) p h)
   go None h k later = later k
 
-before_spelled : (p : Piece) (start stop : ℕ) (row : Row) → IsSpelledPiece p → Each Spelled row.tokens → Each Spelled (before_row p start stop row).tokens
+before_spelled : (p : Piece) (start stop : ℕ) (row : Row) → IsSpelledPiece p → Each Spelled row.tokens
+    → Each Spelled (before_row p start stop row).tokens
 before_spelled gap start stop row h k = k
 before_spelled (word w) start stop row h k = (h, k)
 
@@ -73,12 +79,14 @@ row_spelled : (place inside : ℕ) (bytes : List ℕ) → Each Spelled (row_from
 row_spelled place inside [] = tt
 row_spelled place (suc inside) (b ∷ bs) = row_spelled (suc place) inside bs
 row_spelled place zero (b ∷ bs) = go (longest (b ∷ bs)) refl (λ n. row_spelled (suc place) n bs) where
-  go : (o : Option (ℕ × Piece)) → longest (b ∷ bs) ≡ o → ((n : ℕ) → Each Spelled (row_from (suc place) n bs).tokens) → Each Spelled (elim o as (λ _. Row) [
-    | None ↦ record { tokens = []; bad = Some place }
-    | Some found ↦ before_row found.1 place (place + found.0) (row_from (suc place) (found.0 - 1) bs)
-  ]).tokens
+  go : (o : Option (ℕ × Piece)) → longest (b ∷ bs) ≡ o → ((n : ℕ) → Each Spelled (row_from (suc place) n bs).tokens)
+      → Each Spelled (elim o as (λ _. Row) [
+        | None ↦ record { tokens = []; bad = Some place }
+        | Some found ↦ before_row found.1 place (place + found.0) (row_from (suc place) (found.0 - 1) bs)
+      ]).tokens
   go None h rest = tt
-  go (Some found) h rest = before_spelled found.1 place (place + found.0) (row_from (suc place) (found.0 - 1) bs) (longest_spelled (length (b ∷ bs)) (b ∷ bs) found h) (rest (found.0 - 1))
+  go (Some found) h rest = before_spelled found.1 place (place + found.0) (row_from (suc place) (found.0 - 1) bs)
+      (longest_spelled (length (b ∷ bs)) (b ∷ bs) found h) (rest (found.0 - 1))
 
 pub rows_spelled : (place : ℕ) (ls : List (List ℕ)) → Each (λ row. Each Spelled row.tokens) (rows_from place ls)
 rows_spelled place [] = tt
@@ -98,7 +106,10 @@ word_sound (fixed s) start h e = h
 
 words_sound : (ts : List Token) → Each Spelled ts → flat_map word_fault ts ≡ [] → Each Sound ts
 words_sound [] h e = tt
-words_sound (t ∷ ts) h e = (word_sound t.word t.start h.0 (no_left (word_fault t) (flat_map word_fault ts) e), words_sound ts h.1 (no_right (word_fault t) (flat_map word_fault ts) e))
+words_sound (t ∷ ts) h e = (
+  word_sound t.word t.start h.0 (no_left (word_fault t) (flat_map word_fault ts) e),
+  words_sound ts h.1 (no_right (word_fault t) (flat_map word_fault ts) e),
+)
 
 -- A line without faults, inside a procedure or outside.
 pub record IsFaultless (inside : Bool) (line : List Token) : Type 0 where
@@ -109,11 +120,15 @@ no_bad : (bad : Option ℕ) → bad_fault bad ≡ [] → is_some bad ≡ false
 no_bad None e = refl
 no_bad (Some place) e = absurd (cc e)
 
-form_whole : (inside : Bool) (row : Row) → is_some row.bad ≡ false → form_fault inside row ≡ [] → some_form (forms_for inside (prefix_of inside row.tokens)) (others_of inside row.tokens) ≡ true
+form_whole : (inside : Bool) (row : Row) → is_some row.bad ≡ false → form_fault inside row ≡ []
+    → some_form (forms_for inside (prefix_of inside row.tokens)) (others_of inside row.tokens) ≡ true
 form_whole inside row whole e =
-    go (first_wrong (forms_for inside (prefix_of inside row.tokens)) [] (others_of inside row.tokens)) (some_form (forms_for inside (prefix_of inside row.tokens)) (others_of inside row.tokens)) (is_some row.bad) whole e
+    go (first_wrong (forms_for inside (prefix_of inside row.tokens)) [] (others_of inside row.tokens))
+    (some_form (forms_for inside (prefix_of inside row.tokens)) (others_of inside row.tokens)) (is_some row.bad) whole e
   where
-    go : (o : Option Token) (s cut : Bool) → cut ≡ false → (elim o as (λ _. List Fault) [ Some t ↦ at kind.Syntax t.start | None ↦ (if s || cut then [] else at kind.Syntax (stop_of row.tokens)) ]) ≡ [] → s ≡ true
+    go : (o : Option Token) (s cut : Bool) → cut ≡ false
+        → (elim o as (λ _. List Fault) [ Some t ↦ at kind.Syntax t.start | None ↦ (if s || cut then [] else at kind.Syntax (stop_of row.tokens)) ])
+        ≡ [] → s ≡ true
     go (Some t) s cut h k = absurd (cc k)
     go None true cut h k = refl
     go None false true h k = absurd (true≢false h)
@@ -137,14 +152,16 @@ abbrev pub AllFaultless : Bool → List (List Token) → Type 0
 AllFaultless inside [] = Unit {0}
 AllFaultless inside (line ∷ others) = IsFaultless inside line × AllFaultless (after inside line) others
 
-pub lines_faultless : (inside : Bool) (end : ℕ) (rs : List Row) → Each (λ row. Each Spelled row.tokens) rs → line_faults inside end rs ≡ [] → AllFaultless inside (token_lines rs)
+pub lines_faultless : (inside : Bool) (end : ℕ) (rs : List Row) → Each (λ row. Each Spelled row.tokens) rs → line_faults inside end rs ≡ []
+    → AllFaultless inside (token_lines rs)
 lines_faultless inside end [] h e = tt
 lines_faultless inside end (row ∷ rs) h e =
     let rest : List Fault = line_faults (inside_after inside row) end rs in
     go row.tokens (row_faultless inside row h.0 (no_left (row_faults inside row) rest e))
     (lines_faultless (inside_after inside row) end rs h.1 (no_right (row_faults inside row) rest e))
   where
-    go : (ts : List Token) → IsFaultless inside ts → AllFaultless (after inside ts) (token_lines rs) → AllFaultless inside (unless_empty ts ++ token_lines rs)
+    go : (ts : List Token) → IsFaultless inside ts → AllFaultless (after inside ts) (token_lines rs)
+        → AllFaultless inside (unless_empty ts ++ token_lines rs)
     go [] f k = k
     go (t ∷ ts) f k = (f, k)
 
@@ -168,7 +185,8 @@ inside_on line h = go (has_form proc_form line) (has_form end_form line) h where
 body_inner : (ls : List (List Token)) → AllFaultless true ls → Each Inner (take_while is_inner ls)
 body_inner [] h = tt
 body_inner (line ∷ ls) h = by_test (is_inner line) refl (λ k. body_inner ls k) where
-  by_test : (b : Bool) → is_inner line ≡ b → (AllFaultless true ls → Each Inner (take_while is_inner ls)) → Each Inner (take (cond b (1 + prefix_len is_inner ls) 0) (line ∷ ls))
+  by_test : (b : Bool) → is_inner line ≡ b → (AllFaultless true ls → Each Inner (take_while is_inner ls))
+      → Each Inner (take (cond b (1 + prefix_len is_inner ls) 0) (line ∷ ls))
   by_test true e later = rw one-add ((h.0, e), later (subst (λ i. AllFaultless i ls) (inside_on line e) h.1))
   by_test false e later = tt
 
@@ -180,7 +198,8 @@ named (fixed s) e h = absurd (true≢false (sym e))
 pub name_lawful : (t : Token) → is_name_word t.word ≡ true → Sound t → IsLawfulName (spelling_of t)
 name_lawful t e h = named t.word e h
 
-opened : (line : List Token) (others : List (List Token)) → has_form proc_form line ≡ true → Each Sound line → AllFaultless true others → Each IsFaultlessSection (opened_by line others)
+opened : (line : List Token) (others : List (List Token)) → has_form proc_form line ≡ true → Each Sound line → AllFaultless true others
+    → Each IsFaultlessSection (opened_by line others)
 opened [] others e h k = tt
 opened (t ∷ []) others e h k = tt
 opened (t ∷ u ∷ ts) others e h k =
@@ -194,6 +213,7 @@ sections_faultless inside (line ∷ others) h =
     each-append IsFaultlessSection (if has_form proc_form line then opened_by line others else []) (sections_in others)
     (by_test (has_form proc_form line) refl (h.0).words h.1) (sections_faultless (after inside line) others h.1)
   where
-    by_test : (b : Bool) → has_form proc_form line ≡ b → Each Sound line → AllFaultless (if b then true else if has_form end_form line then false else inside) others → Each IsFaultlessSection (if b then opened_by line others else [])
+    by_test : (b : Bool) → has_form proc_form line ≡ b → Each Sound line → AllFaultless (if b then true else if has_form end_form line then false
+        else inside) others → Each IsFaultlessSection (if b then opened_by line others else [])
     by_test true e f k = opened line others e f k
     by_test false e f k = tt

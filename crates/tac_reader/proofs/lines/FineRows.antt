@@ -1,5 +1,6 @@
 -- Lines without faults, by their words.
-use Rattle.std.proofs.Common.{◌≡◌, ℕ, Bool, true, false, List, [], ◌∷◌, ◌++◌, length, map, flat_map, refl, sym, ap, ◌∙◌, subst, None, is_some, true≢false, if◌then◌else◌}
+use Rattle.std.proofs.Common.{◌≡◌, ℕ, Bool, true, false, List, [], ◌∷◌, ◌++◌, length, map, flat_map, refl, sym, ap, ◌∙◌, subst, None, is_some}
+use Rattle.std.proofs.Common.{true≢false, if◌then◌else◌}
 use Rattle.std.specs.List.{AllByRecursion as Each, list_any}
 use Rattle.std.proofs.lemmas.Bool.{le-ltb}
 use Rattle.tac_lines.specs.Tokens.{Word, name, number, fixed, Token, Row, stop_of}
@@ -35,7 +36,8 @@ forms-erased : (ts : List Token) → forms_for true (all_erased ts) ≡ forms_fo
 forms-erased [] = refl
 forms-erased (t ∷ ts) = refl
 
-line_form-erased : (inside : Bool) (ts : List Token) → some_form (forms_for inside (prefix_of inside (all_erased ts))) (others_of inside (all_erased ts)) ≡ some_form (forms_for inside (prefix_of inside ts)) (others_of inside ts)
+line_form-erased : (inside : Bool) (ts : List Token) → some_form (forms_for inside (prefix_of inside (all_erased ts)))
+    (others_of inside (all_erased ts)) ≡ some_form (forms_for inside (prefix_of inside ts)) (others_of inside ts)
 line_form-erased false ts = some_form-erased (forms_for false []) ts
 line_form-erased true ts =
     (λ i. some_form ((ap (forms_for true) (labels_of-erased ts) ∙ forms-erased (labels_of ts)) i) (behind-erased ts i))
@@ -46,7 +48,8 @@ fine_row inside row none h =
     λ i.
     ap bad_fault none i
     ++ empty_each word_fault row.tokens (sound_faults row.tokens h.words) i
-    ++ fine_judge (forms_for inside (prefix_of inside row.tokens)) (others_of inside row.tokens) (is_some row.bad) (stop_of row.tokens) (sym (line_form-erased inside row.tokens) ∙ h.form) i
+    ++ fine_judge (forms_for inside (prefix_of inside row.tokens)) (others_of inside row.tokens) (is_some row.bad) (stop_of row.tokens)
+    (sym (line_form-erased inside row.tokens) ∙ h.form) i
 
 -- Lines one after another.
 abbrev pub LinesFine : Bool → List (List Word) → Type 0
@@ -56,11 +59,13 @@ LinesFine inside (ws ∷ wss) = IsFaultless inside (map bare ws) × LinesFine (a
 after-erased : (inside : Bool) (ts : List Token) → after inside (all_erased ts) ≡ after inside ts
 after-erased inside ts = λ i. if has_form-erased proc_form ts i then true else if has_form-erased end_form ts i then false else inside
 
-pub no_line_faults : (inside : Bool) (text_end : ℕ) (rs : List Row) → Each (λ row. row.bad ≡ None) rs → LinesFine inside (map (λ row. words_of row.tokens) rs) → line_faults inside text_end rs ≡ []
+pub no_line_faults : (inside : Bool) (text_end : ℕ) (rs : List Row) → Each (λ row. row.bad ≡ None) rs
+    → LinesFine inside (map (λ row. words_of row.tokens) rs) → line_faults inside text_end rs ≡ []
 no_line_faults true text_end [] h f = absurd (true≢false f)
 no_line_faults false text_end [] h f = refl
 no_line_faults inside text_end (row ∷ others) h f =
     let fine : IsFaultless inside (all_erased row.tokens) = subst (IsFaultless inside) (sym (erased_words row.tokens)) f.0 in
     let next : LinesFine (after inside row.tokens) (map (λ r. words_of r.tokens) others) =
-    subst (λ b. LinesFine b (map (λ (r : Row). words_of r.tokens) others)) (ap (after inside) (sym (erased_words row.tokens)) ∙ after-erased inside row.tokens) f.1 in
+    subst (λ b. LinesFine b (map (λ (r : Row). words_of r.tokens) others))
+    (ap (after inside) (sym (erased_words row.tokens)) ∙ after-erased inside row.tokens) f.1 in
     λ i. fine_row inside row h.0 fine i ++ no_line_faults (after inside row.tokens) text_end others h.1 next i

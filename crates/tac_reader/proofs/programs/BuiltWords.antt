@@ -1,5 +1,6 @@
 -- The words at places of a statement.
-use Rattle.std.proofs.Common.{◌≡◌, ℕ, zero, suc, List, [], ◌∷◌, refl, sym, ap, ◌∙◌, Option, Some, None, slice_get, option_map, true, false, nat_lt, length, get_or, ◌<◌, ◌≤◌, arith}
+use Rattle.std.proofs.Common.{◌≡◌, ℕ, zero, suc, List, [], ◌∷◌, refl, sym, ap, ◌∙◌, Option, Some, None, slice_get, option_map, true, false, nat_lt}
+use Rattle.std.proofs.Common.{length, get_or, ◌<◌, ◌≤◌, arith}
 use Rattle.std.proofs.lemmas.Bool.{ltb-true, ltb-false}
 use Rattle.tac_lines.specs.Tokens.{fixed}
 use Rattle.tac_reader.specs.Parses.{operator_of}
@@ -20,7 +21,8 @@ nth-view text [] at = refl
 nth-view text (t ∷ ts) zero = refl
 nth-view text (t ∷ ts) (suc at) = nth-view text ts at
 
-pub word-some : (text : List ℕ) (ts : List Lexed) (at : ℕ) (t : Lexed) → slice_get ts at ≡ Some t → word_nth (tokens_view text ts) at ≡ (token_view text t).word
+pub word-some : (text : List ℕ) (ts : List Lexed) (at : ℕ) (t : Lexed) → slice_get ts at ≡ Some t
+    → word_nth (tokens_view text ts) at ≡ (token_view text t).word
 word-some text ts at t e = ap word_or_none (nth-view text ts at ∙ ap (option_map (token_view text)) e)
 
 pub word-none : (text : List ℕ) (ts : List Lexed) (at : ℕ) → slice_get ts at ≡ None → word_nth (tokens_view text ts) at ≡ fixed []

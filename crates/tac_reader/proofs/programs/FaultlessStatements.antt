@@ -1,12 +1,15 @@
 -- Statements without faults: their words fill the places of one form, and what they say is sound.
-use Rattle.std.proofs.Common.{◌≡◌, ℕ, ◌<◌, Bool, true, false, not, ◌||◌, List, [], ◌∷◌, ◌++◌, flat_map, length, refl, sym, ap, ◌∙◌, subst, true≢false, bytes_eq, codes, if◌then◌else◌}
+use Rattle.std.proofs.Common.{◌≡◌, ℕ, ◌<◌, Bool, true, false, not, ◌||◌, List, [], ◌∷◌, ◌++◌, flat_map, length, refl, sym, ap, ◌∙◌, subst, true≢false}
+use Rattle.std.proofs.Common.{bytes_eq, codes, if◌then◌else◌}
 use Rattle.std.proofs.lemmas.Bool.{and_parts}
 use Rattle.std.proofs.lemmas.Slice.Eq.{bytes_eq-Decides}
 use Rattle.std.specs.List.{AllByRecursion as Each, list_all}
 use Rattle.tac_lines.specs.Tokens.{Word, name, number, fixed, Token, bytes_of, spelling_of, unless_empty}
 use Rattle.tac_program.specs.Spelling.{unary_signs, binary_signs, comparison_signs, sign_of}
 use Rattle.tac_program.specs.Names.{is_one_of, Names}
-use Rattle.tac_lines.specs.Forms.{Slot, exactly, procedure, variable, operand, label, callee, binary, unary, comparison, key, fills, is_name_word, is_fixed_in, has_form, end_form, label_form, labels_of, behind_labels, forms_for, some_form, statement_forms, paired, in_slot, is_inner, is_label, is_variable}
+use Rattle.tac_lines.specs.Forms.{Slot, exactly, procedure, variable, operand, label, callee, binary, unary, comparison, key, fills, is_name_word}
+use Rattle.tac_lines.specs.Forms.{is_fixed_in, has_form, end_form, label_form, labels_of, behind_labels, forms_for, some_form, statement_forms}
+use Rattle.tac_lines.specs.Forms.{paired, in_slot, is_inner, is_label, is_variable}
 use Rattle.tac_reader.specs.Sections.{statements_of, only_name}
 use Rattle.tac_reader.specs.Parses.{operator_of, variable_of, label_of, operand_of}
 use Rattle.tac_program.specs.Sound.{IsLawfulName, IsSoundOperand, IsUnary, IsBinary, IsComparison}
@@ -24,7 +27,8 @@ labels_lawful : (line : List Token) → Each Sound line → Each (λ t. IsLawful
 labels_lawful [] h = tt
 labels_lawful (t ∷ []) h = tt
 labels_lawful (t ∷ u ∷ ts) h = by_test (has_form label_form (t ∷ u ∷ [])) refl (labels_lawful ts h.1.1) where
-  by_test : (b : Bool) → has_form label_form (t ∷ u ∷ []) ≡ b → Each (λ t. IsLawfulName (spelling_of t)) (labels_of ts) → Each (λ t. IsLawfulName (spelling_of t)) (if b then t ∷ labels_of ts else [])
+  by_test : (b : Bool) → has_form label_form (t ∷ u ∷ []) ≡ b → Each (λ t. IsLawfulName (spelling_of t)) (labels_of ts)
+      → Each (λ t. IsLawfulName (spelling_of t)) (if b then t ∷ labels_of ts else [])
   by_test true e rest = (name_lawful t (and_parts (is_name_word t.word) (has_form (key (codes ":") ∷ []) (u ∷ [])) e).0 h.0, rest)
   by_test false e rest = tt
 
@@ -52,7 +56,8 @@ no_end line h = go (has_form (key (codes "proc") ∷ procedure ∷ []) line) (ha
   go false false k = refl
 
 -- What stands behind the labels of a procedure's line, where there is something, has the form of a statement.
-statement_form : (line : List Token) (t : Token) (ts : List Token) → Inner line → behind_labels line ≡ t ∷ ts → some_form statement_forms (t ∷ ts) ≡ true
+statement_form : (line : List Token) (t : Token) (ts : List Token) → Inner line → behind_labels line ≡ t ∷ ts
+    → some_form statement_forms (t ∷ ts) ≡ true
 statement_form line t ts h e = go (labels_of line) refl (ap (some_form (forms_for true (labels_of line))) (sym e) ∙ (h.0).form) where
   drop_end : (b s : Bool) → b ≡ false → (b || s) ≡ true → s ≡ true
   drop_end true s f k = absurd (true≢false f)
@@ -60,7 +65,8 @@ statement_form line t ts h e = go (labels_of line) refl (ap (some_form (forms_fo
 
   go : (labels : List Token) → labels_of line ≡ labels → some_form (forms_for true labels) (t ∷ ts) ≡ true → some_form statement_forms (t ∷ ts) ≡ true
   go (l ∷ ls) f k = k
-  go [] f k = drop_end (has_form end_form (t ∷ ts)) (some_form statement_forms (t ∷ ts)) (ap (has_form end_form) (sym e ∙ no_labels line f) ∙ no_end line h.1) k
+  go [] f k = drop_end (has_form end_form (t ∷ ts)) (some_form statement_forms (t ∷ ts))
+      (ap (has_form end_form) (sym e ∙ no_labels line f) ∙ no_end line h.1) k
 
 pub line_statements : (line : List Token) → Inner line → Each IsFaultlessStatement (unless_empty (behind_labels line))
 line_statements line h = go (behind_labels line) refl where
@@ -69,7 +75,8 @@ line_statements line h = go (behind_labels line) refl where
   go (t ∷ ts) e = (record { words = subst (Each Sound) e (behind_sound line (h.0).words); form = statement_form line t ts h e }, tt)
 
 pub statements_faultless : (body : List (List Token)) → Each Inner body → Each IsFaultlessStatement (statements_of body)
-statements_faultless body h = each-flat_map IsFaultlessStatement (λ line. unless_empty (behind_labels line)) body (each-weaker Inner (λ line. Each IsFaultlessStatement (unless_empty (behind_labels line))) line_statements body h)
+statements_faultless body h = each-flat_map IsFaultlessStatement (λ line. unless_empty (behind_labels line)) body
+    (each-weaker Inner (λ line. Each IsFaultlessStatement (unless_empty (behind_labels line))) line_statements body h)
 
 pub all_labels_lawful : (body : List (List Token)) → Each Inner body → Each (λ t. IsLawfulName (spelling_of t)) (flat_map labels_of body)
 all_labels_lawful body h =
@@ -90,7 +97,8 @@ each_tested p (x ∷ xs) s h k =
 abbrev fits : List (List ℕ) → Word → Bool
 fits those w = is_one_of (sign_of (operator_of w)) those
 
-operator_fits : (those : List (List ℕ)) (w : Word) → list_all (λ s. fits those (fixed s)) those ≡ true → is_fixed_in those w ≡ true → fits those w ≡ true
+operator_fits : (those : List (List ℕ)) (w : Word) → list_all (λ s. fits those (fixed s)) those ≡ true → is_fixed_in those w ≡ true
+    → fits those w ≡ true
 operator_fits those (fixed s) h k = each_tested (λ s. fits those (fixed s)) those s h k
 operator_fits those (name s) h k = absurd (true≢false (sym k))
 operator_fits those (number n) h k = absurd (true≢false (sym k))
@@ -121,7 +129,8 @@ module _ (names : Names) where
   AllSaySound (s ∷ ss) [] = ⊥
   AllSaySound (s ∷ ss) (t ∷ ts) = SaysSound s t.word × AllSaySound ss ts
 
-  says_sound : (s : Slot) (w : Word) → fills s w ≡ true → IsSoundWord w → (is_variable s ≡ true → is_name_word w ≡ true → Known names.variables (bytes_of w)) → (is_label s ≡ true → Known names.labels (bytes_of w)) → SaysSound s w
+  says_sound : (s : Slot) (w : Word) → fills s w ≡ true → IsSoundWord w → (is_variable s ≡ true → is_name_word w ≡ true
+      → Known names.variables (bytes_of w)) → (is_label s ≡ true → Known names.labels (bytes_of w)) → SaysSound s w
   says_sound (exactly s) w f h v l = tt
   says_sound procedure w f h v l = tt
   says_sound callee w f h v l = tt
@@ -143,7 +152,8 @@ module _ (names : Names) where
   abbrev pub KnownProcedure : Token → Type 0
   KnownProcedure t = Known names.procedures (spelling_of t)
 
-  pub all_say_sound : (slots : List Slot) (ts : List Token) → has_form slots ts ≡ true → Each Sound ts → Each KnownVariable (flat_map only_name (in_slot is_variable (paired slots ts))) → Each KnownLabel (in_slot is_label (paired slots ts)) → AllSaySound slots ts
+  pub all_say_sound : (slots : List Slot) (ts : List Token) → has_form slots ts ≡ true → Each Sound ts → Each KnownVariable
+      (flat_map only_name (in_slot is_variable (paired slots ts))) → Each KnownLabel (in_slot is_label (paired slots ts)) → AllSaySound slots ts
   all_say_sound [] [] f h v l = tt
   all_say_sound [] (t ∷ ts) f h v l = absurd (true≢false (sym f))
   all_say_sound (s ∷ ss) [] f h v l = absurd (true≢false (sym f))
@@ -153,16 +163,20 @@ module _ (names : Names) where
       let lab = label_here (is_label s) l in
       (says_sound s t.word parts.0 h.0 var.0 lab.0, all_say_sound ss ts parts.1 h.1 var.1 lab.1)
     where
-      name_here : (n : Bool) (us : List Token) → Each KnownVariable ((if n then t ∷ [] else []) ++ us) → (n ≡ true → KnownVariable t) × Each KnownVariable us
+      name_here : (n : Bool) (us : List Token) → Each KnownVariable ((if n then t ∷ [] else []) ++ us)
+          → (n ≡ true → KnownVariable t) × Each KnownVariable us
       name_here true us k = (λ e. k.0, k.1)
       name_here false us k = (λ e. absurd (true≢false (sym e)), k)
 
-      variable_here : (b : Bool) → Each KnownVariable (flat_map only_name (if b then t ∷ in_slot is_variable (paired ss ts) else in_slot is_variable (paired ss ts))) → (b ≡ true → is_name_word t.word ≡ true → KnownVariable t) × Each KnownVariable (flat_map only_name (in_slot is_variable (paired ss ts)))
+      variable_here : (b : Bool)
+          → Each KnownVariable (flat_map only_name (if b then t ∷ in_slot is_variable (paired ss ts) else in_slot is_variable (paired ss ts)))
+          → (b ≡ true → is_name_word t.word ≡ true → KnownVariable t) × Each KnownVariable (flat_map only_name (in_slot is_variable (paired ss ts)))
       variable_here true k =
           let here = name_here (is_name_word t.word) (flat_map only_name (in_slot is_variable (paired ss ts))) k in
           (λ e. here.0, here.1)
       variable_here false k = (λ e. absurd (true≢false (sym e)), k)
 
-      label_here : (b : Bool) → Each KnownLabel (if b then t ∷ in_slot is_label (paired ss ts) else in_slot is_label (paired ss ts)) → (b ≡ true → KnownLabel t) × Each KnownLabel (in_slot is_label (paired ss ts))
+      label_here : (b : Bool) → Each KnownLabel (if b then t ∷ in_slot is_label (paired ss ts) else in_slot is_label (paired ss ts))
+          → (b ≡ true → KnownLabel t) × Each KnownLabel (in_slot is_label (paired ss ts))
       label_here true k = (λ e. k.0, k.1)
       label_here false k = (λ e. absurd (true≢false (sym e)), k)

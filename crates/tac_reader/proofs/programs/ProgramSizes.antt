@@ -1,12 +1,15 @@
 -- A program has no more statements, labels and variables than its text has bytes.
-use Rattle.std.proofs.Common.{◌≡◌, ℕ, zero, suc, ◌+◌, ◌-◌, ◌≤◌, Bool, true, false, not, cond, ◌||◌, List, [], ◌∷◌, ◌++◌, flat_map, fold, length, take, refl, ap, ◌∙◌, arith, Option, Some, None, one-add, if◌then◌else◌, length-append, sum_by}
+use Rattle.std.proofs.Common.{◌≡◌, ℕ, zero, suc, ◌+◌, ◌-◌, ◌≤◌, Bool, true, false, not, cond, ◌||◌, List, [], ◌∷◌, ◌++◌, flat_map, fold, length, take}
+use Rattle.std.proofs.Common.{refl, ap, ◌∙◌, arith, Option, Some, None, one-add, if◌then◌else◌, length-append, sum_by}
 use Rattle.std.proofs.lemmas.List.{length-map}
 use Rattle.std.proofs.lemmas.List.Sums.{sum_by-cons}
 use Rattle.std.specs.List.{prefix_len, take_while}
 use Rattle.tac_lines.specs.Text.{lines}
-use Rattle.tac_lines.specs.Tokens.{Token, Piece, word, gap, Row, longest, before_row, row_from, rows_from, rows, token_lines, unless_empty, spelling_of}
+use Rattle.tac_lines.specs.Tokens.{Token, Piece, word, gap, Row, longest, before_row, row_from, rows_from, rows, token_lines, unless_empty}
+use Rattle.tac_lines.specs.Tokens.{spelling_of}
 use Rattle.tac_program.specs.Names.{is_one_of, noted}
-use Rattle.tac_lines.specs.Forms.{Slot, has_form, proc_form, end_form, label_form, labels_of, behind_labels, paired, cells_of, in_slot, is_name_word, statement_row, is_inner, is_variable}
+use Rattle.tac_lines.specs.Forms.{Slot, has_form, proc_form, end_form, label_form, labels_of, behind_labels, paired, cells_of, in_slot, is_name_word}
+use Rattle.tac_lines.specs.Forms.{statement_row, is_inner, is_variable}
 use Rattle.tac_reader.specs.Sections.{Section, sections, sections_in, opened_by, statements_of, labels_in, only_name, variables_of}
 use Rattle.tac_reader.specs.Parses.{names_in, variables_in}
 use Rattle.tac_lines.specs.declared.form.Form.{Form}
@@ -69,7 +72,8 @@ text_tokens : (text : List ℕ) → all_tokens (token_lines (rows text)) ≤ len
 text_tokens text =
     let joined : length (flat_map (λ l. l) (lines text)) ≡ length text = ap length (lines_join text) in
     let kept = total-flat_map length (λ row. unless_empty row.tokens) (rows text) in
-    let each = total_le (λ row. all_tokens (unless_empty row.tokens)) (λ row. length row.tokens) (λ row. omega (arith, kept_tokens row.tokens)) (rows text) in
+    let each = total_le (λ row. all_tokens (unless_empty row.tokens)) (λ row. length row.tokens) (λ row. omega (arith, kept_tokens row.tokens))
+    (rows text) in
     omega (arith, joined, kept, each, rows_tokens 0 (lines text))
 
 -- No line stands in two procedures.
@@ -84,8 +88,11 @@ opened_tokens (t ∷ u ∷ ts) others = omega arith
 section_tokens : (ls : List (List Token)) → bodies (sections_in ls) + all_tokens (take_while is_inner ls) ≤ all_tokens ls
 section_tokens [] = omega arith
 section_tokens (line ∷ others) = by_test (has_form proc_form line) (has_form end_form line) (section_tokens others) where
-  by_test : (a b : Bool) → bodies (sections_in others) + all_tokens (take_while is_inner others) ≤ all_tokens others → bodies ((if a then opened_by line others else []) ++ sections_in others) + all_tokens (take (cond (not (a || b)) (1 + prefix_len is_inner others) 0) (line ∷ others)) ≤ length line + all_tokens others
-  by_test true b before = omega (arith, before, total-append (λ s. all_tokens s.body) (opened_by line others) (sections_in others), opened_tokens line others)
+  by_test : (a b : Bool) → bodies (sections_in others) + all_tokens (take_while is_inner others) ≤ all_tokens others
+      → bodies ((if a then opened_by line others else []) ++ sections_in others) + all_tokens
+      (take (cond (not (a || b)) (1 + prefix_len is_inner others) 0) (line ∷ others)) ≤ length line + all_tokens others
+  by_test true b before =
+      omega (arith, before, total-append (λ s. all_tokens s.body) (opened_by line others) (sections_in others), opened_tokens line others)
   by_test false true before = omega (arith, before)
   by_test false false before = rw one-add (omega (arith, before))
 
@@ -94,7 +101,8 @@ line_parts : (line : List Token) → length (labels_of line) + length (behind_la
 line_parts [] = omega arith
 line_parts (t ∷ []) = omega arith
 line_parts (t ∷ u ∷ ts) = by_test (has_form label_form (t ∷ u ∷ [])) (line_parts ts) where
-  by_test : (b : Bool) → length (labels_of ts) + length (behind_labels ts) ≤ length ts → length (if b then t ∷ labels_of ts else []) + length (if b then behind_labels ts else t ∷ u ∷ ts) ≤ suc (suc (length ts))
+  by_test : (b : Bool) → length (labels_of ts) + length (behind_labels ts) ≤ length ts
+      → length (if b then t ∷ labels_of ts else []) + length (if b then behind_labels ts else t ∷ u ∷ ts) ≤ suc (suc (length ts))
   by_test true before = omega (arith, before)
   by_test false before = omega arith
 
@@ -104,7 +112,13 @@ some_tokens (t ∷ ts) = omega arith
 
 body_statements : (body : List (List Token)) → length (statements_of body) ≤ all_tokens body
 body_statements [] = omega arith
-body_statements (line ∷ others) = omega (arith, length-append (unless_empty (behind_labels line)) (statements_of others), some_tokens (behind_labels line), line_parts line, body_statements others)
+body_statements (line ∷ others) = omega (
+  arith,
+  length-append (unless_empty (behind_labels line)) (statements_of others),
+  some_tokens (behind_labels line),
+  line_parts line,
+  body_statements others,
+)
 
 body_labels : (body : List (List Token)) → length (flat_map labels_of body) ≤ all_tokens body
 body_labels [] = omega arith
@@ -112,20 +126,28 @@ body_labels (line ∷ others) = omega (arith, length-append (labels_of line) (fl
 
 body_tokens : (body : List (List Token)) → all_tokens (statements_of body) ≤ all_tokens body
 body_tokens [] = omega arith
-body_tokens (line ∷ others) = omega (arith, total-append length (unless_empty (behind_labels line)) (statements_of others), kept_tokens (behind_labels line), line_parts line, body_tokens others)
+body_tokens (line ∷ others) = omega (
+  arith,
+  total-append length (unless_empty (behind_labels line)) (statements_of others),
+  kept_tokens (behind_labels line),
+  line_parts line,
+  body_tokens others,
+)
 
 -- A statement's variables are tokens of it.
 cells_few : (test : Slot → Bool) (slots : List Slot) (ts : List Token) → length (in_slot test (paired slots ts)) ≤ length ts
 cells_few test [] ts = omega arith
 cells_few test (s ∷ ss) [] = omega arith
 cells_few test (s ∷ ss) (t ∷ ts) = by_test (test s) (cells_few test ss ts) where
-  by_test : (b : Bool) → length (in_slot test (paired ss ts)) ≤ length ts → length (if b then t ∷ in_slot test (paired ss ts) else in_slot test (paired ss ts)) ≤ suc (length ts)
+  by_test : (b : Bool) → length (in_slot test (paired ss ts)) ≤ length ts
+      → length (if b then t ∷ in_slot test (paired ss ts) else in_slot test (paired ss ts)) ≤ suc (length ts)
   by_test true h = omega (arith, h)
   by_test false h = omega (arith, h)
 
 statement_cells_few : (test : Slot → Bool) (ts : List Token) → length (in_slot test (cells_of ts)) ≤ length ts
 statement_cells_few test ts = go (statement_row ts) where
-  go : (o : Option (Form × List Slot)) → length (in_slot test (elim o as (λ _. List (Slot × Token)) [ None ↦ [] | Some row ↦ paired row.1 ts ])) ≤ length ts
+  go : (o : Option (Form × List Slot))
+      → length (in_slot test (elim o as (λ _. List (Slot × Token)) [ None ↦ [] | Some row ↦ paired row.1 ts ])) ≤ length ts
   go None = omega arith
   go (Some row) = cells_few test row.1 ts
 
@@ -154,7 +176,12 @@ pub record AreFew (bound : ℕ) (ss : List Section) : Type 0 where
 
 section_variables : (s : Section) → length (flat_map variables_of (statements_of s.body)) ≤ all_tokens s.body
 section_variables s =
-    omega (arith, length_of_parts variables_of (statements_of s.body), total_le (λ ts. length (variables_of ts)) length variables_few (statements_of s.body), body_tokens s.body)
+    omega (
+      arith,
+      length_of_parts variables_of (statements_of s.body),
+      total_le (λ ts. length (variables_of ts)) length variables_few (statements_of s.body),
+      body_tokens s.body,
+    )
 
 pub sections_few : (text : List ℕ) → AreFew (length text) (sections text)
 sections_few text =
@@ -164,5 +191,12 @@ sections_few text =
     record {
       statements = omega (arith, all, total_le (λ s. length (statements_of s.body)) (λ s. all_tokens s.body) (λ s. body_statements s.body) ss);
       labels = omega (arith, all, total_le (λ s. length (labels_in s)) (λ s. all_tokens s.body) (λ s. body_labels s.body) ss);
-      variables = omega (arith, all, noted_few [] (names_in tokens), length-map tokens spelling_of, length_of_parts (λ s. flat_map variables_of (statements_of s.body)) ss, total_le (λ s. length (flat_map variables_of (statements_of s.body))) (λ s. all_tokens s.body) section_variables ss);
+      variables = omega (
+        arith,
+        all,
+        noted_few [] (names_in tokens),
+        length-map tokens spelling_of,
+        length_of_parts (λ s. flat_map variables_of (statements_of s.body)) ss,
+        total_le (λ s. length (flat_map variables_of (statements_of s.body))) (λ s. all_tokens s.body) section_variables ss,
+      );
     }

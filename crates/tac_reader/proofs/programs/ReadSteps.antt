@@ -19,14 +19,21 @@ use Rattle.tac_lines.specs.declared.lexed.Lexed.{Lexed}
 use Rattle.tac_lines.specs.declared.lexed.LineRange.{LineRange}
 use Rattle.tac_lines.specs.declared.token.Token.{Token}
 
-views : (text : List ℕ) (tokens : List Token) (lines : List LineRange) → map (range_view text tokens) lines ≡ map (tokens_view text) (range_views tokens lines)
+views : (text : List ℕ) (tokens : List Token) (lines : List LineRange)
+    → map (range_view text tokens) lines ≡ map (tokens_view text) (range_views tokens lines)
 views text tokens [] = refl
 views text tokens (l ∷ ls) = ap (λ r. range_view text tokens l ∷ r) (views text tokens ls)
 
-pub sections_are : (text : List ℕ) (lexed : Lexed) (tokens : List Token) (lines : List LineRange) (found : List Section) → found ≡ sections_in (map (range_view text tokens) lines) → tokens ≡ lexed.tokens.items → lines ≡ lexed.lines.items → text_lines text lexed ≡ token_lines (rows text) → found ≡ sections text
-sections_are text lexed tokens lines found e f g h = e ∙ (λ i. sections_in (map (range_view text (f i)) (g i))) ∙ ap sections_in (views text lexed.tokens.items lexed.lines.items ∙ h)
+pub sections_are : (text : List ℕ) (lexed : Lexed) (tokens : List Token) (lines : List LineRange) (found : List Section)
+    → found ≡ sections_in (map (range_view text tokens) lines) → tokens ≡ lexed.tokens.items → lines ≡ lexed.lines.items
+    → text_lines text lexed ≡ token_lines (rows text) → found ≡ sections text
+sections_are text lexed tokens lines found e f g h =
+    e ∙ (λ i. sections_in (map (range_view text (f i)) (g i))) ∙ ap sections_in (views text lexed.tokens.items lexed.lines.items ∙ h)
 
-pub program_is : (text : List ℕ) (ss : List Section) (procedures variables : List (List ℕ)) → ss ≡ sections text → procedures ≡ names_in (titles ss) → variables ≡ variables_in ss → (let p : Program = record { procedures = procedures_from text procedures variables 0 ss; procedure_names = procedures; variable_names = variables } in p) ≡ program_of text
+pub program_is : (text : List ℕ) (ss : List Section) (procedures variables : List (List ℕ)) → ss ≡ sections text → procedures ≡ names_in (titles ss)
+    → variables ≡ variables_in ss → (let p : Program =
+    record { procedures = procedures_from text procedures variables 0 ss; procedure_names = procedures; variable_names = variables } in p)
+    ≡ program_of text
 program_is text ss procedures variables e f g = λ i.
     let all : List Section = e i in
     let names : List (List ℕ) = (f ∙ ap (λ s. names_in (titles s)) e) i in

@@ -1,11 +1,13 @@
 -- A statement of a form, with known names, is written as its words.
-use Rattle.std.proofs.Common.{◌≡◌, ℕ, Bool, true, false, cond, ◌||◌, List, [], ◌∷◌, ◌++◌, map, flat_map, find, refl, sym, ap, ◌∙◌, subst, Option, Some, bytes_eq, true≢false, if◌then◌else◌, unwrap_or}
+use Rattle.std.proofs.Common.{◌≡◌, ℕ, Bool, true, false, cond, ◌||◌, List, [], ◌∷◌, ◌++◌, map, flat_map, find, refl, sym, ap, ◌∙◌, subst, Option}
+use Rattle.std.proofs.Common.{Some, bytes_eq, true≢false, if◌then◌else◌, unwrap_or}
 use Rattle.std.specs.List.{AllByRecursion as Each, list_all}
 use Rattle.std.specs.Cmp.Lexicographic.{same_text}
 use Rattle.tac_lines.specs.Tokens.{Word, name, number, fixed, Token, bytes_of, spelling_of}
 use Rattle.tac_program.specs.Spelling.{binary_signs, unary_signs, comparison_signs, sign_of}
 use Rattle.tac_program.specs.Names.{is_one_of, Names}
-use Rattle.tac_lines.specs.Forms.{Slot, exactly, procedure, variable, operand, label, callee, binary, unary, comparison, fills, has_form, is_name_word, some_form, statements, statement_row, paired, in_slot, is_label, is_callee, is_variable, callees_of}
+use Rattle.tac_lines.specs.Forms.{Slot, exactly, procedure, variable, operand, label, callee, binary, unary, comparison, fills, has_form}
+use Rattle.tac_lines.specs.Forms.{is_name_word, some_form, statements, statement_row, paired, in_slot, is_label, is_callee, is_variable, callees_of}
 use Rattle.tac_reader.specs.Sections.{only_name}
 use Rattle.tac_program.specs.Programs.{number_of}
 use Rattle.tac_reader.specs.Parses.{operator_of, kind_of}
@@ -31,24 +33,30 @@ same a b k = cc
 each_found : {X : Type 0} (P : X → Type 0) (test : X → Bool) (xs : List X) (x : X) → Each P xs → find test xs ≡ Some x → P x × (test x ≡ true)
 each_found P test [] x h e = absurd (cc e)
 each_found P test (y ∷ ys) x h e = go (test y) refl e (λ k. each_found P test ys x h.1 k) where
-  go : (b : Bool) → test y ≡ b → cond (test y) (Some y) (find test ys) ≡ Some x → (find test ys ≡ Some x → P x × (test x ≡ true)) → P x × (test x ≡ true)
+  go : (b : Bool) → test y ≡ b → cond (test y) (Some y) (find test ys) ≡ Some x → (find test ys ≡ Some x → P x × (test x ≡ true))
+      → P x × (test x ≡ true)
   go true t k later =
       let e : y ≡ x = same y x (sym (ap (λ c. cond c (Some y) (find test ys)) t) ∙ k) in
       subst (λ z. P z × (test z ≡ true)) e (h.0, t)
   go false t k later = later (sym (ap (λ c. cond c (Some y) (find test ys)) t) ∙ k)
 
-pub statement_written : (names : Names) (ts : List Token) (row : Form × List Slot) → statement_row ts ≡ Some row → Resolved names row.1 (words_of ts) → statement_text names (kind_in names ts) ≡ layout row.1 (words_of ts)
+pub statement_written : (names : Names) (ts : List Token) (row : Form × List Slot) → statement_row ts ≡ Some row → Resolved names row.1 (words_of ts)
+    → statement_text names (kind_in names ts) ≡ layout row.1 (words_of ts)
 statement_written names ts row e h =
     let numbers : map (λ t. number_of names.procedures (spelling_of t)) (callees_of ts) ≡ callee_numbers names.procedures row.1 (words_of ts) =
-    ap (λ cs. map (λ t. number_of names.procedures (spelling_of t)) (in_slot is_callee cs)) (cells_are ts row e) ∙ numbers_are names.procedures row.1 ts in
+    ap (λ cs. map (λ t. number_of names.procedures (spelling_of t)) (in_slot is_callee cs)) (cells_are ts row e)
+    ∙ numbers_are names.procedures row.1 ts in
     (λ i. statement_text names (kind_of names (numbers i) (row_form ts row e i) (words_of ts)))
     ∙ (each_found (IsWritten names) (λ r. has_form r.1 ts) statements row (all_written names) e).0 (words_of ts) h
 
 -- The row of tokens that have some form of a statement.
-pub form_row : (ts : List Token) (rows : List (Form × List Slot)) → some_form (map (λ row. row.1) rows) ts ≡ true → (row : Form × List Slot) × (find (λ r. has_form r.1 ts) rows ≡ Some row)
+pub form_row : (ts : List Token) (rows : List (Form × List Slot)) → some_form (map (λ row. row.1) rows) ts ≡ true
+    → (row : Form × List Slot) × (find (λ r. has_form r.1 ts) rows ≡ Some row)
 form_row ts [] h = absurd (true≢false (sym h))
 form_row ts (r ∷ rs) h = go (has_form r.1 ts) refl (form_row ts rs) where
-  go : (b : Bool) → has_form r.1 ts ≡ b → (some_form (map (λ row. row.1) rs) ts ≡ true → (row : Form × List Slot) × (find (λ q. has_form q.1 ts) rs ≡ Some row)) → (row : Form × List Slot) × (cond (has_form r.1 ts) (Some r) (find (λ q. has_form q.1 ts) rs) ≡ Some row)
+  go : (b : Bool) → has_form r.1 ts ≡ b
+      → (some_form (map (λ row. row.1) rs) ts ≡ true → (row : Form × List Slot) × (find (λ q. has_form q.1 ts) rs ≡ Some row))
+      → (row : Form × List Slot) × (cond (has_form r.1 ts) (Some r) (find (λ q. has_form q.1 ts) rs) ≡ Some row)
   go true e later = (r, ap (λ b. cond b (let o : Option (Form × List Slot) = Some r in o) (find (λ q. has_form q.1 ts) rs)) e)
   go false e later =
       let rest = later (sym (ap (λ b. b || some_form (map (λ row. row.1) rs) ts) e) ∙ h) in
@@ -62,23 +70,29 @@ row_has_form ts row e = found (λ r. has_form r.1 ts) statements row e where
     all [] = tt
     all (x ∷ xs) = (tt, all xs)
 
-pub row_passes : (test : Form × List Slot → Bool) (ts : List Token) (row : Form × List Slot) → list_all test statements ≡ true → statement_row ts ≡ Some row → test row ≡ true
+pub row_passes : (test : Form × List Slot → Bool) (ts : List Token) (row : Form × List Slot) → list_all test statements ≡ true
+    → statement_row ts ≡ Some row → test row ≡ true
 row_passes test ts row all e = (each_found (λ r. test r ≡ true) (λ r. has_form r.1 ts) statements row (each statements all) e).0 where
   each : (rows : List (Form × List Slot)) → list_all test rows ≡ true → Each (λ r. test r ≡ true) rows
   each [] h = tt
   each (r ∷ rs) h = let parts = and_parts (test r) (list_all test rs) h in (parts.0, each rs parts.1)
 
 -- The sign of the operator of a sign.
-found_sign : (s : List ℕ) (ops : List Op) → is_one_of s (map sign_of ops) ≡ true → sign_of (unwrap_or (find (λ o. bytes_eq s (sign_of o)) ops) op.Plus) ≡ s
+found_sign : (s : List ℕ) (ops : List Op) → is_one_of s (map sign_of ops) ≡ true
+    → sign_of (unwrap_or (find (λ o. bytes_eq s (sign_of o)) ops) op.Plus) ≡ s
 found_sign s [] h = absurd (true≢false (sym h))
 found_sign s (o ∷ os) h = go (bytes_eq s (sign_of o)) refl (found_sign s os) where
-  go : (b : Bool) → bytes_eq s (sign_of o) ≡ b → (is_one_of s (map sign_of os) ≡ true → sign_of (unwrap_or (find (λ p. bytes_eq s (sign_of p)) os) op.Plus) ≡ s) → sign_of (unwrap_or (cond (bytes_eq s (sign_of o)) (Some o) (find (λ p. bytes_eq s (sign_of p)) os)) op.Plus) ≡ s
-  go true e later = ap (λ c. sign_of (unwrap_or (cond c (Some o) (find (λ p. bytes_eq s (sign_of p)) os)) op.Plus)) e ∙ sym (same_text s (sign_of o) (sym e))
+  go : (b : Bool) → bytes_eq s (sign_of o) ≡ b
+      → (is_one_of s (map sign_of os) ≡ true → sign_of (unwrap_or (find (λ p. bytes_eq s (sign_of p)) os) op.Plus) ≡ s)
+      → sign_of (unwrap_or (cond (bytes_eq s (sign_of o)) (Some o) (find (λ p. bytes_eq s (sign_of p)) os)) op.Plus) ≡ s
+  go true e later =
+      ap (λ c. sign_of (unwrap_or (cond c (Some o) (find (λ p. bytes_eq s (sign_of p)) os)) op.Plus)) e ∙ sym (same_text s (sign_of o) (sym e))
   go false e later =
       ap (λ c. sign_of (unwrap_or (cond c (Some o) (find (λ p. bytes_eq s (sign_of p)) os)) op.Plus)) e
       ∙ later (sym (ap (λ c. c || is_one_of s (map sign_of os)) e) ∙ h)
 
-sign_back : (s : List ℕ) (those : List (List ℕ)) → list_all (λ t. is_one_of t (map sign_of operators)) those ≡ true → is_one_of s those ≡ true → sign_of (operator_of (fixed s)) ≡ s
+sign_back : (s : List ℕ) (those : List (List ℕ)) → list_all (λ t. is_one_of t (map sign_of operators)) those ≡ true → is_one_of s those ≡ true
+    → sign_of (operator_of (fixed s)) ≡ s
 sign_back s those all h = found_sign s operators (each_tested (λ t. is_one_of t (map sign_of operators)) those s all h)
 
 -- Known names.
@@ -122,11 +136,14 @@ resolves names comparison (number n) f h = absurd (true≢false (sym f))
 
 -- A statement's names, as the lists of those that each kind of place holds.
 module _ (names : Names) (t : Token) (us : List Token) where
-  first_name : (n : Bool) → Each (KnownVariable names) ((if n then t ∷ [] else []) ++ us) → (n ≡ true → KnownVariable names t) × Each (KnownVariable names) us
+  first_name : (n : Bool) → Each (KnownVariable names) ((if n then t ∷ [] else []) ++ us)
+      → (n ≡ true → KnownVariable names t) × Each (KnownVariable names) us
   first_name true h = (λ e. h.0, h.1)
   first_name false h = (λ e. absurd (true≢false (sym e)), h)
 
-pub resolved : (names : Names) (slots : List Slot) (ts : List Token) → has_form slots ts ≡ true → Each (KnownLabel names) (in_slot is_label (paired slots ts)) → Each (KnownProcedure names) (in_slot is_callee (paired slots ts)) → Each (KnownVariable names) (flat_map only_name (in_slot is_variable (paired slots ts))) → Resolved names slots (words_of ts)
+pub resolved : (names : Names) (slots : List Slot) (ts : List Token) → has_form slots ts ≡ true
+    → Each (KnownLabel names) (in_slot is_label (paired slots ts)) → Each (KnownProcedure names) (in_slot is_callee (paired slots ts))
+    → Each (KnownVariable names) (flat_map only_name (in_slot is_variable (paired slots ts))) → Resolved names slots (words_of ts)
 resolved names [] [] f ls cs vs = tt
 resolved names [] (t ∷ ts) f ls cs vs = absurd (true≢false (sym f))
 resolved names (s ∷ ss) [] f ls cs vs = absurd (true≢false (sym f))
@@ -140,11 +157,16 @@ resolved names (s ∷ ss) (t ∷ ts) f ls cs vs =
         → Each (KnownLabel names) (in_slot is_label ((p, t) ∷ paired ss ts))
         → Each (KnownProcedure names) (in_slot is_callee ((p, t) ∷ paired ss ts))
         → Each (KnownVariable names) (flat_map only_name (in_slot is_variable ((p, t) ∷ paired ss ts)))
-        → KnownIn names p t.word × Each (KnownLabel names) (in_slot is_label (paired ss ts)) × Each (KnownProcedure names) (in_slot is_callee (paired ss ts)) × Each (KnownVariable names) (flat_map only_name (in_slot is_variable (paired ss ts)))
+        → KnownIn names p t.word × Each (KnownLabel names) (in_slot is_label (paired ss ts)) × Each (KnownProcedure names)
+        (in_slot is_callee (paired ss ts)) × Each (KnownVariable names) (flat_map only_name (in_slot is_variable (paired ss ts)))
     split label g a b c = (a.0, a.1, b, c)
     split callee g a b c = (b.0, a, b.1, c)
-    split variable g a b c = let rest = first_name names t (flat_map only_name (in_slot is_variable (paired ss ts))) (is_name_word t.word) c in (rest.0 g, a, b, rest.1)
-    split operand g a b c = let rest = first_name names t (flat_map only_name (in_slot is_variable (paired ss ts))) (is_name_word t.word) c in (rest.0, a, b, rest.1)
+    split variable g a b c =
+        let rest = first_name names t (flat_map only_name (in_slot is_variable (paired ss ts))) (is_name_word t.word) c in
+        (rest.0 g, a, b, rest.1)
+    split operand g a b c =
+        let rest = first_name names t (flat_map only_name (in_slot is_variable (paired ss ts))) (is_name_word t.word) c in
+        (rest.0, a, b, rest.1)
     split (exactly k) g a b c = (tt, a, b, c)
     split procedure g a b c = (tt, a, b, c)
     split binary g a b c = (tt, a, b, c)

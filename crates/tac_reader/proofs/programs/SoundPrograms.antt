@@ -1,5 +1,7 @@
 -- The program of a text that is not refused is sound.
-use Rattle.std.proofs.Common.{◌≡◌, ℕ, zero, suc, ◌+◌, ◌-◌, ◌≤◌, Bool, true, false, List, [], ◌∷◌, ◌++◌, map, flat_map, length, drop, refl, sym, ap, ◌∙◌, subst, arith, Option, Some, None, All, slice_get, option_map, if◌then◌else◌, nat_lt, length-append, length-drop, codes}
+use Rattle.std.proofs.Common.{◌≡◌, ℕ, zero, suc, ◌+◌, ◌-◌, ◌≤◌, Bool, true, false, List, [], ◌∷◌, ◌++◌, map, flat_map, length, drop, refl, sym, ap}
+use Rattle.std.proofs.Common.{◌∙◌, subst, arith, Option, Some, None, All, slice_get, option_map, if◌then◌else◌, nat_lt, length-append, length-drop}
+use Rattle.std.proofs.Common.{codes}
 use Rattle.std.proofs.lemmas.Bool.{ltb-false}
 use Rattle.std.proofs.lemmas.List.{length-map}
 use Rattle.std.proofs.lemmas.List.Elements.{All-from_recursion}
@@ -7,7 +9,8 @@ use Rattle.std.specs.List.{AllByRecursion as Each}
 use Rattle.tac_lines.specs.Text.{lines}
 use Rattle.tac_lines.specs.Tokens.{Token, rows, token_lines, spelling_of, unless_empty}
 use Rattle.tac_program.specs.Names.{is_one_of, Names}
-use Rattle.tac_lines.specs.Forms.{labels_of, behind_labels, paired, in_slot, cells_of, is_name_word, Slot, statement_row, is_variable, callees_of, jumps_of}
+use Rattle.tac_lines.specs.Forms.{labels_of, behind_labels, paired, in_slot, cells_of, is_name_word, Slot, statement_row, is_variable, callees_of}
+use Rattle.tac_lines.specs.Forms.{jumps_of}
 use Rattle.tac_reader.specs.Sections.{Section, sections, titles, statements_of, labels_in, only_name, variables_of}
 use Rattle.tac_program.specs.Programs.{Procedure, Program}
 use Rattle.tac_reader.specs.Parses.{names_in, statement_of, label_places, labels_from, procedure_of, procedures_from, variables_in, program_of}
@@ -23,7 +26,8 @@ use Rattle.tac_lines.specs.declared.form.Form.{Form}
 use Rattle.tac_program.specs.declared.program.Label.{Label}
 use Rattle.tac_lines.specs.declared.refusal.RefusalKind.{RefusalKind}
 use Rattle.tac_lines.specs.declared.refusal.RefusalKind.TheVariants as kind
-use Rattle.tac_program.proofs.lists.Elements.{each-append, each-map, each-from_map, each-flat_map, each-from_flat_map, each-weaker, each-both, no_left, no_right, no_parts, all_differ}
+use Rattle.tac_program.proofs.lists.Elements.{each-append, each-map, each-from_map, each-flat_map, each-from_flat_map, each-weaker, each-both}
+use Rattle.tac_program.proofs.lists.Elements.{no_left, no_right, no_parts, all_differ}
 use Rattle.tac_lines.proofs.lines.FirstFault.{none_first}
 use Rattle.tac_reader.proofs.programs.LabelRuns.{labels_rise}
 use Rattle.tac_reader.proofs.known_names.KnownNames.{Known, known_contained, none_repeated, each_once_known, each_once_differ, each_once_each}
@@ -51,7 +55,13 @@ length-label_places place [] = refl
 length-label_places place (line ∷ others) =
     let next = place + length (unless_empty (behind_labels line)) in
     let here : length (map (λ t. place) (labels_of line)) ≡ length (labels_of line) = length-map (labels_of line) (λ t. place) in
-    omega (arith, here, length-append (map (λ t. place) (labels_of line)) (label_places next others), length-append (labels_of line) (flat_map labels_of others), length-label_places next others)
+    omega (
+      arith,
+      here,
+      length-append (map (λ t. place) (labels_of line)) (label_places next others),
+      length-append (labels_of line) (flat_map labels_of others),
+      length-label_places next others,
+    )
 
 -- No label stands behind the end.
 places_within : (place end : ℕ) (body : List (List Token)) → place + length (statements_of body) ≤ end → Each (λ p. p ≤ end) (label_places place body)
@@ -75,37 +85,47 @@ labels_placed n end (p ∷ ps) h = (h.0, labels_placed (suc n) end ps h.1)
 pub record IsLawfulSection (procedures variables : List (List ℕ)) (s : Section) : Type 0 where
   pub faultless : IsFaultlessSection s
   pub labels_once : repeated kind.DuplicateLabel [] (labels_in s) ≡ []
-  pub known : Each (λ ts. NamesAreKnown (record { procedures = procedures; variables = variables; labels = names_in (labels_in s) }) ts) (statements_of s.body)
+  pub known : Each (λ ts. NamesAreKnown (record { procedures = procedures; variables = variables; labels = names_in (labels_in s) }) ts)
+      (statements_of s.body)
 
 module _ (text : List ℕ) (procedures variables : List (List ℕ)) where
-  procedure_sound : (n : ℕ) (s : Section) → IsLawfulSection procedures variables s → IsSoundProcedure (length variables) (length procedures) (procedure_of text procedures variables n s)
+  procedure_sound : (n : ℕ) (s : Section) → IsLawfulSection procedures variables s
+      → IsSoundProcedure (length variables) (length procedures) (procedure_of text procedures variables n s)
   procedure_sound n s h =
       let names : Names = record { procedures = procedures; variables = variables; labels = names_in (labels_in s) } in
       let places : List ℕ = label_places 0 s.body in
       let ls : List Label = labels_from 0 places in
       let ss : List (List Token) = statements_of s.body in
       let size : length ss ≡ length (map (statement_of text names) ss) = sym (length-map ss (statement_of text names)) in
-      let count : length names.labels ≡ length ls = length-map (labels_in s) spelling_of ∙ sym (length-label_places 0 s.body) ∙ sym (length-labels_from 0 places) in
+      let count : length names.labels ≡ length ls =
+      length-map (labels_in s) spelling_of ∙ sym (length-label_places 0 s.body) ∙ sym (length-labels_from 0 places) in
       let each : Each (λ ts. IsSoundStatement (length variables) (length names.labels) (length procedures) (statement_of text names ts).kind) ss =
-      each-weaker (λ ts. IsFaultlessStatement ts × NamesAreKnown names ts) (λ ts. IsSoundStatement (length variables) (length names.labels) (length procedures) (statement_of text names ts).kind) (λ ts k. statement_sound text names ts k.0 k.1) ss
+      each-weaker (λ ts. IsFaultlessStatement ts × NamesAreKnown names ts) (λ ts. IsSoundStatement (length variables) (length names.labels)
+      (length procedures) (statement_of text names ts).kind) (λ ts k. statement_sound text names ts k.0 k.1) ss
       (each-both IsFaultlessStatement (NamesAreKnown names) ss (statements_faultless s.body (h.faultless).lines) h.known) in
       record {
         numbered = λ k l e. labels_numbered 0 places k l e ∙ (let zero_on : 0 + k ≡ k = omega arith in zero_on);
         named = count;
-        placed = All-from_recursion (λ (l : Label). l.place ≤ length (map (statement_of text names) ss)) ls (labels_placed 0 (length (map (statement_of text names) ss)) places (places_within 0 (length (map (statement_of text names) ss)) s.body (omega (arith, size))));
+        placed = All-from_recursion (λ (l : Label). l.place ≤ length (map (statement_of text names) ss)) ls
+            (labels_placed 0 (length (map (statement_of text names) ss)) places
+            (places_within 0 (length (map (statement_of text names) ss)) s.body (omega (arith, size))));
         rise = labels_rise ls s.body refl;
-        lawful = All-from_recursion IsLawfulName names.labels (each-map IsLawfulName spelling_of (labels_in s) (all_labels_lawful s.body (h.faultless).lines));
+        lawful = All-from_recursion IsLawfulName names.labels
+            (each-map IsLawfulName spelling_of (labels_in s) (all_labels_lawful s.body (h.faultless).lines));
         differ = all_differ names.labels (none_repeated kind.DuplicateLabel [] (labels_in s) h.labels_once).differ;
-        statements = All-from_recursion (λ q. IsSoundStatement (length variables) (length ls) (length procedures) q.kind) (map (statement_of text names) ss)
+        statements =
+            All-from_recursion (λ q. IsSoundStatement (length variables) (length ls) (length procedures) q.kind) (map (statement_of text names) ss)
             (each-map (λ q. IsSoundStatement (length variables) (length ls) (length procedures) q.kind) (statement_of text names) ss
             (subst (λ m. Each (λ ts. IsSoundStatement (length variables) m (length procedures) (statement_of text names ts).kind) ss) count each));
       }
 
-  procedures_sound : (n : ℕ) (ss : List Section) → Each (IsLawfulSection procedures variables) ss → Each (IsSoundProcedure (length variables) (length procedures)) (procedures_from text procedures variables n ss)
+  procedures_sound : (n : ℕ) (ss : List Section) → Each (IsLawfulSection procedures variables) ss
+      → Each (IsSoundProcedure (length variables) (length procedures)) (procedures_from text procedures variables n ss)
   procedures_sound n [] h = tt
   procedures_sound n (s ∷ ss) h = (procedure_sound n s h.0, procedures_sound (suc n) ss h.1)
 
-  procedures_numbered : (n : ℕ) (ss : List Section) (k : ℕ) (p : Procedure) → slice_get (procedures_from text procedures variables n ss) k ≡ Some p → p.name ≡ n + k
+  procedures_numbered : (n : ℕ) (ss : List Section) (k : ℕ) (p : Procedure) → slice_get (procedures_from text procedures variables n ss) k ≡ Some p
+      → p.name ≡ n + k
   procedures_numbered n [] k p e = absurd (cc e)
   procedures_numbered n (s ∷ ss) zero p e = omega (arith, name_is (procedure_of text procedures variables n s) p e) where
     name_is : (a b : Procedure) → ◌≡◌ {A = Option Procedure} (Some a) (Some b) → b.name ≡ a.name
@@ -116,13 +136,15 @@ module _ (text : List ℕ) (procedures variables : List (List ℕ)) where
   length-procedures_from n [] = refl
   length-procedures_from n (s ∷ ss) = ap suc (length-procedures_from (suc n) ss)
 
-  total_statements : (n : ℕ) (ss : List Section) → total (λ q. length q.statements) (procedures_from text procedures variables n ss) ≡ total (λ s. length (statements_of s.body)) ss
+  total_statements : (n : ℕ) (ss : List Section)
+      → total (λ q. length q.statements) (procedures_from text procedures variables n ss) ≡ total (λ s. length (statements_of s.body)) ss
   total_statements n [] = refl
   total_statements n (s ∷ ss) =
       let names : Names = record { procedures = procedures; variables = variables; labels = names_in (labels_in s) } in
       omega (arith, length-map (statements_of s.body) (statement_of text names), total_statements (suc n) ss)
 
-  total_labels : (n : ℕ) (ss : List Section) → total (λ q. length q.labels) (procedures_from text procedures variables n ss) ≡ total (λ s. length (labels_in s)) ss
+  total_labels : (n : ℕ) (ss : List Section)
+      → total (λ q. length q.labels) (procedures_from text procedures variables n ss) ≡ total (λ s. length (labels_in s)) ss
   total_labels n [] = refl
   total_labels n (s ∷ ss) = omega (arith, length-labels_from 0 (label_places 0 s.body), length-label_places 0 s.body, total_labels (suc n) ss)
 
@@ -130,8 +152,10 @@ module _ (text : List ℕ) (procedures variables : List (List ℕ)) where
 none_unknown : (kind : RefusalKind) (known used : List Token) → unknown kind known used ≡ [] → Each (λ t. Known (names_in known) (spelling_of t)) used
 none_unknown kind known [] e = tt
 none_unknown kind known (t ∷ ts) e =
-    let here : List Fault = (if is_one_of (spelling_of t) (names_in known) then [] else at kind t.start) in
-    (by_test (is_one_of (spelling_of t) (names_in known)) (no_left here (unknown kind known ts) e), none_unknown kind known ts (no_right here (unknown kind known ts) e))
+    let here : List Fault = (if is_one_of (spelling_of t) (names_in known) then [] else at kind t.start) in (
+      by_test (is_one_of (spelling_of t) (names_in known)) (no_left here (unknown kind known ts) e),
+      none_unknown kind known ts (no_right here (unknown kind known ts) e),
+    )
   where
     by_test : (b : Bool) → (if b then [] else at kind t.start) ≡ [] → b ≡ true
     by_test true k = refl
@@ -142,7 +166,8 @@ cells_sound : (test : Slot → Bool) (slots : List Slot) (ts : List Token) → E
 cells_sound test [] ts h = tt
 cells_sound test (s ∷ ss) [] h = tt
 cells_sound test (s ∷ ss) (t ∷ ts) h = by_test (test s) (cells_sound test ss ts h.1) where
-  by_test : (b : Bool) → Each Sound (in_slot test (paired ss ts)) → Each Sound (if b then t ∷ in_slot test (paired ss ts) else in_slot test (paired ss ts))
+  by_test : (b : Bool) → Each Sound (in_slot test (paired ss ts))
+      → Each Sound (if b then t ∷ in_slot test (paired ss ts) else in_slot test (paired ss ts))
   by_test true k = (h.0, k)
   by_test false k = k
 
@@ -155,16 +180,21 @@ statement_cells test ts h = go (statement_row ts) where
 only_names_lawful : (ts : List Token) → Each Sound ts → Each (λ t. IsLawfulName (spelling_of t)) (flat_map only_name ts)
 only_names_lawful [] h = tt
 only_names_lawful (t ∷ ts) h = by_test (is_name_word t.word) refl (only_names_lawful ts h.1) where
-  by_test : (b : Bool) → is_name_word t.word ≡ b → Each (λ t. IsLawfulName (spelling_of t)) (flat_map only_name ts) → Each (λ t. IsLawfulName (spelling_of t)) ((if b then t ∷ [] else []) ++ flat_map only_name ts)
+  by_test : (b : Bool) → is_name_word t.word ≡ b → Each (λ t. IsLawfulName (spelling_of t)) (flat_map only_name ts)
+      → Each (λ t. IsLawfulName (spelling_of t)) ((if b then t ∷ [] else []) ++ flat_map only_name ts)
   by_test true e k = (name_lawful t e h.0, k)
   by_test false e k = k
 
 variables_lawful : (ts : List Token) → IsFaultlessStatement ts → Each (λ t. IsLawfulName (spelling_of t)) (variables_of ts)
 variables_lawful ts h = only_names_lawful (in_slot is_variable (cells_of ts)) (statement_cells is_variable ts h.words)
 
-statements_known : (names : Names) (ss : List (List Token)) → Each (λ ts. Each (λ t. Known names.variables (spelling_of t)) (variables_of ts)) ss → Each (λ ts. Each (λ t. Known names.labels (spelling_of t)) (jumps_of ts)) ss → Each (λ ts. Each (λ t. Known names.procedures (spelling_of t)) (callees_of ts)) ss → Each (λ ts. repeated kind.DuplicateCallee [] (callees_of ts) ≡ []) ss → Each (NamesAreKnown names) ss
+statements_known : (names : Names) (ss : List (List Token)) → Each (λ ts. Each (λ t. Known names.variables (spelling_of t)) (variables_of ts)) ss
+    → Each (λ ts. Each (λ t. Known names.labels (spelling_of t)) (jumps_of ts)) ss
+    → Each (λ ts. Each (λ t. Known names.procedures (spelling_of t)) (callees_of ts)) ss
+    → Each (λ ts. repeated kind.DuplicateCallee [] (callees_of ts) ≡ []) ss → Each (NamesAreKnown names) ss
 statements_known names [] v l p o = tt
-statements_known names (ts ∷ ss) v l p o = (record { variables = v.0; labels = l.0; procedures = p.0; once = o.0 }, statements_known names ss v.1 l.1 p.1 o.1)
+statements_known names (ts ∷ ss) v l p o =
+    (record { variables = v.0; labels = l.0; procedures = p.0; once = o.0 }, statements_known names ss v.1 l.1 p.1 o.1)
 
 -- What the absence of faults of names says of one section.
 record HasNoFault (all : List Section) (s : Section) : Type 0 where
@@ -173,7 +203,8 @@ record HasNoFault (all : List Section) (s : Section) : Type 0 where
   callees : unknown kind.UnknownProcedure (titles all) (callees_in s) ≡ []
   once : flat_map (λ c. repeated kind.DuplicateCallee [] (callees_of c)) (statements_of s.body) ≡ []
 
-section_lawful : (all : List Section) (variables : List (List ℕ)) (s : Section) → IsFaultlessSection s → HasNoFault all s → Each (λ ts. Each (λ t. Known variables (spelling_of t)) (variables_of ts)) (statements_of s.body) → IsLawfulSection (names_in (titles all)) variables s
+section_lawful : (all : List Section) (variables : List (List ℕ)) (s : Section) → IsFaultlessSection s → HasNoFault all s → Each
+    (λ ts. Each (λ t. Known variables (spelling_of t)) (variables_of ts)) (statements_of s.body) → IsLawfulSection (names_in (titles all)) variables s
 section_lawful all variables s f h v =
     let procedures = names_in (titles all) in
     let names : Names = record { procedures = procedures; variables = variables; labels = names_in (labels_in s) } in
@@ -182,12 +213,16 @@ section_lawful all variables s f h v =
       faultless = f;
       labels_once = h.labels;
       known = statements_known names ss v
-          (each-from_flat_map (λ t. Known names.labels (spelling_of t)) jumps_of ss (none_unknown kind.UnknownLabel (labels_in s) (jumps_in s) h.jumps))
-          (each-from_flat_map (λ t. Known procedures (spelling_of t)) callees_of ss (none_unknown kind.UnknownProcedure (titles all) (callees_in s) h.callees))
+          (each-from_flat_map (λ t. Known names.labels (spelling_of t)) jumps_of ss
+          (none_unknown kind.UnknownLabel (labels_in s) (jumps_in s) h.jumps))
+          (each-from_flat_map (λ t. Known procedures (spelling_of t)) callees_of ss
+          (none_unknown kind.UnknownProcedure (titles all) (callees_in s) h.callees))
           (no_parts (λ c. repeated kind.DuplicateCallee [] (callees_of c)) ss h.once);
     }
 
-sections_lawful : (all : List Section) (variables : List (List ℕ)) (ss : List Section) → Each IsFaultlessSection ss → Each (HasNoFault all) ss → Each (λ s. Each (λ ts. Each (λ t. Known variables (spelling_of t)) (variables_of ts)) (statements_of s.body)) ss → Each (IsLawfulSection (names_in (titles all)) variables) ss
+sections_lawful : (all : List Section) (variables : List (List ℕ)) (ss : List Section) → Each IsFaultlessSection ss → Each (HasNoFault all) ss
+    → Each (λ s. Each (λ ts. Each (λ t. Known variables (spelling_of t)) (variables_of ts)) (statements_of s.body)) ss
+    → Each (IsLawfulSection (names_in (titles all)) variables) ss
 sections_lawful all variables [] f h v = tt
 sections_lawful all variables (s ∷ ss) f h v = (section_lawful all variables s f.0 h.0 v.0, sections_lawful all variables ss f.1 h.1 v.1)
 
@@ -198,7 +233,9 @@ record NoNameFaults (limits : Limits) (ss : List Section) : Type 0 where
   main : Known (names_in (titles ss)) (codes "main")
   few : length (titles ss) ≤ most_procedures limits
 
-no_faults_each : (all ss : List Section) → Each (λ s. repeated kind.DuplicateLabel [] (labels_in s) ≡ []) ss → Each (λ s. unknown kind.UnknownLabel (labels_in s) (jumps_in s) ≡ []) ss → Each (λ s. unknown kind.UnknownProcedure (titles all) (callees_in s) ≡ []) ss → Each (λ s. flat_map (λ c. repeated kind.DuplicateCallee [] (callees_of c)) (statements_of s.body) ≡ []) ss → Each (HasNoFault all) ss
+no_faults_each : (all ss : List Section) → Each (λ s. repeated kind.DuplicateLabel [] (labels_in s) ≡ []) ss → Each (λ s.
+    unknown kind.UnknownLabel (labels_in s) (jumps_in s) ≡ []) ss → Each (λ s. unknown kind.UnknownProcedure (titles all) (callees_in s) ≡ []) ss
+    → Each (λ s. flat_map (λ c. repeated kind.DuplicateCallee [] (callees_of c)) (statements_of s.body) ≡ []) ss → Each (HasNoFault all) ss
 no_faults_each all [] b c d e = tt
 no_faults_each all (s ∷ ss) b c d e = (record { labels = b.0; jumps = c.0; callees = d.0; once = e.0 }, no_faults_each all ss b.1 c.1 d.1 e.1)
 
@@ -232,14 +269,19 @@ no_name_faults limits ss e =
           (no_parts (λ s. repeated kind.DuplicateLabel [] (labels_in s)) ss (no_right a b none_2))
           (no_parts (λ s. unknown kind.UnknownLabel (labels_in s) (jumps_in s)) ss (no_right (a ++ b) c none_3))
           (no_parts (λ s. unknown kind.UnknownProcedure (titles ss) (callees_in s)) ss (no_right (a ++ b ++ c) d none_4))
-          (no_parts (λ s. flat_map (λ c. repeated kind.DuplicateCallee [] (callees_of c)) (statements_of s.body)) ss (no_right (a ++ b ++ c ++ d) f none_5));
+          (no_parts (λ s. flat_map (λ c. repeated kind.DuplicateCallee [] (callees_of c)) (statements_of s.body)) ss
+          (no_right (a ++ b ++ c ++ d) f none_5));
       main = main_known (is_one_of (codes "main") (names_in (titles ss))) (no_right (a ++ b ++ c ++ d ++ f) g none_6);
       few = none_dropped (most_procedures limits) (titles ss) (no_right (a ++ b ++ c ++ d ++ f ++ g) h e);
     }
 
 -- The program of sections without faults.
 program_in : List ℕ → List Section → Program
-program_in text ss = record { procedures = procedures_from text (names_in (titles ss)) (variables_in ss) 0 ss; procedure_names = names_in (titles ss); variable_names = variables_in ss }
+program_in text ss = record {
+  procedures = procedures_from text (names_in (titles ss)) (variables_in ss) 0 ss;
+  procedure_names = names_in (titles ss);
+  variable_names = variables_in ss;
+}
 
 length-names : (ss : List Section) → length (names_in (titles ss)) ≡ length ss
 length-names ss = length-map (titles ss) spelling_of ∙ length-map ss (λ s. s.title)
@@ -248,10 +290,12 @@ length-names ss = length-map (titles ss) spelling_of ∙ length-map ss (λ s. s.
 abbrev variable_tokens : List Section → List Token
 variable_tokens ss = flat_map (λ s. flat_map variables_of (statements_of s.body)) ss
 
-variables_known : (ss : List Section) → Each (λ s. Each (λ ts. Each (λ t. Known (variables_in ss) (spelling_of t)) (variables_of ts)) (statements_of s.body)) ss
+variables_known : (ss : List Section)
+    → Each (λ s. Each (λ ts. Each (λ t. Known (variables_in ss) (spelling_of t)) (variables_of ts)) (statements_of s.body)) ss
 variables_known ss =
     let K : Token → Type 0 = λ t. Known (variables_in ss) (spelling_of t) in
-    let tokens : Each K (variable_tokens ss) = each-from_map (Known (variables_in ss)) spelling_of (variable_tokens ss) (each_once_known (names_in (variable_tokens ss))) in
+    let tokens : Each K (variable_tokens ss) =
+    each-from_map (Known (variables_in ss)) spelling_of (variable_tokens ss) (each_once_known (names_in (variable_tokens ss))) in
     each-weaker (λ s. Each K (flat_map variables_of (statements_of s.body))) (λ s. Each (λ ts. Each K (variables_of ts)) (statements_of s.body))
     (λ s h. each-from_flat_map K variables_of (statements_of s.body) h) ss
     (each-from_flat_map K (λ s. flat_map variables_of (statements_of s.body)) ss tokens)
@@ -262,7 +306,8 @@ all_variables_lawful ss h =
     each_once_each IsLawfulName (names_in (variable_tokens ss)) (each-map IsLawfulName spelling_of (variable_tokens ss)
     (each-flat_map L (λ s. flat_map variables_of (statements_of s.body)) ss
     (each-weaker IsFaultlessSection (λ s. Each L (flat_map variables_of (statements_of s.body)))
-    (λ s k. each-flat_map L variables_of (statements_of s.body) (each-weaker IsFaultlessStatement (λ ts. Each L (variables_of ts)) variables_lawful (statements_of s.body) (statements_faultless s.body k.lines))) ss h)))
+    (λ s k. each-flat_map L variables_of (statements_of s.body) (each-weaker IsFaultlessStatement (λ ts.
+    Each L (variables_of ts)) variables_lawful (statements_of s.body) (statements_faultless s.body k.lines))) ss h)))
 
 sections_sound : (limits : Limits) (text : List ℕ) (ss : List Section) → Each IsFaultlessSection ss → NoNameFaults limits ss
     → AreFew (longest_text Large) ss → IsSound (program_in text ss)
@@ -277,7 +322,9 @@ sections_sound limits text ss f h few =
       named = size;
       few = omega (arith, h.few, procedures_within_large limits, size, length-map (titles ss) spelling_of);
       main = known_contained procedures (codes "main") h.main;
-      procedures_lawful = All-from_recursion IsLawfulName procedures (each-map IsLawfulName spelling_of (titles ss) (each-map (λ t. IsLawfulName (spelling_of t)) (λ s. s.title) ss (each-weaker IsFaultlessSection (λ s. IsLawfulName (spelling_of s.title)) (λ s k. k.title) ss f)));
+      procedures_lawful = All-from_recursion IsLawfulName procedures
+          (each-map IsLawfulName spelling_of (titles ss) (each-map (λ t. IsLawfulName (spelling_of t)) (λ s.
+          s.title) ss (each-weaker IsFaultlessSection (λ s. IsLawfulName (spelling_of s.title)) (λ s k. k.title) ss f)));
       procedures_differ = all_differ procedures (none_repeated kind.DuplicateProcedure [] (titles ss) h.procedures).differ;
       variables_lawful = All-from_recursion IsLawfulName variables (all_variables_lawful ss f);
       variables_differ = all_differ variables (each_once_differ (names_in (variable_tokens ss)));
@@ -285,7 +332,8 @@ sections_sound limits text ss f h few =
       labels_few = omega (arith, few.labels, total_is (λ q. length q.labels) ps, total_labels text procedures variables 0 ss);
       variables_few = few.variables;
       procedures = subst (λ n. All (IsSoundProcedure (length variables) n) ps) size
-          (All-from_recursion (IsSoundProcedure (length variables) (length procedures)) ps (procedures_sound text procedures variables 0 ss (sections_lawful ss variables ss f h.each (variables_known ss))));
+          (All-from_recursion (IsSoundProcedure (length variables) (length procedures)) ps
+          (procedures_sound text procedures variables 0 ss (sections_lawful ss variables ss f h.each (variables_known ss))));
     }
 
 -- What a text without a fault shows.
@@ -319,7 +367,8 @@ none_head (f ∷ fs) e = absurd (cc e)
 -- Its sections.
 text_faultless : (limits : Limits) (text : List ℕ) → HasNoFaults limits text → Each IsFaultlessSection (sections text)
 text_faultless limits text h =
-    sections_faultless false (token_lines (rows text)) (lines_faultless false (length text) (rows text) (rows_spelled 0 (lines text)) (none_first (line_faults false (length text) (rows text)) h.lines))
+    sections_faultless false (token_lines (rows text)) (lines_faultless false (length text) (rows text) (rows_spelled 0 (lines text))
+    (none_first (line_faults false (length text) (rows text)) h.lines))
 
 text_names : (limits : Limits) (text : List ℕ) → HasNoFaults limits text → NoNameFaults limits (sections text)
 text_names limits text h = no_name_faults limits (sections text) (none_head (name_faults limits (sections text)) h.names)

@@ -1,10 +1,12 @@
 -- What a statement without faults says is sound.
-use Rattle.std.proofs.Common.{◌≡◌, ℕ, ◌<◌, ◌≤◌, Bool, true, false, cond, ◌||◌, List, [], ◌∷◌, map, flat_map, length, refl, sym, ap, ◌∙◌, subst, arith, Option, Some, None, find, true≢false, codes}
+use Rattle.std.proofs.Common.{◌≡◌, ℕ, ◌<◌, ◌≤◌, Bool, true, false, cond, ◌||◌, List, [], ◌∷◌, map, flat_map, length, refl, sym, ap, ◌∙◌, subst, arith}
+use Rattle.std.proofs.Common.{Option, Some, None, find, true≢false, codes}
 use Rattle.std.proofs.lemmas.List.{length-map}
 use Rattle.std.proofs.lemmas.List.Elements.{All-from_recursion}
 use Rattle.std.specs.List.{AllByRecursion as Each, list_any}
 use Rattle.tac_lines.specs.Tokens.{Word, Token, spelling_of}
-use Rattle.tac_lines.specs.Forms.{Slot, variable, operand, label, callee, binary, unary, comparison, key, has_form, further_callees, plain_statements, statements, statement_row, paired, cells_of, in_slot, is_label, is_callee, is_variable, callees_of, jumps_of}
+use Rattle.tac_lines.specs.Forms.{Slot, variable, operand, label, callee, binary, unary, comparison, key, has_form, further_callees, plain_statements}
+use Rattle.tac_lines.specs.Forms.{statements, statement_row, paired, cells_of, in_slot, is_label, is_callee, is_variable, callees_of, jumps_of}
 use Rattle.tac_reader.specs.Sections.{only_name, variables_of}
 use Rattle.tac_program.specs.Programs.{number_of}
 use Rattle.tac_reader.specs.Parses.{kind_of, statement_of, names_in}
@@ -18,7 +20,8 @@ use Rattle.tac_lines.proofs.forms.CalleeCounts.{most_callees}
 use Rattle.tac_program.proofs.lists.Elements.{each-append, each-map, each-weaker, all_differ, Differ}
 use Rattle.tac_reader.proofs.known_names.KnownNames.{Known, number_below, numbers_differ, none_repeated}
 use Rattle.tac_reader.proofs.programs.StatementWords.{row_form}
-use Rattle.tac_reader.proofs.programs.FaultlessStatements.{IsFaultlessStatement, variables, labels, procedures, AllSaySound, all_say_sound, KnownVariable, KnownLabel, KnownProcedure}
+use Rattle.tac_reader.proofs.programs.FaultlessStatements.{IsFaultlessStatement, variables, labels, procedures, AllSaySound, all_say_sound}
+use Rattle.tac_reader.proofs.programs.FaultlessStatements.{KnownVariable, KnownLabel, KnownProcedure}
 
 abbrev TableRow : Type 0
 TableRow = Form × List Slot
@@ -40,7 +43,8 @@ record AreCallees (procedures : ℕ) (cs : List ℕ) : Type 0 where
 module _ (names : Names) (cs : List ℕ) where
   -- What the tokens of this row say is sound.
   abbrev RowSound : TableRow → Type 0
-  RowSound row = (ts : List Token) → AllSaySound names row.1 ts → length cs ≡ called row.1 ts → IsSoundStatement (variables names) (labels names) (procedures names) (kind_of names cs row.0 (words ts))
+  RowSound row = (ts : List Token) → AllSaySound names row.1 ts → length cs ≡ called row.1 ts
+      → IsSoundStatement (variables names) (labels names) (procedures names) (kind_of names cs row.0 (words ts))
 
   copy_sound : RowSound (form.Copy, variable ∷ key (codes "=") ∷ operand ∷ [])
   copy_sound [] h n = absurd h
@@ -108,7 +112,12 @@ module _ (names : Names) (cs : List ℕ) where
     call_sound : (r : List Slot) → RowSound (call_row r)
     call_sound r [] h n = absurd h
     call_sound r (a ∷ []) h n = absurd h.1
-    call_sound r (a ∷ b ∷ ts) h n = record { some = omega (arith, n); few = callees.few; there = All-from_recursion (λ p. p < procedures names) cs callees.there; differ = all_differ cs callees.differ }
+    call_sound r (a ∷ b ∷ ts) h n = record {
+      some = omega (arith, n);
+      few = callees.few;
+      there = All-from_recursion (λ p. p < procedures names) cs callees.there;
+      differ = all_differ cs callees.differ;
+    }
 
     calls_sound : (rs : List (List Slot)) → Each RowSound (map call_row rs)
     calls_sound [] = tt
@@ -116,8 +125,16 @@ module _ (names : Names) (cs : List ℕ) where
 
     table_sound : Each RowSound statements
     table_sound =
-        each-append RowSound plain_statements (map call_row (further_callees 7))
-        (copy_sound, (unary_sound, (binary_sound, (jump_sound, (test_sound, (negated_sound, (comparison_sound, ((λ ts h n. tt), (read_sound, (print_sound, ((λ ts h n. tt), tt)))))))))))
+        each-append RowSound plain_statements (map call_row (further_callees 7)) (
+          copy_sound,
+          (
+            unary_sound,
+            (
+              binary_sound,
+              (jump_sound, (test_sound, (negated_sound, (comparison_sound, ((λ ts h n. tt), (read_sound, (print_sound, ((λ ts h n. tt), tt)))))))),
+            ),
+          ),
+        )
         (calls_sound (further_callees 7))
 
 -- The row that tokens have.
@@ -127,14 +144,22 @@ record HasRow (Q : TableRow → Type 0) (ts : List Token) (rows : List TableRow)
   form : has_form row.1 ts ≡ true
   holds : Q row
 
-has_row : (Q : TableRow → Type 0) (ts : List Token) (rows : List TableRow) → Each Q rows → list_any (λ f. has_form f ts) (map (λ r. r.1) rows) ≡ true → HasRow Q ts rows
+has_row : (Q : TableRow → Type 0) (ts : List Token) (rows : List TableRow) → Each Q rows → list_any (λ f. has_form f ts) (map (λ r. r.1) rows) ≡ true
+    → HasRow Q ts rows
 has_row Q ts [] h e = absurd (true≢false (sym e))
 has_row Q ts (r ∷ rs) h e = by_test (has_form r.1 ts) refl e (has_row Q ts rs h.1) where
-  by_test : (b : Bool) → has_form r.1 ts ≡ b → (b || list_any (λ f. has_form f ts) (map (λ q. q.1) rs)) ≡ true → (list_any (λ f. has_form f ts) (map (λ q. q.1) rs) ≡ true → HasRow Q ts rs) → HasRow Q ts (r ∷ rs)
-  by_test true k m later = record { row = r; found = ap (λ b. cond b (let o : Option TableRow = Some r in o) (find (λ q. has_form q.1 ts) rs)) k; form = k; holds = h.0 }
+  by_test : (b : Bool) → has_form r.1 ts ≡ b → (b || list_any (λ f. has_form f ts) (map (λ q. q.1) rs)) ≡ true
+      → (list_any (λ f. has_form f ts) (map (λ q. q.1) rs) ≡ true → HasRow Q ts rs) → HasRow Q ts (r ∷ rs)
+  by_test true k m later =
+      record { row = r; found = ap (λ b. cond b (let o : Option TableRow = Some r in o) (find (λ q. has_form q.1 ts) rs)) k; form = k; holds = h.0 }
   by_test false k m later =
       let rest = later m in
-      record { row = rest.row; found = ap (λ b. cond b (let o : Option TableRow = Some r in o) (find (λ q. has_form q.1 ts) rs)) k ∙ rest.found; form = rest.form; holds = rest.holds }
+      record {
+        row = rest.row;
+        found = ap (λ b. cond b (let o : Option TableRow = Some r in o) (find (λ q. has_form q.1 ts) rs)) k ∙ rest.found;
+        form = rest.form;
+        holds = rest.holds;
+      }
 
 pub cells_are : (ts : List Token) (row : TableRow) → statement_row ts ≡ Some row → cells_of ts ≡ paired row.1 ts
 cells_are ts row e = ap (λ o. elim o as (λ _. List (Slot × Token)) [ None ↦ [] | Some r ↦ paired r.1 ts ]) e
@@ -149,7 +174,8 @@ pub record NamesAreKnown (names : Names) (ts : List Token) : Type 0 where
 callee_numbers : Names → List Token → List ℕ
 callee_numbers names ts = map (λ t. number_of names.procedures (spelling_of t)) (callees_of ts)
 
-map-names : (names : Names) (ts : List Token) → map (number_of names.procedures) (names_in ts) ≡ map (λ t. number_of names.procedures (spelling_of t)) ts
+map-names : (names : Names) (ts : List Token)
+    → map (number_of names.procedures) (names_in ts) ≡ map (λ t. number_of names.procedures (spelling_of t)) ts
 map-names names [] = refl
 map-names names (t ∷ ts) = ap (λ r. number_of names.procedures (spelling_of t) ∷ r) (map-names names ts)
 
@@ -157,11 +183,16 @@ are_callees : (names : Names) (ts : List Token) → NamesAreKnown names ts → A
 unfolding callee_numbers
 are_callees names ts h = record {
   few = subst (λ n. n ≤ 8) (sym (length-map (callees_of ts) (λ t. number_of names.procedures (spelling_of t)))) (most_callees ts);
-  there = each-map (λ p. p < procedures names) (λ t. number_of names.procedures (spelling_of t)) (callees_of ts) (each-weaker (KnownProcedure names) (λ t. number_of names.procedures (spelling_of t) < procedures names) (λ t k. number_below names.procedures (spelling_of t) k) (callees_of ts) h.procedures);
-  differ = subst Differ (map-names names (callees_of ts)) (numbers_differ names.procedures (names_in (callees_of ts)) (each-map (Known names.procedures) spelling_of (callees_of ts) h.procedures) (none_repeated kind.DuplicateCallee [] (callees_of ts) h.once).differ);
+  there = each-map (λ p. p < procedures names) (λ t. number_of names.procedures (spelling_of t)) (callees_of ts)
+      (each-weaker (KnownProcedure names) (λ t. number_of names.procedures (spelling_of t) < procedures names) (λ t k.
+      number_below names.procedures (spelling_of t) k) (callees_of ts) h.procedures);
+  differ = subst Differ (map-names names (callees_of ts))
+      (numbers_differ names.procedures (names_in (callees_of ts)) (each-map (Known names.procedures) spelling_of (callees_of ts) h.procedures)
+      (none_repeated kind.DuplicateCallee [] (callees_of ts) h.once).differ);
 }
 
-pub statement_sound : (text : List ℕ) (names : Names) (ts : List Token) → IsFaultlessStatement ts → NamesAreKnown names ts → IsSoundStatement (variables names) (labels names) (procedures names) (statement_of text names ts).kind
+pub statement_sound : (text : List ℕ) (names : Names) (ts : List Token) → IsFaultlessStatement ts → NamesAreKnown names ts
+    → IsSoundStatement (variables names) (labels names) (procedures names) (statement_of text names ts).kind
 unfolding callee_numbers
 statement_sound text names ts h k =
     let cs = callee_numbers names ts in
@@ -170,5 +201,7 @@ statement_sound text names ts h k =
     let says = all_say_sound names (has.row).1 ts has.form h.words
     (subst (λ c. Each (KnownVariable names) (flat_map only_name (in_slot is_variable c))) cells k.variables)
     (subst (λ c. Each (KnownLabel names) (in_slot is_label c)) cells k.labels) in
-    let count : length cs ≡ called (has.row).1 ts = length-map (callees_of ts) (λ t. number_of names.procedures (spelling_of t)) ∙ ap (λ c. length (in_slot is_callee c)) cells in
-    subst (λ f. IsSoundStatement (variables names) (labels names) (procedures names) (kind_of names cs f (words ts))) (sym (row_form ts has.row has.found)) (has.holds ts says count)
+    let count : length cs ≡ called (has.row).1 ts =
+    length-map (callees_of ts) (λ t. number_of names.procedures (spelling_of t)) ∙ ap (λ c. length (in_slot is_callee c)) cells in
+    subst (λ f. IsSoundStatement (variables names) (labels names) (procedures names) (kind_of names cs f (words ts)))
+    (sym (row_form ts has.row has.found)) (has.holds ts says count)

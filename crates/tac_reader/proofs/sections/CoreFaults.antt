@@ -20,10 +20,13 @@ use Rattle.tac_reader.proofs.sections.Cores.{Core, core, core_titles, titles-era
 abbrev nowhere : Fault → Fault
 nowhere f = record { kind = f.kind; place = 0 }
 
-repeated-erased : (k : RefusalKind) (before : List (List ℕ)) (ts : List Token) → map nowhere (repeated k before ts) ≡ repeated k before (all_erased ts)
+repeated-erased : (k : RefusalKind) (before : List (List ℕ)) (ts : List Token)
+    → map nowhere (repeated k before ts) ≡ repeated k before (all_erased ts)
 repeated-erased k before [] = refl
 repeated-erased k before (t ∷ ts) = by_test (is_one_of (spelling_of t) before) (repeated-erased k (before ++ spelling_of t ∷ []) ts) where
-  by_test : (b : Bool) → map nowhere (repeated k (before ++ spelling_of t ∷ []) ts) ≡ repeated k (before ++ spelling_of t ∷ []) (all_erased ts) → map nowhere ((if b then at k t.start else []) ++ repeated k (before ++ spelling_of t ∷ []) ts) ≡ (if b then at k 0 else []) ++ repeated k (before ++ spelling_of t ∷ []) (all_erased ts)
+  by_test : (b : Bool) → map nowhere (repeated k (before ++ spelling_of t ∷ []) ts) ≡ repeated k (before ++ spelling_of t ∷ []) (all_erased ts)
+      → map nowhere ((if b then at k t.start else []) ++ repeated k (before ++ spelling_of t ∷ []) ts) ≡ (if b then at k 0 else [])
+      ++ repeated k (before ++ spelling_of t ∷ []) (all_erased ts)
   by_test true e = ap (λ r. at k 0 ++ r) e
   by_test false e = e
 
@@ -31,9 +34,11 @@ unknown-erased : (k : RefusalKind) (known used : List Token) → map nowhere (un
 unknown-erased k known [] = refl
 unknown-erased k known (t ∷ ts) =
     by_test (is_one_of (spelling_of t) (names_in known)) (unknown-erased k known ts)
-    ∙ ap (λ names. (if is_one_of (spelling_of t) names then [] else at k 0) ++ unknown k (all_erased known) (all_erased ts)) (sym (names_erased known))
+    ∙ ap (λ names. (if is_one_of (spelling_of t) names then [] else at k 0) ++ unknown k (all_erased known) (all_erased ts))
+    (sym (names_erased known))
   where
-    by_test : (b : Bool) → map nowhere (unknown k known ts) ≡ unknown k (all_erased known) (all_erased ts) → map nowhere ((if b then [] else at k t.start) ++ unknown k known ts) ≡ (if b then [] else at k 0) ++ unknown k (all_erased known) (all_erased ts)
+    by_test : (b : Bool) → map nowhere (unknown k known ts) ≡ unknown k (all_erased known) (all_erased ts) → map nowhere
+        ((if b then [] else at k t.start) ++ unknown k known ts) ≡ (if b then [] else at k 0) ++ unknown k (all_erased known) (all_erased ts)
     by_test true e = e
     by_test false e = ap (λ r. at k 0 ++ r) e
 
@@ -64,17 +69,20 @@ core_faults limits cs =
     ++ no_main (names_in (core_titles cs))
     ++ too_many (drop (most_procedures limits) (core_titles cs))
 
-map_seven : {A B : Type 0} (f : A → B) (a b c d e g h : List A) → map f (a ++ b ++ c ++ d ++ e ++ g ++ h) ≡ map f a ++ map f b ++ map f c ++ map f d ++ map f e ++ map f g ++ map f h
+map_seven : {A B : Type 0} (f : A → B) (a b c d e g h : List A)
+    → map f (a ++ b ++ c ++ d ++ e ++ g ++ h) ≡ map f a ++ map f b ++ map f c ++ map f d ++ map f e ++ map f g ++ map f h
 map_seven f a b c d e g h =
     map-append f (a ++ b ++ c ++ d ++ e ++ g) h
     ∙ ap (λ r. r ++ map f h)
     (map-append f (a ++ b ++ c ++ d ++ e) g
     ∙ ap (λ r. r ++ map f g)
     (map-append f (a ++ b ++ c ++ d) e
-    ∙ ap (λ r. r ++ map f e) (map-append f (a ++ b ++ c) d ∙ ap (λ r. r ++ map f d) (map-append f (a ++ b) c ∙ ap (λ r. r ++ map f c) (map-append f a b)))))
+    ∙ ap (λ r. r ++ map f e) (map-append f (a ++ b ++ c) d
+    ∙ ap (λ r. r ++ map f d) (map-append f (a ++ b) c ∙ ap (λ r. r ++ map f c) (map-append f a b)))))
 
 -- Through the statements of a section.
-through : (f : List Token → List Token) → ((ts : List Token) → f (all_erased ts) ≡ all_erased (f ts)) → (s : Section) → all_erased (flat_map f (statements_of s.body)) ≡ flat_map f (core s).statements
+through : (f : List Token → List Token) → ((ts : List Token) → f (all_erased ts) ≡ all_erased (f ts)) → (s : Section)
+    → all_erased (flat_map f (statements_of s.body)) ≡ flat_map f (core s).statements
 through f e s = flat_map-through erased f all_erased f (λ ts. sym (e ts)) (statements_of s.body)
 
 faults-erased : (limits : Limits) (ss : List Section) → map nowhere (name_faults limits ss) ≡ core_faults limits (map core ss)
@@ -95,21 +103,33 @@ faults-erased limits ss =
     a : map nowhere (repeated kind.DuplicateProcedure [] (titles ss)) ≡ repeated kind.DuplicateProcedure [] (core_titles (map core ss))
     a = repeated-erased kind.DuplicateProcedure [] (titles ss) ∙ ap (repeated kind.DuplicateProcedure []) (titles-erased ss)
 
-    b : map nowhere (flat_map (λ s. repeated kind.DuplicateLabel [] (labels_in s)) ss) ≡ flat_map (λ c. repeated kind.DuplicateLabel [] c.labels) (map core ss)
-    b = flat_map-through nowhere (λ (s : Section). repeated kind.DuplicateLabel [] (labels_in s)) core (λ c. repeated kind.DuplicateLabel [] c.labels) (λ s. repeated-erased kind.DuplicateLabel [] (labels_in s)) ss
+    b : map nowhere (flat_map (λ s. repeated kind.DuplicateLabel [] (labels_in s)) ss)
+        ≡ flat_map (λ c. repeated kind.DuplicateLabel [] c.labels) (map core ss)
+    b = flat_map-through nowhere (λ (s : Section). repeated kind.DuplicateLabel [] (labels_in s)) core (λ c. repeated kind.DuplicateLabel [] c.labels)
+        (λ s. repeated-erased kind.DuplicateLabel [] (labels_in s)) ss
 
-    c : map nowhere (flat_map (λ s. unknown kind.UnknownLabel (labels_in s) (jumps_in s)) ss) ≡ flat_map (λ c. unknown kind.UnknownLabel c.labels (flat_map jumps_of c.statements)) (map core ss)
-    c = flat_map-through nowhere (λ (s : Section). unknown kind.UnknownLabel (labels_in s) (jumps_in s)) core (λ c. unknown kind.UnknownLabel c.labels (flat_map jumps_of c.statements))
-        (λ s. unknown-erased kind.UnknownLabel (labels_in s) (jumps_in s) ∙ ap (unknown kind.UnknownLabel (all_erased (labels_in s))) (through jumps_of jumps-erased s)) ss
+    c : map nowhere (flat_map (λ s. unknown kind.UnknownLabel (labels_in s) (jumps_in s)) ss)
+        ≡ flat_map (λ c. unknown kind.UnknownLabel c.labels (flat_map jumps_of c.statements)) (map core ss)
+    c = flat_map-through nowhere (λ (s : Section). unknown kind.UnknownLabel (labels_in s) (jumps_in s)) core
+        (λ c. unknown kind.UnknownLabel c.labels (flat_map jumps_of c.statements))
+        (λ s. unknown-erased kind.UnknownLabel (labels_in s) (jumps_in s)
+        ∙ ap (unknown kind.UnknownLabel (all_erased (labels_in s))) (through jumps_of jumps-erased s)) ss
 
-    d : map nowhere (flat_map (λ s. unknown kind.UnknownProcedure (titles ss) (callees_in s)) ss) ≡ flat_map (λ c. unknown kind.UnknownProcedure (core_titles (map core ss)) (flat_map callees_of c.statements)) (map core ss)
-    d = flat_map-through nowhere (λ (s : Section). unknown kind.UnknownProcedure (titles ss) (callees_in s)) core (λ c. unknown kind.UnknownProcedure (core_titles (map core ss)) (flat_map callees_of c.statements))
-        (λ s. unknown-erased kind.UnknownProcedure (titles ss) (callees_in s) ∙ (λ i. unknown kind.UnknownProcedure (titles-erased ss i) (through callees_of callees-erased s i))) ss
+    d : map nowhere (flat_map (λ s. unknown kind.UnknownProcedure (titles ss) (callees_in s)) ss)
+        ≡ flat_map (λ c. unknown kind.UnknownProcedure (core_titles (map core ss)) (flat_map callees_of c.statements)) (map core ss)
+    d = flat_map-through nowhere (λ (s : Section). unknown kind.UnknownProcedure (titles ss) (callees_in s)) core
+        (λ c. unknown kind.UnknownProcedure (core_titles (map core ss)) (flat_map callees_of c.statements))
+        (λ s. unknown-erased kind.UnknownProcedure (titles ss) (callees_in s)
+        ∙ (λ i. unknown kind.UnknownProcedure (titles-erased ss i) (through callees_of callees-erased s i))) ss
 
-    e : map nowhere (flat_map (λ s. flat_map (λ c. repeated kind.DuplicateCallee [] (callees_of c)) (statements_of s.body)) ss) ≡ flat_map (λ c. flat_map (λ ts. repeated kind.DuplicateCallee [] (callees_of ts)) c.statements) (map core ss)
-    e = flat_map-through nowhere (λ (s : Section). flat_map (λ c. repeated kind.DuplicateCallee [] (callees_of c)) (statements_of s.body)) core (λ c. flat_map (λ ts. repeated kind.DuplicateCallee [] (callees_of ts)) c.statements)
-        (λ s. flat_map-through nowhere (λ c. repeated kind.DuplicateCallee [] (callees_of c)) all_erased (λ c. repeated kind.DuplicateCallee [] (callees_of c))
-        (λ c. repeated-erased kind.DuplicateCallee [] (callees_of c) ∙ ap (repeated kind.DuplicateCallee []) (sym (callees-erased c))) (statements_of s.body)) ss
+    e : map nowhere (flat_map (λ s. flat_map (λ c. repeated kind.DuplicateCallee [] (callees_of c)) (statements_of s.body)) ss)
+        ≡ flat_map (λ c. flat_map (λ ts. repeated kind.DuplicateCallee [] (callees_of ts)) c.statements) (map core ss)
+    e = flat_map-through nowhere (λ (s : Section). flat_map (λ c. repeated kind.DuplicateCallee [] (callees_of c)) (statements_of s.body)) core
+        (λ c. flat_map (λ ts. repeated kind.DuplicateCallee [] (callees_of ts)) c.statements)
+        (λ s. flat_map-through nowhere (λ c. repeated kind.DuplicateCallee [] (callees_of c)) all_erased
+        (λ c. repeated kind.DuplicateCallee [] (callees_of c))
+        (λ c. repeated-erased kind.DuplicateCallee [] (callees_of c)
+        ∙ ap (repeated kind.DuplicateCallee []) (sym (callees-erased c))) (statements_of s.body)) ss
 
     g : map nowhere (no_main (names_in (titles ss))) ≡ no_main (names_in (core_titles (map core ss)))
     g = no_main-erased (names_in (titles ss)) ∙ ap no_main (sym (names_erased (titles ss)) ∙ ap names_in (titles-erased ss))

@@ -5,12 +5,14 @@ use Rattle.tac_lines.specs.Tokens.{Token, spelling_of}
 use Rattle.tac_reader.specs.Sections.{Section, sections_in, statements_of, labels_in, variables_of, titles}
 use Rattle.tac_lines.specs.Forms.{callees_of}
 use Rattle.tac_program.specs.Programs.{number_of}
-use Rattle.tac_reader.specs.Parses.{names_in, kind_of, form_of, statement_of, label_places, labels_from, procedure_of, procedures_from, variables_in, each_once}
+use Rattle.tac_reader.specs.Parses.{names_in, kind_of, form_of, statement_of, label_places, labels_from, procedure_of, procedures_from, variables_in}
+use Rattle.tac_reader.specs.Parses.{each_once}
 use Rattle.tac_program.specs.Names.{Names}
 use Rattle.tac_reader.specs.Laws.{without_spans}
 use Rattle.tac_program.specs.declared.program.Label.{Label}
 use Rattle.tac_program.specs.declared.program.StmtKind.{StmtKind}
-use Rattle.tac_reader.proofs.tokens.Bare.{erased, all_erased, words_of, words_erased, names_erased, form_of-erased, callees-erased, variables-erased, statements_of-erased, labels_in-erased, label_places-erased, erased_section, sections_in-erased}
+use Rattle.tac_reader.proofs.tokens.Bare.{erased, all_erased, words_of, words_erased, names_erased, form_of-erased, callees-erased, variables-erased}
+use Rattle.tac_reader.proofs.tokens.Bare.{statements_of-erased, labels_in-erased, label_places-erased, erased_section, sections_in-erased}
 
 -- A section's title and labels, the places of the labels, and the statements, all without places in the text.
 pub record Core : Type 0 where
@@ -20,7 +22,12 @@ pub record Core : Type 0 where
   pub statements : List (List Token)
 
 abbrev pub core : Section → Core
-core s = record { title = erased s.title; labels = all_erased (labels_in s); places = label_places 0 s.body; statements = map all_erased (statements_of s.body) }
+core s = record {
+  title = erased s.title;
+  labels = all_erased (labels_in s);
+  places = label_places 0 s.body;
+  statements = map all_erased (statements_of s.body);
+}
 
 -- The cores of sections are those of the sections without places.
 pub erased_twice : (ts : List Token) → all_erased (all_erased ts) ≡ all_erased ts
@@ -47,7 +54,8 @@ pub cores-erased : (ls : List (List Token)) → map core (sections_in (map all_e
 cores-erased ls = ap (map core) (sections_in-erased ls) ∙ each_core-erased (sections_in ls)
 
 -- A list that is made of a list, through a map of each.
-pub flat_map-through : {X Y A B : Type 0} (f : A → B) (g : X → List A) (k : X → Y) (h : Y → List B) → ((x : X) → map f (g x) ≡ h (k x)) → (xs : List X) → map f (flat_map g xs) ≡ flat_map h (map k xs)
+pub flat_map-through : {X Y A B : Type 0} (f : A → B) (g : X → List A) (k : X → Y) (h : Y → List B) → ((x : X) → map f (g x) ≡ h (k x))
+    → (xs : List X) → map f (flat_map g xs) ≡ flat_map h (map k xs)
 flat_map-through f g k h e [] = refl
 flat_map-through f g k h e (x ∷ xs) = map-append f (g x) (flat_map g xs) ∙ (λ i. e x i ++ flat_map-through f g k h e xs i)
 
@@ -55,7 +63,8 @@ flat_map-through f g k h e (x ∷ xs) = map-append f (g x) (flat_map g xs) ∙ (
 abbrev pub kind_in : Names → List Token → StmtKind
 kind_in names ts = kind_of names (map (λ t. number_of names.procedures (spelling_of t)) (callees_of ts)) (form_of ts) (words_of ts)
 
-numbers-erased : (names : List (List ℕ)) (ts : List Token) → map (λ t. number_of names (spelling_of t)) (all_erased ts) ≡ map (λ t. number_of names (spelling_of t)) ts
+numbers-erased : (names : List (List ℕ)) (ts : List Token)
+    → map (λ t. number_of names (spelling_of t)) (all_erased ts) ≡ map (λ t. number_of names (spelling_of t)) ts
 numbers-erased names [] = refl
 numbers-erased names (t ∷ ts) = ap (λ r. number_of names (spelling_of t) ∷ r) (numbers-erased names ts)
 
@@ -65,7 +74,8 @@ kind_in-erased names ts = λ i.
     ((ap (map (λ t. number_of names.procedures (spelling_of t))) (callees-erased ts) ∙ numbers-erased names.procedures (callees_of ts)) i)
     (form_of-erased ts i) (words_erased ts i)
 
-kinds : (text : List ℕ) (names : Names) (ls : List (List Token)) → map (λ s. s.kind) (map (statement_of text names) ls) ≡ map (kind_in names) (map all_erased ls)
+kinds : (text : List ℕ) (names : Names) (ls : List (List Token))
+    → map (λ s. s.kind) (map (statement_of text names) ls) ≡ map (kind_in names) (map all_erased ls)
 kinds text names [] = refl
 kinds text names (l ∷ ls) = λ i. sym (kind_in-erased names l) i ∷ kinds text names ls i
 
@@ -82,7 +92,8 @@ abbrev pub outlines : List (List ℕ) → List (List ℕ) → ℕ → List Core 
 outlines procedures variables n [] = []
 outlines procedures variables n (c ∷ cs) = outline procedures variables n c ∷ outlines procedures variables (suc n) cs
 
-outline_is : (text : List ℕ) (procedures variables : List (List ℕ)) (n : ℕ) (s : Section) → without_spans (procedure_of text procedures variables n s) ≡ outline procedures variables n (core s)
+outline_is : (text : List ℕ) (procedures variables : List (List ℕ)) (n : ℕ) (s : Section)
+    → without_spans (procedure_of text procedures variables n s) ≡ outline procedures variables n (core s)
 outline_is text procedures variables n s =
     let names : List (List ℕ) → Names = λ labels. record { procedures = procedures; variables = variables; labels = labels } in
     λ i. (
@@ -93,9 +104,11 @@ outline_is text procedures variables n s =
           ∙ ap (λ ls. map (kind_in (names ls)) (map all_erased (statements_of s.body))) (sym (names_erased (labels_in s)))) i,
     )
 
-pub outlines_are : (text : List ℕ) (procedures variables : List (List ℕ)) (n : ℕ) (ss : List Section) → map without_spans (procedures_from text procedures variables n ss) ≡ outlines procedures variables n (map core ss)
+pub outlines_are : (text : List ℕ) (procedures variables : List (List ℕ)) (n : ℕ) (ss : List Section)
+    → map without_spans (procedures_from text procedures variables n ss) ≡ outlines procedures variables n (map core ss)
 outlines_are text procedures variables n [] = refl
-outlines_are text procedures variables n (s ∷ ss) = λ i. outline_is text procedures variables n s i ∷ outlines_are text procedures variables (suc n) ss i
+outlines_are text procedures variables n (s ∷ ss) =
+    λ i. outline_is text procedures variables n s i ∷ outlines_are text procedures variables (suc n) ss i
 
 -- Names.
 abbrev pub core_titles : List Core → List Token

@@ -2,7 +2,8 @@
 use Rattle.std.proofs.Common.{◌≡◌, ℕ, ◌⊎◌, inl, inr, Bool, true, false, ◌&&◌, List, [], ◌∷◌, flat_map, refl, subst, None, Some, if◌then◌else◌, codes}
 use Rattle.std.specs.List.{AllByRecursion as Each}
 use Rattle.tac_lines.specs.Tokens.{Token, unless_empty}
-use Rattle.tac_lines.specs.Forms.{Slot, fills, label, key, has_form, label_form, statements, statement_row, labels_of, behind_labels, in_slot, is_name_word, is_label, is_callee, is_variable}
+use Rattle.tac_lines.specs.Forms.{Slot, fills, label, key, has_form, label_form, statements, statement_row, labels_of, behind_labels, in_slot}
+use Rattle.tac_lines.specs.Forms.{is_name_word, is_label, is_callee, is_variable}
 use Rattle.tac_reader.specs.Sections.{Section, sections, titles, only_name}
 use Rattle.tac_reader.specs.Parses.{names_in, names_for, variables_in}
 use Rattle.tac_program.specs.Names.{Names}
@@ -63,11 +64,13 @@ module _ (names : Names) where
 
   line_good : (line : List Token) → Inner line → Each (NamesAreKnown names) (unless_empty (behind_labels line)) → LineGood names line
   line_good line h k = record { labels = each_label line (h.0).words; statement = go (behind_labels line) (line_statements line h) k } where
-    go : (ts : List Token) → Each IsFaultlessStatement (unless_empty ts) → Each (NamesAreKnown names) (unless_empty ts) → (ts ≡ []) ⊎ StatementGood names ts
+    go : (ts : List Token) → Each IsFaultlessStatement (unless_empty ts) → Each (NamesAreKnown names) (unless_empty ts)
+        → (ts ≡ []) ⊎ StatementGood names ts
     go [] f n = inl refl
     go (t ∷ ts) f n = inr (statement_good (t ∷ ts) f.0 n.0)
 
-  lines_good : (body : List (List Token)) → Each Inner body → Each (λ line. Each (NamesAreKnown names) (unless_empty (behind_labels line))) body → Each (LineGood names) body
+  lines_good : (body : List (List Token)) → Each Inner body → Each (λ line. Each (NamesAreKnown names) (unless_empty (behind_labels line))) body
+      → Each (LineGood names) body
   lines_good [] h k = tt
   lines_good (line ∷ others) h k = (line_good line h.0 k.0, lines_good others h.1 k.1)
 
@@ -76,7 +79,8 @@ section_good procedures variables s h =
     let names : Names = names_for procedures variables s in
     record {
       title = record { named = (h.faultless).named; sound = (h.faultless).word };
-      body = lines_good names s.body (h.faultless).lines (each-from_flat_map (NamesAreKnown names) (λ line. unless_empty (behind_labels line)) s.body h.known);
+      body = lines_good names s.body (h.faultless).lines
+          (each-from_flat_map (NamesAreKnown names) (λ line. unless_empty (behind_labels line)) s.body h.known);
     }
 
 pub sections_good : (limits : Limits) (text : List ℕ) → refusal_within limits text ≡ None

@@ -1,9 +1,11 @@
 -- What is said of tokens goes by their words alone: it is the same of the tokens without their places.
-use Rattle.std.proofs.Common.{◌≡◌, ℕ, ◌+◌, Bool, true, false, cond, not, ◌&&◌, ◌||◌, List, [], ◌∷◌, ◌++◌, length, take, map, flat_map, refl, sym, ap, ◌∙◌, Option, Some, None, find, if◌then◌else◌}
+use Rattle.std.proofs.Common.{◌≡◌, ℕ, ◌+◌, Bool, true, false, cond, not, ◌&&◌, ◌||◌, List, [], ◌∷◌, ◌++◌, length, take, map, flat_map, refl, sym, ap}
+use Rattle.std.proofs.Common.{◌∙◌, Option, Some, None, find, if◌then◌else◌}
 use Rattle.std.specs.List.{prefix_len}
 use Rattle.std.proofs.lemmas.List.{map-append, take-map}
 use Rattle.tac_lines.specs.Tokens.{Word, Token, unless_empty, spelling_of}
-use Rattle.tac_lines.specs.Forms.{Slot, fills, has_form, proc_form, end_form, label_form, statements, statement_row, labels_of, behind_labels, paired, cells_of, in_slot, is_name_word, is_inner, is_variable, is_callee, is_label, callees_of, jumps_of}
+use Rattle.tac_lines.specs.Forms.{Slot, fills, has_form, proc_form, end_form, label_form, statements, statement_row, labels_of, behind_labels, paired}
+use Rattle.tac_lines.specs.Forms.{cells_of, in_slot, is_name_word, is_inner, is_variable, is_callee, is_label, callees_of, jumps_of}
 use Rattle.tac_reader.specs.Sections.{Section, opened_by, sections_in, statements_of, only_name, variables_of}
 use Rattle.tac_reader.specs.Parses.{form_of, label_places, names_in}
 use Rattle.tac_lines.specs.declared.form.Form.{Form}
@@ -52,7 +54,8 @@ pub labels_of-erased : (ts : List Token) → labels_of (all_erased ts) ≡ all_e
 labels_of-erased [] = refl
 labels_of-erased (t ∷ []) = refl
 labels_of-erased (t ∷ u ∷ ts) = by_test (has_form label_form (t ∷ u ∷ [])) (labels_of-erased ts) where
-  by_test : (b : Bool) → labels_of (all_erased ts) ≡ all_erased (labels_of ts) → (if b then erased t ∷ labels_of (all_erased ts) else []) ≡ all_erased (if b then t ∷ labels_of ts else [])
+  by_test : (b : Bool) → labels_of (all_erased ts) ≡ all_erased (labels_of ts)
+      → (if b then erased t ∷ labels_of (all_erased ts) else []) ≡ all_erased (if b then t ∷ labels_of ts else [])
   by_test true e = ap (λ r. erased t ∷ r) e
   by_test false e = refl
 
@@ -60,23 +63,28 @@ pub behind-erased : (ts : List Token) → behind_labels (all_erased ts) ≡ all_
 behind-erased [] = refl
 behind-erased (t ∷ []) = refl
 behind-erased (t ∷ u ∷ ts) = by_test (has_form label_form (t ∷ u ∷ [])) (behind-erased ts) where
-  by_test : (b : Bool) → behind_labels (all_erased ts) ≡ all_erased (behind_labels ts) → (if b then behind_labels (all_erased ts) else erased t ∷ erased u ∷ all_erased ts) ≡ all_erased (if b then behind_labels ts else t ∷ u ∷ ts)
+  by_test : (b : Bool) → behind_labels (all_erased ts) ≡ all_erased (behind_labels ts)
+      → (if b then behind_labels (all_erased ts) else erased t ∷ erased u ∷ all_erased ts) ≡ all_erased (if b then behind_labels ts else t ∷ u ∷ ts)
   by_test true e = e
   by_test false e = refl
 
 -- The tokens in the places of a statement.
-paired-erased : (slots : List Slot) (ts : List Token) (test : Slot → Bool) → in_slot test (paired slots (all_erased ts)) ≡ all_erased (in_slot test (paired slots ts))
+paired-erased : (slots : List Slot) (ts : List Token) (test : Slot → Bool)
+    → in_slot test (paired slots (all_erased ts)) ≡ all_erased (in_slot test (paired slots ts))
 paired-erased [] ts test = refl
 paired-erased (s ∷ slots) [] test = refl
 paired-erased (s ∷ slots) (t ∷ ts) test = by_test (test s) (paired-erased slots ts test) where
-  by_test : (b : Bool) → in_slot test (paired slots (all_erased ts)) ≡ all_erased (in_slot test (paired slots ts)) → (if b then erased t ∷ in_slot test (paired slots (all_erased ts)) else in_slot test (paired slots (all_erased ts))) ≡ all_erased (if b then t ∷ in_slot test (paired slots ts) else in_slot test (paired slots ts))
+  by_test : (b : Bool) → in_slot test (paired slots (all_erased ts)) ≡ all_erased (in_slot test (paired slots ts))
+      → (if b then erased t ∷ in_slot test (paired slots (all_erased ts)) else in_slot test (paired slots (all_erased ts)))
+      ≡ all_erased (if b then t ∷ in_slot test (paired slots ts) else in_slot test (paired slots ts))
   by_test true e = ap (λ r. erased t ∷ r) e
   by_test false e = e
 
 abbrev cells : List Token → Option (Form × List Slot) → List (Slot × Token)
 cells ts o = elim o as (λ _. List (Slot × Token)) [ None ↦ [] | Some row ↦ paired row.1 ts ]
 
-cells-erased : (ts : List Token) (test : Slot → Bool) (o : Option (Form × List Slot)) → in_slot test (cells (all_erased ts) o) ≡ all_erased (in_slot test (cells ts o))
+cells-erased : (ts : List Token) (test : Slot → Bool) (o : Option (Form × List Slot))
+    → in_slot test (cells (all_erased ts) o) ≡ all_erased (in_slot test (cells ts o))
 cells-erased ts test None = refl
 cells-erased ts test (Some row) = paired-erased row.1 ts test
 
@@ -92,7 +100,8 @@ jumps-erased ts = in_slot-erased ts is_label
 only_names-erased : (ts : List Token) → flat_map only_name (all_erased ts) ≡ all_erased (flat_map only_name ts)
 only_names-erased [] = refl
 only_names-erased (t ∷ ts) = by_test (is_name_word t.word) (only_names-erased ts) where
-  by_test : (b : Bool) → flat_map only_name (all_erased ts) ≡ all_erased (flat_map only_name ts) → (if b then erased t ∷ [] else []) ++ flat_map only_name (all_erased ts) ≡ all_erased ((if b then t ∷ [] else []) ++ flat_map only_name ts)
+  by_test : (b : Bool) → flat_map only_name (all_erased ts) ≡ all_erased (flat_map only_name ts)
+      → (if b then erased t ∷ [] else []) ++ flat_map only_name (all_erased ts) ≡ all_erased ((if b then t ∷ [] else []) ++ flat_map only_name ts)
   by_test true e = ap (λ r. erased t ∷ r) e
   by_test false e = e
 
@@ -112,7 +121,8 @@ statements_of-erased (line ∷ others) =
 
 pub labels_in-erased : (body : List (List Token)) → flat_map labels_of (map all_erased body) ≡ all_erased (flat_map labels_of body)
 labels_in-erased [] = refl
-labels_in-erased (line ∷ others) = (λ i. labels_of-erased line i ++ labels_in-erased others i) ∙ sym (map-append erased (labels_of line) (flat_map labels_of others))
+labels_in-erased (line ∷ others) =
+    (λ i. labels_of-erased line i ++ labels_in-erased others i) ∙ sym (map-append erased (labels_of line) (flat_map labels_of others))
 
 length-unless : (ts : List Token) → length (unless_empty (all_erased ts)) ≡ length (unless_empty ts)
 length-unless [] = refl
@@ -125,7 +135,8 @@ map-const place (t ∷ ts) = ap (λ r. place ∷ r) (map-const place ts)
 pub label_places-erased : (place : ℕ) (body : List (List Token)) → label_places place (map all_erased body) ≡ label_places place body
 label_places-erased place [] = refl
 label_places-erased place (line ∷ others) =
-    (λ i. (ap (map (λ t. place)) (labels_of-erased line) ∙ map-const place (labels_of line)) i ++ label_places (place + (ap (λ r. length (unless_empty r)) (behind-erased line) ∙ length-unless (behind_labels line)) i) (map all_erased others))
+    (λ i. (ap (map (λ t. place)) (labels_of-erased line) ∙ map-const place (labels_of line)) i ++ label_places
+    (place + (ap (λ r. length (unless_empty r)) (behind-erased line) ∙ length-unless (behind_labels line)) i) (map all_erased others))
     ∙ ap (λ r. map (λ t. place) (labels_of line) ++ r) (label_places-erased (place + length (unless_empty (behind_labels line))) others)
 
 -- Sections.
@@ -139,7 +150,8 @@ inner_run : (ls : List (List Token)) → prefix_len is_inner (map all_erased ls)
 inner_run [] = refl
 inner_run (l ∷ ls) = λ i. cond (is_inner-erased l i) (1 + inner_run ls i) 0
 
-opened-erased : (line : List Token) (others : List (List Token)) → opened_by (all_erased line) (map all_erased others) ≡ map erased_section (opened_by line others)
+opened-erased : (line : List Token) (others : List (List Token))
+    → opened_by (all_erased line) (map all_erased others) ≡ map erased_section (opened_by line others)
 opened-erased [] others = refl
 opened-erased (t ∷ []) others = refl
 opened-erased (t ∷ u ∷ ts) others =
@@ -152,6 +164,7 @@ sections_in-erased (line ∷ others) =
     (λ i. (if has_form-erased proc_form line i then opened-erased line others i else []) ++ sections_in-erased others i)
     ∙ by_test (has_form proc_form line)
   where
-    by_test : (b : Bool) → (if b then map erased_section (opened_by line others) else []) ++ map erased_section (sections_in others) ≡ map erased_section ((if b then opened_by line others else []) ++ sections_in others)
+    by_test : (b : Bool) → (if b then map erased_section (opened_by line others) else [])
+        ++ map erased_section (sections_in others) ≡ map erased_section ((if b then opened_by line others else []) ++ sections_in others)
     by_test true = sym (map-append erased_section (opened_by line others) (sections_in others))
     by_test false = refl

@@ -1,10 +1,12 @@
 -- The words that the bytes of a line are read as.
-use Rattle.std.proofs.Common.{◌≡◌, ℕ, zero, suc, ◌+◌, inl, inr, Bool, true, false, cond, not, ◌&&◌, ◌||◌, List, [], ◌∷◌, ◌++◌, length, take, map, decimal, refl, sym, ap, ◌∙◌, subst, Option, Some, None, eqb, true≢false, one-add, append_assoc, if◌then◌else◌}
+use Rattle.std.proofs.Common.{◌≡◌, ℕ, zero, suc, ◌+◌, inl, inr, Bool, true, false, cond, not, ◌&&◌, ◌||◌, List, [], ◌∷◌, ◌++◌, length, take, map}
+use Rattle.std.proofs.Common.{decimal, refl, sym, ap, ◌∙◌, subst, Option, Some, None, eqb, true≢false, one-add, append_assoc, if◌then◌else◌}
 use Rattle.std.specs.List.{list_all, prefix_len}
 use Rattle.std.proofs.Math.Seq.{drop-append_seam, take-append_seam}
 use Rattle.std.proofs.lemmas.List.Folds.{list_all-append}
 use Rattle.tac_lines.specs.Text.{no_line_end}
-use Rattle.tac_lines.specs.Tokens.{Word, name, number, fixed, Piece, word, gap, Row, piece_of, picked, longest, before_row, row_from, is_number, is_blank, signs, name_or_keyword, number_piece}
+use Rattle.tac_lines.specs.Tokens.{Word, name, number, fixed, Piece, word, gap, Row, piece_of, picked, longest, before_row, row_from, is_number}
+use Rattle.tac_lines.specs.Tokens.{is_blank, signs, name_or_keyword, number_piece}
 use Rattle.tac_program.specs.Spelling.{is_letter, is_digit, is_name_byte, is_name, keywords, unary_signs}
 use Rattle.tac_program.specs.Names.{is_one_of}
 use Rattle.tac_program.specs.Sound.{IsLawfulName}
@@ -25,14 +27,17 @@ abbrev with_piece : Piece → List Word → List Word
 with_piece gap ws = ws
 with_piece (word w) ws = w ∷ ws
 
-reads_piece : (s rest : List ℕ) (p : Piece) (ws : List Word) → longest (s ++ rest) ≡ Some (length s, p) → ReadsAs rest ws → ReadsAs (s ++ rest) (with_piece p ws)
+reads_piece : (s rest : List ℕ) (p : Piece) (ws : List Word) → longest (s ++ rest) ≡ Some (length s, p) → ReadsAs rest ws
+    → ReadsAs (s ++ rest) (with_piece p ws)
 reads_piece s rest p ws e h = go p row where
   row : (place : ℕ) → row_from place zero (s ++ rest) ≡ before_row p place (place + length s) (row_from (place + length s) zero rest)
   row place =
       let front = longest_front (length (s ++ rest)) (s ++ rest) (length s, p) e in
-      row_some place (length s) p (s ++ rest) e front.0 front.1 ∙ ap (λ r. before_row p place (place + length s) (row_from (place + length s) zero r)) (drop-append_seam s rest)
+      row_some place (length s) p (s ++ rest) e front.0 front.1
+      ∙ ap (λ r. before_row p place (place + length s) (row_from (place + length s) zero r)) (drop-append_seam s rest)
 
-  go : (q : Piece) → ((place : ℕ) → row_from place zero (s ++ rest) ≡ before_row q place (place + length s) (row_from (place + length s) zero rest)) → ReadsAs (s ++ rest) (with_piece q ws)
+  go : (q : Piece) → ((place : ℕ) → row_from place zero (s ++ rest) ≡ before_row q place (place + length s) (row_from (place + length s) zero rest))
+      → ReadsAs (s ++ rest) (with_piece q ws)
   go gap f = record {
     words = λ place. ap (λ (r : Row). map (λ t. t.word) r.tokens) (f place) ∙ h.words (place + length s);
     whole = λ place. ap (λ (r : Row). r.bad) (f place) ∙ h.whole (place + length s);
@@ -87,7 +92,8 @@ sign_longest c (b ∷ []) rest a h =
     let digit = not_true (is_digit b) second.0 in
     let hash = not_true (eqb b 35) second.1 in
     let none : piece_of (b ∷ c ∷ []) ≡ None =
-    piece_of-other b letter digit hash (c ∷ []) ∙ (λ i. picked false false (not_true (is_one_of (b ∷ c ∷ []) signs) pair.0 i) (not_true (is_blank (b ∷ c ∷ [])) pair.1 i) (b ∷ c ∷ [])) in
+    piece_of-other b letter digit hash (c ∷ [])
+    ∙ (λ i. picked false false (not_true (is_one_of (b ∷ c ∷ []) signs) pair.0 i) (not_true (is_blank (b ∷ c ∷ [])) pair.1 i) (b ∷ c ∷ [])) in
     one_longest b letter digit hash (c ∷ rest) (word (fixed (b ∷ [])))
     (λ d k. subst (λ x. piece_of (b ∷ x ∷ []) ≡ None) (same c d k) none)
     (piece_of-other b letter digit hash [] ∙ ap (λ t. picked false false t (is_blank (b ∷ [])) (b ∷ [])) h)
@@ -130,8 +136,10 @@ spelled (fixed s) = s
 named : (s : List ℕ) (b : Bool) → is_one_of s keywords ≡ b → name_or_keyword s ≡ word (if b then fixed s else name s)
 named s b e = ap (λ t. word (if t then fixed s else name s)) e
 
-name_before : (s rest : List ℕ) (c : ℕ) → is_name_byte c ≡ false → is_name s ≡ true → is_one_of s keywords ≡ false → longest (s ++ c ∷ rest) ≡ Some (length s, word (name s))
-name_before s rest c part h k = name_longest s (c ∷ rest) h (ap not part) ∙ ap (λ p. let o : Option (ℕ × Piece) = Some (length s, p) in o) (named s false k)
+name_before : (s rest : List ℕ) (c : ℕ) → is_name_byte c ≡ false → is_name s ≡ true → is_one_of s keywords ≡ false
+    → longest (s ++ c ∷ rest) ≡ Some (length s, word (name s))
+name_before s rest c part h k =
+    name_longest s (c ∷ rest) h (ap not part) ∙ ap (λ p. let o : Option (ℕ × Piece) = Some (length s, p) in o) (named s false k)
 
 word_before : (w : Word) (rest : List ℕ) (c : ℕ) → Parts c → IsSoundWord w → longest (spelled w ++ c ∷ rest) ≡ Some (length (spelled w), word w)
 word_before (name s) rest c part h = name_before s rest c part.no_name h.spelled h.not_reserved
@@ -183,7 +191,8 @@ line_more w line ws good h =
     let rest = line_blank line ws h in
     record {
       no_end = both_no_end (spelled w) (32 ∷ line) (word_no_end (spelled w) w (word_piece w good)) rest.no_end;
-      reads = subst (λ bs. ReadsAs bs (w ∷ ws)) (sym (append_assoc (spelled w) (32 ∷ line) (10 ∷ []))) (reads_piece (spelled w) (32 ∷ line ++ 10 ∷ []) (word w) ws (word_before w (line ++ 10 ∷ []) 32 parts_blank good) rest.reads);
+      reads = subst (λ bs. ReadsAs bs (w ∷ ws)) (sym (append_assoc (spelled w) (32 ∷ line) (10 ∷ [])))
+          (reads_piece (spelled w) (32 ∷ line ++ 10 ∷ []) (word w) ws (word_before w (line ++ 10 ∷ []) 32 parts_blank good) rest.reads);
     }
 
 -- A label: a name, and a sign directly behind it.
@@ -192,7 +201,8 @@ line_label s h =
     let sign = line_word (fixed (58 ∷ [])) (inr refl) in
     record {
       no_end = both_no_end s (58 ∷ []) (word_no_end s (name s) (word_piece (name s) h)) sign.no_end;
-      reads = subst (λ bs. ReadsAs bs (name s ∷ fixed (58 ∷ []) ∷ [])) (sym (append_assoc s (58 ∷ []) (10 ∷ []))) (reads_piece s (58 ∷ 10 ∷ []) (word (name s)) (fixed (58 ∷ []) ∷ []) (name_before s (10 ∷ []) 58 refl h.spelled h.not_reserved) sign.reads);
+      reads = subst (λ bs. ReadsAs bs (name s ∷ fixed (58 ∷ []) ∷ [])) (sym (append_assoc s (58 ∷ []) (10 ∷ [])))
+          (reads_piece s (58 ∷ 10 ∷ []) (word (name s)) (fixed (58 ∷ []) ∷ []) (name_before s (10 ∷ []) 58 refl h.spelled h.not_reserved) sign.reads);
     }
 
 -- A unary sign, directly before its operand.
@@ -203,11 +213,13 @@ starts_word (c ∷ cs) = is_name_byte c
 unary_alone : (c : ℕ) → is_name_byte c ≡ true → list_all (alone c) unary_signs ≡ true
 unary_alone c h = let e : eqb c 61 ≡ false = differs is_name_byte c 61 h refl in rw e refl
 
-pub line_unary : (s line : List ℕ) (ws : List Word) → is_one_of s unary_signs ≡ true → starts_word line ≡ true → ReadsLine line ws → ReadsLine (s ++ line) (fixed s ∷ ws)
+pub line_unary : (s line : List ℕ) (ws : List Word) → is_one_of s unary_signs ≡ true → starts_word line ≡ true → ReadsLine line ws
+    → ReadsLine (s ++ line) (fixed s ∷ ws)
 line_unary s [] ws h starts k = absurd (true≢false (sym starts))
 line_unary s (c ∷ cs) ws h starts k =
     let sign : is_one_of s signs ≡ true = each_tested (λ t. is_one_of t signs) unary_signs s refl h in
     record {
       no_end = both_no_end s (c ∷ cs) (word_no_end s (fixed s) (word_piece (fixed s) (inr sign))) k.no_end;
-      reads = subst (λ bs. ReadsAs bs (fixed s ∷ ws)) (sym (append_assoc s (c ∷ cs) (10 ∷ []))) (reads_piece s (c ∷ cs ++ 10 ∷ []) (word (fixed s)) ws (sign_longest c s (cs ++ 10 ∷ []) (each_tested (alone c) unary_signs s (unary_alone c starts) h) sign) k.reads);
+      reads = subst (λ bs. ReadsAs bs (fixed s ∷ ws)) (sym (append_assoc s (c ∷ cs) (10 ∷ []))) (reads_piece s (c ∷ cs ++ 10 ∷ []) (word (fixed s)) ws
+          (sign_longest c s (cs ++ 10 ∷ []) (each_tested (alone c) unary_signs s (unary_alone c starts) h) sign) k.reads);
     }

@@ -12,7 +12,8 @@ lanes-preserved c =
     let lanes = zip2 bit_and (chunk c.lanes.at 8 c.lanes.target) (chunk c.lanes.at 8 s) in
     record {
       within = omega (arith, length-put_chunk c.lanes.at c.lanes.target lanes);
-      so_far = IsDoneTo-lanes and_acts c.lanes.invariant.so_far (λ k. (c.type_inv.source k).fits) lanes room (length_zip_lanes bit_and c.lanes.target s c.lanes.at room room_source) (zip_lane bit_and c.lanes.target s c.lanes.at room room_source);
+      so_far = IsDoneTo-lanes and_acts c.lanes.invariant.so_far (λ k. (c.type_inv.source k).fits) lanes room
+          (length_zip_lanes bit_and c.lanes.target s c.lanes.at room room_source) (zip_lane bit_and c.lanes.target s c.lanes.at room room_source);
     }
 
 pub rest-preserved : goal.rest-preserved

@@ -13,7 +13,8 @@ lanes-preserved c =
     let lanes = map (bit_not w64) (chunk at 8 t) in
     record {
       within = omega (arith, length-put_chunk at t lanes);
-      so_far = IsDoneTo-lanes flip_acts c.lanes.invariant.so_far (λ k. omega arith) lanes room (length_map_lanes (bit_not w64) t at room) (map_lane (bit_not w64) t at room);
+      so_far = IsDoneTo-lanes flip_acts c.lanes.invariant.so_far (λ k. omega arith) lanes room (length_map_lanes (bit_not w64) t at room)
+          (map_lane (bit_not w64) t at room);
     }
 
 pub rest-preserved : goal.rest-preserved

@@ -3,7 +3,8 @@ use Rattle.bit_rows.proofs.WordLoops.{IsDoneTo}
 use Rattle.bit_rows.proofs.kernels.minus_words.Given as goal
 
 abbrev pub invariant-lanes : goal.invariant-lanes
-invariant-lanes l = record { within : l.at ≤ length l.target; so_far : IsDoneTo (λ ours theirs. ours && not theirs) l.fn.target l.source l.at l.target }
+invariant-lanes l =
+    record { within : l.at ≤ length l.target; so_far : IsDoneTo (λ ours theirs. ours && not theirs) l.fn.target l.source l.at l.target }
 
 abbrev pub decreases-lanes : goal.decreases-lanes
 decreases-lanes l = length l.initial.target - l.at

@@ -12,7 +12,8 @@ loop-point-preserved g c =
     let first = g.E.EdgeList.listed c.args.edges.now in
     let before = flat_map (edges_from program) (range_with_len 0 n) in
     record {
-      walks = c.step-next.ensures.next ∙ ap (λ (w : WalkAt). let v : WalkAt = record { program = w.program; point = w.point + 1 } in v) c.loop-point.invariant.walks;
+      walks = c.step-next.ensures.next
+          ∙ ap (λ (w : WalkAt). let v : WalkAt = record { program = w.program; point = w.point + 1 } in v) c.loop-point.invariant.walks;
       listed = c.in_ok-put_succ.ensures
           ∙ ap (λ es. es ++ edges_from program n) c.loop-point.invariant.listed
           ∙ append_assoc first before (edges_from program n)

@@ -3,4 +3,5 @@ use Rattle.flow_graph.specs.code.Searching.{search_of, with_known}
 use Rattle.flow_graph.proofs.leads.know_all.Given as goal
 
 abbrev pub invariant-loop-point : goal.invariant-loop-point
-invariant-loop-point l = search_of l.known.items l.work.items ≡ fold with_known (search_of l.fn.known.items l.fn.work.items) (take l.point-index l.points)
+invariant-loop-point l =
+    search_of l.known.items l.work.items ≡ fold with_known (search_of l.fn.known.items l.fn.work.items) (take l.point-index l.points)

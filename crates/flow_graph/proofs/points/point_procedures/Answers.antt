@@ -9,7 +9,8 @@ pub overflow_add-number : goal.overflow_add-number
 overflow_add-number c =
     let procs = c.procs-procs.result.now in
     let few : sum_by size_of procs ≤ 1048576 = subst (λ ps. sum_by size_of ps ≤ 1048576) (sym c.loop-procedure.invariant.all) c.requires in
-    let before : c.loop-procedure.procedure-index ≤ sum_by size_of (take c.loop-procedure.procedure-index procs) = procedures_before procs c.loop-procedure.procedure-index (omega arith) in
+    let before : c.loop-procedure.procedure-index ≤ sum_by size_of (take c.loop-procedure.procedure-index procs) =
+    procedures_before procs c.loop-procedure.procedure-index (omega arith) in
     let within = sum_by-take-le size_of procs c.loop-procedure.procedure-index in
     let below : c.loop-procedure.number + 1 < 4294967296 = omega arith in
     search rules

@@ -1,4 +1,5 @@
-use Rattle.flow_graph.proofs.graphs.GraphLaws.{graphs_are_well_formed, may_forms_are_well_formed, calls_of_programs_return, calls_return_behind_sites, returns_have_calls_at_sites}
+use Rattle.flow_graph.proofs.graphs.GraphLaws.{graphs_are_well_formed, may_forms_are_well_formed, calls_of_programs_return, calls_return_behind_sites}
+use Rattle.flow_graph.proofs.graphs.GraphLaws.{returns_have_calls_at_sites}
 use Rattle.flow_graph.proofs.program_laws.graphs_are_well_formed.Goals as goal
 
 pub returns-clause-graph : goal.returns-clause-graph

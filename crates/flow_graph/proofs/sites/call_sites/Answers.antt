@@ -17,5 +17,7 @@ pub loop-point-preserved : goal.loop-point-preserved
 loop-point-preserved c =
     let sound : IsSound c.args.points.now = subst IsSound c.program.ensures c.procs-procs.ensures.sound in
     let below : c.loop-point.point < point_count c.args.points.now = omega arith in
-    one_site_more c.args.points.now c.loop-point.point (contents c.loop-point.sites.items) (contents c.put_site.new.lists.items) sound below c.loop-point.invariant
-    (c.in_ok-put_site.ensures ∙ ap (λ (cs : List ℕ). fold (λ known procedure. with_last known procedure c.loop-point.point) (contents c.loop-point.sites.items) cs) c.callees.ensures)
+    one_site_more c.args.points.now c.loop-point.point (contents c.loop-point.sites.items) (contents c.put_site.new.lists.items)
+    sound below c.loop-point.invariant
+    (c.in_ok-put_site.ensures ∙ ap (λ (cs : List ℕ).
+    fold (λ known procedure. with_last known procedure c.loop-point.point) (contents c.loop-point.sites.items) cs) c.callees.ensures)

@@ -13,8 +13,10 @@ pub loop-point-preserved : goal.loop-point-preserved
 loop-point-preserved c =
     let program = c.args.points.now in
     let n : ℕ = c.loop-point.point in
-    let after : dummies program ++ flat_map (definition_at program) (range_with_len 0 (n + 1)) ≡ (dummies program ++ flat_map (definition_at program) (range_with_len 0 n)) ++ definition_at program n =
-    ap (λ ds. dummies program ++ ds) (flat_map-range_more (definition_at program) n) ∙ sym (append_assoc (dummies program) (flat_map (definition_at program) (range_with_len 0 n)) (definition_at program n)) in
+    let after : dummies program ++ flat_map (definition_at program) (range_with_len 0 (n + 1))
+    ≡ (dummies program ++ flat_map (definition_at program) (range_with_len 0 n)) ++ definition_at program n =
+    ap (λ ds. dummies program ++ ds) (flat_map-range_more (definition_at program) n)
+    ∙ sym (append_assoc (dummies program) (flat_map (definition_at program) (range_with_len 0 n)) (definition_at program n)) in
     elim c.match-target_of_point.branch [
       | in-Some+in_ok-push-in-Some w ↦
           let here : definition_at program n ≡ (w.in-Some.variable, Some n) ∷ [] = ap (added n) (sym c.target_of_point.ensures ∙ w.in-Some.is) in

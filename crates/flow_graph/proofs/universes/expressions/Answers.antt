@@ -27,14 +27,17 @@ loop-point-preserved c =
           ∙ sym (fold-append noted [] (all (range_with_len 0 n)) (some_expression found))
           ∙ sym (ap (fold noted []) (flat_map-range_more (λ point. some_expression (expression_at program point)) n));
       few = omega (arith, invariant.few, ap length keys, one_more_noted old added);
-      so_many = ap length c.in_ok-push.ensures.items ∙ length-append c.loop-point.evaluated.items (c.in_ok-note.field-0 ∷ []) ∙ ap (λ m. m + 1) invariant.so_many;
+      so_many = ap length c.in_ok-push.ensures.items ∙ length-append c.loop-point.evaluated.items (c.in_ok-note.field-0 ∷ [])
+          ∙ ap (λ m. m + 1) invariant.so_many;
       each = λ k d below.
           subst
           (λ (items : List (Option ℕ)). IsNumberOf c.note.new.expressions.keys (expression_at program k) (get_or items k d))
           (sym c.in_ok-push.ensures.items)
-          (pushed_each (λ k number. IsNumberOf c.note.new.expressions.keys (expression_at program k) number) c.loop-point.evaluated.items c.in_ok-note.field-0 n invariant.so_many
+          (pushed_each (λ k number. IsNumberOf c.note.new.expressions.keys (expression_at program k) number)
+          c.loop-point.evaluated.items c.in_ok-note.field-0 n invariant.so_many
           (λ k d before.
-          subst (λ (ks : List Expr). IsNumberOf ks (expression_at program k) (get_or c.loop-point.evaluated.items k d)) (sym keys) (numbers-stay old added (expression_at program k) _ (invariant.each k d before)))
+          subst (λ (ks : List Expr). IsNumberOf ks (expression_at program k) (get_or c.loop-point.evaluated.items k d)) (sym keys)
+          (numbers-stay old added (expression_at program k) _ (invariant.each k d before)))
           (subst (λ (e : Option Expr). IsNumberOf c.note.new.expressions.keys e c.in_ok-note.field-0) is_found c.in_ok-note.ensures.number)
           k d below);
     }
@@ -44,10 +47,12 @@ returns-clause-evaluated c =
     let program = c.args.points.now in
     let invariant = c.loop-point.invariant in
     let all : c.loop-point.point ≡ point_count program = search rules in
-    let keys : c.loop-point.expressions.keys ≡ expressions program = invariant.noted ∙ ap (λ n. fold noted [] (flat_map (λ point. some_expression (expression_at program point)) (range_with_len 0 n))) all in
+    let keys : c.loop-point.expressions.keys ≡ expressions program =
+    invariant.noted ∙ ap (λ n. fold noted [] (flat_map (λ point. some_expression (expression_at program point)) (range_with_len 0 n))) all in
     record {
       count = invariant.so_many ∙ all;
       each = λ point d below.
           number_is (expressions program) (expression_at program point) (get_or c.loop-point.evaluated.items point d)
-          (subst (λ (ks : List Expr). IsNumberOf ks (expression_at program point) (get_or c.loop-point.evaluated.items point d)) keys (invariant.each point d (omega (arith, all))));
+          (subst (λ (ks : List Expr). IsNumberOf ks (expression_at program point) (get_or c.loop-point.evaluated.items point d)) keys
+          (invariant.each point d (omega (arith, all))));
     }

@@ -14,10 +14,16 @@ returns c =
     let starts : List ℕ = c.in_ok-starts.field-0.starts.items in
     let places : List ℕ = c.in_ok-starts.field-0.places.items in
     let long = c.in_ok-starts.ensures.start_count in
-    let end = read_at starts c.key_count.result (point_count c.args.problem.now.program) c.index.result.now c.key_count.ensures (omega (arith, long)) c.index.ensures in
+    let end = read_at starts c.key_count.result (point_count c.args.problem.now.program) c.index.result.now c.key_count.ensures (omega (arith, long))
+    c.index.ensures in
     calls_listed c.requires (in_calls (may_shape c.args.problem.now.program c.args.problem.now.analysis) (point_count c.args.problem.now.program))
-    (values_are_listed c.args.calls.now (key_of Calls (may_shape c.args.problem.now.program c.args.problem.now.analysis) (point_count c.args.problem.now.program)) (call_link (may_shape c.args.problem.now.program c.args.problem.now.analysis) (is_backward c.args.problem.now.analysis)) (point_count c.args.problem.now.program) starts places c.in_ok-items.items.items c.in_ok-starts.ensures
-    (same_values (λ place. (call_link (may_shape c.args.problem.now.program c.args.problem.now.analysis) (is_backward c.args.problem.now.analysis)) (edge_at c.args.calls.now place)) c.in_ok-items.items.items c.index.result.now (get_or starts (point_count c.args.problem.now.program) 0) c.as_slice-places.result.now places c.in_ok-items.ensures end c.as_slice-places.ensures.value))
+    (values_are_listed c.args.calls.now
+    (key_of Calls (may_shape c.args.problem.now.program c.args.problem.now.analysis) (point_count c.args.problem.now.program))
+    (call_link (may_shape c.args.problem.now.program c.args.problem.now.analysis) (is_backward c.args.problem.now.analysis))
+    (point_count c.args.problem.now.program) starts places c.in_ok-items.items.items c.in_ok-starts.ensures
+    (same_values (λ place. (call_link (may_shape c.args.problem.now.program c.args.problem.now.analysis) (is_backward c.args.problem.now.analysis))
+    (edge_at c.args.calls.now place)) c.in_ok-items.items.items c.index.result.now (get_or starts (point_count c.args.problem.now.program) 0)
+    c.as_slice-places.result.now places c.in_ok-items.ensures end c.as_slice-places.ensures.value))
 
 pub index-requires : goal.index-requires
 index-requires c =
@@ -30,7 +36,9 @@ pub places-requires : goal.places-requires
 places-requires c = calls_are_edges (may_shape c.args.problem.now.program c.args.problem.now.analysis) c.args.calls.now c.requires
 
 pub links-requires-clause-places : goal.links-requires-clause-places
-links-requires-clause-places c j within = places_low c.args.calls.now (key_of Calls (may_shape c.args.problem.now.program c.args.problem.now.analysis) (point_count c.args.problem.now.program)) _ c.in_ok-starts.field-0.starts.items c.in_ok-starts.field-0.places.items c.in_ok-starts.ensures c.index.result.now c.as_slice-places.result.now c.as_slice-places.ensures.value j within
+links-requires-clause-places c j within = places_low c.args.calls.now (key_of Calls (may_shape c.args.problem.now.program c.args.problem.now.analysis)
+    (point_count c.args.problem.now.program)) _ c.in_ok-starts.field-0.starts.items c.in_ok-starts.field-0.places.items c.in_ok-starts.ensures
+    c.index.result.now c.as_slice-places.result.now c.as_slice-places.ensures.value j within
 
 pub links-requires-clause-edges : goal.links-requires-clause-edges
 links-requires-clause-edges c = calls_are_edges (may_shape c.args.problem.now.program c.args.problem.now.analysis) c.args.calls.now c.requires

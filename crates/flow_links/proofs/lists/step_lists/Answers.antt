@@ -14,10 +14,16 @@ returns c =
     let starts : List ℕ = c.in_ok-starts.field-0.starts.items in
     let places : List ℕ = c.in_ok-starts.field-0.places.items in
     let long = c.in_ok-starts.ensures.start_count in
-    let end = read_at starts c.key_count.result (point_count c.args.problem.now.program) c.index.result.now c.key_count.ensures (omega (arith, long)) c.index.ensures in
-    subst (λ (edges : List Edge). AreListed edges (key_of Steps (may_shape c.args.problem.now.program c.args.problem.now.analysis) (point_count c.args.problem.now.program)) step_target (point_count c.args.problem.now.program) starts c.in_ok-items.items.items) c.requires
-    (values_are_listed c.args.edges.now (key_of Steps (may_shape c.args.problem.now.program c.args.problem.now.analysis) (point_count c.args.problem.now.program)) step_target (point_count c.args.problem.now.program) starts places c.in_ok-items.items.items c.in_ok-starts.ensures
-    (same_values (λ place. step_target (edge_at c.args.edges.now place)) c.in_ok-items.items.items c.index.result.now (get_or starts (point_count c.args.problem.now.program) 0) c.as_slice-places.result.now places c.in_ok-items.ensures end c.as_slice-places.ensures.value))
+    let end = read_at starts c.key_count.result (point_count c.args.problem.now.program) c.index.result.now c.key_count.ensures (omega (arith, long))
+    c.index.ensures in
+    subst (λ (edges : List Edge).
+    AreListed edges (key_of Steps (may_shape c.args.problem.now.program c.args.problem.now.analysis) (point_count c.args.problem.now.program))
+    step_target (point_count c.args.problem.now.program) starts c.in_ok-items.items.items) c.requires
+    (values_are_listed c.args.edges.now
+    (key_of Steps (may_shape c.args.problem.now.program c.args.problem.now.analysis) (point_count c.args.problem.now.program)) step_target
+    (point_count c.args.problem.now.program) starts places c.in_ok-items.items.items c.in_ok-starts.ensures
+    (same_values (λ place. step_target (edge_at c.args.edges.now place)) c.in_ok-items.items.items c.index.result.now (get_or starts
+    (point_count c.args.problem.now.program) 0) c.as_slice-places.result.now places c.in_ok-items.ensures end c.as_slice-places.ensures.value))
 
 pub index-requires : goal.index-requires
 index-requires c =
@@ -30,7 +36,10 @@ pub places-requires : goal.places-requires
 places-requires c = all_edges (may_shape c.args.problem.now.program c.args.problem.now.analysis) c.args.edges.now c.requires
 
 pub targets-requires-clause-places : goal.targets-requires-clause-places
-targets-requires-clause-places c j within = places_low c.args.edges.now (key_of Steps (may_shape c.args.problem.now.program c.args.problem.now.analysis) (point_count c.args.problem.now.program)) _ c.in_ok-starts.field-0.starts.items c.in_ok-starts.field-0.places.items c.in_ok-starts.ensures c.index.result.now c.as_slice-places.result.now c.as_slice-places.ensures.value j within
+targets-requires-clause-places c j within = places_low c.args.edges.now
+    (key_of Steps (may_shape c.args.problem.now.program c.args.problem.now.analysis) (point_count c.args.problem.now.program))
+    _ c.in_ok-starts.field-0.starts.items c.in_ok-starts.field-0.places.items c.in_ok-starts.ensures c.index.result.now c.as_slice-places.result.now
+    c.as_slice-places.ensures.value j within
 
 pub targets-requires-clause-edges : goal.targets-requires-clause-edges
 targets-requires-clause-edges c = all_edges (may_shape c.args.problem.now.program c.args.problem.now.analysis) c.args.edges.now c.requires

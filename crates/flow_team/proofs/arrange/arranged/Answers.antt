@@ -13,4 +13,5 @@ returns c =
     groups_arrange asks order keys grouped.starts.items grouped.places.items count c.in_ok-keys.ensures.count c.in_ok-keys.ensures.low
     (subst (λ (ks : List ℕ). AreGroups ks count grouped.starts.items grouped.places.items) c.as_slice.ensures.value c.in_ok-grouped.ensures)
     (c.in_ok-order.ensures.count ∙ ap length c.as_slice-2.ensures.value)
-    (subst (λ (ps : List ℕ). (j : ℕ) → j < length ps → slice_get order j ≡ slice_get asks (slice_index ps j)) c.as_slice-2.ensures.value c.in_ok-order.ensures.each)
+    (subst (λ (ps : List ℕ). (j : ℕ) → j < length ps → slice_get order j ≡ slice_get asks (slice_index ps j))
+    c.as_slice-2.ensures.value c.in_ok-order.ensures.each)

@@ -19,4 +19,5 @@ close-requires-sync-S c = λ κs lives. search asked_cross depth 60
 
 pub of-requires-clause-rows : goal.of-requires-clause-rows
 of-requires-clause-rows c =
-    subst (λ (asked : Asked). (point bit : ℕ) → (contains (set_at c.in-Ok.posted point) bit ≡ true) ↔ IsWanted asked point bit) c.in-Ok.ensures.on.wanted c.in-Ok.ensures.rows
+    subst (λ (asked : Asked). (point bit : ℕ) → (contains (set_at c.in-Ok.posted point) bit ≡ true) ↔ IsWanted asked point bit)
+    c.in-Ok.ensures.on.wanted c.in-Ok.ensures.rows

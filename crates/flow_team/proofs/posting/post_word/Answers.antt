@@ -9,8 +9,10 @@ returns-then-mask-eq0-clause-posted g c = λ p bit want low high at.
     let wanted = g.W.Wanted.wants c.args.board.now.wanted in
     let slice = c.args.slice.now in
     let has = word_has wanted slice.lo slice.hi c.args.point c.args.word c.word-mask.result
-    (λ k small. subst (λ (n : ℕ). (has_bit n k ≡ true) ↔ ((slice.lo ≤ 64 * c.args.word + k) × (64 * c.args.word + k < slice.hi) × wanted c.args.point (64 * c.args.word + k)))
-    (sym c.word-mask.ensures) (c.requires.words c.args.point c.args.word k c.requires.point c.requires.from c.requires.until small)) p bit at.0 at.1 want low high in
+    (λ k small. subst (λ (n : ℕ). (has_bit n k ≡ true)
+    ↔ ((slice.lo ≤ 64 * c.args.word + k) × (64 * c.args.word + k < slice.hi) × wanted c.args.point (64 * c.args.word + k)))
+    (sym c.word-mask.ensures) (c.requires.words c.args.point c.args.word k c.requires.point c.requires.from c.requires.until small))
+    p bit at.0 at.1 want low high in
     absurd (none_of_zero (bit % 64) (subst (λ (n : ℕ). has_bit n (bit % 64) ≡ true) c.if-mask-eq0.true has))
 
 pub returns-clause-posted : goal.returns-clause-posted
@@ -18,8 +20,10 @@ returns-clause-posted g c = λ p bit want low high at.
     let wanted = g.W.Wanted.wants c.args.board.now.wanted in
     let slice = c.args.slice.now in
     let has = word_has wanted slice.lo slice.hi c.args.point c.args.word c.word-mask.result
-    (λ k small. subst (λ (n : ℕ). (has_bit n k ≡ true) ↔ ((slice.lo ≤ 64 * c.args.word + k) × (64 * c.args.word + k < slice.hi) × wanted c.args.point (64 * c.args.word + k)))
-    (sym c.word-mask.ensures) (c.requires.words c.args.point c.args.word k c.requires.point c.requires.from c.requires.until small)) p bit at.0 at.1 want low high in
+    (λ k small. subst (λ (n : ℕ). (has_bit n k ≡ true)
+    ↔ ((slice.lo ≤ 64 * c.args.word + k) × (64 * c.args.word + k < slice.hi) × wanted c.args.point (64 * c.args.word + k)))
+    (sym c.word-mask.ensures) (c.requires.words c.args.point c.args.word k c.requires.point c.requires.from c.requires.until small))
+    p bit at.0 at.1 want low high in
     subst (λ (pass : PassState _). IsMarked pass.posted p bit) (sym c.post.ensures)
     (subst (λ (n : ℕ). IsMarked (c.args.pass.now.posted ++ mark c.args.point c.args.word c.word-mask.result ∷ []) n bit) (sym at.0)
     (marked_last c.args.pass.now.posted c.args.point c.args.word c.word-mask.result bit at.1 has))

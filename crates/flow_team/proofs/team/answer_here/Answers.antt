@@ -6,7 +6,8 @@ use Rattle.flow_team.proofs.Sent.{asked_cross}
 use Rattle.flow_team.proofs.team.answer_here.Goals as goal
 
 pub asked_job-requires-clause-asks : goal.asked_job-requires-clause-asks
-asked_job-requires-clause-asks c = subst (λ (p : Program). AreAsksOf p c.args.asks.items) (sym (ap (λ (d : Pair). d.program) c.in_ok-directions.ensures.forward)) c.requires.asks
+asked_job-requires-clause-asks c =
+    subst (λ (p : Program). AreAsksOf p c.args.asks.items) (sym (ap (λ (d : Pair). d.program) c.in_ok-directions.ensures.forward)) c.requires.asks
 
 pub run_here-requires-send-W : goal.run_here-requires-send-W
 run_here-requires-send-W c = λ κs lives. search asked_cross depth 60

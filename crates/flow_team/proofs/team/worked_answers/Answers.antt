@@ -6,7 +6,8 @@ use Rattle.flow_team.proofs.Sent.{asked_cross}
 use Rattle.flow_team.proofs.team.worked_answers.Goals as goal
 
 pub asked_job-requires-clause-asks : goal.asked_job-requires-clause-asks
-asked_job-requires-clause-asks g c = subst (λ (p : Program). AreAsksOf p c.args.asks.items) (sym (ap (λ (d : Pair). d.program) c.in_ok-directions.ensures.forward)) c.requires.asks
+asked_job-requires-clause-asks g c =
+    subst (λ (p : Program). AreAsksOf p c.args.asks.items) (sym (ap (λ (d : Pair). d.program) c.in_ok-directions.ensures.forward)) c.requires.asks
 
 pub run_workers-requires-send-W : goal.run_workers-requires-send-W
 run_workers-requires-send-W g c = λ κs lives. search asked_cross depth 60

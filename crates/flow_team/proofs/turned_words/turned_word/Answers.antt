@@ -10,7 +10,8 @@ returns-then-not-must c = λ k small.
 
 pub returns : goal.returns
 returns c = λ k small.
-    let count : c.min.result ≡ min (c.args.bits - 64 * c.args.word) 64 = omega (arith, c.min.ensures, c.saturating_sub.ensures, c.from.ensures, c.from-2.ensures) in
+    let count : c.min.result ≡ min (c.args.bits - 64 * c.args.word) 64 =
+    omega (arith, c.min.ensures, c.saturating_sub.ensures, c.from.ensures, c.from-2.ensures) in
     ap (λ n. has_bit n k) (c.low_ones.ensures ∙ ap (λ n. 2 ^ n - 1) count)
     ∙ has_bit-low_ones c.args.bits c.args.word k small
     ∙ sym (ap (λ (b : Bool). b && nat_lt (64 * c.args.word + k) c.args.bits) c.if-not-must.false)

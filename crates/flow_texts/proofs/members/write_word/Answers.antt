@@ -22,7 +22,8 @@ loop-place-init g c =
       one = c.next_one-place.ensures.one;
       later = omega arith;
       after = run_further g.member c.args.first (c.args.first + min place width) run.first run.end c.requires.1.1.1.1.1.1 (omega arith)
-          (λ n above below. bits_of_word c.args.word c.args.first c.args.end g.member c.requires.1.1.0 0 (min place width) false (omega (arith, c.requires.1.1.1.0))
+          (λ n above below.
+          bits_of_word c.args.word c.args.first c.args.end g.member c.requires.1.1.0 0 (min place width) false (omega (arith, c.requires.1.1.1.0))
           (λ k low high. c.next_one-place.ensures.before k low (omega (arith, high))) n (omega (arith, above)) below);
       wrote = subst (λ k. Wrote c.args.texts.now.between set run.others run.first k (at c.args.out.now) (at c.args.out.now) run.others) none
           (wrote-none c.args.texts.now.between set run.others run.first (at c.args.out.now));
@@ -40,9 +41,13 @@ with_run-last-requires g c κs within =
         (
           subst (λ p. IsRunBefore g.member p c.loop-place.last.first c.loop-place.last.end) here c.loop-place.invariant.after,
           (
-            bits_of_word c.args.word first c.args.end g.member c.requires.1.1.0 place stop true (omega (arith, c.min-stop.ensures, c.requires.1.1.1.0))
+            bits_of_word c.args.word first c.args.end g.member c.requires.1.1.0 place stop true
+                (omega (arith, c.min-stop.ensures, c.requires.1.1.1.0))
                 (λ k low high. c.next_zero.ensures.before k low (omega (arith, high, c.min-stop.ensures))),
-            (omega (arith, c.min-stop.ensures, c.next_zero.ensures.ordered, c.loop-place-test.true), omega (arith, c.min-stop.ensures, c.requires.1.1.1.0, c.requires.1.1.1.1.1.0)),
+            (
+              omega (arith, c.min-stop.ensures, c.next_zero.ensures.ordered, c.loop-place-test.true),
+              omega (arith, c.min-stop.ensures, c.requires.1.1.1.0, c.requires.1.1.1.1.1.0),
+            ),
           ),
         ),
       ),
@@ -67,11 +72,14 @@ loop-place-preserved g c =
           (omega (arith, c.next_one-place-in-loop-place.ensures.ordered, c.min-stop.ensures))
           (bits_of_word c.args.word first c.args.end g.member c.requires.1.1.0 stop (min next width) false (omega (arith, c.requires.1.1.1.0))
           (λ k low high. c.next_one-place-in-loop-place.ensures.before k low (omega (arith, high))));
-      wrote = wrote-further c.args.texts.now.between set run.others run.first c.loop-place.last.first last.first (at c.args.out.now) (at c.loop-place.out) (at c.with_run-last.new.out)
-          c.loop-place.last.others last.others c.loop-place.invariant.later c.with_run-last.ensures.later c.loop-place.invariant.wrote c.with_run-last.ensures.wrote;
+      wrote = wrote-further c.args.texts.now.between set run.others run.first c.loop-place.last.first last.first (at c.args.out.now)
+          (at c.loop-place.out) (at c.with_run-last.new.out)
+          c.loop-place.last.others last.others c.loop-place.invariant.later c.with_run-last.ensures.later c.loop-place.invariant.wrote
+          c.with_run-last.ensures.wrote;
     }
 
 pub returns-clause-after : goal.returns-clause-after
 returns-clause-after g c =
-    let here : c.args.first + min c.loop-place.place (c.args.end - c.args.first) ≡ c.args.end = omega (arith, c.loop-place-test.false, c.requires.1.1.1.0) in
+    let here : c.args.first + min c.loop-place.place (c.args.end - c.args.first) ≡ c.args.end =
+    omega (arith, c.loop-place-test.false, c.requires.1.1.1.0) in
     subst (λ p. IsRunBefore g.member p c.loop-place.last.first c.loop-place.last.end) here c.loop-place.invariant.after

@@ -8,5 +8,6 @@ abbrev pub invariant-loop-word : goal.invariant-loop-word
 invariant-loop-word l = record {
   asks : Asks l.graph l.fn.asks.items l.asks.items l.word;
   count : length l.asks.items ≡ length l.fn.asks.items + l.word;
-  each : (w : ℕ) → w < l.word → slice_get l.asks.items (length l.fn.asks.items + w) ≡ Some (let ask : Ask = record { analysis = Busy; point = l.point; word = w } in ask);
+  each : (w : ℕ) → w < l.word
+      → slice_get l.asks.items (length l.fn.asks.items + w) ≡ Some (let ask : Ask = record { analysis = Busy; point = l.point; word = w } in ask);
 }

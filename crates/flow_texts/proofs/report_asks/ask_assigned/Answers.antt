@@ -14,9 +14,12 @@ returns-in-Some-clause-asks c =
     let program : Program = c.args.graph.now in
     let stand = stands program c.requires.sound c.args.point c.args.kind.now c.requires.point c.requires.kind in
     let variable : ℕ = c.in-Some.variable in
-    let there : variable < length program.variable_names = assigned_there program c.args.point variable c.args.kind.now stand (sym c.in-Some.ensures) in
-    let of : IsAskOf program (ask_for Live (c.args.point + 1) variable) = record { point = next_below program c.args.point c.args.kind.now stand; word = omega (arith, there) } in
-    IfOk-weaker c.put.result _ _ (λ _ is. asks_one program c.args.asks.now.items c.put.new.asks.items c.ask_for.result 1 is (subst (IsAskOf program) (sym c.ask_for.ensures) of) (omega arith)) c.put.ensures
+    let there : variable < length program.variable_names =
+    assigned_there program c.args.point variable c.args.kind.now stand (sym c.in-Some.ensures) in
+    let of : IsAskOf program (ask_for Live (c.args.point + 1) variable) =
+    record { point = next_below program c.args.point c.args.kind.now stand; word = omega (arith, there) } in
+    IfOk-weaker c.put.result _ _ (λ _ is. asks_one program c.args.asks.now.items c.put.new.asks.items c.ask_for.result 1 is
+    (subst (IsAskOf program) (sym c.ask_for.ensures) of) (omega arith)) c.put.ensures
 
 pub returns-in-Some-clause-asked : goal.returns-in-Some-clause-asked
 returns-in-Some-clause-asked c =

@@ -38,8 +38,11 @@ returns-clause-asked c =
     let later : Asks program d f 2049 = asks_then program d e f 1 2048 2049 c.in_ok-ask_assigned.ensures.asks last (omega arith) in
     let all : Asks program b f 2050 = asks_then program b d f 1 2049 2050 c.in_ok-ask_evaluated.ensures.asks later (omega arith) in
     record {
-      reads = subst (λ (q : ℕ). AsksReads f q point kind) (sym first) (reads_still program b f (length a) point kind 2050 all c.in_ok-ask_reads.ensures.asked);
-      evaluated = subst (λ (q : ℕ). AsksEvaluated program f q point) (sym second) (λ bit is. later.kept (length b) (ask_for Avail point bit) (c.in_ok-ask_evaluated.ensures.asked bit is));
-      assigned = subst (λ (q : ℕ). AsksAssigned f q point kind) (sym third) (λ variable is. last.kept (length d) (ask_for Live (point + 1) variable) (c.in_ok-ask_assigned.ensures.asked variable is));
+      reads = subst (λ (q : ℕ). AsksReads f q point kind) (sym first)
+          (reads_still program b f (length a) point kind 2050 all c.in_ok-ask_reads.ensures.asked);
+      evaluated = subst (λ (q : ℕ). AsksEvaluated program f q point) (sym second)
+          (λ bit is. later.kept (length b) (ask_for Avail point bit) (c.in_ok-ask_evaluated.ensures.asked bit is));
+      assigned = subst (λ (q : ℕ). AsksAssigned f q point kind) (sym third)
+          (λ variable is. last.kept (length d) (ask_for Live (point + 1) variable) (c.in_ok-ask_assigned.ensures.asked variable is));
       busy = subst (λ (q : ℕ). AsksBusy program f q point kind) (sym fourth) c.in_ok-ask_busy.ensures.asked;
     }

@@ -19,6 +19,7 @@ loop-point-preserved c =
           let len : c.len.result ≡ length old = search rules in
           omega (arith, c.in_ok-here.ensures.asks.count, c.if-len-gt-MOST_ASKS.false, len);
       count = omega (arith, count, c.loop-point.invariant.count);
-      asked = asked_more program old new places c.push.new.self.items here c.loop-point.point 2052 c.in_ok-push.ensures.items c.loop-point.invariant.count
+      asked =
+          asked_more program old new places c.push.new.self.items here c.loop-point.point 2052 c.in_ok-push.ensures.items c.loop-point.invariant.count
           c.in_ok-here.ensures.asks c.in_ok-here.ensures.asked c.loop-point.invariant.asked;
     }

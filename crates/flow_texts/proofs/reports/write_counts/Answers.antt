@@ -12,20 +12,29 @@ joined a p b q c r d s e = simp append_assoc
 
 -- found counts are those of the program
 counted : (w x y z k l m n : ℕ) → w ≡ k → x ≡ l → y ≡ m → z ≡ n
-    → (codes "points " ++ decimal w) ++ (codes ", variables " ++ decimal x) ++ (codes ", definitions " ++ decimal y) ++ (codes ", expressions " ++ decimal z) ++ codes "\n"
-    ≡ codes "points " ++ decimal k ++ codes ", variables " ++ decimal l ++ codes ", definitions " ++ decimal m ++ codes ", expressions " ++ decimal n ++ codes "\n"
+    → (codes "points " ++ decimal w) ++ (codes ", variables " ++ decimal x) ++ (codes ", definitions " ++ decimal y)
+    ++ (codes ", expressions " ++ decimal z) ++ codes "\n"
+    ≡ codes "points " ++ decimal k ++ codes ", variables " ++ decimal l ++ codes ", definitions " ++ decimal m ++ codes ", expressions " ++ decimal n
+    ++ codes "\n"
 counted w x y z k l m n e f g h =
-    joined (codes "points ") (decimal w) (codes ", variables ") (decimal x) (codes ", definitions ") (decimal y) (codes ", expressions ") (decimal z) (codes "\n")
-    ∙ ap (λ i. codes "points " ++ decimal i ++ codes ", variables " ++ decimal x ++ codes ", definitions " ++ decimal y ++ codes ", expressions " ++ decimal z ++ codes "\n") e
-    ∙ ap (λ i. codes "points " ++ decimal k ++ codes ", variables " ++ decimal i ++ codes ", definitions " ++ decimal y ++ codes ", expressions " ++ decimal z ++ codes "\n") f
-    ∙ ap (λ i. codes "points " ++ decimal k ++ codes ", variables " ++ decimal l ++ codes ", definitions " ++ decimal i ++ codes ", expressions " ++ decimal z ++ codes "\n") g
-    ∙ ap (λ i. codes "points " ++ decimal k ++ codes ", variables " ++ decimal l ++ codes ", definitions " ++ decimal m ++ codes ", expressions " ++ decimal i ++ codes "\n") h
+    joined (codes "points ") (decimal w) (codes ", variables ") (decimal x) (codes ", definitions ") (decimal y) (codes ", expressions ") (decimal z)
+    (codes "\n")
+    ∙ ap (λ i. codes "points " ++ decimal i ++ codes ", variables " ++ decimal x ++ codes ", definitions " ++ decimal y ++ codes ", expressions "
+    ++ decimal z ++ codes "\n") e
+    ∙ ap (λ i. codes "points " ++ decimal k ++ codes ", variables " ++ decimal i ++ codes ", definitions " ++ decimal y ++ codes ", expressions "
+    ++ decimal z ++ codes "\n") f
+    ∙ ap (λ i. codes "points " ++ decimal k ++ codes ", variables " ++ decimal l ++ codes ", definitions " ++ decimal i ++ codes ", expressions "
+    ++ decimal z ++ codes "\n") g
+    ∙ ap (λ i. codes "points " ++ decimal k ++ codes ", variables " ++ decimal l ++ codes ", definitions " ++ decimal m ++ codes ", expressions "
+    ++ decimal i ++ codes "\n") h
 
 pub returns-clause-takes : goal.returns-clause-takes
 returns-clause-takes g c =
     let program : Program = c.args.graph.now in
     takes_as _ _ _ (count_line program)
-    (takes_then _ _ _ _ _ (takes_then _ _ _ _ _ (takes_then _ _ _ _ _ (takes_then _ _ _ _ _ c.write_count.ensures.takes c.write_count-2.ensures.takes) c.write_count-3.ensures.takes) c.write_count-4.ensures.takes)
+    (takes_then _ _ _ _ _ (takes_then _ _ _ _ _ (takes_then _ _ _ _ _ (takes_then _ _ _ _ _ c.write_count.ensures.takes c.write_count-2.ensures.takes)
+    c.write_count-3.ensures.takes) c.write_count-4.ensures.takes)
     c.write.ensures.takes)
-    (counted c.points.result c.bits.result c.bits-2.result c.bits-3.result (point_count program) (length program.variable_names) (length (definitions program)) (length (expressions program))
+    (counted c.points.result c.bits.result c.bits-2.result c.bits-3.result (point_count program) (length program.variable_names)
+    (length (definitions program)) (length (expressions program))
     c.points.ensures.count c.bits.ensures.count c.bits-2.ensures.count c.bits-3.ensures.count)

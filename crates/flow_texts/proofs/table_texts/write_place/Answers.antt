@@ -7,7 +7,8 @@ use Rattle.flow_texts.proofs.table_texts.write_place.Goals as goal
 
 pub procedure-requires : goal.procedure-requires
 procedure-requires g c =
-    let there : procedure_at c.args.graph.now c.args.point < length c.args.graph.now.procedures = (points_have_places c.args.graph.now c.args.point c.requires.point).procedure in
+    let there : procedure_at c.args.graph.now c.args.point < length c.args.graph.now.procedures =
+    (points_have_places c.args.graph.now c.args.point c.requires.point).procedure in
     let named : length c.args.graph.now.procedure_names ≡ length c.args.graph.now.procedures =
     subst (λ p. length p.procedure_names ≡ length p.procedures) c.program-program.ensures c.procs.ensures.sound.named in
     let below : procedure_at c.args.graph.now c.args.point < length c.args.graph.now.procedure_names = omega (arith, there, named) in
@@ -22,4 +23,5 @@ returns-clause-takes g c =
     ∙ ap (λ q. name_at c.args.graph.now.procedure_names q.procedure) c.place-place.ensures in
     takes_as _ _ _ _ (takes_then _ _ _ _ _ (takes_then _ _ _ _ _ c.write.ensures.takes c.write-2.ensures.takes) c.write_number.ensures.takes)
     (ap (λ t. t ++ codes " " ++ decimal c.place-place.result.place) named
-    ∙ ap (λ q. name_at c.args.graph.now.procedure_names (procedure_at c.args.graph.now c.args.point) ++ codes " " ++ decimal q.place) c.place-place.ensures)
+    ∙ ap (λ q. name_at c.args.graph.now.procedure_names (procedure_at c.args.graph.now c.args.point) ++ codes " " ++ decimal q.place)
+    c.place-place.ensures)

@@ -17,12 +17,15 @@ returns-clause-takes g c =
     let count : ℕ = bits_of program table.analysis in
     let same : map (text_at texts) (filter ((facts_of table).contains c.args.point) (range_with_len 0 c.bits.result))
     ≡ map (bit_text program table.analysis) (bits_at program table.analysis (facts_of table) c.args.point) =
-    ap (λ n. map (text_at texts) (filter ((facts_of table).contains c.args.point) (range_with_len 0 n))) (c.bits.ensures.count ∙ ap (bits_of program) c.analysis.ensures)
-    ∙ map-members (text_at texts) (bit_text program table.analysis) ((facts_of table).contains c.args.point) 0 count (λ n below. c.requires.texts.texts.each n (omega (arith, below))) in
+    ap (λ n. map (text_at texts) (filter ((facts_of table).contains c.args.point) (range_with_len 0 n)))
+    (c.bits.ensures.count ∙ ap (bits_of program) c.analysis.ensures)
+    ∙ map-members (text_at texts) (bit_text program table.analysis) ((facts_of table).contains c.args.point) 0 count
+    (λ n below. c.requires.texts.texts.each n (omega (arith, below))) in
     let place : List ℕ = place_text program c.args.point in
     let mark : List ℕ = if (facts_of table).has_path c.args.point then codes ": " else codes " (no path): " in
     let marked : c.path_mark.result.now ≡ mark = c.path_mark.ensures ∙ ap (λ b. if b then codes ": " else codes " (no path): ") c.has_path.ensures in
     let found : List (List ℕ) = map (text_at texts) (filter ((facts_of table).contains c.args.point) (range_with_len 0 c.bits.result)) in
     takes_as _ _ _ _
-    (takes_then _ _ _ _ _ (takes_then _ _ _ _ _ (takes_then _ _ _ _ _ c.write_place.ensures.takes c.write.ensures.takes) c.write_set.ensures.takes) c.write-2.ensures.takes)
+    (takes_then _ _ _ _ _ (takes_then _ _ _ _ _ (takes_then _ _ _ _ _ c.write_place.ensures.takes c.write.ensures.takes) c.write_set.ensures.takes)
+    c.write-2.ensures.takes)
     (ap (λ m. place ++ m ++ listed found ++ codes "\n") marked ∙ ap (λ xs. place ++ mark ++ listed xs ++ codes "\n") same)

@@ -16,7 +16,9 @@ loop-w-preserved g c =
       done = λ w k below low. elim (cases_eq w c.loop-w.w) [
         | inl same ↦ ap (λ n. has_bit (get_or (set c.loop-w.words c.loop-w.w c.boundary_word.result) n 0) k) same
             ∙ (ap (λ n. has_bit n k) (get_or-set_same c.loop-w.words c.loop-w.w c.boundary_word.result 0 within)
-            ∙ (boundary_of_word form (c.args.frame.now.first + c.loop-w.w) c.boundary_word.result k low c.boundary_word.ensures ∙ ap (λ n. place_boundary form (64 * (c.args.frame.now.first + n) + k)) (sym same)))
-        | inr other ↦ ap (λ n. has_bit n k) (get_or-set_other c.loop-w.words c.loop-w.w w c.boundary_word.result 0 other) ∙ c.loop-w.invariant.done w k (omega (arith, below, other)) low
+            ∙ (boundary_of_word form (c.args.frame.now.first + c.loop-w.w) c.boundary_word.result k low c.boundary_word.ensures
+            ∙ ap (λ n. place_boundary form (64 * (c.args.frame.now.first + n) + k)) (sym same)))
+        | inr other ↦ ap (λ n. has_bit n k) (get_or-set_other c.loop-w.words c.loop-w.w w c.boundary_word.result 0 other)
+            ∙ c.loop-w.invariant.done w k (omega (arith, below, other)) low
       ];
     }

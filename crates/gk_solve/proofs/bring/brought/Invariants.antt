@@ -14,8 +14,10 @@ abbrev pub invariant-visits : goal.invariant-visits
 invariant-visits g l = record {
   count : length l.dirty ≡ (directed_shape l.frame.links.now).procedures;
   settled : (edge : Edge) → IsEdge (directed_shape l.frame.links.now) edge
-      → IsSettled (IsBroughtClosedAt (group_of l.frame g.row.W) l.frame.paths.now l.table) (source_procedure (directed_shape l.frame.links.now)) l.brought l.dirty edge;
-  root : (w k : ℕ) → w < g.row.W → k < 64 → ((group_of l.frame g.row.W).transfer w k).boundary ≡ true → HasBit (brought_word l.brought w) (directed_shape l.frame.links.now).root_procedure k;
+      → IsSettled (IsBroughtClosedAt (group_of l.frame g.row.W) l.frame.paths.now l.table) (source_procedure (directed_shape l.frame.links.now))
+      l.brought l.dirty edge;
+  root : (w k : ℕ) → w < g.row.W → k < 64 → ((group_of l.frame g.row.W).transfer w k).boundary ≡ true
+      → HasBit (brought_word l.brought w) (directed_shape l.frame.links.now).root_procedure k;
   sound : AreSoundBrought (group_of l.frame g.row.W) l.brought;
 }
 

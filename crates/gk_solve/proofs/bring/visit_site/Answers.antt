@@ -24,7 +24,8 @@ put-requires g c =
             c.requires.dirty_count,
             (
               c.requires.within.1,
-              brings_of g.row.W c.args.frame.now is c.args.table.now c.args.brought.now c.args.procedure c.args.site there.3 point_within procedure_within c.index-table-site.result c.index-brought-procedure.result c.index-table-site.is c.index-brought-procedure.is
+              brings_of g.row.W c.args.frame.now is c.args.table.now c.args.brought.now c.args.procedure c.args.site there.3 point_within
+                  procedure_within c.index-table-site.result c.index-brought-procedure.result c.index-table-site.is c.index-brought-procedure.is
                   c.new_or_kept-more.result c.new_or_kept-more.ensures there c.if-not-frame-site.false c.requires.summaries c.requires.sound,
             ),
           ),
@@ -38,7 +39,8 @@ returns-clause-settled g c =
     let there = c.requires.there in
     let point_within : c.args.site.point < length c.args.table.now = omega (arith, c.requires.within.0, c.requires.points) in
     let procedure_within : c.args.procedure < length c.args.brought.now = omega (arith, c.requires.inside, c.requires.count) in
-    let same : ((w : ℕ) → brought_word c.put.new.brought w c.args.procedure ≡ brought_word c.args.brought.now w c.args.procedure) ⊎ IsMarked c.put.new.dirty c.args.procedure =
+    let same : ((w : ℕ) → brought_word c.put.new.brought w c.args.procedure ≡ brought_word c.args.brought.now w c.args.procedure)
+    ⊎ IsMarked c.put.new.dirty c.args.procedure =
     elim (cases_eq c.args.procedure c.args.site.callee) [
       | inr other ↦ inl (λ w. c.put.ensures.same w c.args.procedure other)
       | inl here ↦ elim c.put.ensures.still [
@@ -46,7 +48,9 @@ returns-clause-settled g c =
         | inr marked ↦ inr (subst (IsMarked c.put.new.dirty) (sym here) marked)
       ]
     ] in
-    site_settled (group_of c.args.frame.now g.row.W) c.args.frame.now.paths.now c.args.table.now c.args.brought.now c.put.new.brought c.put.new.dirty c.args.site c.args.procedure c.new_or_kept-more.result there.3
-    (brings_bits g.row.W c.args.frame.now is c.args.table.now c.args.brought.now c.args.procedure c.args.site there.3 point_within procedure_within c.index-table-site.result c.index-brought-procedure.result c.index-table-site.is c.index-brought-procedure.is
+    site_settled (group_of c.args.frame.now g.row.W) c.args.frame.now.paths.now c.args.table.now c.args.brought.now c.put.new.brought c.put.new.dirty
+    c.args.site c.args.procedure c.new_or_kept-more.result there.3
+    (brings_bits g.row.W c.args.frame.now is c.args.table.now c.args.brought.now c.args.procedure c.args.site there.3 point_within procedure_within
+    c.index-table-site.result c.index-brought-procedure.result c.index-table-site.is c.index-brought-procedure.is
     c.new_or_kept-more.result c.new_or_kept-more.ensures)
     c.put.ensures.added same

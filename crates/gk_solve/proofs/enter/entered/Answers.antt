@@ -12,18 +12,21 @@ use Rattle.gk_solve.proofs.Visits.{visit_falls, visit_settles_from, settled_but,
 use Rattle.gk_solve.proofs.enter.entered.Goals as goal
 
 -- an edge that leaves a procedure without a flag is closed
-unflagged_closed : (shape : Shape) (reached flags : List Bool) (edge : Edge) → (IsFlagged flags (source_procedure shape edge) → ⊥) → IsEntryClosedAt shape reached flags edge
+unflagged_closed : (shape : Shape) (reached flags : List Bool) (edge : Edge) → (IsFlagged flags (source_procedure shape edge) → ⊥)
+    → IsEntryClosedAt shape reached flags edge
 unflagged_closed shape reached flags (Step x y) never = tt
 unflagged_closed shape reached flags (Call site x y) never = λ flagged at_x. absurd (never flagged)
 unflagged_closed shape reached flags (Ret site x y) never = tt
 
 -- so each edge stays settled where the mark of such a procedure is taken
-unflagged_settles : (shape : Shape) (reached flags dirty dirty_after : List Bool) (at : ℕ) → dirty_after ≡ set dirty at false → get_or flags at false ≡ false
+unflagged_settles : (shape : Shape) (reached flags dirty dirty_after : List Bool) (at : ℕ) → dirty_after ≡ set dirty at false
+    → get_or flags at false ≡ false
     → ((edge : Edge) → IsEdge shape edge → IsSettled (IsEntryClosedAt shape reached) (source_procedure shape) flags dirty edge)
     → (edge : Edge) → IsEdge shape edge → IsSettled (IsEntryClosedAt shape reached) (source_procedure shape) flags dirty_after edge
 unflagged_settles shape reached flags dirty dirty_after at taken clear before edge there =
     elim (settled_but (IsEntryClosedAt shape reached) (source_procedure shape) flags dirty at edge (before edge there)) [
-      | inl same ↦ inl (unflagged_closed shape reached flags edge (λ flagged. let is : get_or flags (source_procedure shape edge) false ≡ false = ap (λ n. get_or flags n false) same ∙ clear in absurd (cc)))
+      | inl same ↦ inl (unflagged_closed shape reached flags edge (λ flagged.
+          let is : get_or flags (source_procedure shape edge) false ≡ false = ap (λ n. get_or flags n false) same ∙ clear in absurd (cc)))
       | inr still ↦ subst (λ (d : List Bool). IsSettled (IsEntryClosedAt shape reached) (source_procedure shape) flags d edge) (sym taken) still
     ]
 
@@ -36,13 +39,15 @@ overflow_cast-procedure c =
     omega (arith, low, c.visits.invariant.count, c.procedures.ensures)
 
 pub visits-smaller-then-flags-procedure : goal.visits-smaller-then-flags-procedure
-visits-smaller-then-flags-procedure c = visit_falls c.visits.flags c.visits.dirty c.visit.new.flags c.take.new.self c.visit.new.dirty c.in-Some.procedure c.in-Some.ensures.0 c.in-Some.ensures.1 c.visit.ensures.spreads
+visits-smaller-then-flags-procedure c = visit_falls c.visits.flags c.visits.dirty c.visit.new.flags c.take.new.self c.visit.new.dirty
+    c.in-Some.procedure c.in-Some.ensures.0 c.in-Some.ensures.1 c.visit.ensures.spreads
 
 pub returns : goal.returns
 returns c x = (
   c.visits.invariant.sound x,
   all_entered c.points.ensures.numbered c.args.reached.now c.visits.flags c.requires.reached
-      (all_closed (IsEntryClosedAt (directed_shape c.args.links.now) c.args.reached.now) (directed_shape c.args.links.now) (source_procedure (directed_shape c.args.links.now)) c.visits.flags c.visits.dirty c.visits.invariant.settled c.in_default.ensures.0)
+      (all_closed (IsEntryClosedAt (directed_shape c.args.links.now) c.args.reached.now) (directed_shape c.args.links.now)
+      (source_procedure (directed_shape c.args.links.now)) c.visits.flags c.visits.dirty c.visits.invariant.settled c.in_default.ensures.0)
       c.visits.invariant.root x,
 )
 
@@ -51,7 +56,8 @@ visits-init c =
     let spreads = c.enter.ensures.spreads in
     record {
       count = spreads.count ∙ c.requires.dirty_count;
-      settled = λ edge there. spreads.settled edge there (inl (unflagged_closed (directed_shape c.args.links.now) c.args.reached.now c.args.flags.now edge (c.requires.none _)));
+      settled = λ edge there. spreads.settled edge there
+          (inl (unflagged_closed (directed_shape c.args.links.now) c.args.reached.now c.args.flags.now edge (c.requires.none _)));
       root = subst (IsFlagged c.enter.new.flags) c.root.ensures c.enter.ensures.flagged;
       sound = spreads.sound (λ x flagged. absurd (c.requires.none x flagged));
     }
@@ -61,7 +67,9 @@ visits-preserved-then-flags-procedure c =
     let spreads = c.visit.ensures.spreads in
     record {
       count = spreads.count ∙ (ap length c.in-Some.ensures.1 ∙ (length-set c.visits.dirty c.in-Some.procedure false ∙ c.visits.invariant.count));
-      settled = visit_settles_from (IsEntryClosedAt (directed_shape c.args.links.now) c.args.reached.now) (source_procedure (directed_shape c.args.links.now)) c.visits.flags c.visits.dirty c.visit.new.flags c.take.new.self c.visit.new.dirty c.in-Some.procedure c.in-Some.ensures.1 spreads c.visit.ensures.settled c.visits.invariant.settled;
+      settled = visit_settles_from (IsEntryClosedAt (directed_shape c.args.links.now) c.args.reached.now)
+          (source_procedure (directed_shape c.args.links.now)) c.visits.flags c.visits.dirty c.visit.new.flags c.take.new.self c.visit.new.dirty
+          c.in-Some.procedure c.in-Some.ensures.1 spreads c.visit.ensures.settled c.visits.invariant.settled;
       root = spreads.grows _ c.visits.invariant.root;
       sound = spreads.sound c.visits.invariant.sound;
     }
@@ -69,7 +77,8 @@ visits-preserved-then-flags-procedure c =
 pub visits-preserved : goal.visits-preserved
 visits-preserved c = record {
   count = ap length c.in-Some.ensures.1 ∙ (length-set c.visits.dirty c.in-Some.procedure false ∙ c.visits.invariant.count);
-  settled = unflagged_settles (directed_shape c.args.links.now) c.args.reached.now c.visits.flags c.visits.dirty c.take.new.self c.in-Some.procedure c.in-Some.ensures.1 c.if-flags-procedure.false c.visits.invariant.settled;
+  settled = unflagged_settles (directed_shape c.args.links.now) c.args.reached.now c.visits.flags c.visits.dirty c.take.new.self c.in-Some.procedure
+      c.in-Some.ensures.1 c.if-flags-procedure.false c.visits.invariant.settled;
   root = c.visits.invariant.root;
   sound = c.visits.invariant.sound;
 }

@@ -11,7 +11,8 @@ use Rattle.gk_solve.proofs.enter.entered.Given as goal
 abbrev pub invariant-visits : goal.invariant-visits
 invariant-visits l = record {
   count : length l.dirty ≡ (directed_shape l.links).procedures;
-  settled : (edge : Edge) → IsEdge (directed_shape l.links) edge → IsSettled (IsEntryClosedAt (directed_shape l.links) l.reached) (source_procedure (directed_shape l.links)) l.flags l.dirty edge;
+  settled : (edge : Edge) → IsEdge (directed_shape l.links) edge
+      → IsSettled (IsEntryClosedAt (directed_shape l.links) l.reached) (source_procedure (directed_shape l.links)) l.flags l.dirty edge;
   root : IsFlagged l.flags (directed_shape l.links).root_procedure;
   sound : AreSound (Entered (directed_shape l.links)) l.flags;
 }

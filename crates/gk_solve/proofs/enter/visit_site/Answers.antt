@@ -9,4 +9,5 @@ enter-requires-clause-entered c =
     let shape = directed_shape c.args.links.now in
     let site = c.requires.there in
     subst (Entered shape) (sym site.4)
-    (entered_across_call c.points.ensures.numbered site.0 c.args.site.point site.1 site.2 (subst (Entered shape) (sym site.3) c.requires.entered) ((c.requires.reached c.args.site.point).0 c.if-reached-site.true))
+    (entered_across_call c.points.ensures.numbered site.0 c.args.site.point site.1 site.2 (subst (Entered shape) (sym site.3) c.requires.entered)
+    ((c.requires.reached c.args.site.point).0 c.if-reached-site.true))

@@ -14,7 +14,8 @@ returns-clause-before_first_call c =
 
 pub returns-clause-in_callee : goal.returns-clause-in_callee
 returns-clause-in_callee c =
-    (backward_may_is_reversed two_prints live_first 5 (well_formed_is two_prints refl)).1 (out_of_first_call, (path_is two_prints 5 out_of_first_call 4 refl, refl), refl)
+    (backward_may_is_reversed two_prints live_first 5 (well_formed_is two_prints refl)).1
+    (out_of_first_call, (path_is two_prints 5 out_of_first_call 4 refl, refl), refl)
 
 pub returns-clause-not_before_second_call : goal.returns-clause-not_before_second_call
 returns-clause-not_before_second_call c =

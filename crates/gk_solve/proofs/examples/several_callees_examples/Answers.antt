@@ -8,18 +8,26 @@ use Rattle.gk_solve.proofs.examples.several_callees_examples.Goals as goal
 pub returns-clause-outer_after_call : goal.returns-clause-outer_after_call
 returns-clause-outer_after_call c =
     let well = well_formed_is several_callees refl in
-    (solution_is_meet several_callees outer_definition 2 well).1.1 (through_second_callee, (path_is several_callees 0 through_second_callee 2 refl, refl), refl)
+    (solution_is_meet several_callees outer_definition 2 well).1.1
+    (through_second_callee, (path_is several_callees 0 through_second_callee 2 refl, refl), refl)
 
 pub returns-clause-outer_not_after_inner : goal.returns-clause-outer_not_after_inner
 returns-clause-outer_not_after_inner c =
     not_in_solution several_callees outer_definition
-    (record { reached = λ n. true; kept = is_one_of (0 ∷ 1 ∷ 2 ∷ 3 ∷ 4 ∷ 6 ∷ 7 ∷ []); made = is_one_of (1 ∷ 2 ∷ 3 ∷ []); entered = λ n. true; brought = λ n. true })
+    (record {
+      reached = λ n. true;
+      kept = is_one_of (0 ∷ 1 ∷ 2 ∷ 3 ∷ 4 ∷ 6 ∷ 7 ∷ []);
+      made = is_one_of (1 ∷ 2 ∷ 3 ∷ []);
+      entered = λ n. true;
+      brought = λ n. true;
+    })
     refl 5 refl refl
 
 pub returns-clause-inner_after_call : goal.returns-clause-inner_after_call
 returns-clause-inner_after_call c =
     let well = well_formed_is several_callees refl in
-    (solution_is_meet several_callees inner_of_first 2 well).1.1 (through_first_callee, (path_is several_callees 0 through_first_callee 2 refl, refl), refl)
+    (solution_is_meet several_callees inner_of_first 2 well).1.1
+    (through_first_callee, (path_is several_callees 0 through_first_callee 2 refl, refl), refl)
 
 pub returns-clause-inner_not_in_second : goal.returns-clause-inner_not_in_second
 returns-clause-inner_not_in_second c =

@@ -8,7 +8,8 @@ use Rattle.gk_solve.proofs.group.begin.Goals as goal
 pub loop-procedure-init : goal.loop-procedure-init
 loop-procedure-init g c = record {
   entries = λ p w k low. absurd (omega (arith, low));
-  sound = blank_sound g.row.W (group_of c.args.frame.now g.row.W) c.loop-point.table (λ j d within. c.loop-point.invariant j d (omega (arith, within, c.loop-point-test.false)));
+  sound = blank_sound g.row.W (group_of c.args.frame.now g.row.W) c.loop-point.table
+      (λ j d within. c.loop-point.invariant j d (omega (arith, within, c.loop-point-test.false)));
 }
 
 pub loop-procedure-preserved : goal.loop-procedure-preserved
@@ -23,7 +24,8 @@ loop-procedure-preserved g c =
         | inl same ↦ inl (ap (directed_shape c.args.frame.now.links.now).entry same ∙ sym c.entry.ensures)
         | inr other ↦ inr (c.loop-procedure.invariant.entries p w k (omega (arith, below, other)) inside place)
       ]);
-      sound = entry_sound g.row.W (group_of c.args.frame.now g.row.W) c.loop-procedure.table procedure c.entry.result within there c.entry.ensures c.loop-procedure.invariant.sound;
+      sound = entry_sound g.row.W (group_of c.args.frame.now g.row.W)
+          c.loop-procedure.table procedure c.entry.result within there c.entry.ensures c.loop-procedure.invariant.sound;
     }
 
 pub returns-clause-entries : goal.returns-clause-entries

@@ -10,15 +10,18 @@ use Rattle.gk_solve.proofs.WordEdges.{all_kept, all_made}
 use Rattle.gk_solve.proofs.group.kept_and_made.Goals as goal
 
 pub visits-smaller : goal.visits-smaller
-visits-smaller g c = visit_falls c.visits.table c.visits.dirty c.visit.new.table c.take.new.self c.visit.new.dirty c.in-Some.at c.in-Some.ensures.0 c.in-Some.ensures.1 c.visit.ensures.spreads
+visits-smaller g c = visit_falls c.visits.table c.visits.dirty c.visit.new.table c.take.new.self c.visit.new.dirty c.in-Some.at c.in-Some.ensures.0
+    c.in-Some.ensures.1 c.visit.ensures.spreads
 
 pub visits-preserved : goal.visits-preserved
 visits-preserved g c = record {
   count = c.visit.ensures.spreads.count ∙ (ap length c.in-Some.ensures.1 ∙ (length-set c.visits.dirty c.in-Some.at false ∙ c.visits.invariant.count));
   settled =
-      visit_settles (λ edge. WaitsFor (directed_shape c.args.frame.now.links.now) edge c.in-Some.at) c.visits.table c.visits.dirty c.visit.new.table c.take.new.self
+      visit_settles (λ edge. WaitsFor (directed_shape c.args.frame.now.links.now) edge c.in-Some.at)
+      c.visits.table c.visits.dirty c.visit.new.table c.take.new.self
       c.visit.new.dirty c.in-Some.at c.in-Some.ensures.1 c.visit.ensures.spreads
-      (waits_but (group_of c.args.frame.now g.row.W) c.args.frame.now.paths.now c.visits.table c.visits.dirty c.in-Some.at) c.visit.ensures.settled c.visits.invariant.settled;
+      (waits_but (group_of c.args.frame.now g.row.W) c.args.frame.now.paths.now c.visits.table c.visits.dirty c.in-Some.at)
+      c.visit.ensures.settled c.visits.invariant.settled;
   entries = λ p w k below inside low. (c.visit.ensures.spreads.grows w inside).0 _ k (c.visits.invariant.entries p w k below inside low);
   sound = c.visit.ensures.spreads.sound c.visits.invariant.sound;
 }
@@ -28,9 +31,11 @@ returns-clause-complete g c w x k inside low flag =
     let group = group_of c.args.frame.now g.row.W in
     let is = c.requires.frame in
     let closed = none_waits group c.args.frame.now.paths.now c.visits.table c.visits.dirty c.visits.invariant.settled c.in_default.ensures.0 in (
-      all_kept is.numbered (group.transfer w) c.args.frame.now.paths.now is.paths (kept_word c.visits.table w) (λ edge there. (closed edge there w inside).0) k low
+      all_kept is.numbered (group.transfer w) c.args.frame.now.paths.now is.paths (kept_word c.visits.table w)
+          (λ edge there. (closed edge there w inside).0) k low
           (λ p within. c.visits.invariant.entries p w k within inside low) x flag,
-      all_made is.numbered (group.transfer w) c.args.frame.now.paths.now is.paths (kept_word c.visits.table w) (made_word c.visits.table w) (λ edge there. (closed edge there w inside).0) (λ edge there. (closed edge there w inside).1) k low
+      all_made is.numbered (group.transfer w) c.args.frame.now.paths.now is.paths (kept_word c.visits.table w) (made_word c.visits.table w)
+          (λ edge there. (closed edge there w inside).0) (λ edge there. (closed edge there w inside).1) k low
           (λ p within. c.visits.invariant.entries p w k within inside low) x flag,
     )
 

@@ -11,8 +11,10 @@ use Rattle.gk_solve.proofs.group.kept_and_made.Given as goal
 abbrev pub invariant-visits : goal.invariant-visits
 invariant-visits g l = record {
   count : length l.dirty ≡ point_count l.frame.links.now.program;
-  settled : (edge : Edge) → IsEdge (directed_shape l.frame.links.now) edge → IsSummarySettled (group_of l.frame g.row.W) l.frame.paths.now l.table l.dirty edge;
-  entries : (p w k : ℕ) → p < (directed_shape l.frame.links.now).procedures → w < g.row.W → k < 64 → HasBit (kept_word l.table w) ((directed_shape l.frame.links.now).entry p) k;
+  settled : (edge : Edge) → IsEdge (directed_shape l.frame.links.now) edge
+      → IsSummarySettled (group_of l.frame g.row.W) l.frame.paths.now l.table l.dirty edge;
+  entries : (p w k : ℕ) → p < (directed_shape l.frame.links.now).procedures → w < g.row.W → k < 64
+      → HasBit (kept_word l.table w) ((directed_shape l.frame.links.now).entry p) k;
   sound : AreSoundSummaries (group_of l.frame g.row.W) l.table;
 }
 

@@ -9,7 +9,8 @@ use Rattle.gk_solve.proofs.group.put.Goals as goal
 pub returns-clause-spreads : goal.returns-clause-spreads
 returns-clause-spreads g c =
     let inside : c.args.at < length c.args.dirty.now = omega (arith, c.requires.dirty_count, c.requires.within) in
-    put_spreads (group_of c.args.frame.now g.row.W) c.args.frame.now.paths.now c.args.table.now c.args.dirty.now c.mark.new.self c.args.at c.index-table-at.result c.args.more c.joined-after.result.0
+    put_spreads (group_of c.args.frame.now g.row.W) c.args.frame.now.paths.now c.args.table.now c.args.dirty.now c.mark.new.self c.args.at
+    c.index-table-at.result c.args.more c.joined-after.result.0
     (omega (arith, c.requires.count, c.requires.within)) c.index-table-at.is c.joined-after.ensures.kept c.joined-after.ensures.made
     (ap length c.mark.ensures ∙ length-set c.args.dirty.now c.args.at true)
     (λ x marked. subst (λ (d : List Bool). IsMarked d x) (sym c.mark.ensures) (flags_stay c.args.dirty.now c.args.at x marked))

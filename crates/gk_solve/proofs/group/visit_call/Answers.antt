@@ -11,7 +11,8 @@ use Rattle.gk_solve.proofs.group.visit_call.Goals as goal
 pub bounds-frame-call : goal.bounds-frame-call
 bounds-frame-call g c =
     let there = c.requires.there in
-    let low = subst (λ n. n < point_count c.args.frame.now.links.now.program) (sym there.3) (exit_low c.requires.frame.numbered there.0 c.args.at there.1 there.2) in
+    let low = subst (λ n. n < point_count c.args.frame.now.links.now.program) (sym there.3)
+    (exit_low c.requires.frame.numbered there.0 c.args.at there.1 there.2) in
     omega (arith, low, c.requires.frame.path_count)
 
 pub put-requires : goal.put-requires
@@ -20,7 +21,8 @@ put-requires g c =
     let there = c.requires.there in
     let ends = is.numbered.edge_in_range _ there.2 in
     let within : c.args.at < length c.args.table.now = omega (arith, ends.0, c.requires.count) in
-    let low = subst (λ n. n < point_count c.args.frame.now.links.now.program) (sym there.3) (exit_low is.numbered there.0 c.args.at there.1 there.2) in
+    let low =
+    subst (λ n. n < point_count c.args.frame.now.links.now.program) (sym there.3) (exit_low is.numbered there.0 c.args.at there.1 there.2) in
     let exit_within : c.args.call.exit < length c.args.table.now = omega (arith, low, c.requires.count) in (
       has_size g.row.W is.narrow,
       (
@@ -30,9 +32,13 @@ put-requires g c =
           (
             subst (λ n. n < point_count c.args.frame.now.links.now.program) (sym there.4) (return_low is.numbered there.0 c.args.at there.1 there.2),
             (
-              call_keeps_of g.row.W c.args.frame.now is c.args.table.now c.requires.sound c.args.at c.args.call there c.requires.path c.if-not-frame-call.false within exit_within c.index-table-at.result c.index-table-call.result c.index-table-at.is c.index-table-call.is
+              call_keeps_of g.row.W c.args.frame.now is c.args.table.now c.requires.sound c.args.at c.args.call there c.requires.path
+                  c.if-not-frame-call.false within exit_within c.index-table-at.result c.index-table-call.result c.index-table-at.is
+                  c.index-table-call.is
                   c.both.result c.new_or_kept.result c.both.ensures c.new_or_kept.ensures,
-              call_makes_of g.row.W c.args.frame.now is c.args.table.now c.requires.sound c.args.at c.args.call there c.requires.path c.if-not-frame-call.false within exit_within c.index-table-at.result c.index-table-call.result c.index-table-at.is c.index-table-call.is
+              call_makes_of g.row.W c.args.frame.now is c.args.table.now c.requires.sound c.args.at c.args.call there c.requires.path
+                  c.if-not-frame-call.false within exit_within c.index-table-at.result c.index-table-call.result c.index-table-at.is
+                  c.index-table-call.is
                   c.both.result c.new_or_kept.result c.both.ensures c.new_or_kept.ensures,
             ),
           ),
@@ -46,10 +52,13 @@ returns-clause-settled g c =
     let there = c.requires.there in
     let ends = is.numbered.edge_in_range _ there.2 in
     let within : c.args.at < length c.args.table.now = omega (arith, ends.0, c.requires.count) in
-    let low = subst (λ n. n < point_count c.args.frame.now.links.now.program) (sym there.3) (exit_low is.numbered there.0 c.args.at there.1 there.2) in
+    let low =
+    subst (λ n. n < point_count c.args.frame.now.links.now.program) (sym there.3) (exit_low is.numbered there.0 c.args.at there.1 there.2) in
     let exit_within : c.args.call.exit < length c.args.table.now = omega (arith, low, c.requires.count) in
-    call_settled_of g.row.W c.args.frame.now is c.args.table.now c.requires.sound c.args.at c.args.call there c.requires.path c.if-not-frame-call.false within exit_within c.index-table-at.result c.index-table-call.result c.index-table-at.is c.index-table-call.is
-    c.both.result c.new_or_kept.result c.both.ensures c.new_or_kept.ensures c.put.new.table c.put.new.dirty c.put.ensures.same c.put.ensures.kept_added c.put.ensures.made_added
+    call_settled_of g.row.W c.args.frame.now is c.args.table.now c.requires.sound c.args.at c.args.call there c.requires.path
+    c.if-not-frame-call.false within exit_within c.index-table-at.result c.index-table-call.result c.index-table-at.is c.index-table-call.is
+    c.both.result c.new_or_kept.result c.both.ensures c.new_or_kept.ensures c.put.new.table c.put.new.dirty c.put.ensures.same
+    c.put.ensures.kept_added c.put.ensures.made_added
 
 pub returns-clause-spreads : goal.returns-clause-spreads
 returns-clause-spreads g c = c.put.ensures.spreads
@@ -59,6 +68,8 @@ returns-then-not-frame-call-clause-spreads g c = same_spreads (still_summaries g
 
 pub returns-then-not-frame-call-clause-settled : goal.returns-then-not-frame-call-clause-settled
 returns-then-not-frame-call-clause-settled g c = record {
-  settled = λ site y there exit after. call_blocked (group_of c.args.frame.now g.row.W) c.args.frame.now.paths.now site c.args.at y c.args.table.now c.args.dirty.now
-      (λ flagged. let set : get_or c.args.frame.now.paths.now c.args.call.exit false ≡ true = subst (IsFlagged c.args.frame.now.paths.now) (sym exit) flagged in let clear = c.if-not-frame-call.true in absurd (cc));
+  settled = λ site y there exit after.
+      call_blocked (group_of c.args.frame.now g.row.W) c.args.frame.now.paths.now site c.args.at y c.args.table.now c.args.dirty.now
+      (λ flagged. let set : get_or c.args.frame.now.paths.now c.args.call.exit false ≡ true =
+      subst (IsFlagged c.args.frame.now.paths.now) (sym exit) flagged in let clear = c.if-not-frame-call.true in absurd (cc));
 }

@@ -12,15 +12,29 @@ pub visit_call_left_at-requires : goal.visit_call_left_at-requires
 visit_call_left_at-requires g c =
     let none : CallLink = record { exit = 0; after = 0 } in
     let list = c.calls_from-calls.result.now in
-    let there = (c.calls_from-calls.ensures.listed (get_or list c.loop-call.call-index none)).0 (Contains-get_or list c.loop-call.call-index none c.loop-call-test.true) in
-    (has_size g.row.W c.requires.frame.narrow, (c.requires.frame, (omega (arith, c.requires.count), (c.loop-call.invariant.spreads.count ∙ c.requires.dirty_count, (c.if-not-frame-at.false, (there, c.loop-call.invariant.spreads.sound c.requires.sound))))))
+    let there = (c.calls_from-calls.ensures.listed (get_or list c.loop-call.call-index none)).0
+    (Contains-get_or list c.loop-call.call-index none c.loop-call-test.true) in (
+      has_size g.row.W c.requires.frame.narrow,
+      (
+        c.requires.frame,
+        (
+          omega (arith, c.requires.count),
+          (
+            c.loop-call.invariant.spreads.count ∙ c.requires.dirty_count,
+            (c.if-not-frame-at.false, (there, c.loop-call.invariant.spreads.sound c.requires.sound)),
+          ),
+        ),
+      ),
+    )
 
 pub loop-call-preserved : goal.loop-call-preserved
 loop-call-preserved g c = record {
   spreads = spreads_more (summaries_on g.row.W) _ _ _ _ _ _ c.loop-call.invariant.spreads c.visit_call_left_at.ensures.spreads;
-  done = read_more (λ (link : CallLink). link.exit ≡ c.args.exit → IsSummaryCallSettled (group_of c.args.frame.now g.row.W) c.args.frame.now.paths.now c.args.at c.visit_call_left_at.new.table c.visit_call_left_at.new.dirty link)
+  done = read_more (λ (link : CallLink). link.exit ≡ c.args.exit → IsSummaryCallSettled (group_of c.args.frame.now g.row.W)
+      c.args.frame.now.paths.now c.args.at c.visit_call_left_at.new.table c.visit_call_left_at.new.dirty link)
       c.calls_from-calls.result.now c.loop-call.call-index (record { exit = 0; after = 0 }) c.loop-call-test.true
-      (λ j d below left. call_settled_more (group_of c.args.frame.now g.row.W) c.args.frame.now.paths.now c.args.at _ _ _ _ _ c.visit_call_left_at.ensures.spreads (c.loop-call.invariant.done j d below left)) c.visit_call_left_at.ensures.settled;
+      (λ j d below left. call_settled_more (group_of c.args.frame.now g.row.W) c.args.frame.now.paths.now c.args.at
+      _ _ _ _ _ c.visit_call_left_at.ensures.spreads (c.loop-call.invariant.done j d below left)) c.visit_call_left_at.ensures.settled;
 }
 
 pub returns-clause-settled : goal.returns-clause-settled
@@ -30,7 +44,8 @@ returns-clause-settled g c = record {
       let shape = directed_shape linked in
       let none : CallLink = record { exit = 0; after = 0 } in
       let link : CallLink = record { exit = shape.exit (shape.procedure_of y); after = after_site linked.backward site } in
-      let done = each_listed (λ (l : CallLink). l.exit ≡ c.args.exit → IsSummaryCallSettled (group_of c.args.frame.now g.row.W) c.args.frame.now.paths.now c.args.at c.loop-call.table c.loop-call.dirty l)
+      let done = each_listed (λ (l : CallLink). l.exit ≡ c.args.exit
+      → IsSummaryCallSettled (group_of c.args.frame.now g.row.W) c.args.frame.now.paths.now c.args.at c.loop-call.table c.loop-call.dirty l)
       c.calls_from-calls.result.now none c.loop-call.call-index (omega arith)
       (λ j below. c.loop-call.invariant.done j none below) link ((c.calls_from-calls.ensures.listed link).1 (site, y, there, refl, refl)) in
       (done left).settled site y there refl refl;

@@ -1,4 +1,5 @@
-use Rattle.gk_solve.proofs.Backward.{forward_must_is_complement, backward_flags_are_reversed, backward_may_is_reversed, backward_must_is_reversed_complement}
+use Rattle.gk_solve.proofs.Backward.{forward_must_is_complement, backward_flags_are_reversed, backward_may_is_reversed}
+use Rattle.gk_solve.proofs.Backward.{backward_must_is_reversed_complement}
 use Rattle.gk_solve.proofs.laws.reversal_and_complement_carry_the_meet.Goals as goal
 
 pub returns-clause-forward_must : goal.returns-clause-forward_must

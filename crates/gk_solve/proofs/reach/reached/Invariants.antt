@@ -12,7 +12,8 @@ use Rattle.gk_solve.proofs.reach.reached.Given as goal
 abbrev pub invariant-visits : goal.invariant-visits
 invariant-visits l = record {
   count : length l.dirty ≡ point_count l.links.program;
-  settled : (edge : Edge) → IsEdge (directed_shape l.links) edge → IsSettled (IsReachClosedAt (directed_shape l.links) l.links.backward) source_of l.flags l.dirty edge;
+  settled : (edge : Edge) → IsEdge (directed_shape l.links) edge
+      → IsSettled (IsReachClosedAt (directed_shape l.links) l.links.backward) source_of l.flags l.dirty edge;
   entries : (p : ℕ) → p < (directed_shape l.links).procedures → IsFlagged l.flags ((directed_shape l.links).entry p);
   sound : AreSound (Reached (directed_shape l.links)) l.flags;
 }

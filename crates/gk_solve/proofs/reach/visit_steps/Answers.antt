@@ -17,7 +17,8 @@ grow-requires c =
       count = omega (arith, c.requires.count);
       dirty_count = c.loop-to.invariant.spreads.count ∙ c.requires.dirty_count;
       within = All-get_or (λ x. x < point_count c.args.links.now.program) list k 0 c.loop-to-test.true are.in_range;
-      reached = reached_by_step c.args.at (get_or list k 0) ((are.listed (get_or list k 0)).0 (Contains-get_or list k 0 c.loop-to-test.true)) c.requires.reached;
+      reached = reached_by_step c.args.at (get_or list k 0) ((are.listed (get_or list k 0)).0 (Contains-get_or list k 0 c.loop-to-test.true))
+          c.requires.reached;
     }
 
 pub loop-to-preserved : goal.loop-to-preserved
@@ -29,4 +30,5 @@ loop-to-preserved c = record {
 
 pub returns-clause-flagged : goal.returns-clause-flagged
 returns-clause-flagged c y there =
-    each_listed (IsFlagged c.loop-to.flags) c.steps_from-steps.result.now 0 c.loop-to.to-index (omega arith) c.loop-to.invariant.done y ((c.steps_from-steps.ensures.listed y).1 there)
+    each_listed (IsFlagged c.loop-to.flags) c.steps_from-steps.result.now 0 c.loop-to.to-index (omega arith) c.loop-to.invariant.done y
+    ((c.steps_from-steps.ensures.listed y).1 there)

@@ -5,5 +5,6 @@ use Rattle.gk_solve.proofs.solution.words_within.Given as goal
 abbrev pub invariant-loop-w : goal.invariant-loop-w
 invariant-loop-w g l = record {
   count : length l.words ≡ g.row.W;
-  done : (w k : ℕ) → w < l.w → k < 64 → (has_bit (get_or l.words w 0) k ≡ true) ↔ ((l.lo ≤ 64 * (l.frame.first + w) + k) × (64 * (l.frame.first + w) + k < l.hi));
+  done : (w k : ℕ) → w < l.w → k < 64
+      → (has_bit (get_or l.words w 0) k ≡ true) ↔ ((l.lo ≤ 64 * (l.frame.first + w) + k) × (64 * (l.frame.first + w) + k < l.hi));
 }

@@ -14,4 +14,5 @@ returns c =
     let paths = c.in_ok-paths.paths.items in
     IfOk-weaker c.blank.result (λ rows. rows ≡ blank_table paths c.args.lo c.args.hi) (TellsBelow form (64 * (c.args.lo / 64)) c.args.lo c.args.hi)
     (λ rows blank. blank_tells form c.args.routes.now c.requires.routes (64 * (c.args.lo / 64)) c.args.lo c.args.hi paths rows (omega arith)
-    (subst (λ (flags : List Bool). ArePathFlags (directed_shape c.args.routes.now) (point_count c.args.routes.now.program) flags) (sym c.in_ok-paths.ensures) c.paths.ensures) blank) c.blank.ensures
+    (subst (λ (flags : List Bool). ArePathFlags (directed_shape c.args.routes.now) (point_count c.args.routes.now.program) flags)
+    (sym c.in_ok-paths.ensures) c.paths.ensures) blank) c.blank.ensures

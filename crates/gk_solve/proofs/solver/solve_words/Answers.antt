@@ -30,9 +30,11 @@ words-preserved c =
       slice = after.slice;
       range = (after.range.0 ∙ before.range.0, after.range.1 ∙ before.range.1);
       tells = subst (λ n. TellsBelow form (64 * n) c.args.lo c.args.hi c.put_words.new.rows) after.until
-          (tells_more form slice c.words.rows c.put_words.new.rows (64 * c.words.word) c.args.lo c.args.hi after.solved after.slice.points (after.range.0 ∙ before.range.0) (after.range.1 ∙ before.range.1)
+          (tells_more form slice c.words.rows c.put_words.new.rows (64 * c.words.word) c.args.lo c.args.hi after.solved after.slice.points
+          (after.range.0 ∙ before.range.0) (after.range.1 ∙ before.range.1)
           (ap (λ n. 64 * n) (sym after.from)) (omega (arith, after.from, after.until, after.more)) c.put_words.ensures before.tells);
     }
 
 pub returns : goal.returns
-returns c = tells_all c.args.problem.now (64 * c.words.word) c.args.lo c.args.hi c.words.rows (λ _. omega (arith, c.words-test.false, c.div_ceil-end.ensures)) c.words.invariant.tells
+returns c = tells_all c.args.problem.now (64 * c.words.word) c.args.lo c.args.hi c.words.rows
+    (λ _. omega (arith, c.words-test.false, c.div_ceil-end.ensures)) c.words.invariant.tells

@@ -11,7 +11,8 @@ block_of-block-requires-clause-room c =
     let end = c.div_ceil-words.ensures in
     let high = c.hi.ensures in
     let less = c.min-count.ensures in
-    block_room (c.args.from + c.args.point) c.loop-first.first c.min-count.result (words_for c.args.rows.now.hi) c.points-apart.result (length c.args.rows.now.flags) (slots_len c.args.closed.now.words) c.points-apart.ensures.count (omega arith) c.requires.room
+    block_room (c.args.from + c.args.point) c.loop-first.first c.min-count.result (words_for c.args.rows.now.hi) c.points-apart.result
+    (length c.args.rows.now.flags) (slots_len c.args.closed.now.words) c.points-apart.ensures.count (omega arith) c.requires.room
 
 pub or_words-requires-clause-masks : goal.or_words-requires-clause-masks
 or_words-requires-clause-masks c k below i within set =
@@ -25,8 +26,10 @@ or_words-requires-clause-masks c k below i within set =
     let high = c.hi.ensures in
     let less = c.min-count.ensures in
     let size = length-taken c.block_of-block.result c.min-count.result (omega arith) in
-    let copy = taken words c.block_of-block.result (c.args.from + c.args.point) c.loop-first.first c.min-count.result c.points-apart.result (length c.args.rows.now.flags) c.points-apart.ensures.count c.block_of-block.ensures in
-    let inside = masks_within words (c.args.from + c.args.point) c.loop-first.first c.min-count.result c.args.rows.now (take c.min-count.result c.block_of-block.result) c.requires.within (omega arith) copy k (omega arith) i within set in
+    let copy = taken words c.block_of-block.result (c.args.from + c.args.point) c.loop-first.first c.min-count.result c.points-apart.result
+    (length c.args.rows.now.flags) c.points-apart.ensures.count c.block_of-block.ensures in
+    let inside = masks_within words (c.args.from + c.args.point) c.loop-first.first c.min-count.result c.args.rows.now
+    (take c.min-count.result c.block_of-block.result) c.requires.within (omega arith) copy k (omega arith) i within set in
     (omega arith, omega arith)
 
 pub loop-first-preserved : goal.loop-first-preserved
@@ -38,7 +41,9 @@ loop-first-preserved c =
     let less = c.min-count.ensures in
     record {
       within = omega arith;
-      so_far = IsPutIn-more words (c.args.from + c.args.point) c.args.point c.args.rows.now c.loop-first.first c.min-count.result c.loop-first.rows c.or_words.new.self (take c.min-count.result c.block_of-block.result) i.so_far c.requires.uniform c.requires.lowest c.requires.point
+      so_far = IsPutIn-more words (c.args.from + c.args.point) c.args.point c.args.rows.now c.loop-first.first c.min-count.result c.loop-first.rows
+          c.or_words.new.self (take c.min-count.result c.block_of-block.result) i.so_far c.requires.uniform c.requires.lowest c.requires.point
           (length-taken c.block_of-block.result c.min-count.result (omega arith))
-          (taken words c.block_of-block.result (c.args.from + c.args.point) c.loop-first.first c.min-count.result c.points-apart.result (length c.args.rows.now.flags) c.points-apart.ensures.count c.block_of-block.ensures) c.or_words.ensures;
+          (taken words c.block_of-block.result (c.args.from + c.args.point) c.loop-first.first c.min-count.result c.points-apart.result
+          (length c.args.rows.now.flags) c.points-apart.ensures.count c.block_of-block.ensures) c.or_words.ensures;
     }

@@ -5,4 +5,5 @@ use Rattle.slice_board_tests.proofs.bench.may_post.Goals as goal
 
 pub returns-clause-mask : goal.returns-clause-mask
 returns-clause-mask c none i within set =
-    ap (λ s. contains s (64 * c.args.word + i)) (sym c.row.ensures.value) ∙ sym (c.word.ensures i within) ∙ within_word c.args.mask c.word.result i c.word.type_inv within none set
+    ap (λ s. contains s (64 * c.args.word + i)) (sym c.row.ensures.value) ∙ sym (c.word.ensures i within)
+    ∙ within_word c.args.mask c.word.result i c.word.type_inv within none set

@@ -15,4 +15,5 @@ or_word-requires-clause-mask c i within set =
 
 pub returns-then-point-points-2 : goal.returns-then-point-points-2
 returns-then-point-points-2 c p b has =
-    noted_word c.args.mine.now c.or_word.new.self c.args.point c.args.word c.args.mask c.points.ensures.uniform (omega (arith, c.if-point-points.true, c.points.ensures.count)) c.or_word.ensures.value p b has
+    noted_word c.args.mine.now c.or_word.new.self c.args.point c.args.word c.args.mask c.points.ensures.uniform
+    (omega (arith, c.if-point-points.true, c.points.ensures.count)) c.or_word.ensures.value p b has

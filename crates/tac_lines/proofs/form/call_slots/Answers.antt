@@ -19,4 +19,5 @@ returns c =
     map-take (2 + more + more % 2) _
     ∙ front more
     ∙ ap (λ r. key (codes "call") ∷ callee ∷ r)
-    (ap (λ m. take (m + m % 2) (bars 7)) (let e : more ≡ min (c.args.tokens - 2) (2 * 7) = omega arith in e) ∙ sym (further_front 7 (c.args.tokens - 2)))
+    (ap (λ m. take (m + m % 2) (bars 7)) (let e : more ≡ min (c.args.tokens - 2) (2 * 7) = omega arith in e)
+    ∙ sym (further_front 7 (c.args.tokens - 2)))

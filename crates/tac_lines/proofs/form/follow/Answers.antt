@@ -5,11 +5,13 @@ use Rattle.tac_lines.proofs.form.follow.Goals.{then-loop-at-test+else-at-tokens,
 
 pub returns-then-not-fits-clause-whole : goal.returns-then-not-fits-clause-whole
 returns-then-not-fits-clause-whole c text =
-    sym (c.loop-at.invariant.whole text) ∙ (goes_wrong text c.args.slots.now c.args.tokens.now c.loop-at.at _ _ c.loop-at-test.true c.if-at-tokens.true (c.fits.ensures _ ∙ c.if-not-fits.true)).1
+    sym (c.loop-at.invariant.whole text) ∙ (goes_wrong text c.args.slots.now c.args.tokens.now c.loop-at.at _ _ c.loop-at-test.true
+    c.if-at-tokens.true (c.fits.ensures _ ∙ c.if-not-fits.true)).1
 
 pub loop-at-preserved : goal.loop-at-preserved
 loop-at-preserved c =
-    let step = λ (text : List ℕ). goes_on text c.args.slots.now c.args.tokens.now c.loop-at.at _ _ c.loop-at-test.true c.if-at-tokens.true (c.fits.ensures _ ∙ c.if-not-fits.false) in
+    let step = λ (text : List ℕ). goes_on text c.args.slots.now c.args.tokens.now c.loop-at.at _ _ c.loop-at-test.true c.if-at-tokens.true
+    (c.fits.ensures _ ∙ c.if-not-fits.false) in
     record {
       slots = omega (arith, c.loop-at-test.true);
       tokens = omega (arith, c.if-at-tokens.true);

@@ -10,7 +10,8 @@ invariant-loop-at l = record {
   slots : l.at ≤ length l.slots;
   tokens : l.at ≤ length l.tokens;
   wrong : (text : List ℕ) → wrong_at text (drop l.at l.slots) (drop l.at l.tokens) ≡ wrong_at text l.slots l.tokens;
-  whole : (text : List ℕ) → has_form (slots_view (drop l.at l.slots)) (tokens_view text (drop l.at l.tokens)) ≡ has_form (slots_view l.slots) (tokens_view text l.tokens);
+  whole : (text : List ℕ)
+      → has_form (slots_view (drop l.at l.slots)) (tokens_view text (drop l.at l.tokens)) ≡ has_form (slots_view l.slots) (tokens_view text l.tokens);
 }
 
 abbrev pub decreases-loop-at : goal.decreases-loop-at

@@ -16,13 +16,16 @@ pub returns-in_err-bad-clause-fault : goal.returns-in_err-bad-clause-fault
 returns-in_err-bad-clause-fault c =
     let line = c.line_stop-stop.ensures in
     let p = err_from_is_err_and c.from_residual-in_err-bad.result c.from_residual-in_err-bad.ensures.1 in
-    rw p.1 (rw p.2 (stop_of_text c.args.text.now c.loop-at.at c.line_stop-stop.result c.loop-at.inside c.in_err-bad.field-0.0 _ line.line line.after line.within c.in_err-bad.ensures.fault c.loop-at.invariant.faults))
+    rw p.1 (rw p.2 (stop_of_text c.args.text.now c.loop-at.at c.line_stop-stop.result c.loop-at.inside c.in_err-bad.field-0.0 _ line.line line.after
+    line.within c.in_err-bad.ensures.fault c.loop-at.invariant.faults))
 
 pub returns-in-Some-clause-fault : goal.returns-in-Some-clause-fault
 returns-in-Some-clause-fault c =
     let line = c.line_stop-stop.ensures in
-    let row = row_is c.args.text.now c.loop-at.at c.line_stop-stop.result c.in_ok-bad.bad _ _ c.in_ok-bad.ensures.row (sym (c.in_ok-line.ensures ∙ c.deref.ensures.value)) in
-    first_of_text c.args.text.now c.loop-at.at c.line_stop-stop.result c.loop-at.inside _ c.in-Some.fault _ line.line line.after line.within row (sym c.line_fault.ensures ∙ c.in-Some.is) c.loop-at.invariant.faults
+    let row = row_is c.args.text.now c.loop-at.at c.line_stop-stop.result c.in_ok-bad.bad _ _ c.in_ok-bad.ensures.row
+    (sym (c.in_ok-line.ensures ∙ c.deref.ensures.value)) in
+    first_of_text c.args.text.now c.loop-at.at c.line_stop-stop.result c.loop-at.inside _ c.in-Some.fault _ line.line line.after line.within row
+    (sym c.line_fault.ensures ∙ c.in-Some.is) c.loop-at.invariant.faults
 
 pub loop-at-preserved : goal.loop-at-preserved
 loop-at-preserved c =
@@ -40,7 +43,9 @@ loop-at-preserved c =
     let pushed = c.in_ok-push_line.ensures.pushed ∙ ap (λ ts. before ++ some_of ts) same in
     record {
       within = line.within;
-      faults = c.loop-at.invariant.faults ∙ ap (line_faults inside (length text)) step ∙ no_fault_step inside c.inside_after-inside.result (length text) (row c.read_row.new.row.items) (rows_from stop (lines (drop stop text))) none after;
+      faults = c.loop-at.invariant.faults ∙ ap (line_faults inside (length text)) step ∙ no_fault_step inside c.inside_after-inside.result
+          (length text) (row c.read_row.new.row.items) (rows_from stop (lines (drop stop text))) none after;
       stand = c.in_ok-push_line.ensures.lines;
-      lines = lines_step text before (range_views c.push_line.new.tokens.items c.push_line.new.lines.items) _ c.in_ok-bad.bad _ _ _ step pushed c.loop-at.invariant.lines;
+      lines = lines_step text before (range_views c.push_line.new.tokens.items c.push_line.new.lines.items)
+          _ c.in_ok-bad.bad _ _ _ step pushed c.loop-at.invariant.lines;
     }

@@ -13,7 +13,8 @@ invariant-loop-at l = record {
   within : l.at ≤ length l.text;
   faults : line_faults false (length l.text) (rows l.text) ≡ line_faults l.inside (length l.text) (rows_from l.at (lines (drop l.at l.text)));
   stand : AreLines l.tokens.items l.lines.items;
-  lines : map (tokens_view l.text) (range_views l.tokens.items l.lines.items) ++ token_lines (rows_from l.at (lines (drop l.at l.text))) ≡ token_lines (rows l.text);
+  lines : map (tokens_view l.text) (range_views l.tokens.items l.lines.items)
+      ++ token_lines (rows_from l.at (lines (drop l.at l.text))) ≡ token_lines (rows l.text);
 }
 
 abbrev pub decreases-loop-at : goal.decreases-loop-at

@@ -9,7 +9,8 @@ invariant-loop-at l = record {
   within : l.at ≤ length l.tokens;
   behind : (text : List ℕ) → behind_labels (tokens_view text (drop l.at l.tokens)) ≡ behind_labels (tokens_view text l.tokens);
   forms : (text : List ℕ) → 0 < l.at → forms_for true (labels_of (tokens_view text l.tokens)) ≡ line_forms true true;
-  count : (text : List ℕ) → l.at + 2 * length (labels_of (tokens_view text (drop l.at l.tokens))) ≡ 2 * length (labels_of (tokens_view text l.tokens));
+  count : (text : List ℕ)
+      → l.at + 2 * length (labels_of (tokens_view text (drop l.at l.tokens))) ≡ 2 * length (labels_of (tokens_view text l.tokens));
 }
 
 abbrev pub decreases-loop-at : goal.decreases-loop-at

@@ -9,5 +9,7 @@ returns-else-is_empty c text bad =
     let ts = tokens_view text c.args.tokens.now in
     let others = c.without_prefix-others.result.now in
     let labelled = nat_lt (length others) (length c.args.tokens.now) in
-    form_fault_is c.args.inside labelled ts (tokens_view text others) bad (c.without_prefix-others.ensures.others text) (c.without_prefix-others.ensures.forms text)
-    ∙ judged (line_forms c.args.inside labelled) (slots_view c.line_slots.result.now) (tokens_view text others) c.follow.result (is_some bad) (stop_of ts) (c.line_slots.ensures text) (c.follow.ensures.wrong text) (c.follow.ensures.whole text)
+    form_fault_is c.args.inside labelled ts (tokens_view text others) bad (c.without_prefix-others.ensures.others text)
+    (c.without_prefix-others.ensures.forms text)
+    ∙ judged (line_forms c.args.inside labelled) (slots_view c.line_slots.result.now) (tokens_view text others) c.follow.result (is_some bad)
+    (stop_of ts) (c.line_slots.ensures text) (c.follow.ensures.wrong text) (c.follow.ensures.whole text)

@@ -7,7 +7,8 @@ use Rattle.tac_lines.proofs.line.row_fault.Given as goal
 abbrev pub invariant-loop-at : goal.invariant-loop-at
 invariant-loop-at l = record {
   within : l.at ≤ length l.tokens;
-  first : l.first ≡ first_by_place (flat_map word_fault (tokens_view l.text (drop l.at l.tokens)) ++ form_fault l.inside (record { tokens = tokens_view l.text l.tokens; bad = l.bad }));
+  first : l.first ≡ first_by_place (flat_map word_fault (tokens_view l.text (drop l.at l.tokens))
+      ++ form_fault l.inside (record { tokens = tokens_view l.text l.tokens; bad = l.bad }));
 }
 
 abbrev pub decreases-loop-at : goal.decreases-loop-at

@@ -12,5 +12,6 @@ returns-then-fault-at c rest =
     let stop : stop_of ts ≡ c.stop_of.result = c.stop_of.ensures text in
     let reach : c.args.at ≤ stop_of ts = omega (arith, stop, c.if-stop_of-at.false) in
     early c.args.inside ts c.args.at c.in-Some.fault rest reach
-    (λ one. c.if-behind_labels-eq1.false (sym (length-map c.behind_labels.result.now (token_view text)) ∙ ap length (c.behind_labels.ensures.behind text) ∙ one))
+    (λ one. c.if-behind_labels-eq1.false
+    (sym (length-map c.behind_labels.result.now (token_view text)) ∙ ap length (c.behind_labels.ensures.behind text) ∙ one))
     (sym c.row_fault.ensures ∙ c.in-Some.is) c.if-fault-at.true

@@ -10,7 +10,8 @@ invariant-loop-at l = record {
   begun : l.start ≤ l.at;
   within : l.at ≤ l.stop;
   count : length l.row.items + l.start ≤ l.at;
-  rest : joined (tokens_view l.text l.row.items) (row_from l.at zero (slice_range l.text l.at l.stop)) ≡ row_from l.start zero (slice_range l.text l.start l.stop);
+  rest : joined (tokens_view l.text l.row.items) (row_from l.at zero (slice_range l.text l.at l.stop))
+      ≡ row_from l.start zero (slice_range l.text l.start l.stop);
 }
 
 abbrev pub decreases-loop-at : goal.decreases-loop-at

@@ -7,11 +7,13 @@ use Rattle.tac_lines.proofs.statement.statement_form.Goals as goal
 
 pub returns-in-Whole : goal.returns-in-Whole
 returns-in-Whole c text =
-    row_some c.form_of-form.result (length c.args.tokens.now) (slots_view c.slots_of.result.now) (tokens_view text c.args.tokens.now) c.slots_of.ensures (c.in-Whole.ensures.whole text)
+    row_some c.form_of-form.result (length c.args.tokens.now) (slots_view c.slots_of.result.now) (tokens_view text c.args.tokens.now)
+    c.slots_of.ensures (c.in-Whole.ensures.whole text)
 
 pub returns-in_default : goal.returns-in_default
 returns-in_default c text =
-    row_none c.form_of-form.result (length c.args.tokens.now) (slots_view c.slots_of.result.now) (tokens_view text c.args.tokens.now) c.slots_of.ensures (c.form_of-form.ensures text) (c.follow.ensures.whole text ∙ not_whole c.follow.result c.in_default.not-Whole)
+    row_none c.form_of-form.result (length c.args.tokens.now) (slots_view c.slots_of.result.now) (tokens_view text c.args.tokens.now)
+    c.slots_of.ensures (c.form_of-form.ensures text) (c.follow.ensures.whole text ∙ not_whole c.follow.result c.in_default.not-Whole)
 
 no_row : (text : List ℕ) (tokens : List Token) → (length tokens == 0) ≡ true → statement_row (tokens_view text tokens) ≡ None
 no_row text [] h = refl

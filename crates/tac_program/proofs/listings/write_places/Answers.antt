@@ -14,7 +14,8 @@ write_labels-requires-clause-ahead c = rw c.loop-place.invariant.ahead (All-from
 
 pub loop-place-preserved : goal.loop-place-preserved
 loop-place-preserved c =
-    let more = places_text-more c.args.names.now c.loop-place.place c.args.labels.now c.args.stmts.now c.index-stmts-place.result c.loop-place-test.true c.index-stmts-place.is in
+    let more = places_text-more c.args.names.now c.loop-place.place c.args.labels.now c.args.stmts.now c.index-stmts-place.result
+    c.loop-place-test.true c.index-stmts-place.is in
     let here = labels_text-from c.args.names.now c.loop-place.place c.args.labels.now in
     record {
       written =

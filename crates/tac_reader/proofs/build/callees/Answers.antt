@@ -12,11 +12,13 @@ loop-token-init c =
     let text = c.args.text.now in
     let items = c.deref-token-items.result.now in
     let called = callees_of (tokens_view text c.args.statement.tokens.now) in
-    let all : tokens_view text items ≡ called = ap (tokens_view text) c.deref-token-items.ensures.value ∙ c.in_ok-cells.ensures.appended text ∙ ap (λ xs. tokens_view text xs ++ called) c.clear.ensures.items in
+    let all : tokens_view text items ≡ called = ap (tokens_view text) c.deref-token-items.ensures.value ∙ c.in_ok-cells.ensures.appended text
+    ∙ ap (λ xs. tokens_view text xs ++ called) c.clear.ensures.items in
     let sizes : length (tokens_view text items) ≡ length items = length-map items (token_view text) in
     let most : length called ≤ 8 = most_callees (tokens_view text c.args.statement.tokens.now) in
     record {
       count = ap length c.new-callees.ensures;
       few = omega (arith, sym sizes ∙ ap length all, most);
-      rest = ap (λ ns. ns ++ map (λ t. number_of c.args.procedures.now (spelling_of t)) (tokens_view text items)) c.new-callees.ensures ∙ ap (map (λ t. number_of c.args.procedures.now (spelling_of t))) all;
+      rest = ap (λ ns. ns ++ map (λ t. number_of c.args.procedures.now (spelling_of t)) (tokens_view text items)) c.new-callees.ensures
+          ∙ ap (map (λ t. number_of c.args.procedures.now (spelling_of t))) all;
     }

@@ -10,5 +10,6 @@ abbrev pub invariant-loop-token : goal.invariant-loop-token
 invariant-loop-token l = record {
   count : length l.callees ≡ l.token-index;
   few : length l.token-items ≤ 8;
-  rest : l.callees ++ map (λ t. number_of l.procedures (spelling_of t)) (tokens_view l.text (drop l.token-index l.token-items)) ≡ call_numbers l.procedures (tokens_view l.text l.statement.tokens.now);
+  rest : l.callees ++ map (λ t. number_of l.procedures (spelling_of t)) (tokens_view l.text (drop l.token-index l.token-items))
+      ≡ call_numbers l.procedures (tokens_view l.text l.statement.tokens.now);
 }

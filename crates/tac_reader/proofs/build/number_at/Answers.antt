@@ -11,6 +11,7 @@ returns-in-None c =
 
 pub returns-in-Some : goal.returns-in-Some
 returns-in-Some c =
-    let some : slice_get c.args.tokens.now c.args.at ≡ Some c.in-Some.token.now = get_some c.args.tokens.now c.args.at c.in-Some.token.now c.in-Some.ensures.lookup.0 c.in-Some.ensures.lookup.1 in
+    let some : slice_get c.args.tokens.now c.args.at ≡ Some c.in-Some.token.now =
+    get_some c.args.tokens.now c.args.at c.in-Some.token.now c.in-Some.ensures.lookup.0 c.in-Some.ensures.lookup.1 in
     c.number-in-Some.ensures ∙ ap (number_of c.args.table.now) c.spelling.ensures
     ∙ ap (λ w. number_of c.args.table.now (bytes_of w)) (sym (word-some c.args.text.now c.args.tokens.now c.args.at c.in-Some.token.now some))

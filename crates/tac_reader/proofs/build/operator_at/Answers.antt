@@ -10,6 +10,7 @@ returns-in-None c text =
 
 pub returns-in_default : goal.returns-in_default
 returns-in_default c text =
-    let some : slice_get c.args.tokens.now c.args.at ≡ Some c.in-Some.token.now = get_some c.args.tokens.now c.args.at c.in-Some.token.now c.in-Some.ensures.lookup.0 c.in-Some.ensures.lookup.1 in
+    let some : slice_get c.args.tokens.now c.args.at ≡ Some c.in-Some.token.now =
+    get_some c.args.tokens.now c.args.at c.in-Some.token.now c.in-Some.ensures.lookup.0 c.in-Some.ensures.lookup.1 in
     ap operator_of (word-some text c.args.tokens.now c.args.at c.in-Some.token.now some)
     ∙ no_operator (slice_range text c.in-Some.token.now.start c.in-Some.token.now.stop) c.in-Some.token.now.kind c.in_default.not-Operator

@@ -10,6 +10,7 @@ returns-in-Name c =
     let text = c.args.variables.text.now in
     let names = c.args.variables.table.now in
     let token = c.in-Some.token.now in
-    let some : slice_get c.args.tokens.now c.args.at ≡ Some token = get_some c.args.tokens.now c.args.at token c.in-Some.ensures.lookup.0 c.in-Some.ensures.lookup.1 in
+    let some : slice_get c.args.tokens.now c.args.at ≡ Some token =
+    get_some c.args.tokens.now c.args.at token c.in-Some.ensures.lookup.0 c.in-Some.ensures.lookup.1 in
     c.number.ensures ∙ ap (λ k. number_of names (bytes_of (word_at (slice_range text token.start token.stop) k))) (sym c.in-Name.is)
     ∙ ap (λ w. number_of names (bytes_of w)) (sym (word-some text c.args.tokens.now c.args.at token some))

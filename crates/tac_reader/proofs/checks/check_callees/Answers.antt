@@ -14,4 +14,6 @@ faults_among known s = unknown UnknownProcedure known (callees_in s)
 pub loop-section-preserved : goal.loop-section-preserved
 loop-section-preserved c =
     let known = titles (sections_view c.args.text.now c.args.sections.now) in
-    fault_past (faults_among known) (section_view c.args.text.now) c.args.sections.now c.loop-section.section-index c.section-item.result _ c.loop-section-test.true (sym c.in_default.is ∙ c.in_ok-fault.ensures known c.requires ∙ ap (λ s. head_of (faults_among known (section_view c.args.text.now s))) c.section-item.is) c.loop-section.invariant
+    fault_past (faults_among known) (section_view c.args.text.now) c.args.sections.now c.loop-section.section-index c.section-item.result
+    _ c.loop-section-test.true (sym c.in_default.is ∙ c.in_ok-fault.ensures known c.requires
+    ∙ ap (λ s. head_of (faults_among known (section_view c.args.text.now s))) c.section-item.is) c.loop-section.invariant

@@ -7,4 +7,6 @@ use Rattle.tac_reader.proofs.checks.check_callees.Given as goal
 
 -- The faults are the rest's.
 abbrev pub invariant-loop-section : goal.invariant-loop-section
-invariant-loop-section l = flat_map (λ s. unknown UnknownProcedure (titles (sections_view l.text l.sections)) (callees_in s)) (sections_view l.text (drop l.section-index l.sections)) ≡ flat_map (λ s. unknown UnknownProcedure (titles (sections_view l.text l.sections)) (callees_in s)) (sections_view l.text l.sections)
+invariant-loop-section l = flat_map (λ s. unknown UnknownProcedure (titles (sections_view l.text l.sections)) (callees_in s))
+    (sections_view l.text (drop l.section-index l.sections))
+    ≡ flat_map (λ s. unknown UnknownProcedure (titles (sections_view l.text l.sections)) (callees_in s)) (sections_view l.text l.sections)

@@ -18,13 +18,18 @@ pub unknown_jump-requires : goal.unknown_jump-requires
 unknown_jump-requires c =
     c.index-labels-at.is
     ∙ ap (λ ls. slice_index_or ls c.loop-at.at c.index-labels-at.result) c.requires
-    ∙ at_images label_names (section_view c.args.text.now) c.args.sections.now c.loop-at.at c.index-sections-at.result c.index-labels-at.result c.loop-at-test.true
+    ∙ at_images label_names (section_view c.args.text.now)
+    c.args.sections.now c.loop-at.at c.index-sections-at.result c.index-labels-at.result c.loop-at-test.true
     ∙ ap (λ s. label_names (section_view c.args.text.now s)) (sym c.index-sections-at.is)
 
 pub returns-in-Some-clause-fault : goal.returns-in-Some-clause-fault
 returns-in-Some-clause-fault c =
-    fault_here faults (section_view c.args.text.now) c.args.sections.now c.loop-at.at c.index-sections-at.result _ c.in-Some.fault c.loop-at-test.true (sym c.in-Some.is ∙ c.in_ok-fault.ensures ∙ ap (λ s. head_of (faults (section_view c.args.text.now s))) c.index-sections-at.is) c.loop-at.invariant
+    fault_here faults (section_view c.args.text.now) c.args.sections.now c.loop-at.at c.index-sections-at.result _ c.in-Some.fault c.loop-at-test.true
+    (sym c.in-Some.is ∙ c.in_ok-fault.ensures ∙ ap (λ s. head_of (faults (section_view c.args.text.now s))) c.index-sections-at.is)
+    c.loop-at.invariant
 
 pub loop-at-preserved : goal.loop-at-preserved
 loop-at-preserved c =
-    fault_past faults (section_view c.args.text.now) c.args.sections.now c.loop-at.at c.index-sections-at.result _ c.loop-at-test.true (sym c.in_default.is ∙ c.in_ok-fault.ensures ∙ ap (λ s. head_of (faults (section_view c.args.text.now s))) c.index-sections-at.is) c.loop-at.invariant
+    fault_past faults (section_view c.args.text.now) c.args.sections.now c.loop-at.at c.index-sections-at.result _ c.loop-at-test.true
+    (sym c.in_default.is ∙ c.in_ok-fault.ensures ∙ ap (λ s. head_of (faults (section_view c.args.text.now s))) c.index-sections-at.is)
+    c.loop-at.invariant

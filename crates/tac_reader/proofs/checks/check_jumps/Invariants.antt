@@ -7,4 +7,5 @@ use Rattle.tac_reader.proofs.checks.check_jumps.Given as goal
 
 -- The faults are the rest's.
 abbrev pub invariant-loop-at : goal.invariant-loop-at
-invariant-loop-at l = flat_map (λ s. unknown UnknownLabel (labels_in s) (jumps_in s)) (sections_view l.text (drop l.at l.sections)) ≡ flat_map (λ s. unknown UnknownLabel (labels_in s) (jumps_in s)) (sections_view l.text l.sections)
+invariant-loop-at l = flat_map (λ s. unknown UnknownLabel (labels_in s) (jumps_in s)) (sections_view l.text (drop l.at l.sections))
+    ≡ flat_map (λ s. unknown UnknownLabel (labels_in s) (jumps_in s)) (sections_view l.text l.sections)

@@ -16,5 +16,7 @@ returns-in_err-section_labels-clause-fault c =
     let p = err_from_is_err_and c.from_residual-in_err-section_labels.result c.from_residual-in_err-section_labels.ensures.1 in
     rw (p.1, p.2)
     (if_fault_weaker _ (λ f. head_of (flat_map faults (sections_view c.args.text.now c.args.sections.now)) ≡ Some f) c.in_err-section_labels.field-0.0
-    (λ f h. fault_here faults (section_view c.args.text.now) c.args.sections.now c.loop-section.section-index c.section-item.result _ f c.loop-section-test.true (sym h ∙ ap (λ s. head_of (faults (section_view c.args.text.now s))) c.section-item.is) c.loop-section.invariant.faults)
+    (λ f h. fault_here faults (section_view c.args.text.now)
+    c.args.sections.now c.loop-section.section-index c.section-item.result _ f c.loop-section-test.true
+    (sym h ∙ ap (λ s. head_of (faults (section_view c.args.text.now s))) c.section-item.is) c.loop-section.invariant.faults)
     c.in_err-section_labels.ensures.fault)

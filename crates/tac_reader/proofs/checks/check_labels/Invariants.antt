@@ -9,6 +9,8 @@ use Rattle.tac_reader.proofs.checks.check_labels.Given as goal
 -- The names of the rest are to come, and the faults are the rest's.
 abbrev pub invariant-loop-section : goal.invariant-loop-section
 invariant-loop-section l = record {
-  names : l.tables.items ++ map (λ s. names_in (labels_in s)) (sections_view l.text (drop l.section-index l.sections)) ≡ map (λ s. names_in (labels_in s)) (sections_view l.text l.sections);
-  faults : flat_map (λ s. repeated DuplicateLabel [] (labels_in s)) (sections_view l.text (drop l.section-index l.sections)) ≡ flat_map (λ s. repeated DuplicateLabel [] (labels_in s)) (sections_view l.text l.sections);
+  names : l.tables.items ++ map (λ s. names_in (labels_in s)) (sections_view l.text (drop l.section-index l.sections))
+      ≡ map (λ s. names_in (labels_in s)) (sections_view l.text l.sections);
+  faults : flat_map (λ s. repeated DuplicateLabel [] (labels_in s)) (sections_view l.text (drop l.section-index l.sections))
+      ≡ flat_map (λ s. repeated DuplicateLabel [] (labels_in s)) (sections_view l.text l.sections);
 }

@@ -13,8 +13,12 @@ faults s = flat_map (λ c. repeated DuplicateCallee [] (callees_of c)) (statemen
 
 pub returns-in-Some-clause-fault : goal.returns-in-Some-clause-fault
 returns-in-Some-clause-fault c =
-    fault_here faults (section_view c.args.text.now) c.args.sections.now c.loop-section.section-index c.section-item.result _ c.in-Some.fault c.loop-section-test.true (sym c.in-Some.is ∙ c.in_ok-fault.ensures ∙ ap (λ s. head_of (faults (section_view c.args.text.now s))) c.section-item.is) c.loop-section.invariant
+    fault_here faults (section_view c.args.text.now)
+    c.args.sections.now c.loop-section.section-index c.section-item.result _ c.in-Some.fault c.loop-section-test.true (sym c.in-Some.is
+    ∙ c.in_ok-fault.ensures ∙ ap (λ s. head_of (faults (section_view c.args.text.now s))) c.section-item.is) c.loop-section.invariant
 
 pub loop-section-preserved : goal.loop-section-preserved
 loop-section-preserved c =
-    fault_past faults (section_view c.args.text.now) c.args.sections.now c.loop-section.section-index c.section-item.result _ c.loop-section-test.true (sym c.in_default.is ∙ c.in_ok-fault.ensures ∙ ap (λ s. head_of (faults (section_view c.args.text.now s))) c.section-item.is) c.loop-section.invariant
+    fault_past faults (section_view c.args.text.now) c.args.sections.now c.loop-section.section-index c.section-item.result _ c.loop-section-test.true
+    (sym c.in_default.is ∙ c.in_ok-fault.ensures ∙ ap (λ s. head_of (faults (section_view c.args.text.now s))) c.section-item.is)
+    c.loop-section.invariant

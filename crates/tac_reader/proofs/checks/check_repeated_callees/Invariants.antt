@@ -8,4 +8,6 @@ use Rattle.tac_reader.proofs.checks.check_repeated_callees.Given as goal
 
 -- The faults are the rest's.
 abbrev pub invariant-loop-section : goal.invariant-loop-section
-invariant-loop-section l = flat_map (λ s. flat_map (λ c. repeated DuplicateCallee [] (callees_of c)) (statements_of s.body)) (sections_view l.text (drop l.section-index l.sections)) ≡ flat_map (λ s. flat_map (λ c. repeated DuplicateCallee [] (callees_of c)) (statements_of s.body)) (sections_view l.text l.sections)
+invariant-loop-section l = flat_map (λ s. flat_map (λ c. repeated DuplicateCallee [] (callees_of c)) (statements_of s.body))
+    (sections_view l.text (drop l.section-index l.sections))
+    ≡ flat_map (λ s. flat_map (λ c. repeated DuplicateCallee [] (callees_of c)) (statements_of s.body)) (sections_view l.text l.sections)

@@ -6,4 +6,5 @@ use Rattle.tac_reader.proofs.checks.first_repeated.Given as goal
 
 -- The faults are the rest's, behind the names so far.
 abbrev pub invariant-loop-at : goal.invariant-loop-at
-invariant-loop-at l = repeated l.kind (names_in (tokens_view l.text (take l.at l.tokens))) (tokens_view l.text (drop l.at l.tokens)) ≡ repeated l.kind [] (tokens_view l.text l.tokens)
+invariant-loop-at l = repeated l.kind (names_in (tokens_view l.text (take l.at l.tokens))) (tokens_view l.text (drop l.at l.tokens))
+    ≡ repeated l.kind [] (tokens_view l.text l.tokens)

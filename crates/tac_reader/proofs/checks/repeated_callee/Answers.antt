@@ -23,9 +23,11 @@ returns-in-Some c =
     let lines = c.args.section.now.lines.ranges.now in
     let i = c.loop-at.at in
     let below : i < length lines = omega (arith, c.loop-at-test.true, c.len-at-end.ensures) in
-    let callees = callees_found text c.line_cells.new.found.items c.clear.new.self.items (behind_labels (view (slice_index_or lines i no_line))) c.clear.ensures.items (c.in_ok-line_cells.ensures.appended text no_line) in
+    let callees = callees_found text c.line_cells.new.found.items c.clear.new.self.items (behind_labels (view (slice_index_or lines i no_line)))
+    c.clear.ensures.items (c.in_ok-line_cells.ensures.appended text no_line) in
     sym (fault_here of_line view lines i no_line _ c.in-Some.fault below
-    (sym c.in-Some.is ∙ c.first_repeated.ensures ∙ ap (λ ts. head_of (repeated DuplicateCallee [] (tokens_view text ts))) c.deref.ensures.value ∙ ap (λ ts. head_of (repeated DuplicateCallee [] ts)) callees)
+    (sym c.in-Some.is ∙ c.first_repeated.ensures ∙ ap (λ ts. head_of (repeated DuplicateCallee [] (tokens_view text ts))) c.deref.ensures.value
+    ∙ ap (λ ts. head_of (repeated DuplicateCallee [] ts)) callees)
     (by_lines faults refl (map view (drop i lines)) ∙ c.loop-at.invariant))
 
 pub loop-at-preserved : goal.loop-at-preserved
@@ -35,8 +37,10 @@ loop-at-preserved c =
     let lines = c.args.section.now.lines.ranges.now in
     let i = c.loop-at.at in
     let below : i < length lines = omega (arith, c.loop-at-test.true, c.len-at-end.ensures) in
-    let callees = callees_found text c.line_cells.new.found.items c.clear.new.self.items (behind_labels (view (slice_index_or lines i no_line))) c.clear.ensures.items (c.in_ok-line_cells.ensures.appended text no_line) in
+    let callees = callees_found text c.line_cells.new.found.items c.clear.new.self.items (behind_labels (view (slice_index_or lines i no_line)))
+    c.clear.ensures.items (c.in_ok-line_cells.ensures.appended text no_line) in
     sym (by_lines faults refl (map view (drop (i + 1) lines)))
     ∙ fault_past of_line view lines i no_line _ below
-    (sym c.in_default.is ∙ c.first_repeated.ensures ∙ ap (λ ts. head_of (repeated DuplicateCallee [] (tokens_view text ts))) c.deref.ensures.value ∙ ap (λ ts. head_of (repeated DuplicateCallee [] ts)) callees)
+    (sym c.in_default.is ∙ c.first_repeated.ensures ∙ ap (λ ts. head_of (repeated DuplicateCallee [] (tokens_view text ts))) c.deref.ensures.value
+    ∙ ap (λ ts. head_of (repeated DuplicateCallee [] ts)) callees)
     (by_lines faults refl (map view (drop i lines)) ∙ c.loop-at.invariant)

@@ -9,4 +9,6 @@ use Rattle.tac_reader.proofs.checks.repeated_callee.Given as goal
 
 -- The faults are the rest's.
 abbrev pub invariant-loop-at : goal.invariant-loop-at
-invariant-loop-at l = flat_map (λ c. repeated DuplicateCallee [] (callees_of c)) (statements_of (map (range_view l.text l.section.lines.tokens.now) (drop l.at l.section.lines.ranges.now))) ≡ flat_map (λ c. repeated DuplicateCallee [] (callees_of c)) (statements_of (lines_view l.text l.section.lines))
+invariant-loop-at l = flat_map (λ c. repeated DuplicateCallee [] (callees_of c))
+    (statements_of (map (range_view l.text l.section.lines.tokens.now) (drop l.at l.section.lines.ranges.now)))
+    ≡ flat_map (λ c. repeated DuplicateCallee [] (callees_of c)) (statements_of (lines_view l.text l.section.lines))

@@ -6,4 +6,5 @@ use Rattle.tac_reader.proofs.checks.titles.Given as goal
 
 -- The names so far and those of the rest are all.
 abbrev pub invariant-loop-section : goal.invariant-loop-section
-invariant-loop-section l = (text : List ℕ) → tokens_view text l.found.items ++ titles (sections_view text (drop l.section-index l.sections)) ≡ titles (sections_view text l.sections)
+invariant-loop-section l = (text : List ℕ)
+    → tokens_view text l.found.items ++ titles (sections_view text (drop l.section-index l.sections)) ≡ titles (sections_view text l.sections)

@@ -18,14 +18,17 @@ loop-at-preserved c =
     elim c.if-plays.branch [
       | then-plays+in_ok-note_statement w ↦ record {
         rest = noted_line text c.args.lines.tokens.now c.args.lines.ranges.now c.loop-at.at no_line table c.if-plays.table _ below
-            (w.table-is ∙ w.in_ok-note_statement.ensures.noted ∙ ap (λ ts. fold noted table (names_in (variables_of ts))) (w.statement-statement.ensures text ∙ ap (λ ts. behind_labels (tokens_view text ts)) (w.line.ensures no_line)))
+            (w.table-is ∙ w.in_ok-note_statement.ensures.noted ∙ ap (λ ts. fold noted table (names_in (variables_of ts)))
+            (w.statement-statement.ensures text ∙ ap (λ ts. behind_labels (tokens_view text ts)) (w.line.ensures no_line)))
             c.loop-at.invariant.rest;
-        numbered = subst (λ t. All (IsNumberedIn text t) c.if-plays.occurrences.items) (sym w.table-is) (subst (λ o. All (IsNumberedIn text w.note_statement.new.table) o.items) (sym w.occurrences-is) w.in_ok-note_statement.ensures.numbered);
+        numbered = subst (λ t. All (IsNumberedIn text t) c.if-plays.occurrences.items) (sym w.table-is)
+            (subst (λ o. All (IsNumberedIn text w.note_statement.new.table) o.items) (sym w.occurrences-is) w.in_ok-note_statement.ensures.numbered);
       }
       | else-plays w ↦ record {
         rest = noted_line text c.args.lines.tokens.now c.args.lines.ranges.now c.loop-at.at no_line table c.if-plays.table _ below
             (w.table-is ∙ ap (λ ts. fold noted table (names_in (flat_map only_name ts))) (sym (c.plays.ensures text no_line w.if-plays.false)))
             c.loop-at.invariant.rest;
-        numbered = subst (λ t. All (IsNumberedIn text t) c.if-plays.occurrences.items) (sym w.table-is) (subst (λ o. All (IsNumberedIn text table) o.items) (sym w.occurrences-is) c.loop-at.invariant.numbered);
+        numbered = subst (λ t. All (IsNumberedIn text t) c.if-plays.occurrences.items) (sym w.table-is)
+            (subst (λ o. All (IsNumberedIn text table) o.items) (sym w.occurrences-is) c.loop-at.invariant.numbered);
       }
     ]

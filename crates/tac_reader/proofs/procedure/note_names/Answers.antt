@@ -18,6 +18,7 @@ loop-token-preserved c =
       }
       | else-eq w ↦ record {
         rest = grind (arith, common_steps);
-        numbered = subst (λ t. All (IsNumberedIn text t) c.if-eq.occurrences.items) (sym w.table-is) (subst (λ o. All (IsNumberedIn text c.loop-token.table) o.items) (sym w.occurrences-is) c.loop-token.invariant.numbered);
+        numbered = subst (λ t. All (IsNumberedIn text t) c.if-eq.occurrences.items) (sym w.table-is)
+            (subst (λ o. All (IsNumberedIn text c.loop-token.table) o.items) (sym w.occurrences-is) c.loop-token.invariant.numbered);
       }
     ]

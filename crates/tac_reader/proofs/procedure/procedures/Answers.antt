@@ -12,7 +12,12 @@ loop-section-preserved c =
     let index = c.loop-section.section-index in
     record {
       text = c.in_ok-procedure.ensures.text ∙ c.loop-section.invariant.text;
-      labels = labels_left text sections index c.next.result c.unwrap.result (into_iter_items c.loop-section.labels) (into_iter_items c.next.new.self) c.unwrap.ensures c.next.ensures.items c.loop-section.invariant.labels;
-      rest = built_on text c.loop-section.cursor c.args.tables.procedures.now c.args.tables.variables.table.now sections index c.section-item.result c.loop-section.procs.items c.push.new.self.items c.in_ok-procedure.field-0 c.in_ok-number.number _
-          c.loop-section-test.true c.loop-section.invariant.text (omega (arith, c.in_ok-number.ensures, c.len.ensures, c.loop-section.procs.ok)) (c.in_ok-procedure.ensures.procedure ∙ ap (λ s. procedure_of c.loop-section.cursor c.args.tables.procedures.now c.args.tables.variables.table.now c.in_ok-number.number (section_view c.loop-section.cursor s)) c.section-item.is) c.in_ok-push.ensures.items c.loop-section.invariant.rest;
+      labels = labels_left text sections index c.next.result c.unwrap.result (into_iter_items c.loop-section.labels) (into_iter_items c.next.new.self)
+          c.unwrap.ensures c.next.ensures.items c.loop-section.invariant.labels;
+      rest = built_on text c.loop-section.cursor c.args.tables.procedures.now c.args.tables.variables.table.now sections index c.section-item.result
+          c.loop-section.procs.items c.push.new.self.items c.in_ok-procedure.field-0 c.in_ok-number.number _
+          c.loop-section-test.true c.loop-section.invariant.text (omega (arith, c.in_ok-number.ensures, c.len.ensures, c.loop-section.procs.ok))
+          (c.in_ok-procedure.ensures.procedure
+          ∙ ap (λ s. procedure_of c.loop-section.cursor c.args.tables.procedures.now c.args.tables.variables.table.now c.in_ok-number.number
+          (section_view c.loop-section.cursor s)) c.section-item.is) c.in_ok-push.ensures.items c.loop-section.invariant.rest;
     }

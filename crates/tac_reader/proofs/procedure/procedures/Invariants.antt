@@ -10,5 +10,7 @@ abbrev pub invariant-loop-section : goal.invariant-loop-section
 invariant-loop-section l = record {
   text : l.cursor ≡ l.tables.variables.text.now;
   labels : into_iter_items l.labels ≡ map (λ s. names_in (labels_in s)) (sections_view l.tables.variables.text.now (drop l.section-index l.sections));
-  rest : l.procs.items ++ procedures_from l.tables.variables.text.now l.tables.procedures.now l.tables.variables.table.now (length l.procs.items) (sections_view l.tables.variables.text.now (drop l.section-index l.sections)) ≡ procedures_from l.tables.variables.text.now l.tables.procedures.now l.tables.variables.table.now 0 (sections_view l.tables.variables.text.now l.sections);
+  rest : l.procs.items ++ procedures_from l.tables.variables.text.now l.tables.procedures.now l.tables.variables.table.now (length l.procs.items)
+      (sections_view l.tables.variables.text.now (drop l.section-index l.sections)) ≡ procedures_from l.tables.variables.text.now
+      l.tables.procedures.now l.tables.variables.table.now 0 (sections_view l.tables.variables.text.now l.sections);
 }

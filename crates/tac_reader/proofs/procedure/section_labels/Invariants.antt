@@ -8,5 +8,7 @@ use Rattle.tac_reader.proofs.procedure.section_labels.Given as goal
 abbrev pub invariant-loop-at : goal.invariant-loop-at
 invariant-loop-at l = record {
   within : l.place ≤ l.at;
-  rest : (text : List ℕ) → l.labels.items ++ labels_from (length l.labels.items) (label_places l.place (map (range_view text l.lines.tokens.now) (drop l.at l.lines.ranges.now))) ≡ labels_from 0 (label_places 0 (lines_view text l.lines));
+  rest : (text : List ℕ) → l.labels.items
+      ++ labels_from (length l.labels.items) (label_places l.place (map (range_view text l.lines.tokens.now) (drop l.at l.lines.ranges.now)))
+      ≡ labels_from 0 (label_places 0 (lines_view text l.lines));
 }

@@ -14,5 +14,6 @@ returns-clause-statement c =
     let ends = c.stop_of.ensures text in
     let line = c.line_at.ensures.line ∙ ap (λ n. line_after (take n text)) (sym starts) in
     let kind = c.in_ok-kind.ensures
-    ∙ ap (λ t. kind_of names (call_numbers names.procedures (tokens_view t tokens)) (form_of (tokens_view t tokens)) (map (λ t. t.word) (tokens_view t tokens))) c.requires in
+    ∙ ap (λ t. kind_of names (call_numbers names.procedures (tokens_view t tokens)) (form_of (tokens_view t tokens))
+    (map (λ t. t.word) (tokens_view t tokens))) c.requires in
     λ i. record { kind = kind i; span = record { line = line i; start = sym starts i; end = sym ends i } }

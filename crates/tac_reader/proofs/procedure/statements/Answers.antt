@@ -20,7 +20,8 @@ loop-at-preserved c =
         text = w.cursor-is ∙ w.in_ok-statement.ensures.text ∙ c.loop-at.invariant.text;
         rest = made_one text c.args.lines.tokens.now c.args.lines.ranges.now c.loop-at.at no_line tokens below behind (statement_of text names)
             c.loop-at.stmts.items _ _ _ (sym c.is_empty.ensures ∙ w.if-not-is_empty.true) (ap (λ v. v.items) w.stmts-is ∙ w.in_ok-push.ensures.items)
-            (w.in_ok-statement.ensures.statement ∙ ap (λ t. statement_of t names (tokens_view t tokens)) c.loop-at.invariant.text) c.loop-at.invariant.rest;
+            (w.in_ok-statement.ensures.statement ∙ ap (λ t. statement_of t names (tokens_view t tokens)) c.loop-at.invariant.text)
+            c.loop-at.invariant.rest;
       }
       | else-not-is_empty w ↦ record {
         text = w.cursor-is ∙ c.loop-at.invariant.text;

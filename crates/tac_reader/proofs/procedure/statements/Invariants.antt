@@ -10,5 +10,7 @@ use Rattle.tac_reader.proofs.procedure.statements.Given as goal
 abbrev pub invariant-loop-at : goal.invariant-loop-at
 invariant-loop-at l = record {
   text : l.cursor ≡ l.fn.cursor;
-  rest : l.stmts.items ++ map (statement_of l.fn.cursor (names_view l.names)) (statements_of (map (range_view l.fn.cursor l.lines.tokens.now) (drop l.at l.lines.ranges.now))) ≡ map (statement_of l.fn.cursor (names_view l.names)) (statements_of (lines_view l.fn.cursor l.lines));
+  rest : l.stmts.items ++ map (statement_of l.fn.cursor (names_view l.names))
+      (statements_of (map (range_view l.fn.cursor l.lines.tokens.now) (drop l.at l.lines.ranges.now)))
+      ≡ map (statement_of l.fn.cursor (names_view l.names)) (statements_of (lines_view l.fn.cursor l.lines));
 }

@@ -9,7 +9,8 @@ abbrev pub invariant-loop-at : goal.invariant-loop-at
 invariant-loop-at l = record {
   order : l.first ≤ l.at;
   within : l.at ≤ length l.lines.ranges.now;
-  run : (text : List ℕ) → l.at + prefix_len is_inner (map (range_view text l.lines.tokens.now) (drop l.at l.lines.ranges.now)) ≡ l.first + prefix_len is_inner (map (range_view text l.lines.tokens.now) (drop l.first l.lines.ranges.now));
+  run : (text : List ℕ) → l.at + prefix_len is_inner (map (range_view text l.lines.tokens.now) (drop l.at l.lines.ranges.now))
+      ≡ l.first + prefix_len is_inner (map (range_view text l.lines.tokens.now) (drop l.first l.lines.ranges.now));
 }
 
 abbrev pub decreases-loop-at : goal.decreases-loop-at

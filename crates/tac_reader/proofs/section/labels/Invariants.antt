@@ -9,5 +9,7 @@ use Rattle.tac_reader.proofs.section.labels.Given as goal
 abbrev pub invariant-loop-at : goal.invariant-loop-at
 invariant-loop-at l = record {
   kept : take (vec_len l.fn.found) l.found.items ≡ l.fn.found.items;
-  rest : (text : List ℕ) → tokens_view text l.found.items ++ flat_map labels_of (map (range_view text l.lines.tokens.now) (drop l.at l.lines.ranges.now)) ≡ tokens_view text l.fn.found.items ++ flat_map labels_of (lines_view text l.lines);
+  rest : (text : List ℕ)
+      → tokens_view text l.found.items ++ flat_map labels_of (map (range_view text l.lines.tokens.now) (drop l.at l.lines.ranges.now))
+      ≡ tokens_view text l.fn.found.items ++ flat_map labels_of (lines_view text l.lines);
 }

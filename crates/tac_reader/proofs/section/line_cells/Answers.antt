@@ -12,4 +12,5 @@ returns-then-not-plays-clause-appended c text r =
 pub returns-clause-appended : goal.returns-clause-appended
 returns-clause-appended c text r =
     c.in_ok-cells.ensures.appended text
-    ∙ ap (λ ts. tokens_view text c.args.found.now.items ++ in_slot (role_test c.args.role) (cells_of ts)) (c.statement.ensures text ∙ ap (λ ts. behind_labels (tokens_view text ts)) (c.line.ensures r))
+    ∙ ap (λ ts. tokens_view text c.args.found.now.items ++ in_slot (role_test c.args.role) (cells_of ts))
+    (c.statement.ensures text ∙ ap (λ ts. behind_labels (tokens_view text ts)) (c.line.ensures r))

@@ -8,7 +8,8 @@ abbrev pub invariant-loop-found : goal.invariant-loop-found
 invariant-loop-found l = record {
   within : l.at ≤ length l.line;
   kept : take (vec_len l.fn.found) l.found.items ≡ l.fn.found.items;
-  rest : (text : List ℕ) → tokens_view text l.found.items ++ labels_of (tokens_view text (drop l.at l.line)) ≡ tokens_view text l.fn.found.items ++ labels_of (tokens_view text l.line);
+  rest : (text : List ℕ) → tokens_view text l.found.items ++ labels_of (tokens_view text (drop l.at l.line)) ≡ tokens_view text l.fn.found.items
+      ++ labels_of (tokens_view text l.line);
 }
 
 abbrev pub decreases-loop-found : goal.decreases-loop-found

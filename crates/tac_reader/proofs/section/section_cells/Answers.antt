@@ -9,6 +9,7 @@ use Rattle.tac_reader.proofs.section.section_cells.Goals as goal
 pub loop-at-preserved : goal.loop-at-preserved
 loop-at-preserved c = record {
   kept = grind (arith, common_steps);
-  rest = λ text. parts_on text c.args.lines.tokens.now (λ statement. in_slot (role_test c.args.role) (cells_of statement)) refl c.args.lines.ranges.now c.loop-at.at no_line _ _ _ (omega (arith, c.loop-at-test.true, c.len-at-end.ensures))
+  rest = λ text. parts_on text c.args.lines.tokens.now (λ statement. in_slot (role_test c.args.role) (cells_of statement))
+      refl c.args.lines.ranges.now c.loop-at.at no_line _ _ _ (omega (arith, c.loop-at-test.true, c.len-at-end.ensures))
       (c.in_ok-line_cells.ensures.appended text no_line) (c.loop-at.invariant.rest text);
 }

@@ -8,7 +8,8 @@ use Rattle.tac_reader.proofs.section.sections.Given as goal
 abbrev pub invariant-loop-at : goal.invariant-loop-at
 invariant-loop-at l = record {
   within : l.at ≤ length l.lines.ranges.now;
-  rest : (text : List ℕ) → sections_view text l.found.items ++ sections_in (map (range_view text l.lines.tokens.now) (drop l.at l.lines.ranges.now)) ≡ sections_in (lines_view text l.lines);
+  rest : (text : List ℕ) → sections_view text l.found.items
+      ++ sections_in (map (range_view text l.lines.tokens.now) (drop l.at l.lines.ranges.now)) ≡ sections_in (lines_view text l.lines);
 }
 
 abbrev pub decreases-loop-at : goal.decreases-loop-at

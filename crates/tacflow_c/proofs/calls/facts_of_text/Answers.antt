@@ -6,13 +6,17 @@ use Rattle.tacflow_c.proofs.calls.facts_of_text.Goals as goal
 pub returns-in-Err-clause-fault : goal.returns-in-Err-clause-fault
 returns-in-Err-clause-fault c =
     let is = c.in_ok-graph.ensures.graph ∙ c.in_ok-program.ensures.program in
-    let graph = has_graph c.args.text.now c.in_ok-program.program c.in_ok-program.ensures.program c.in_ok-program.ensures.accepted
+    let graph = has_graph c.args.limits c.args.text.now c.in_ok-program.program c.in_ok-program.ensures.program c.in_ok-program.ensures.accepted
     c.in_ok-graph.ensures.few_points c.in_ok-graph.ensures.few_bits in
-    bad_table c.args.text.now c.in_ok-graph.graph c.args.number c.in-Some.analysis _ _ _ _ _ is graph (sym c.in-Some.ensures) c.in-Err.ensures.fault
+    bad_table c.args.limits c.args.text.now c.in_ok-graph.graph c.args.number c.in-Some.analysis c.args.points.0 c.args.points.1 c.find_end.result
+    _ _ _ _ _ is graph
+    (sym c.in-Some.ensures) c.find_end.ensures c.in-Err.ensures.fault
 
 pub returns-in-Ok-clause-facts : goal.returns-in-Ok-clause-facts
 returns-in-Ok-clause-facts c =
     let is = c.in_ok-graph.ensures.graph ∙ c.in_ok-program.ensures.program in
-    let graph = has_graph c.args.text.now c.in_ok-program.program c.in_ok-program.ensures.program c.in_ok-program.ensures.accepted
+    let graph = has_graph c.args.limits c.args.text.now c.in_ok-program.program c.in_ok-program.ensures.program c.in_ok-program.ensures.accepted
     c.in_ok-graph.ensures.few_points c.in_ok-graph.ensures.few_bits in
-    facts_of_text c.args.text.now c.in_ok-graph.graph c.args.number c.in-Some.analysis _ _ _ _ is graph (sym c.in-Some.ensures) c.in-Ok.ensures.facts
+    facts_of_text c.args.limits c.args.text.now c.in_ok-graph.graph c.args.number c.in-Some.analysis c.args.points.0 c.args.points.1 c.find_end.result
+    _ _ _ _ is graph
+    (sym c.in-Some.ensures) c.find_end.ensures c.in-Ok.ensures.facts

@@ -11,7 +11,8 @@ returns-then-left-length c =
       arith,
       c.loop-number.invariant.left,
       c.if-left-length.true,
-      within_names (names_of c.args.named c.args.program.now) c.loop-number.number c.name-length.result.now (omega (arith, c.loop-number-test.true, c.count_names-number-end.ensures)) c.name-length.ensures,
+      within_names (names_of c.args.named c.args.program.now) c.loop-number.number c.name-length.result.now
+          (omega (arith, c.loop-number-test.true, c.count_names-number-end.ensures)) c.name-length.ensures,
     )
 
 pub loop-number-preserved : goal.loop-number-preserved
@@ -20,7 +21,8 @@ loop-number-preserved c = record {
     arith,
     c.loop-number.invariant.left,
     c.if-left-length.false,
-    ap length (next_name (names_of c.args.named c.args.program.now) c.loop-number.number c.name-length.result.now (omega (arith, c.loop-number-test.true, c.count_names-number-end.ensures)) c.name-length.ensures),
+    ap length (next_name (names_of c.args.named c.args.program.now) c.loop-number.number c.name-length.result.now
+        (omega (arith, c.loop-number-test.true, c.count_names-number-end.ensures)) c.name-length.ensures),
     length-append (concat (take c.loop-number.number (names_of c.args.named c.args.program.now))) c.name-length.result.now,
   );
 }

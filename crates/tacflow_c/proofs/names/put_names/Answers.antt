@@ -12,7 +12,8 @@ slice_bounds-copy_from_slice-end c = omega (
   c.requires.room,
   c.loop-number.invariant.at,
   c.loop-number.auto.bytes,
-  within_names (names_of c.args.named c.args.program.now) c.loop-number.number c.name-name.result.now (omega (arith, c.loop-number-test.true, c.count_names-number-end.ensures)) c.name-name.ensures,
+  within_names (names_of c.args.named c.args.program.now) c.loop-number.number c.name-name.result.now
+      (omega (arith, c.loop-number-test.true, c.count_names-number-end.ensures)) c.name-name.ensures,
 )
 
 pub loop-number-preserved : goal.loop-number-preserved
@@ -24,7 +25,8 @@ loop-number-preserved c =
     let before = c.loop-number.invariant in
     let there : number < length names = omega (arith, c.loop-number-test.true, c.count_names-number-end.ensures) in
     let next = next_name names number name there c.name-name.ensures in
-    let end : at + length name ≡ length (concat (take (number + 1) names)) = omega (arith, before.at, ap length next, length-append (concat (take number names)) name) in
+    let end : at + length name ≡ length (concat (take (number + 1) names)) =
+    omega (arith, before.at, ap length next, length-append (concat (take number names)) name) in
     let size : at + length name - at ≡ length name = omega arith in
     record {
       at = end;

@@ -8,5 +8,6 @@ use Rattle.tacflow_c.proofs.parts.put_definitions.Given as goal
 abbrev pub invariant-loop-bit : goal.invariant-loop-bit
 invariant-loop-bit l = record {
   count : length l.definitions ≡ length l.initial.definitions;
-  each : (n : ℕ) (item : Definition) → n < l.bit → slice_get (definitions l.graph) n ≡ Some item → slice_get l.definitions n ≡ Some (definition_part item);
+  each : (n : ℕ) (item : Definition) → n < l.bit → slice_get (definitions l.graph) n ≡ Some item
+      → slice_get l.definitions n ≡ Some (definition_part item);
 }

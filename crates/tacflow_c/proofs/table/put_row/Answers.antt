@@ -1,6 +1,6 @@
 -- The next word of a point is told.
 use Rattle.std.proofs.Common.{arith, ◌+◌, ◌*◌, ◌-◌, ◌≤◌, ◌∙◌}
-use Rattle.tacflow_c.specs.Facts.{IsFactWord}
+use Rattle.tacflow_c.specs.Facts.{IsRowWord}
 use Rattle.tacflow_c.proofs.FactWords.{fact_word, same_place}
 use Rattle.tacflow_c.proofs.Filling.{one_word}
 use Rattle.tacflow_c.proofs.table.put_row.Goals as goal
@@ -13,11 +13,14 @@ loop-word-preserved c =
     let word = c.loop-word.word in
     let before = c.loop-word.invariant.filled in
     let low : layout.first ≤ word = omega (arith, c.requires.first, c.loop-word.auto.word) in
-    let told = fact_word form slice c.args.point word c.told.result c.requires.slice c.requires.meets c.requires.point
+    let told = fact_word form slice (layout.from + c.args.row) word c.told.result c.requires.slice c.requires.meets
+    (omega (arith, c.requires.row, c.requires.until))
     (omega (arith, c.requires.start, c.loop-word.auto.word)) (omega (arith, c.requires.end, c.loop-word-test.true))
     (λ k small. c.told.ensures k small ∙ same_place _ _ _ _ _ _ (64 * word + k) k c.requires.must c.word-bits.ensures c.requires.full) in
     record {
-      filled = one_word (IsFactWord form.program form.analysis slice.lo slice.hi c.args.point) (c.args.point * layout.count) layout.first c.args.solved.0 word
-          (c.args.point * layout.count + (word - layout.first)) c.told.result c.args.words.now c.loop-word.words before
-          low c.loop-word.auto.word (omega (arith, low)) (omega (arith, low, c.requires.room, c.requires.last, c.loop-word-test.true, before.size)) told;
+      filled = one_word (IsRowWord form.program form.analysis layout.from slice.lo slice.hi c.args.row) (c.args.row * layout.count)
+          layout.first c.args.solved.0 word
+          (c.args.row * layout.count + (word - layout.first)) c.told.result c.args.words.now c.loop-word.words before
+          low c.loop-word.auto.word (omega (arith, low)) (omega (arith, low, c.requires.room, c.requires.last, c.loop-word-test.true, before.size))
+          told;
     }

@@ -11,7 +11,7 @@ returns-then-put_text-clause-held c =
     let out = c.in-Ok.out.items in
     let put = c.if-put_text.ensures in
     let is : c.in_ok-graph.graph ≡ program_of c.args.text.now = c.in_ok-graph.ensures.graph ∙ c.in_ok-program.ensures.program in
-    let graph = has_graph c.args.text.now c.in_ok-program.program c.in_ok-program.ensures.program c.in_ok-program.ensures.accepted
+    let graph = has_graph c.args.limits c.args.text.now c.in_ok-program.program c.in_ok-program.ensures.program c.in_ok-program.ensures.accepted
     c.in_ok-graph.ensures.few_points c.in_ok-graph.ensures.few_bits in
     record {
       text = out;
@@ -25,7 +25,7 @@ returns-clause-fault c =
     let out = c.in-Ok.out.items in
     let put = c.if-put_text.ensures in
     let is : c.in_ok-graph.graph ≡ program_of c.args.text.now = c.in_ok-graph.ensures.graph ∙ c.in_ok-program.ensures.program in
-    let graph = has_graph c.args.text.now c.in_ok-program.program c.in_ok-program.ensures.program c.in_ok-program.ensures.accepted
+    let graph = has_graph c.args.limits c.args.text.now c.in_ok-program.program c.in_ok-program.ensures.program c.in_ok-program.ensures.accepted
     c.in_ok-graph.ensures.few_points c.in_ok-graph.ensures.few_bits in
     record {
       text = out;

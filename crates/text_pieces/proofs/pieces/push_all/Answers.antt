@@ -11,6 +11,7 @@ loop-pushed-preserved g c =
     let pushed = c.in_ok-pushed.ensures in
     record {
       within = search rules;
-      bytes = subst (Appends _ _) (take_further c.loop-pushed.pushed c.in_ok-pushed.field-0 c.args.bytes.now) (Appends-trans _ _ _ _ _ before.bytes pushed.bytes);
+      bytes = subst (Appends _ _) (take_further c.loop-pushed.pushed c.in_ok-pushed.field-0 c.args.bytes.now)
+          (Appends-trans _ _ _ _ _ before.bytes pushed.bytes);
       faults = search rules;
     }

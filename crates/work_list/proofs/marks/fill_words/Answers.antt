@@ -15,7 +15,8 @@ returns-then-bits-ne0 c =
     let same : length c.fill.new.self ≡ length c.args.words.now = c.fill.ensures.len in
     let room = c.requires.0 in
     let full = c.requires.1 in
-    full_part c.fill.new.self c.args.bits (ones c.fill.new.self (length c.args.words.now) is) (omega (arith, room, same)) (omega (arith, full, same)) c.if-bits-ne0.true
+    full_part c.fill.new.self c.args.bits (ones c.fill.new.self (length c.args.words.now) is) (omega (arith, room, same)) (omega (arith, full, same))
+    c.if-bits-ne0.true
 
 pub returns-else-bits-ne0 : goal.returns-else-bits-ne0
 returns-else-bits-ne0 c =
@@ -23,4 +24,5 @@ returns-else-bits-ne0 c =
     let same : length c.fill.new.self ≡ length c.args.words.now = c.fill.ensures.len in
     let room = c.requires.0 in
     let full = c.requires.1 in
-    full_whole c.fill.new.self c.args.bits (ones c.fill.new.self (length c.args.words.now) is) (omega (arith, room, same)) (omega (arith, full, same)) c.if-bits-ne0.false
+    full_whole c.fill.new.self c.args.bits (ones c.fill.new.self (length c.args.words.now) is) (omega (arith, room, same)) (omega (arith, full, same))
+    c.if-bits-ne0.false

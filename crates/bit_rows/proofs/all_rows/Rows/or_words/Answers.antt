@@ -14,5 +14,6 @@ invariant_of-self c =
     let point : c.args.point < length r.flags.items = search rules in
     let within : c.args.point < length r.rows.items = omega (arith, c.self.invariant.0.count) in
     let is_row : row ≡ set_at t c.args.point = get_or_read r.rows.items c.args.point row within c.index_mut-row.ensures.value (empty_set r.lo r.hi) in
-    let range : HasRange c.or_words.new.self row.lo (hi_of row) = subst (λ (s : RowSet). HasRange s row.lo (hi_of row)) (sym c.or_words.ensures) (HasRange-with_words row c.args.first c.args.masks.now) in
+    let range : HasRange c.or_words.new.self row.lo (hi_of row) =
+    subst (λ (s : RowSet). HasRange s row.lo (hi_of row)) (sym c.or_words.ensures) (HasRange-with_words row c.args.first c.args.masks.now) in
     (IsUniform-replaced t c.args.point row c.or_words.new.self c.self.invariant.0 point is_row range, c.self.invariant.1)

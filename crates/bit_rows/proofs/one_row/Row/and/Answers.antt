@@ -19,10 +19,13 @@ both c =
 written : (c : goal.After-self-1) → HoldSet (intersection c.args.self.now c.args.other.now) c.self.inside.lo c.self.inside.hi c.and_words.new.target
 written c =
     let r = c.self.inside in
-    HoldSet-intersection c.args.self.now c.args.other.now r.lo r.hi c.as_mut_slice-ours.result.now c.as_slice-theirs.result.now c.and_words.new.target (both c).0 (both c).1 c.and_words.auto.target c.and_words.ensures
+    HoldSet-intersection c.args.self.now c.args.other.now r.lo r.hi c.as_mut_slice-ours.result.now c.as_slice-theirs.result.now c.and_words.new.target
+    (both c).0 (both c).1 c.and_words.auto.target c.and_words.ensures
 
-held : (c : goal.After-self-1) → HoldSet (intersection c.args.self.now c.args.other.now) c.self.inside.lo c.self.inside.hi (refill (length c.self.inside.words.items) c.self.inside.words.items c.and_words.new.target)
-held c = HoldSet-refill c.self.inside.words.items c.and_words.new.target (written c) (c.and_words.auto.target ∙ ap length c.as_mut_slice-ours.ensures.value)
+held : (c : goal.After-self-1) → HoldSet (intersection c.args.self.now c.args.other.now) c.self.inside.lo c.self.inside.hi
+    (refill (length c.self.inside.words.items) c.self.inside.words.items c.and_words.new.target)
+held c = HoldSet-refill c.self.inside.words.items c.and_words.new.target (written c)
+    (c.and_words.auto.target ∙ ap length c.as_mut_slice-ours.ensures.value)
 
 pub and_words-requires : goal.and_words-requires
 and_words-requires c =

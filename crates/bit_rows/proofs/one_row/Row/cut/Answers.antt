@@ -19,12 +19,14 @@ slice_bounds-from_slice-end c =
     omega (arith, c.requires, HoldSet-lo inside, HoldSet-hi inside, ap length c.as_slice.ensures, c.self.invariant.count)
 
 -- the words of the part, before its ends are cleared
-part : (c : goal.After-words-3-1) → c.as_mut_slice.result.now ≡ between (c.args.lo / 64 - c.self.inside.lo / 64) (c.args.lo / 64 - c.self.inside.lo / 64 + c.words_needed.result) c.self.inside.words.items
+part : (c : goal.After-words-3-1) → c.as_mut_slice.result.now
+    ≡ between (c.args.lo / 64 - c.self.inside.lo / 64) (c.args.lo / 64 - c.self.inside.lo / 64 + c.words_needed.result) c.self.inside.words.items
 part c =
     let first = c.args.lo / 64 - c.self.inside.lo / 64 in
     c.as_mut_slice.ensures.value ∙ c.in_ok-words.ensures.ok ∙ ap (between first (first + c.words_needed.result)) c.as_slice.ensures
 
-held : (c : goal.After-words-3-1) → HoldSet (part_of c.args.self.now c.args.lo c.args.hi) c.args.lo c.args.hi (refill (length c.in_ok-words.words.items) c.in_ok-words.words.items c.trim.new.words)
+held : (c : goal.After-words-3-1) → HoldSet (part_of c.args.self.now c.args.lo c.args.hi) c.args.lo c.args.hi
+    (refill (length c.in_ok-words.words.items) c.in_ok-words.words.items c.trim.new.words)
 unfolding part_of
 held c =
     let r = c.self.inside in
@@ -33,10 +35,12 @@ held c =
     let first : ℕ = c.args.lo / 64 - r.lo / 64 in
     let end : ℕ = first + c.words_needed.result in
     let start : r.lo ≤ c.args.lo = omega (arith, c.requires.low, HoldSet-lo inside) in
-    let room : c.args.lo / 64 - r.lo / 64 + c.words_needed.result ≤ length r.words.items = omega (arith, c.words_needed.ensures, c.requires, HoldSet-lo inside, HoldSet-hi inside, c.self.invariant.count) in
+    let room : c.args.lo / 64 - r.lo / 64 + c.words_needed.result ≤ length r.words.items =
+    omega (arith, c.words_needed.ensures, c.requires, HoldSet-lo inside, HoldSet-hi inside, c.self.invariant.count) in
     let count = c.trim.auto.words ∙ ap length (part c) ∙ length-between r.words.items first end room in
     HoldSet-refill c.in_ok-words.words.items c.trim.new.words
-    (HoldSet-trimmed c.args.lo c.args.hi c.as_mut_slice.result.now c.trim.new.words (contains s) c.requires.ordered (omega (arith, count, c.words_needed.ensures)) c.trim.ensures
+    (HoldSet-trimmed c.args.lo c.args.hi c.as_mut_slice.result.now c.trim.new.words (contains s) c.requires.ordered
+    (omega (arith, count, c.words_needed.ensures)) c.trim.ensures
     (λ k i present within.
     let back : 64 * (r.lo / 64 + (c.args.lo / 64 - r.lo / 64 + k)) + i ≡ 64 * (c.args.lo / 64 + k) + i = omega arith in
     ap (λ xs. has_bit (get_or xs k 0) i) (part c)

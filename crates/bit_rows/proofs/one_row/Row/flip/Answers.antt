@@ -4,7 +4,8 @@ use Rattle.bit_rows.specs.RowSet.{complement}
 use Rattle.bit_rows.proofs.WordRows.{HoldSet, HoldSet-refill, HoldSet-complement}
 use Rattle.bit_rows.proofs.one_row.Row.flip.Goals as goal
 
-held : (c : goal.After-self-1) → HoldSet (complement c.args.self.now) c.self.inside.lo c.self.inside.hi (refill (length c.self.inside.words.items) c.self.inside.words.items c.trim.new.words)
+held : (c : goal.After-self-1) → HoldSet (complement c.args.self.now) c.self.inside.lo c.self.inside.hi
+    (refill (length c.self.inside.words.items) c.self.inside.words.items c.trim.new.words)
 held c =
     let r = c.self.inside in
     let s = c.args.self.now in
@@ -12,7 +13,8 @@ held c =
     let before = c.as_mut_slice-words.result.now in
     let ours : HoldSet s r.lo r.hi before = subst (λ (xs : List ℕ). HoldSet s r.lo r.hi xs) (sym c.as_mut_slice-words.ensures.value) inside in
     HoldSet-refill r.words.items c.trim.new.words
-    (HoldSet-complement s r.lo r.hi before c.flip_words.new.words c.trim.new.words ours c.flip_words.auto.words c.trim.auto.words c.flip_words.ensures c.trim.ensures)
+    (HoldSet-complement s r.lo r.hi before c.flip_words.new.words c.trim.new.words ours c.flip_words.auto.words c.trim.auto.words c.flip_words.ensures
+    c.trim.ensures)
     (c.trim.auto.words ∙ c.flip_words.auto.words ∙ ap length c.as_mut_slice-words.ensures.value)
 
 pub invariant_of-self : goal.invariant_of-self

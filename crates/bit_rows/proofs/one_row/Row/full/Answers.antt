@@ -13,7 +13,8 @@ ones c =
     ∙ c.in_ok-words.ensures.items_if_clones_equal (λ y h. search rules)
     ∙ ap (λ n. replicate n (2 ^ 64 - 1)) c.words_needed.ensures
 
-held : (c : goal.After-words-3-1) → HoldSet (full_set c.args.lo c.args.hi) c.args.lo c.args.hi (refill (length c.in_ok-words.words.items) c.in_ok-words.words.items c.trim.new.words)
+held : (c : goal.After-words-3-1) → HoldSet (full_set c.args.lo c.args.hi) c.args.lo c.args.hi
+    (refill (length c.in_ok-words.words.items) c.in_ok-words.words.items c.trim.new.words)
 unfolding full_set
 held c =
     let n = word_count c.args.lo c.args.hi in

@@ -19,10 +19,13 @@ both c =
 written : (c : goal.After-self-1) → HoldSet (difference c.args.self.now c.args.other.now) c.self.inside.lo c.self.inside.hi c.minus_words.new.target
 written c =
     let r = c.self.inside in
-    HoldSet-difference c.args.self.now c.args.other.now r.lo r.hi c.as_mut_slice-ours.result.now c.as_slice-theirs.result.now c.minus_words.new.target (both c).0 (both c).1 c.minus_words.auto.target c.minus_words.ensures
+    HoldSet-difference c.args.self.now c.args.other.now r.lo r.hi c.as_mut_slice-ours.result.now c.as_slice-theirs.result.now c.minus_words.new.target
+    (both c).0 (both c).1 c.minus_words.auto.target c.minus_words.ensures
 
-held : (c : goal.After-self-1) → HoldSet (difference c.args.self.now c.args.other.now) c.self.inside.lo c.self.inside.hi (refill (length c.self.inside.words.items) c.self.inside.words.items c.minus_words.new.target)
-held c = HoldSet-refill c.self.inside.words.items c.minus_words.new.target (written c) (c.minus_words.auto.target ∙ ap length c.as_mut_slice-ours.ensures.value)
+held : (c : goal.After-self-1) → HoldSet (difference c.args.self.now c.args.other.now) c.self.inside.lo c.self.inside.hi
+    (refill (length c.self.inside.words.items) c.self.inside.words.items c.minus_words.new.target)
+held c = HoldSet-refill c.self.inside.words.items c.minus_words.new.target (written c)
+    (c.minus_words.auto.target ∙ ap length c.as_mut_slice-ours.ensures.value)
 
 pub minus_words-requires : goal.minus_words-requires
 minus_words-requires c =

@@ -19,10 +19,13 @@ both c =
 written : (c : goal.After-self-1) → HoldSet (union c.args.self.now c.args.other.now) c.self.inside.lo c.self.inside.hi c.or_words.new.target
 written c =
     let r = c.self.inside in
-    HoldSet-union c.args.self.now c.args.other.now r.lo r.hi c.as_mut_slice-ours.result.now c.as_slice-theirs.result.now c.or_words.new.target (both c).0 (both c).1 c.or_words.auto.target c.or_words.ensures.places
+    HoldSet-union c.args.self.now c.args.other.now r.lo r.hi c.as_mut_slice-ours.result.now c.as_slice-theirs.result.now c.or_words.new.target
+    (both c).0 (both c).1 c.or_words.auto.target c.or_words.ensures.places
 
-held : (c : goal.After-self-1) → HoldSet (union c.args.self.now c.args.other.now) c.self.inside.lo c.self.inside.hi (refill (length c.self.inside.words.items) c.self.inside.words.items c.or_words.new.target)
-held c = HoldSet-refill c.self.inside.words.items c.or_words.new.target (written c) (c.or_words.auto.target ∙ ap length c.as_mut_slice-ours.ensures.value)
+held : (c : goal.After-self-1) → HoldSet (union c.args.self.now c.args.other.now) c.self.inside.lo c.self.inside.hi
+    (refill (length c.self.inside.words.items) c.self.inside.words.items c.or_words.new.target)
+held c =
+    HoldSet-refill c.self.inside.words.items c.or_words.new.target (written c) (c.or_words.auto.target ∙ ap length c.as_mut_slice-ours.ensures.value)
 
 pub or_words-requires : goal.or_words-requires
 or_words-requires c =

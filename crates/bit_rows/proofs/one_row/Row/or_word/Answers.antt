@@ -1,4 +1,5 @@
-use Rattle.std.proofs.Common.{◌≡◌, ◌≢◌, ℕ, ◌+◌, ◌-◌, ◌*◌, ◌/◌, ◌^◌, ◌<◌, ◌≤◌, not, eqb, List, length, get_or, set, bit_or, sym, ap, ◌∙◌, subst, arith, rules}
+use Rattle.std.proofs.Common.{◌≡◌, ◌≢◌, ℕ, ◌+◌, ◌-◌, ◌*◌, ◌/◌, ◌^◌, ◌<◌, ◌≤◌, not, eqb, List, length, get_or, set, bit_or, sym, ap, ◌∙◌, subst, arith}
+use Rattle.std.proofs.Common.{rules}
 use Rattle.std.specs.List.{refill}
 use Rattle.std.specs.Bool.{MatchBool}
 use Rattle.std.proofs.lemmas.List.{length-set}
@@ -10,7 +11,8 @@ use Rattle.bit_rows.proofs.WordRows.{HoldSet, HoldSet-lo, HoldSet-hi, HoldSet-re
 use Rattle.bit_rows.proofs.one_row.Row.or_word.Goals as goal
 
 -- a word with a place in the range is one of the row's words
-word_in_row : (s : RowSet) (lo hi w mask : ℕ) (xs : List ℕ) → HoldSet s lo hi xs → MaskLiesWithin s.lo (hi_of s) w mask → (mask ≡ 0 → ⊥) → mask < 2 ^ 64 → (lo / 64 ≤ w) × (w - lo / 64 < length xs)
+word_in_row : (s : RowSet) (lo hi w mask : ℕ) (xs : List ℕ) → HoldSet s lo hi xs → MaskLiesWithin s.lo (hi_of s) w mask → (mask ≡ 0 → ⊥)
+    → mask < 2 ^ 64 → (lo / 64 ≤ w) × (w - lo / 64 < length xs)
 word_in_row s lo hi w mask xs h inside some fits =
     let place = has_bit-some mask (omega arith) fits in
     let bounds = inside place.0 place.1 place.2 in
@@ -42,7 +44,9 @@ bounds-words-at-2 c =
     let row = word_in_row c.args.self.now r.lo r.hi c.args.w c.args.mask r.words.items inside c.requires c.if-mask-eq0.false c.ranges.mask.fits in
     omega (arith, row.1, ap length c.as_mut_slice-words.ensures.value)
 
-written : (c : goal.After-self-1) → HoldSet (with_word c.args.self.now c.args.w c.args.mask) c.self.inside.lo c.self.inside.hi (set c.as_mut_slice-words.result.now (c.args.w - c.self.inside.lo / 64) (bit_or (get_or c.as_mut_slice-words.result.now (c.args.w - c.self.inside.lo / 64) 0) c.args.mask))
+written : (c : goal.After-self-1)
+    → HoldSet (with_word c.args.self.now c.args.w c.args.mask) c.self.inside.lo c.self.inside.hi (set c.as_mut_slice-words.result.now
+    (c.args.w - c.self.inside.lo / 64) (bit_or (get_or c.as_mut_slice-words.result.now (c.args.w - c.self.inside.lo / 64) 0) c.args.mask))
 written c =
     let r = c.self.inside in
     let s = c.args.self.now in
@@ -52,7 +56,9 @@ written c =
     let row = word_in_row s r.lo r.hi c.args.w c.args.mask before ours c.requires c.if-mask-eq0.false c.ranges.mask.fits in
     HoldSet-with_word s r.lo r.hi before c.args.w c.args.mask ours c.requires row.0 row.1
 
-held : (c : goal.After-self-1) → HoldSet (with_word c.args.self.now c.args.w c.args.mask) c.self.inside.lo c.self.inside.hi (refill (length c.self.inside.words.items) c.self.inside.words.items (set c.as_mut_slice-words.result.now (c.args.w - c.self.inside.lo / 64) (bit_or (get_or c.as_mut_slice-words.result.now (c.args.w - c.self.inside.lo / 64) 0) c.args.mask)))
+held : (c : goal.After-self-1) → HoldSet (with_word c.args.self.now c.args.w c.args.mask) c.self.inside.lo c.self.inside.hi
+    (refill (length c.self.inside.words.items) c.self.inside.words.items (set c.as_mut_slice-words.result.now (c.args.w - c.self.inside.lo / 64)
+    (bit_or (get_or c.as_mut_slice-words.result.now (c.args.w - c.self.inside.lo / 64) 0) c.args.mask)))
 held c =
     let r = c.self.inside in
     let before = c.as_mut_slice-words.result.now in

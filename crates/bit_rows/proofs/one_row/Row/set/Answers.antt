@@ -23,7 +23,9 @@ bounds-as_mut_slice-at-2 c =
     let inside : HoldSet c.args.self.now r.lo r.hi r.words.items = record { well_formed = c.self.invariant; held = c.self.view_is } in
     omega (arith, c.requires, HoldSet-lo inside, HoldSet-hi inside, ap length c.as_mut_slice.ensures.value, c.self.invariant.count)
 
-held : (c : goal.After-self-1) → HoldSet (with_bit c.args.self.now c.args.b) c.self.inside.lo c.self.inside.hi (refill (length c.self.inside.words.items) c.self.inside.words.items (set c.as_mut_slice.result.now (c.args.b / 64 - c.self.inside.lo / 64) (bit_or (get_or c.as_mut_slice.result.now (c.args.b / 64 - c.self.inside.lo / 64) 0) (1 * 2 ^ (c.args.b % 64) % 2 ^ 64))))
+held : (c : goal.After-self-1) → HoldSet (with_bit c.args.self.now c.args.b) c.self.inside.lo c.self.inside.hi
+    (refill (length c.self.inside.words.items) c.self.inside.words.items (set c.as_mut_slice.result.now (c.args.b / 64 - c.self.inside.lo / 64)
+    (bit_or (get_or c.as_mut_slice.result.now (c.args.b / 64 - c.self.inside.lo / 64) 0) (1 * 2 ^ (c.args.b % 64) % 2 ^ 64))))
 held c =
     let r = c.self.inside in
     let s = c.args.self.now in
@@ -32,7 +34,8 @@ held c =
     let word : ℕ = bit_or (get_or before at 0) (1 * 2 ^ (c.args.b % 64) % 2 ^ 64) in
     let inside : HoldSet s r.lo r.hi r.words.items = record { well_formed = c.self.invariant; held = c.self.view_is } in
     let ours : HoldSet s r.lo r.hi before = subst (λ (xs : List ℕ). HoldSet s r.lo r.hi xs) (sym c.as_mut_slice.ensures.value) inside in
-    HoldSet-refill r.words.items (set before at word) (HoldSet-with_bit s r.lo r.hi before c.args.b ours c.requires.low c.requires.high) (length-set before at word ∙ ap length c.as_mut_slice.ensures.value)
+    HoldSet-refill r.words.items (set before at word) (HoldSet-with_bit s r.lo r.hi before c.args.b ours c.requires.low c.requires.high)
+    (length-set before at word ∙ ap length c.as_mut_slice.ensures.value)
 
 pub invariant_of-self : goal.invariant_of-self
 invariant_of-self c = (held c).well_formed

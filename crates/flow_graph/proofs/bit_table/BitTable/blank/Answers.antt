@@ -19,5 +19,6 @@ returns c =
     record {
       width_is = omega arith;
       count = count;
-      clear = λ row bit. ap (λ v. has_bit v (bit % 64)) (zero_at (row * width + bit / 64) (cases_lt (row * width + bit / 64) (length new))) ∙ has_bit-zero (bit % 64);
+      clear = λ row bit. ap (λ v. has_bit v (bit % 64)) (zero_at (row * width + bit / 64) (cases_lt (row * width + bit / 64) (length new)))
+          ∙ has_bit-zero (bit % 64);
     }

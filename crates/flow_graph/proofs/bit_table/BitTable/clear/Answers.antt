@@ -13,5 +13,6 @@ zero_at words n is i = elim (cases_lt i n) [
 
 pub returns-clause-bits : goal.returns-clause-bits
 returns-clause-bits c r b =
-    ap (λ w. has_bit w (b % 64)) (zero_at c.fill.new.self.items (vec_len c.args.self.now.words) (c.fill.ensures.items (λ y same. same)) (r * c.args.self.now.width + b / 64))
+    ap (λ w. has_bit w (b % 64))
+    (zero_at c.fill.new.self.items (vec_len c.args.self.now.words) (c.fill.ensures.items (λ y same. same)) (r * c.args.self.now.width + b / 64))
     ∙ has_bit-zero (b % 64)

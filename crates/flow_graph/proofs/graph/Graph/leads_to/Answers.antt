@@ -1,40 +1,53 @@
 use Rattle.std.proofs.Common.{rules, ◌≡◌, ◌<◌, ◌∷◌, [], ℕ, List, length, vec_len, All, refl, ap₂, ◌∙◌, sym, subst, arith}
 use Rattle.std.proofs.lemmas.List.{length-map}
 use Rattle.flow_graph.specs.code.Searching.{Search, search_of}
-use Rattle.flow_graph.proofs.edges.LeadingLemmas.{Searches, search_begins, search_tells, looked_at_inside, reads_sources, sources_are_points, step_taken}
+use Rattle.flow_graph.proofs.edges.LeadingLemmas.{Searches, search_begins, search_tells, looked_at_inside, reads_sources, sources_are_points}
+use Rattle.flow_graph.proofs.edges.LeadingLemmas.{step_taken}
 use Rattle.flow_graph.proofs.graph.Graph.leads_to.Goals as goal
 
 pub loop-point-init : goal.loop-point-init
 loop-point-init c =
-    subst (λ (search : Search). Searches c.args.self.now c.args.marked.now search) (sym (ap₂ search_of c.in_ok-known.ensures.items c.in_ok-work.ensures))
+    subst (λ (search : Search). Searches c.args.self.now c.args.marked.now search)
+    (sym (ap₂ search_of c.in_ok-known.ensures.items c.in_ok-work.ensures))
     (search_begins c.args.self.now c.args.marked.now c.requires)
 
 pub index-requires : goal.index-requires
 index-requires c =
-    let inside = looked_at_inside c.args.self.now c.args.marked.now c.loop-point.known.items c.loop-point.work.items c.pop.new.self.items c.in-Some.point c.loop-point.invariant c.in-Some.ensures.items in
+    let inside = looked_at_inside c.args.self.now c.args.marked.now c.loop-point.known.items c.loop-point.work.items c.pop.new.self.items
+    c.in-Some.point c.loop-point.invariant c.in-Some.ensures.items in
     let len : vec_len c.in_ok-lists.lists ≡ length c.in_ok-lists.lists.items = search rules in
     omega (arith, inside, len, c.in_ok-lists.ensures.count, length-map c.in_ok-lists.lists.items (λ list. list.items))
 
 pub know_all-requires : goal.know_all-requires
 know_all-requires c =
-    let inside = looked_at_inside c.args.self.now c.args.marked.now c.loop-point.known.items c.loop-point.work.items c.pop.new.self.items c.in-Some.point c.loop-point.invariant c.in-Some.ensures.items in
-    let sources = reads_sources c.args.self.now c.in_ok-lists.lists.items c.in-Some.point c.index.result.now c.as_slice.result.now c.in_ok-lists.ensures inside c.index.ensures c.as_slice.ensures in
+    let inside = looked_at_inside c.args.self.now c.args.marked.now c.loop-point.known.items c.loop-point.work.items c.pop.new.self.items
+    c.in-Some.point c.loop-point.invariant c.in-Some.ensures.items in
+    let sources = reads_sources c.args.self.now c.in_ok-lists.lists.items c.in-Some.point c.index.result.now c.as_slice.result.now
+    c.in_ok-lists.ensures inside c.index.ensures c.as_slice.ensures in
     subst (λ xs. All (λ point. point < length c.loop-point.known.items) xs) (sym sources)
     (λ k d below. omega (arith, sources_are_points c.args.self.now c.points.ensures.sound c.in-Some.point k d below, c.loop-point.invariant.count))
 
 pub loop-point-smaller : goal.loop-point-smaller
 loop-point-smaller c =
-    let inside = looked_at_inside c.args.self.now c.args.marked.now c.loop-point.known.items c.loop-point.work.items c.pop.new.self.items c.in-Some.point c.loop-point.invariant c.in-Some.ensures.items in
-    let sources = reads_sources c.args.self.now c.in_ok-lists.lists.items c.in-Some.point c.index.result.now c.as_slice.result.now c.in_ok-lists.ensures inside c.index.ensures c.as_slice.ensures in
-    (step_taken c.args.self.now c.args.marked.now c.loop-point.known.items c.loop-point.work.items c.pop.new.self.items c.in-Some.point c.as_slice.result.now
-    (search_of c.know_all.new.known.items c.know_all.new.work.items) c.points.ensures.sound c.loop-point.invariant c.in-Some.ensures.items sources c.in_ok-know_all.ensures).smaller
+    let inside = looked_at_inside c.args.self.now c.args.marked.now c.loop-point.known.items c.loop-point.work.items c.pop.new.self.items
+    c.in-Some.point c.loop-point.invariant c.in-Some.ensures.items in
+    let sources = reads_sources c.args.self.now c.in_ok-lists.lists.items c.in-Some.point c.index.result.now c.as_slice.result.now
+    c.in_ok-lists.ensures inside c.index.ensures c.as_slice.ensures in
+    (step_taken c.args.self.now c.args.marked.now c.loop-point.known.items c.loop-point.work.items c.pop.new.self.items c.in-Some.point
+    c.as_slice.result.now
+    (search_of c.know_all.new.known.items c.know_all.new.work.items)
+    c.points.ensures.sound c.loop-point.invariant c.in-Some.ensures.items sources c.in_ok-know_all.ensures).smaller
 
 pub loop-point-preserved : goal.loop-point-preserved
 loop-point-preserved c =
-    let inside = looked_at_inside c.args.self.now c.args.marked.now c.loop-point.known.items c.loop-point.work.items c.pop.new.self.items c.in-Some.point c.loop-point.invariant c.in-Some.ensures.items in
-    let sources = reads_sources c.args.self.now c.in_ok-lists.lists.items c.in-Some.point c.index.result.now c.as_slice.result.now c.in_ok-lists.ensures inside c.index.ensures c.as_slice.ensures in
-    (step_taken c.args.self.now c.args.marked.now c.loop-point.known.items c.loop-point.work.items c.pop.new.self.items c.in-Some.point c.as_slice.result.now
-    (search_of c.know_all.new.known.items c.know_all.new.work.items) c.points.ensures.sound c.loop-point.invariant c.in-Some.ensures.items sources c.in_ok-know_all.ensures).searches
+    let inside = looked_at_inside c.args.self.now c.args.marked.now c.loop-point.known.items c.loop-point.work.items c.pop.new.self.items
+    c.in-Some.point c.loop-point.invariant c.in-Some.ensures.items in
+    let sources = reads_sources c.args.self.now c.in_ok-lists.lists.items c.in-Some.point c.index.result.now c.as_slice.result.now
+    c.in_ok-lists.ensures inside c.index.ensures c.as_slice.ensures in
+    (step_taken c.args.self.now c.args.marked.now c.loop-point.known.items c.loop-point.work.items c.pop.new.self.items c.in-Some.point
+    c.as_slice.result.now
+    (search_of c.know_all.new.known.items c.know_all.new.work.items)
+    c.points.ensures.sound c.loop-point.invariant c.in-Some.ensures.items sources c.in_ok-know_all.ensures).searches
 
 no_items : (xs : List ℕ) → length xs ≡ 0 → xs ≡ []
 no_items [] none = refl

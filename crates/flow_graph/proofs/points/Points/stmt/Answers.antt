@@ -9,8 +9,10 @@ use Rattle.flow_graph.proofs.points.Points.stmt.Goals as goal
 
 pub bounds-procs-place : goal.bounds-procs-place
 bounds-procs-place c =
-    let there : (place_of c.args.self.now c.args.point).procedure < length c.args.self.now.procedures = (points_have_places c.args.self.now c.args.point c.requires).procedure in
-    let same : c.place-place.result.procedure ≡ (place_of c.args.self.now c.args.point).procedure = ap (λ (at : Place). at.procedure) c.place-place.ensures in
+    let there : (place_of c.args.self.now c.args.point).procedure < length c.args.self.now.procedures =
+    (points_have_places c.args.self.now c.args.point c.requires).procedure in
+    let same : c.place-place.result.procedure ≡ (place_of c.args.self.now c.args.point).procedure =
+    ap (λ (at : Place). at.procedure) c.place-place.ensures in
     let procs : c.procs.result.now ≡ c.args.self.now.procedures = c.procs.ensures.procedures ∙ ap (λ (p : Program). p.procedures) c.self.view_is in
     rw (same, procs) there
 

@@ -11,11 +11,15 @@ pub returns : goal.returns
 returns c =
     let form : MayForm = c.args.self.now in
     let effect : Effect = c.index-effect.result.now in
-    let below : c.args.point < point_count c.self.inside.graph.now = subst (λ (f : MayForm). c.args.point < point_count f.program) (sym c.self.view_is) c.requires.point in
+    let below : c.args.point < point_count c.self.inside.graph.now =
+    subst (λ (f : MayForm). c.args.point < point_count f.program) (sym c.self.view_is) c.requires.point in
     let kept : IsEffect c.self.inside.graph.now c.self.inside.analysis c.args.point effect =
-    subst (λ (e : Effect). IsEffect c.self.inside.graph.now c.self.inside.analysis c.args.point e) (sym c.index-effect.ensures) (c.self.invariant.0.each c.args.point effect below) in
-    let known : IsEffect form.program form.analysis c.args.point effect = subst (λ (f : MayForm). IsEffect f.program f.analysis c.args.point effect) c.self.view_is kept in
+    subst (λ (e : Effect). IsEffect c.self.inside.graph.now c.self.inside.analysis c.args.point e) (sym c.index-effect.ensures)
+    (c.self.invariant.0.each c.args.point effect below) in
+    let known : IsEffect form.program form.analysis c.args.point effect =
+    subst (λ (f : MayForm). IsEffect f.program f.analysis c.args.point effect) c.self.view_is kept in
     word_of_gens form c.args.point c.args.word effect known c.own_word-own.result c.touched_word-touched.result c.generated.result c.full_word.result
     c.own_word-own.ensures c.touched_word-touched.ensures
     (λ k within. c.full_word.ensures k within ∙ ap (nat_lt (64 * c.args.word + k)) c.bits.ensures.count)
-    (λ k within. c.generated.ensures k within ∙ ap (λ (f : MayForm). gen_from f.analysis (has_bit c.own_word-own.result k) (has_bit c.touched_word-touched.result k)) c.self.view_is)
+    (λ k within. c.generated.ensures k within
+    ∙ ap (λ (f : MayForm). gen_from f.analysis (has_bit c.own_word-own.result k) (has_bit c.touched_word-touched.result k)) c.self.view_is)

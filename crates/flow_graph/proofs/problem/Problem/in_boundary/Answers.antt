@@ -4,4 +4,5 @@ use Rattle.flow_graph.proofs.bits.MayWords.{bit_of_word}
 use Rattle.flow_graph.proofs.problem.Problem.in_boundary.Goals as goal
 
 pub returns : goal.returns
-returns c = bit_of_word (may_boundary c.args.self.now) (bits c.args.self.now.program c.args.self.now.analysis) c.args.bit c.boundary_word.result c.requires c.boundary_word.ensures
+returns c = bit_of_word (may_boundary c.args.self.now) (bits c.args.self.now.program c.args.self.now.analysis)
+    c.args.bit c.boundary_word.result c.requires c.boundary_word.ensures

@@ -4,7 +4,8 @@ use Rattle.flow_graph.specs.Problems.{MayForm}
 use Rattle.flow_graph.proofs.problem.Problem.touches.Goals as goal
 
 pub returns-in-None : goal.returns-in-None
-returns-in-None c = ap (λ o. unwrap_or (option_map (λ x. depends c.args.self.now.program c.args.self.now.analysis x c.args.bit) o) false) (sym c.in-None.is)
+returns-in-None c =
+    ap (λ o. unwrap_or (option_map (λ x. depends c.args.self.now.program c.args.self.now.analysis x c.args.bit) o) false) (sym c.in-None.is)
 
 pub returns-in-Some : goal.returns-in-Some
 returns-in-Some c =

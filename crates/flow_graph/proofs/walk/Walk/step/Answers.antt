@@ -49,4 +49,5 @@ returns-else-self-clause-next c =
     let there = stands_in_procedure program procedure place below in
     let on : point_of program (procedure + 1) 0 ≡ point_of program procedure place + 1 =
     omega (arith, next_first_point program procedure there, c.self.invariant.1, c.if-self.false, ap length c.self.invariant.2) in
-    ap (λ n. let w : WalkAt = record { program = program; point = n } in w) on ∙ ap (λ (w : WalkAt). let v : WalkAt = record { program = w.program; point = w.point + 1 } in v) c.self.view_is
+    ap (λ n. let w : WalkAt = record { program = program; point = n } in w) on
+    ∙ ap (λ (w : WalkAt). let v : WalkAt = record { program = w.program; point = w.point + 1 } in v) c.self.view_is

@@ -10,16 +10,20 @@ pub returns : goal.returns
 returns c =
     let tables = c.self.invariant in
     let form = c.self.inside.problem.value in
-    let low = unseen form c.self.inside.backward c.args.self.now tables.same_direction c.self.view_is (λ (l : LinkedProgram). c.args.point < point_count l.program) c.requires in
-    let part = part_read tables.callers_are c.args.point c.index-from.result.now c.index-to.result.now c.deref.result.now low c.index-from.ensures c.index-to.ensures c.deref.ensures.value in
+    let low = unseen form c.self.inside.backward c.args.self.now tables.same_direction c.self.view_is
+    (λ (l : LinkedProgram). c.args.point < point_count l.program) c.requires in
+    let part = part_read tables.callers_are c.args.point c.index-from.result.now c.index-to.result.now c.deref.result.now low c.index-from.ensures
+    c.index-to.ensures c.deref.ensures.value in
     seen form c.self.inside.backward c.args.self.now tables.same_direction c.self.view_is
-    (λ (l : LinkedProgram). AreCallersOf (directed_shape l) (point_count l.program) c.args.point (slice_range c.deref.result.now c.index-from.result.now c.index-to.result.now))
+    (λ (l : LinkedProgram). AreCallersOf (directed_shape l) (point_count l.program) c.args.point
+    (slice_range c.deref.result.now c.index-from.result.now c.index-to.result.now))
     (callers_are tables.numbered c.args.point low (slice_range c.deref.result.now c.index-from.result.now c.index-to.result.now) part)
 
 pub index-from-requires : goal.index-from-requires
 index-from-requires c =
     let tables = c.self.invariant in
-    let low = unseen c.self.inside.problem.value c.self.inside.backward c.args.self.now tables.same_direction c.self.view_is (λ (l : LinkedProgram). c.args.point < point_count l.program) c.requires in
+    let low = unseen c.self.inside.problem.value c.self.inside.backward c.args.self.now tables.same_direction c.self.view_is
+    (λ (l : LinkedProgram). c.args.point < point_count l.program) c.requires in
     let long = tables.callers_are.start_count in
     let len = c.self.inside.callers.starts.ok.0 in
     omega (arith, low, long, len)
@@ -27,7 +31,8 @@ index-from-requires c =
 pub index-to-requires : goal.index-to-requires
 index-to-requires c =
     let tables = c.self.invariant in
-    let low = unseen c.self.inside.problem.value c.self.inside.backward c.args.self.now tables.same_direction c.self.view_is (λ (l : LinkedProgram). c.args.point < point_count l.program) c.requires in
+    let low = unseen c.self.inside.problem.value c.self.inside.backward c.args.self.now tables.same_direction c.self.view_is
+    (λ (l : LinkedProgram). c.args.point < point_count l.program) c.requires in
     let long = tables.callers_are.start_count in
     let len = c.self.inside.callers.starts.ok.0 in
     omega (arith, low, long, len)

@@ -10,8 +10,10 @@ invariant_of-result c =
     let tables = c.in_ok-tables.tables in
     let lists = c.in_ok-lists.lists in
     let orders = c.in_ok-orders.orders in
-    subst (λ (form : MayForm). AreTables form c.reverses.result c.root.result tables.entries.items tables.exits.items tables.procedures.items lists.steps.starts.items lists.steps.items.items
-    lists.calls.starts.items lists.calls.items.items lists.callers.starts.items lists.callers.items.items lists.sites.starts.items lists.sites.items.items
+    subst (λ (form : MayForm). AreTables form c.reverses.result c.root.result tables.entries.items tables.exits.items tables.procedures.items
+    lists.steps.starts.items lists.steps.items.items
+    lists.calls.starts.items lists.calls.items.items lists.callers.starts.items lists.callers.items.items lists.sites.starts.items
+    lists.sites.items.items
     orders.points orders.procedures) (sym c.of.ensures) record {
       same_direction = c.reverses.ensures;
       few = c.points.ensures.few;

@@ -13,7 +13,8 @@ returns-clause-answers c =
     let program = c.args.graph.now in
     let words = c.in_ok-words.words.items in
     let told = subst
-    (λ (asks : List Ask). (length words ≡ length asks) × ((q : ℕ) (ask : Ask) → slice_get asks q ≡ Some ask → IsAnswerTo program ask (slice_index words q)))
+    (λ (asks : List Ask). (length words ≡ length asks)
+    × ((q : ℕ) (ask : Ask) → slice_get asks q ≡ Some ask → IsAnswerTo program ask (slice_index words q)))
     c.as_slice.ensures.value (c.in_ok-words.ensures.count, c.in_ok-words.ensures.answered) in
     told_by_tables program c.args.asks.items words c.in_ok-forward.forward.items c.in_ok-backward.backward.items told.0 told.1
     (table_flags program c.args.reach.now Reach c.in_ok-forward.forward.items c.requires.reach.0 c.requires.reach.1 c.in_ok-forward.ensures)

@@ -13,4 +13,5 @@ returns c = λ ask there.
     let same : one ≡ ask = cc both in
     subst (λ (a : Ask). IsAnswerTo asked.program a (bit_xor c.word.result c.turned_word.result)) same
     (word_answers asked c.args.j one c.args.posted.now c.word.result c.turned_word.result c.bits-bits.result c.is_over_every_path.result
-    c.ask-ask.ensures.asks c.ask-ask.ensures.ask c.requires.rows c.word.ensures c.is_over_every_path.ensures c.bits-bits.ensures c.turned_word.ensures)
+    c.ask-ask.ensures.asks c.ask-ask.ensures.ask c.requires.rows c.word.ensures c.is_over_every_path.ensures c.bits-bits.ensures
+    c.turned_word.ensures)

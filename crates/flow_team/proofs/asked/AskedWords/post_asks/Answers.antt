@@ -10,5 +10,6 @@ asks-preserved c =
       of = of_still c.args.board.now c.asks.pass c.post_ask-solved.new.pass posts.more before.of;
       more = posts_more c.args.pass.now c.asks.pass c.post_ask-solved.new.pass before.more posts.more;
       told = posts.told;
-      done = done_more c.args.self.now c.args.solver.now.analysis c.args.from c.asks.j c.asks.pass c.post_ask-solved.new.pass posts.more before.done posts.done;
+      done = done_more c.args.self.now c.args.solver.now.analysis c.args.from c.asks.j c.asks.pass c.post_ask-solved.new.pass posts.more before.done
+          posts.done;
     }

@@ -34,10 +34,13 @@ returns-clause-done c =
     let forward = c.self.invariant.0.is_forward in
     let backward = c.self.invariant.0.is_backward in
     let among = IsAmong asked.order c.args.from c.args.until in
-    let reach : c.some-reach.result.now.analysis ≡ Reach = ap (λ (f : MayForm). f.analysis) c.some-reach.ensures ∙ ap (λ (p : Pair). p.some) forward in
+    let reach : c.some-reach.result.now.analysis ≡ Reach =
+    ap (λ (f : MayForm). f.analysis) c.some-reach.ensures ∙ ap (λ (p : Pair). p.some) forward in
     let live : c.some-live.result.now.analysis ≡ Live = ap (λ (f : MayForm). f.analysis) c.some-live.ensures ∙ ap (λ (p : Pair). p.some) backward in
-    let avail : c.every-avail.result.now.analysis ≡ Avail = ap (λ (f : MayForm). f.analysis) c.every-avail.ensures ∙ ap (λ (p : Pair). p.every) forward in
-    let busy : c.every-busy.result.now.analysis ≡ Busy = ap (λ (f : MayForm). f.analysis) c.every-busy.ensures ∙ ap (λ (p : Pair). p.every) backward in
+    let avail : c.every-avail.result.now.analysis ≡ Avail =
+    ap (λ (f : MayForm). f.analysis) c.every-avail.ensures ∙ ap (λ (p : Pair). p.every) forward in
+    let busy : c.every-busy.result.now.analysis ≡ Busy =
+    ap (λ (f : MayForm). f.analysis) c.every-busy.ensures ∙ ap (λ (p : Pair). p.every) backward in
     done_all asked c.args.from c.args.until c.post_part.new.pass c.post_part-2.new.pass c.post_part-3.new.pass c.post_part-4.new.pass
     c.post_part-2.ensures.more c.post_part-3.ensures.more c.post_part-4.ensures.more
     (subst (λ (a : Analysis). AreDone asked (among a) c.post_part.new.pass.posted) reach c.post_part.ensures.done)

@@ -10,7 +10,8 @@ use Rattle.flow_team.proofs.asked.AskedWords.post_word.Goals as goal
 pub returns-then-mask-eq0-clause-done : goal.returns-then-mask-eq0-clause-done
 returns-then-mask-eq0-clause-done c = λ bit want at.
     let r = c.requires in
-    let has = ask_has c.args.self.now c.args.words.now c.args.j c.args.ask c.word-mask.result r.there r.point r.from r.until r.range.0 r.range.1 r.tells c.word-mask.ensures bit want at in
+    let has = ask_has c.args.self.now c.args.words.now c.args.j c.args.ask c.word-mask.result r.there r.point r.from r.until r.range.0 r.range.1
+    r.tells c.word-mask.ensures bit want at in
     absurd (none_of_zero (bit % 64) (subst (λ (n : ℕ). has_bit n (bit % 64) ≡ true) c.if-mask-eq0.true has))
 
 pub post-requires-clause-place : goal.post-requires-clause-place
@@ -22,11 +23,13 @@ pub post-requires-clause-wanted : goal.post-requires-clause-wanted
 post-requires-clause-wanted c = λ k small has.
     let r = c.requires in
     subst (λ (asked : Asked). IsWanted asked 0 (64 * c.args.j + k)) (sym r.on.wanted)
-    (ask_wants c.args.self.now c.args.words.now c.args.j c.args.ask c.word-mask.result r.there r.point r.from r.until r.range.0 r.range.1 r.tells c.word-mask.ensures k small has)
+    (ask_wants c.args.self.now c.args.words.now c.args.j c.args.ask c.word-mask.result r.there r.point r.from r.until r.range.0 r.range.1 r.tells
+    c.word-mask.ensures k small has)
 
 pub returns-clause-done : goal.returns-clause-done
 returns-clause-done c = λ bit want at.
     let r = c.requires in
-    let has = ask_has c.args.self.now c.args.words.now c.args.j c.args.ask c.word-mask.result r.there r.point r.from r.until r.range.0 r.range.1 r.tells c.word-mask.ensures bit want at in
+    let has = ask_has c.args.self.now c.args.words.now c.args.j c.args.ask c.word-mask.result r.there r.point r.from r.until r.range.0 r.range.1
+    r.tells c.word-mask.ensures bit want at in
     subst (λ (pass : PassState _). IsMarked pass.posted 0 bit) (sym c.post.ensures)
     (marked_last c.args.pass.now.posted 0 c.args.j c.word-mask.result bit at has)

@@ -9,9 +9,11 @@ loop-j-preserved c =
     let asked = c.args.self.now in
     let of = subst IsArranged c.self.view_is c.self.invariant.1 in
     let before = c.loop-j.invariant in
-    let there : c.loop-j.j < length c.self.inside.asks.items = omega (arith, c.loop-j-test.true, c.len-j-end.ensures, c.self.invariant.1.arranged.size) in
+    let there : c.loop-j.j < length c.self.inside.asks.items =
+    omega (arith, c.loop-j-test.true, c.len-j-end.ensures, c.self.invariant.1.arranged.size) in
     let at : c.index.result.now ≡ slice_index asked.places c.loop-j.j =
-    c.index.ensures ∙ get_or_default_zero c.self.inside.places.items c.loop-j.j c.index.result.now (omega (arith, c.loop-j-test.true, c.len-j-end.ensures))
+    c.index.ensures
+    ∙ get_or_default_zero c.self.inside.places.items c.loop-j.j c.index.result.now (omega (arith, c.loop-j-test.true, c.len-j-end.ensures))
     ∙ ap (λ (a : Asked). slice_index a.places c.loop-j.j) c.self.view_is in
     let inside = subst (λ (a : Asked). c.loop-j.j < length a.asks) c.self.view_is there in
     record {
@@ -24,4 +26,5 @@ pub returns-clause-answered : goal.returns-clause-answered
 returns-clause-answered c =
     let of = subst IsArranged c.self.view_is c.self.invariant.1 in
     answered_all c.args.self.now of.arranged c.loop-j.words c.loop-j.j
-    (omega (arith, c.loop-j-test.false, c.len-j-end.ensures, c.self.invariant.1.arranged.size, ap (λ (a : Asked). length a.asks) c.self.view_is)) c.loop-j.invariant.answered
+    (omega (arith, c.loop-j-test.false, c.len-j-end.ensures, c.self.invariant.1.arranged.size, ap (λ (a : Asked). length a.asks) c.self.view_is))
+    c.loop-j.invariant.answered

@@ -21,7 +21,8 @@ close-requires-sync-W c = λ κs lives. search sets_cross depth 60
 
 pub table-requires-clause-rows : goal.table-requires-clause-rows
 table-requires-clause-rows c =
-    subst (λ (form : MayForm). (point bit : ℕ) → (contains (set_at c.in-Ok.posted point) bit ≡ true) ↔ IsInMaySet form point bit) c.in-Ok.ensures.on.wanted c.in-Ok.ensures.rows
+    subst (λ (form : MayForm). (point bit : ℕ) → (contains (set_at c.in-Ok.posted point) bit ≡ true) ↔ IsInMaySet form point bit)
+    c.in-Ok.ensures.on.wanted c.in-Ok.ensures.rows
 
 pub returns-in-Err-clause-all_finished : goal.returns-in-Err-clause-all_finished
 returns-in-Err-clause-all_finished c = λ all.

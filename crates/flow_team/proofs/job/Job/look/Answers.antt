@@ -20,5 +20,6 @@ look-requires-sync-S c = λ κs lives. search sets_cross depth 60
 
 pub returns-clause-wanted : goal.returns-clause-wanted
 returns-clause-wanted c =
-    subst (λ (b : BoardState MayForm). (i : ℕ) → i < 64 → has_bit c.look.result i ≡ true → IsInMaySet b.wanted c.args.point (64 * c.args.word + i)) c.self.view_is
+    subst (λ (b : BoardState MayForm). (i : ℕ) → i < 64 → has_bit c.look.result i ≡ true → IsInMaySet b.wanted c.args.point (64 * c.args.word + i))
+    c.self.view_is
     c.look.ensures.wanted

@@ -32,5 +32,6 @@ groups-preserved c =
           (point_count c.args.board.now) c.solve_from-until.result
           (λ p bit want. omega (arith, want.0, on.points))
           before.posted
-          (λ p bit want low high at. posts.posted p bit (subst (λ (form : MayForm). IsInMaySet form p bit) (sym on.wanted) want) (omega (arith, low, lo_is)) (omega (arith, high, hi_is)) at);
+          (λ p bit want low high at. posts.posted p bit (subst (λ (form : MayForm). IsInMaySet form p bit) (sym on.wanted) want)
+          (omega (arith, low, lo_is)) (omega (arith, high, hi_is)) at);
     }

@@ -12,7 +12,14 @@ slice-requires-clause-within c =
     let same = c.cut-cut.ensures in
     let there = subst (λ (cut : Slices). c.args.slice < slice_count cut) (sym same) c.requires.there in
     let most = end_le_bits c.cut-cut.result.now c.slices.ensures.cover c.args.slice there in
-    omega (arith, most, c.range-lo.ensures.end, ap (λ (cut : Slices). cut.bits) same, c.requires.on.bits, ap (λ (form : MayForm). bits form.program form.analysis) c.self.view_is)
+    omega (
+      arith,
+      most,
+      c.range-lo.ensures.end,
+      ap (λ (cut : Slices). cut.bits) same,
+      c.requires.on.bits,
+      ap (λ (form : MayForm). bits form.program form.analysis) c.self.view_is,
+    )
 
 pub returns-clause-whole : goal.returns-clause-whole
 returns-clause-whole c = λ point bit want inside.

@@ -11,7 +11,8 @@ returns-clause-set c =
     let inside = c.self.inside in
     let there : c.args.point < length inside.posted.flags = subst (λ (t : RowTable). c.args.point < length t.flags) (sym c.self.view_is) c.requires in
     subst (λ (t : RowTable). (k : ℕ) → k < 64
-    → has_bit (bit_xor c.word.result c.turned_word.result) k ≡ slice_index_or (slice_index_or (members_of t) c.args.point []) (64 * c.args.word + k) false) c.self.view_is
+    → has_bit (bit_xor c.word.result c.turned_word.result) k
+    ≡ slice_index_or (slice_index_or (members_of t) c.args.point []) (64 * c.args.word + k) false) c.self.view_is
     (λ k small.
     word_turned inside.turns inside.posted c.args.point there c.args.word c.word.result c.turned_word.result
     (λ bit has. c.bits.ensures.within c.args.point bit has) c.word.ensures

@@ -34,7 +34,8 @@ overflow_add-here c =
     let are : AreRead c.args.kind.now (x ∷ y ∷ []) = record { rising = c.in-Two.ensures.rising; read = c.in-Two.ensures.read } in
     let asks = c.args.self.now.answers.now.replies.asks in
     let second = second_read asks c.places-here.result.reads c.args.point x y c.args.kind.now here.reads are in
-    let inside : c.places-here.result.reads + 1 < length asks = slice_get_within asks (c.places-here.result.reads + 1) (ask_for Reach c.args.point y) second in
+    let inside : c.places-here.result.reads + 1 < length asks =
+    slice_get_within asks (c.places-here.result.reads + 1) (ask_for Reach c.args.point y) second in
     omega (arith, inside, c.requires.found.answers.few)
 
 pub may_be_unset-requires-else-may_be_unset-clause-asked : goal.may_be_unset-requires-else-may_be_unset-clause-asked
@@ -49,7 +50,8 @@ pub returns-in-None : goal.returns-in-None
 returns-in-None c =
     let program : Program = c.args.self.now.graph.now in
     let are : AreRead c.args.kind.now [] = record { rising = c.in-None.ensures.rising; read = c.in-None.ensures.read } in
-    sym (ap some_stand (unset_are program (knowledge_of c.args.self.now) c.args.point c.args.kind.now [] c.requires.found.sound c.requires.point c.requires.kind are))
+    sym (ap some_stand (unset_are program (knowledge_of c.args.self.now)
+    c.args.point c.args.kind.now [] c.requires.found.sound c.requires.point c.requires.kind are))
 
 pub returns-in-One : goal.returns-in-One
 returns-in-One c =

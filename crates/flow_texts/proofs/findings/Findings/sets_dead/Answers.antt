@@ -9,12 +9,14 @@ use Rattle.flow_texts.proofs.findings.Findings.sets_dead.Goals as goal
 pub is_dead_after-requires-clause-next : goal.is_dead_after-requires-clause-next
 is_dead_after-requires-clause-next c =
     let program : Program = c.args.self.now.graph.now in
-    next_below program c.args.point c.args.kind.now (stands program c.requires.found.sound c.args.point c.args.kind.now c.requires.point c.requires.kind)
+    next_below program c.args.point c.args.kind.now
+    (stands program c.requires.found.sound c.args.point c.args.kind.now c.requires.point c.requires.kind)
 
 pub returns-in-Some : goal.returns-in-Some
 returns-in-Some c =
     let program : Program = c.args.self.now.graph.now in
-    sym (ap some_stand (dead_is program (knowledge_of c.args.self.now) c.args.point c.in-Some.variable c.args.kind.now c.is_dead_after.result c.requires.kind (sym c.in-Some.ensures) (sym c.is_dead_after.ensures))
+    sym (ap some_stand (dead_is program (knowledge_of c.args.self.now)
+    c.args.point c.in-Some.variable c.args.kind.now c.is_dead_after.result c.requires.kind (sym c.in-Some.ensures) (sym c.is_dead_after.ensures))
     ∙ some_if c.is_dead_after.result c.in-Some.variable)
 
 pub returns-in-None : goal.returns-in-None

@@ -8,7 +8,8 @@ use Rattle.text_pieces.proofs.Taking.{takes_as, takes_then}
 use Rattle.flow_texts.proofs.findings.Findings.write.Goals as goal
 
 -- the lines of one point more
-more : (lines : ℕ → List ℕ) (n : ℕ) (first : List ℕ) → (first ++ flat_map lines (range_with_len 0 n)) ++ lines n ≡ first ++ flat_map lines (range_with_len 0 (n + 1))
+more : (lines : ℕ → List ℕ) (n : ℕ) (first : List ℕ)
+    → (first ++ flat_map lines (range_with_len 0 n)) ++ lines n ≡ first ++ flat_map lines (range_with_len 0 (n + 1))
 more lines n first = append_assoc first (flat_map lines (range_with_len 0 n)) (lines n) ∙ ap (λ t. first ++ t) (sym (flat_map-range_more lines n))
 
 pub loop-point-preserved : goal.loop-point-preserved
@@ -16,5 +17,6 @@ loop-point-preserved g c =
     let program : Program = c.args.self.now.graph.now in
     record {
       reference = c.write_point.ensures.same_reference ∙ c.loop-point.invariant.reference;
-      takes = takes_as _ _ _ _ (takes_then _ _ _ _ _ c.loop-point.invariant.takes c.write_point.ensures.takes) (more (lines_at program (knowledge_of c.args.self.now)) c.loop-point.point (count_line program));
+      takes = takes_as _ _ _ _ (takes_then _ _ _ _ _ c.loop-point.invariant.takes c.write_point.ensures.takes)
+          (more (lines_at program (knowledge_of c.args.self.now)) c.loop-point.point (count_line program));
     }

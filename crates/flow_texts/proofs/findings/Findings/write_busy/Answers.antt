@@ -11,11 +11,13 @@ returns-clause-takes g c =
     let program : Program = c.args.self.now.graph.now in
     let text : ℕ → List ℕ = λ e. g.F.RemarkForm.text c.args.form.now program c.args.point (VeryBusy e) in
     takes_as _ _ _ _ c.write_busy_words.ensures.takes
-    (sym (ap (flat_map text) (busy_is program (knowledge_of c.args.self.now) c.args.point c.args.kind.now true c.requires.kind (sym c.tells_busy.ensures ∙ c.if-not-tells_busy.false))))
+    (sym (ap (flat_map text) (busy_is program (knowledge_of c.args.self.now) c.args.point c.args.kind.now true c.requires.kind
+    (sym c.tells_busy.ensures ∙ c.if-not-tells_busy.false))))
 
 pub returns-then-not-tells_busy-clause-takes : goal.returns-then-not-tells_busy-clause-takes
 returns-then-not-tells_busy-clause-takes g c =
     let program : Program = c.args.self.now.graph.now in
     let text : ℕ → List ℕ = λ e. g.F.RemarkForm.text c.args.form.now program c.args.point (VeryBusy e) in
     takes_as _ _ _ _ (takes_nothing _)
-    (sym (ap (flat_map text) (busy_is program (knowledge_of c.args.self.now) c.args.point c.args.kind.now false c.requires.kind (sym c.tells_busy.ensures ∙ c.if-not-tells_busy.true))))
+    (sym (ap (flat_map text) (busy_is program (knowledge_of c.args.self.now) c.args.point c.args.kind.now false c.requires.kind
+    (sym c.tells_busy.ensures ∙ c.if-not-tells_busy.true))))

@@ -22,7 +22,8 @@ loop-place-init g c =
       one = c.next_one-place.ensures.one;
       takes = takes_as _ _ _ _ (takes_nothing (at c.args.out.now))
           (sym (none_texts text test c.args.first (min width place)
-          (λ i below. sym (c.requires.word i (omega (arith, below, c.next_one-place.ensures.within))) ∙ c.next_one-place.ensures.before i (omega arith) (omega (arith, below)))));
+          (λ i below. sym (c.requires.word i (omega (arith, below, c.next_one-place.ensures.within)))
+          ∙ c.next_one-place.ensures.before i (omega arith) (omega (arith, below)))));
     }
 
 pub loop-place-preserved : goal.loop-place-preserved
@@ -39,7 +40,8 @@ loop-place-preserved g c =
       one = c.next_one-place-in-loop-place.ensures.one;
       takes = next_member text test c.args.first place next width _ _ _ c.loop-place-test.true c.next_one-place-in-loop-place.ensures.ordered
           (sym (c.requires.word place low) ∙ c.loop-place.invariant.one low)
-          (λ k above below. sym (c.requires.word k (omega (arith, below, c.next_one-place-in-loop-place.ensures.within))) ∙ c.next_one-place-in-loop-place.ensures.before k above (omega (arith, below)))
+          (λ k above below. sym (c.requires.word k (omega (arith, below, c.next_one-place-in-loop-place.ensures.within)))
+          ∙ c.next_one-place-in-loop-place.ensures.before k above (omega (arith, below)))
           c.loop-place.invariant.takes c.write_remark.ensures.takes;
     }
 
@@ -48,4 +50,5 @@ returns-clause-takes g c =
     let text : ℕ → List ℕ = λ e. g.F.RemarkForm.text c.args.form.now c.args.self.now.graph.now c.args.point (VeryBusy e) in
     let width : ℕ = c.args.end - c.args.first in
     let all : min width c.loop-place.place ≡ width = omega (arith, c.loop-place-test.false) in
-    takes_as _ _ _ _ c.loop-place.invariant.takes (ap (λ n. texts_where text ((knowledge_of c.args.self.now).busy.contains c.args.point) (range_with_len c.args.first n)) all)
+    takes_as _ _ _ _ c.loop-place.invariant.takes
+    (ap (λ n. texts_where text ((knowledge_of c.args.self.now).busy.contains c.args.point) (range_with_len c.args.first n)) all)

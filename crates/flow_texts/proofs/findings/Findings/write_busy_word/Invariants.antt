@@ -12,7 +12,8 @@ invariant-loop-place g l = record {
   within : l.place ≤ 64;
   one : l.place < 64 → has_bit l.ones l.place ≡ true;
   takes : Takes (outlet g.K.Sink.contents g.K.Sink.faults l.fn.out) (outlet g.K.Sink.contents g.K.Sink.faults l.out)
-      (texts_where (λ e. g.F.RemarkForm.text l.form l.self.graph.now l.point (VeryBusy e)) ((knowledge_of l.self).busy.contains l.point) (range_with_len l.first (min l.width l.place)));
+      (texts_where (λ e. g.F.RemarkForm.text l.form l.self.graph.now l.point (VeryBusy e)) ((knowledge_of l.self).busy.contains l.point)
+      (range_with_len l.first (min l.width l.place)));
 }
 
 abbrev pub decreases-loop-place : goal.decreases-loop-place

@@ -34,7 +34,8 @@ loop-word-preserved g c =
       | else-ones-ne0 w ↦ record {
         reference = ap (λ p. p.sink.ghost_name) w.out-is ∙ c.loop-word.invariant.reference;
         takes = step (subst (λ p. Takes (at c.loop-word.out) (at p) more) (sym w.out-is)
-            (takes_as _ _ _ _ (takes_nothing (at c.loop-word.out)) (sym (no_texts text test bits word c.busy_word-ones.result c.busy_word-ones.ensures w.if-ones-ne0.false))));
+            (takes_as _ _ _ _ (takes_nothing (at c.loop-word.out))
+            (sym (no_texts text test bits word c.busy_word-ones.result c.busy_word-ones.ensures w.if-ones-ne0.false))));
       }
     ]
 

@@ -12,5 +12,6 @@ returns-clause-takes g c =
     let bit : ℕ = c.in-Some.bit in
     let text : ℕ → List ℕ = λ e. g.F.RemarkForm.text c.args.form.now program c.args.point (Computed e) in
     takes_as _ _ _ _ c.write_remark.ensures.takes
-    (sym (ap (flat_map text) (computed_is program (knowledge_of c.args.self.now) c.args.point bit (sym c.in-Some.ensures) (sym c.is_computed.ensures ∙ c.if-not-is_computed.false))
+    (sym (ap (flat_map text) (computed_is program (knowledge_of c.args.self.now) c.args.point bit (sym c.in-Some.ensures) (sym c.is_computed.ensures
+    ∙ c.if-not-is_computed.false))
     ∙ append-nil (text bit)))

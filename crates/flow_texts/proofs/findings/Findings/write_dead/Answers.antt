@@ -11,12 +11,14 @@ use Rattle.flow_texts.proofs.findings.Findings.write_dead.Goals as goal
 pub is_dead_after-requires-clause-next : goal.is_dead_after-requires-clause-next
 is_dead_after-requires-clause-next g c =
     let program : Program = c.args.self.now.graph.now in
-    next_below program c.args.point c.args.kind.now (stands program c.requires.found.sound c.args.point c.args.kind.now c.requires.point c.requires.kind)
+    next_below program c.args.point c.args.kind.now
+    (stands program c.requires.found.sound c.args.point c.args.kind.now c.requires.point c.requires.kind)
 
 pub write_remark-requires-clause-remark : goal.write_remark-requires-clause-remark
 write_remark-requires-clause-remark g c =
     let program : Program = c.args.self.now.graph.now in
-    assigned_there program c.args.point c.in-Some.variable c.args.kind.now (stands program c.requires.found.sound c.args.point c.args.kind.now c.requires.point c.requires.kind) (sym c.in-Some.ensures)
+    assigned_there program c.args.point c.in-Some.variable c.args.kind.now
+    (stands program c.requires.found.sound c.args.point c.args.kind.now c.requires.point c.requires.kind) (sym c.in-Some.ensures)
 
 pub returns-clause-takes : goal.returns-clause-takes
 returns-clause-takes g c =
@@ -25,5 +27,6 @@ returns-clause-takes g c =
     let x : ℕ = c.in-Some.variable in
     let text : ℕ → List ℕ = λ v. g.F.RemarkForm.text c.args.form.now program point (Dead v) in
     takes_as _ _ _ _ c.write_remark.ensures.takes
-    (sym (ap (flat_map text) (dead_is program (knowledge_of c.args.self.now) point x c.args.kind.now true c.requires.kind (sym c.in-Some.ensures) (sym c.is_dead_after.ensures ∙ c.if-not-is_dead_after.false))
+    (sym (ap (flat_map text) (dead_is program (knowledge_of c.args.self.now) point x c.args.kind.now true c.requires.kind (sym c.in-Some.ensures)
+    (sym c.is_dead_after.ensures ∙ c.if-not-is_dead_after.false))
     ∙ append-nil (text x)))

@@ -9,4 +9,5 @@ use Rattle.flow_texts.proofs.findings.Findings.write_lines.Goals as goal
 pub returns-clause-takes : goal.returns-clause-takes
 returns-clause-takes g c =
     let program : Program = c.args.self.now.graph.now in
-    takes_as _ _ _ _ c.write_remarks.ensures.takes (ap (λ head. flat_map (line_behind head program) (remarks_at program (knowledge_of c.args.self.now) c.args.point)) c.requires.head)
+    takes_as _ _ _ _ c.write_remarks.ensures.takes
+    (ap (λ head. flat_map (line_behind head program) (remarks_at program (knowledge_of c.args.self.now) c.args.point)) c.requires.head)

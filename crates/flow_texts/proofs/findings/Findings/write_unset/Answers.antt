@@ -35,7 +35,8 @@ overflow_add-reads g c =
     let are : AreRead c.args.kind.now (x ∷ y ∷ []) = record { rising = c.in-Two.ensures.rising; read = c.in-Two.ensures.read } in
     let asks = c.args.self.now.answers.now.replies.asks in
     let second = second_read asks c.places-reads.result.reads c.args.point x y c.args.kind.now here.reads are in
-    let inside : c.places-reads.result.reads + 1 < length asks = slice_get_within asks (c.places-reads.result.reads + 1) (ask_for Reach c.args.point y) second in
+    let inside : c.places-reads.result.reads + 1 < length asks =
+    slice_get_within asks (c.places-reads.result.reads + 1) (ask_for Reach c.args.point y) second in
     omega (arith, inside, c.requires.found.answers.few)
 
 pub write_unset_variable-requires-in-Two-2-clause-asked : goal.write_unset_variable-requires-in-Two-2-clause-asked
@@ -50,21 +51,24 @@ pub write_unset_variable-requires-clause-variable : goal.write_unset_variable-re
 write_unset_variable-requires-clause-variable g c =
     let x : ℕ = c.in-One.variable in
     let are : AreRead c.args.kind.now (x ∷ []) = record { rising = c.in-One.ensures.rising; read = c.in-One.ensures.read } in
-    variables_are_there c.args.self.now.graph.now c.args.point c.args.kind.now (x ∷ []) c.requires.found.sound c.requires.point c.requires.kind are x (first_of x [])
+    variables_are_there c.args.self.now.graph.now c.args.point c.args.kind.now (x ∷ []) c.requires.found.sound c.requires.point c.requires.kind are x
+    (first_of x [])
 
 pub write_unset_variable-requires-in-Two-clause-variable : goal.write_unset_variable-requires-in-Two-clause-variable
 write_unset_variable-requires-in-Two-clause-variable g c =
     let x : ℕ = c.in-Two.first in
     let y : ℕ = c.in-Two.second in
     let are : AreRead c.args.kind.now (x ∷ y ∷ []) = record { rising = c.in-Two.ensures.rising; read = c.in-Two.ensures.read } in
-    variables_are_there c.args.self.now.graph.now c.args.point c.args.kind.now (x ∷ y ∷ []) c.requires.found.sound c.requires.point c.requires.kind are x (first_of x (y ∷ []))
+    variables_are_there c.args.self.now.graph.now c.args.point c.args.kind.now (x ∷ y ∷ [])
+    c.requires.found.sound c.requires.point c.requires.kind are x (first_of x (y ∷ []))
 
 pub write_unset_variable-requires-in-Two-2-clause-variable : goal.write_unset_variable-requires-in-Two-2-clause-variable
 write_unset_variable-requires-in-Two-2-clause-variable g c =
     let x : ℕ = c.in-Two.first in
     let y : ℕ = c.in-Two.second in
     let are : AreRead c.args.kind.now (x ∷ y ∷ []) = record { rising = c.in-Two.ensures.rising; read = c.in-Two.ensures.read } in
-    variables_are_there c.args.self.now.graph.now c.args.point c.args.kind.now (x ∷ y ∷ []) c.requires.found.sound c.requires.point c.requires.kind are y (second_of x y)
+    variables_are_there c.args.self.now.graph.now c.args.point c.args.kind.now (x ∷ y ∷ [])
+    c.requires.found.sound c.requires.point c.requires.kind are y (second_of x y)
 
 pub returns-in-None-clause-takes : goal.returns-in-None-clause-takes
 returns-in-None-clause-takes g c =
@@ -72,7 +76,8 @@ returns-in-None-clause-takes g c =
     let text : ℕ → List ℕ = λ v. g.F.RemarkForm.text c.args.form.now program c.args.point (Unset v) in
     let are : AreRead c.args.kind.now [] = record { rising = c.in-None.ensures.rising; read = c.in-None.ensures.read } in
     takes_as _ _ _ _ (takes_nothing _)
-    (sym (ap (flat_map text) (unset_are program (knowledge_of c.args.self.now) c.args.point c.args.kind.now [] c.requires.found.sound c.requires.point c.requires.kind are)))
+    (sym (ap (flat_map text) (unset_are program (knowledge_of c.args.self.now)
+    c.args.point c.args.kind.now [] c.requires.found.sound c.requires.point c.requires.kind are)))
 
 pub returns-in-One-clause-takes : goal.returns-in-One-clause-takes
 returns-in-One-clause-takes g c =
@@ -81,7 +86,8 @@ returns-in-One-clause-takes g c =
     let x : ℕ = c.in-One.variable in
     let are : AreRead c.args.kind.now (x ∷ []) = record { rising = c.in-One.ensures.rising; read = c.in-One.ensures.read } in
     takes_as _ _ _ _ c.write_unset_variable.ensures.takes
-    (ap (flat_map text) (sym (unset_are program (knowledge_of c.args.self.now) c.args.point c.args.kind.now (x ∷ []) c.requires.found.sound c.requires.point c.requires.kind are)))
+    (ap (flat_map text) (sym (unset_are program (knowledge_of c.args.self.now) c.args.point c.args.kind.now (x
+    ∷ []) c.requires.found.sound c.requires.point c.requires.kind are)))
 
 pub returns-in-Two-clause-takes : goal.returns-in-Two-clause-takes
 returns-in-Two-clause-takes g c =
@@ -94,4 +100,5 @@ returns-in-Two-clause-takes g c =
     let are : AreRead c.args.kind.now (x ∷ y ∷ []) = record { rising = c.in-Two.ensures.rising; read = c.in-Two.ensures.read } in
     takes_as _ _ _ _ (takes_then _ _ _ _ _ c.write_unset_variable-in-Two.ensures.takes c.write_unset_variable-in-Two-2.ensures.takes)
     (sym (two_texts text (known.reach.contains point) x y)
-    ∙ ap (flat_map text) (sym (unset_are program known point c.args.kind.now (x ∷ y ∷ []) c.requires.found.sound c.requires.point c.requires.kind are)))
+    ∙ ap (flat_map text)
+    (sym (unset_are program known point c.args.kind.now (x ∷ y ∷ []) c.requires.found.sound c.requires.point c.requires.kind are)))

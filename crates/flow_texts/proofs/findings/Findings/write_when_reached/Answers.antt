@@ -8,5 +8,6 @@ pub returns-clause-takes : goal.returns-clause-takes
 returns-clause-takes g c =
     let program : Program = c.args.self.now.graph.now in
     takes_as _ _ _ _
-    (takes_then _ _ _ _ _ (takes_then _ _ _ _ _ (takes_then _ _ _ _ _ c.write_unset.ensures.takes c.write_computed.ensures.takes) c.write_busy.ensures.takes) c.write_dead.ensures.takes)
+    (takes_then _ _ _ _ _ (takes_then _ _ _ _ _ (takes_then _ _ _ _ _ c.write_unset.ensures.takes c.write_computed.ensures.takes)
+    c.write_busy.ensures.takes) c.write_dead.ensures.takes)
     (remarks_are program (knowledge_of c.args.self.now) c.args.point (g.F.RemarkForm.text c.args.form.now program c.args.point))

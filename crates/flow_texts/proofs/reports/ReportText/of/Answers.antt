@@ -11,10 +11,12 @@ pub returns-clause-report : goal.returns-clause-report
 returns-clause-report c =
     let found : Findings = c.in_ok-found.found in
     let text : List ℕ = report_of found.graph.now (knowledge_of found) in
-    subst (λ (p : Program). IsReport p text) c.in_ok-found.ensures.program (is_report found text c.in_ok-found.ensures.found c.in_ok-found.ensures.doubtful refl)
+    subst (λ (p : Program). IsReport p text) c.in_ok-found.ensures.program
+    (is_report found text c.in_ok-found.ensures.found c.in_ok-found.ensures.doubtful refl)
 
 pub returns-clause-safe : goal.returns-clause-safe
 returns-clause-safe c =
     let found : Findings = c.in_ok-found.found in
     let text : List ℕ = report_of found.graph.now (knowledge_of found) in
-    subst (λ (p : Program). ListsSafely p text) c.in_ok-found.ensures.program (lists_safely found text c.in_ok-found.ensures.found c.in_ok-found.ensures.doubtful refl)
+    subst (λ (p : Program). ListsSafely p text) c.in_ok-found.ensures.program
+    (lists_safely found text c.in_ok-found.ensures.found c.in_ok-found.ensures.doubtful refl)

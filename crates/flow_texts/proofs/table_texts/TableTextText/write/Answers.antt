@@ -12,5 +12,6 @@ loop-point-preserved g c =
     let line = point_line text.graph.now text.table.now.analysis (facts_of text.table.now) in
     record {
       reference = c.write_point.ensures.same_reference ∙ c.loop-point.invariant.reference;
-      takes = takes_as _ _ _ _ (takes_then _ _ _ _ _ c.loop-point.invariant.takes c.write_point.ensures.takes) (sym (flat_map-range_more line c.loop-point.point));
+      takes = takes_as _ _ _ _ (takes_then _ _ _ _ _ c.loop-point.invariant.takes c.write_point.ensures.takes)
+          (sym (flat_map-range_more line c.loop-point.point));
     }

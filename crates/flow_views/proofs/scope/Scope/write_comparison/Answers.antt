@@ -10,5 +10,6 @@ returns-clause-takes g c =
     let names : Names = names_in c.args.self.now.program.now c.args.self.now.procedure in
     let condition : List ℕ = binary_text names c.args.left c.args.op c.args.right in
     shows_then (codes "if " ++ condition ++ codes " ") (goto_text names c.args.label) _ _ _
-    (shows_then (codes "if " ++ condition) (codes " ") _ _ _ (shows_then (codes "if ") condition _ _ _ c.write.ensures.takes c.write_binary.ensures.takes) c.write-2.ensures.takes)
+    (shows_then (codes "if " ++ condition) (codes " ")
+    _ _ _ (shows_then (codes "if ") condition _ _ _ c.write.ensures.takes c.write_binary.ensures.takes) c.write-2.ensures.takes)
     c.write_goto.ensures.takes

@@ -9,11 +9,13 @@ use Rattle.flow_views.proofs.Statements.{label_name, label_there}
 use Rattle.flow_views.proofs.scope.Scope.write_goto.Goals as goal
 
 pub label-requires-clause-label : goal.label-requires-clause-label
-label-requires-clause-label g c = label_there (slice_get c.args.self.now.program.now.procedures c.args.self.now.procedure) c.args.label c.requires.label
+label-requires-clause-label g c =
+    label_there (slice_get c.args.self.now.program.now.procedures c.args.self.now.procedure) c.args.label c.requires.label
 
 pub returns-clause-takes : goal.returns-clause-takes
 returns-clause-takes g c =
     let names : Names = names_in c.args.self.now.program.now c.args.self.now.procedure in
     shows_then (codes "goto ") (name_at names.labels c.args.label) _ _ _ c.write.ensures.takes
     (takes_as _ _ _ _ c.write_escaped.ensures.takes
-    (ap escaped (label_name (slice_get c.args.self.now.program.now.procedures c.args.self.now.procedure) c.args.label c.label.result.now c.requires.label c.label.ensures)))
+    (ap escaped (label_name (slice_get c.args.self.now.program.now.procedures c.args.self.now.procedure)
+    c.args.label c.label.result.now c.requires.label c.label.ensures)))

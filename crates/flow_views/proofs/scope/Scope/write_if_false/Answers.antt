@@ -10,5 +10,6 @@ returns-clause-takes g c =
     let names : Names = names_in c.args.self.now.program.now c.args.self.now.procedure in
     let condition : List ℕ = operand_text names c.args.condition in
     shows_then (codes "ifFalse " ++ condition ++ codes " ") (goto_text names c.args.label) _ _ _
-    (shows_then (codes "ifFalse " ++ condition) (codes " ") _ _ _ (shows_then (codes "ifFalse ") condition _ _ _ c.write.ensures.takes c.write_operand.ensures.takes) c.write-2.ensures.takes)
+    (shows_then (codes "ifFalse " ++ condition) (codes " ")
+    _ _ _ (shows_then (codes "ifFalse ") condition _ _ _ c.write.ensures.takes c.write_operand.ensures.takes) c.write-2.ensures.takes)
     c.write_goto.ensures.takes

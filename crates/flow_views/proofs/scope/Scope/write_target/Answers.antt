@@ -5,4 +5,5 @@ use Rattle.flow_views.proofs.scope.Scope.write_target.Goals as goal
 
 pub returns-clause-takes : goal.returns-clause-takes
 returns-clause-takes g c =
-    shows_then (name_at c.args.self.now.program.now.variable_names c.args.target) (codes " = ") _ _ _ c.write_variable.ensures.takes c.write.ensures.takes
+    shows_then (name_at c.args.self.now.program.now.variable_names c.args.target) (codes " = ")
+    _ _ _ c.write_variable.ensures.takes c.write.ensures.takes

@@ -11,4 +11,5 @@ use Rattle.flow_views.proofs.scope.Scope.write_unary.Goals as goal
 pub returns-clause-takes : goal.returns-clause-takes
 returns-clause-takes g c =
     let names : Names = names_in c.args.self.now.program.now c.args.self.now.procedure in
-    shows_then (sign_of c.args.op) (operand_text names c.args.operand) _ _ _ (takes_as _ _ _ _ c.write_escaped.ensures.takes (ap escaped c.sign.ensures)) c.write_operand.ensures.takes
+    shows_then (sign_of c.args.op) (operand_text names c.args.operand)
+    _ _ _ (takes_as _ _ _ _ c.write_escaped.ensures.takes (ap escaped c.sign.ensures)) c.write_operand.ensures.takes

@@ -8,4 +8,5 @@ use Rattle.flow_views.proofs.scope.Scope.write_unary_assignment.Goals as goal
 pub returns-clause-takes : goal.returns-clause-takes
 returns-clause-takes g c =
     let names : Names = names_in c.args.self.now.program.now c.args.self.now.procedure in
-    shows_then (name_at names.variables c.args.target ++ codes " = ") (unary_text names c.args.op c.args.operand) _ _ _ c.write_target.ensures.takes c.write_unary.ensures.takes
+    shows_then (name_at names.variables c.args.target ++ codes " = ") (unary_text names c.args.op c.args.operand)
+    _ _ _ c.write_target.ensures.takes c.write_unary.ensures.takes

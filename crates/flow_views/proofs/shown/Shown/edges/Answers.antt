@@ -9,4 +9,5 @@ index-requires c =
 
 pub returns : goal.returns
 returns c =
-    reads_edges c.args.self.now.found.graph.now c.args.self.now.successors.items c.args.point c.index.result.now c.as_slice.result.now c.requires.shown.successors c.requires.point c.index.ensures c.as_slice.ensures
+    reads_edges c.args.self.now.found.graph.now c.args.self.now.successors.items c.args.point c.index.result.now c.as_slice.result.now
+    c.requires.shown.successors c.requires.point c.index.ensures c.as_slice.ensures

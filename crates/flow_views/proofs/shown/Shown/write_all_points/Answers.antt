@@ -15,10 +15,13 @@ loop-procedure-preserved g c = record {
       (takes_then _ _ _ _ _ c.loop-procedure.invariant.takes (takes_as _ _ _ _
       c.write_points.ensures.takes (ap (flat_map (point_line c.args.self.now.found.graph.now (known_of c.args.self.now) c.args.self.now.view.facts))
       c.points_of.ensures.numbers)))
-      (walk_list_more (point_line c.args.self.now.found.graph.now (known_of c.args.self.now) c.args.self.now.view.facts) (points_in c.args.self.now.found.graph.now) c.args.procedures.first c.loop-procedure.procedure c.loop-procedure.auto.procedure);
+      (walk_list_more (point_line c.args.self.now.found.graph.now (known_of c.args.self.now) c.args.self.now.view.facts)
+      (points_in c.args.self.now.found.graph.now) c.args.procedures.first c.loop-procedure.procedure c.loop-procedure.auto.procedure);
 }
 
 pub returns-clause-takes : goal.returns-clause-takes
 returns-clause-takes g c =
     let all : c.loop-procedure.procedure ≡ c.args.procedures.end = omega (arith, c.requires.ordered) in
-    takes_as _ _ _ _ c.loop-procedure.invariant.takes (ap (λ n. flat_map (point_line c.args.self.now.found.graph.now (known_of c.args.self.now) c.args.self.now.view.facts) (flat_map (points_in c.args.self.now.found.graph.now) (range_with_len c.args.procedures.first (n - c.args.procedures.first)))) all)
+    takes_as _ _ _ _ c.loop-procedure.invariant.takes
+    (ap (λ n. flat_map (point_line c.args.self.now.found.graph.now (known_of c.args.self.now) c.args.self.now.view.facts)
+    (flat_map (points_in c.args.self.now.found.graph.now) (range_with_len c.args.procedures.first (n - c.args.procedures.first)))) all)

@@ -10,5 +10,6 @@ abbrev pub invariant-loop-procedure : goal.invariant-loop-procedure
 invariant-loop-procedure g l = record {
   reference : l.out.sink.ghost_name ≡ l.fn.out.sink.ghost_name;
   takes : Takes (outlet g.K.Sink.contents g.K.Sink.faults l.fn.out) (outlet g.K.Sink.contents g.K.Sink.faults l.out)
-      (flat_map (point_line l.fn.self.found.graph.now (known_of l.fn.self) l.fn.self.view.facts) (flat_map (points_in l.fn.self.found.graph.now) (range_with_len l.fn.procedures.first (l.procedure - l.fn.procedures.first))));
+      (flat_map (point_line l.fn.self.found.graph.now (known_of l.fn.self) l.fn.self.view.facts)
+      (flat_map (points_in l.fn.self.found.graph.now) (range_with_len l.fn.procedures.first (l.procedure - l.fn.procedures.first))));
 }

@@ -16,7 +16,8 @@ returns-clause-takes g c =
     let first : List ℕ = codes "  subgraph \"cluster_" ++ decimal c.args.procedure ++ codes "\" {\n" ++ codes "    label=" in
     let nodes : List ℕ → List ℕ = flat_map (node program known c.args.self.now.view.facts) in
     takes_as _ _ _ _
-    (takes_then _ _ _ _ _ (takes_then _ _ _ _ _ (takes_then _ _ _ _ _ (takes_then _ _ _ _ _ (takes_then _ _ _ _ _ (takes_then _ _ _ _ _ (takes_then _ _ _ _ _ c.write.ensures.takes
+    (takes_then _ _ _ _ _ (takes_then
+    _ _ _ _ _ (takes_then _ _ _ _ _ (takes_then _ _ _ _ _ (takes_then _ _ _ _ _ (takes_then _ _ _ _ _ (takes_then _ _ _ _ _ c.write.ensures.takes
     c.write_number.ensures.takes)
     c.write-2.ensures.takes)
     c.write-3.ensures.takes)

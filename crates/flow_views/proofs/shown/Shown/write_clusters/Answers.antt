@@ -11,10 +11,13 @@ loop-procedure-preserved g c = record {
   reference = c.write_cluster.ensures.same_reference ∙ c.loop-procedure.invariant.reference;
   takes =
       takes_as _ _ _ _ (takes_then _ _ _ _ _ c.loop-procedure.invariant.takes c.write_cluster.ensures.takes)
-      (walk_more (cluster c.args.self.now.found.graph.now (known_of c.args.self.now) c.args.self.now.view.facts) c.args.procedures.first c.loop-procedure.procedure c.loop-procedure.auto.procedure);
+      (walk_more (cluster c.args.self.now.found.graph.now (known_of c.args.self.now) c.args.self.now.view.facts)
+      c.args.procedures.first c.loop-procedure.procedure c.loop-procedure.auto.procedure);
 }
 
 pub returns-clause-takes : goal.returns-clause-takes
 returns-clause-takes g c =
     let all : c.loop-procedure.procedure ≡ c.args.procedures.end = omega (arith, c.requires.ordered) in
-    takes_as _ _ _ _ c.loop-procedure.invariant.takes (ap (λ n. flat_map (cluster c.args.self.now.found.graph.now (known_of c.args.self.now) c.args.self.now.view.facts) (range_with_len c.args.procedures.first (n - c.args.procedures.first))) all)
+    takes_as _ _ _ _ c.loop-procedure.invariant.takes
+    (ap (λ n. flat_map (cluster c.args.self.now.found.graph.now (known_of c.args.self.now) c.args.self.now.view.facts)
+    (range_with_len c.args.procedures.first (n - c.args.procedures.first))) all)

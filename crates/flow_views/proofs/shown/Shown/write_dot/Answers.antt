@@ -15,4 +15,5 @@ returns-clause-takes g c =
     let view : View = c.args.self.now.view in
     takes_as _ _ _ _ (takes_then _ _ _ _ _ (takes_then _ _ _ _ _ (takes_then _ _ _ _ _ c.write_head.ensures.takes
     c.write_clusters.ensures.takes) c.write_all_edges.ensures.takes) c.write.ensures.takes)
-    (ap (λ ps. head ++ flat_map (cluster program known view.facts) ps ++ flat_map (edge_lines program view) (flat_map (points_in program) ps) ++ codes "}\n") c.procedures-procedures.ensures.numbers)
+    (ap (λ ps. head ++ flat_map (cluster program known view.facts) ps ++ flat_map (edge_lines program view) (flat_map (points_in program) ps)
+    ++ codes "}\n") c.procedures-procedures.ensures.numbers)

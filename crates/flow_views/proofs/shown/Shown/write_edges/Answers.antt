@@ -14,7 +14,8 @@ write_shown_edges-requires-clause-edges g c =
     let program : Program = c.args.self.now.found.graph.now in
     let edges : List Edge = edges_from program c.args.point in
     subst (λ es. All (IsSiteIn program) es) (sym c.edges.ensures)
-    (λ k d within. sites_in program c.args.point c.requires.shown.found.sound c.requires.point (get_or edges k d) (All-contains_itself edges k d within))
+    (λ k d within.
+    sites_in program c.args.point c.requires.shown.found.sound c.requires.point (get_or edges k d) (All-contains_itself edges k d within))
 
 pub returns-clause-takes : goal.returns-clause-takes
 returns-clause-takes g c =

@@ -36,10 +36,12 @@ returns-clause-takes g c =
     let held : AreNamesOf Escaped program analysis names = subst (λ f. AreNamesOf f program analysis names) c.requires.form c.names.ensures in
     takes_then _ _ _ _ _
     (shows_then (analysis_name analysis ++ codes ": ") set _ _ _
-    (shows_then (analysis_name analysis) (codes ": ") _ _ _ (takes_as _ _ _ _ c.write_escaped.ensures.takes (ap escaped c.name_of.ensures)) c.write.ensures.takes)
+    (shows_then (analysis_name analysis) (codes ": ") _ _ _ (takes_as _ _ _ _ c.write_escaped.ensures.takes (ap escaped c.name_of.ensures))
+    c.write.ensures.takes)
     (takes_as _ _ _ _ c.write_set.ensures.takes
     (ap listed
-    (set_texts program analysis c.table.result.now (told_by known analysis) c.bits-bits.result c.args.point (text_at names.texts) (λ bit. escaped (bit_text program analysis bit))
-    c.bits-bits.ensures.count c.table.ensures.facts held.texts.each)
+    (set_texts program analysis c.args.table.now (told_by known analysis) c.bits-bits.result c.args.point (text_at names.texts)
+    (λ bit. escaped (bit_text program analysis bit))
+    c.bits-bits.ensures.count c.requires.facts held.texts.each)
     ∙ escaped_listed (bit_text program analysis) numbers)))
     c.write-2.ensures.takes

@@ -17,4 +17,5 @@ returns-clause-takes g c =
     takes_as _ _ _ _
     (takes_then _ _ _ _ _ (takes_then _ _ _ _ _ (takes_then _ _ _ _ _ c.write_fact_if.ensures.takes
     c.write_fact_if-2.ensures.takes) c.write_fact_if-3.ensures.takes) c.write_fact_if-4.ensures.takes)
-    (flat_map_four (λ a. label_line (fact_line program known c.args.point a)) (analysis_if chosen.reach Reach) (analysis_if chosen.live Live) (analysis_if chosen.avail Avail) (analysis_if chosen.busy Busy))
+    (flat_map_four (λ a. label_line (fact_line program known c.args.point a)) (analysis_if chosen.reach Reach) (analysis_if chosen.live Live)
+    (analysis_if chosen.avail Avail) (analysis_if chosen.busy Busy))

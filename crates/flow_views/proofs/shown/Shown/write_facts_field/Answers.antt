@@ -47,8 +47,9 @@ returns-clause-takes g c =
     (takes_then _ _ _ _ _ (takes_then _ _ _ _ _ (takes_then _ _ _ _ _ c.write.ensures.takes c.write-2.ensures.takes)
     c.write-3.ensures.takes) c.write_boolean.ensures.takes) c.write-4.ensures.takes) c.write_array.ensures.takes)
     c.write-5.ensures.takes) c.write_array-2.ensures.takes) c.write-6.ensures.takes)
-    (facts_text c.name_of.ensures (c.has_path.ensures ∙ ap (λ (f : Facts). f.has_path c.args.point) c.table-table.ensures.facts)
-    (set_texts program analysis c.table-table.result.now facts c.bits-bits.result c.args.point (text_at numbers.texts) decimal
-    c.bits-bits.ensures.count c.table-table.ensures.facts (λ n below. numbered_all.texts.each n (omega (arith, below, has_number program analysis))))
-    (set_texts program analysis c.table-table.result.now facts c.bits-bits.result c.args.point (text_at names.texts) (λ bit. quoted (bit_text program analysis bit))
-    c.bits-bits.ensures.count c.table-table.ensures.facts held.texts.each))
+    (facts_text c.name_of.ensures (c.has_path.ensures ∙ ap (λ (f : Facts). f.has_path c.args.point) c.requires.facts)
+    (set_texts program analysis c.args.table.now facts c.bits-bits.result c.args.point (text_at numbers.texts) decimal
+    c.bits-bits.ensures.count c.requires.facts (λ n below. numbered_all.texts.each n (omega (arith, below, has_number program analysis))))
+    (set_texts program analysis c.args.table.now facts c.bits-bits.result c.args.point (text_at names.texts)
+    (λ bit. quoted (bit_text program analysis bit))
+    c.bits-bits.ensures.count c.requires.facts held.texts.each))

@@ -17,4 +17,5 @@ returns-clause-takes g c =
     takes_as _ _ _ _
     (takes_then _ _ _ _ _ (takes_then _ _ _ _ _ (takes_then _ _ _ _ _ c.write_facts_field_if.ensures.takes
     c.write_facts_field_if-2.ensures.takes) c.write_facts_field_if-3.ensures.takes) c.write_facts_field_if-4.ensures.takes)
-    (flat_map_four (facts_field program known c.args.point) (analysis_if chosen.reach Reach) (analysis_if chosen.live Live) (analysis_if chosen.avail Avail) (analysis_if chosen.busy Busy))
+    (flat_map_four (facts_field program known c.args.point) (analysis_if chosen.reach Reach) (analysis_if chosen.live Live)
+    (analysis_if chosen.avail Avail) (analysis_if chosen.busy Busy))

@@ -13,5 +13,7 @@ returns-clause-takes g c =
     let program : Program = c.args.self.now.found.graph.now in
     let known : Knowledge = known_of c.args.self.now in
     let view : View = c.args.self.now.view in
-    takes_as _ _ _ _ (takes_then _ _ _ _ _ (takes_then _ _ _ _ _ c.write_program.ensures.takes c.write_all_points.ensures.takes) c.write_all_remarks.ensures.takes)
-    (ap (λ ps. program_line program ++ flat_map (point_line program known view.facts) (flat_map (points_in program) ps) ++ flat_map (remark_lines program known) (flat_map (points_in program) ps)) c.procedures-procedures.ensures.numbers)
+    takes_as _ _ _ _ (takes_then _ _ _ _ _ (takes_then _ _ _ _ _ c.write_program.ensures.takes c.write_all_points.ensures.takes)
+    c.write_all_remarks.ensures.takes)
+    (ap (λ ps. program_line program ++ flat_map (point_line program known view.facts) (flat_map (points_in program) ps)
+    ++ flat_map (remark_lines program known) (flat_map (points_in program) ps)) c.procedures-procedures.ensures.numbers)

@@ -13,7 +13,8 @@ use Rattle.flow_views.proofs.shown.Shown.write_label.Goals as goal
 
 -- a first line, then lines of one kind and of another
 lines : {A B : Type 0} (first : List ℕ) (f : A → List ℕ) (g : B → List ℕ) (xs : List A) (ys : List B)
-    → escaped first ++ codes "\\l" ++ flat_map (λ x. label_line (f x)) xs ++ flat_map (λ y. label_line (g y)) ys ≡ flat_map label_line (first ∷ map f xs ++ map g ys)
+    → escaped first ++ codes "\\l" ++ flat_map (λ x. label_line (f x)) xs
+    ++ flat_map (λ y. label_line (g y)) ys ≡ flat_map label_line (first ∷ map f xs ++ map g ys)
 lines first f g xs ys =
     sym
     (flat_map-append label_line (first ∷ map f xs) (map g ys)
@@ -27,4 +28,5 @@ returns-clause-takes g c =
     takes_as _ _ _ _
     (takes_then _ _ _ _ _ (takes_then _ _ _ _ _ (takes_then _ _ _ _ _ c.write_title.ensures.takes c.write.ensures.takes)
     c.write_remarks_at.ensures.takes) c.write_facts.ensures.takes)
-    (lines (title program c.args.point) (remark_text program) (fact_line program known c.args.point) (remarks_at program known c.args.point) (chosen_analyses c.args.self.now.view.facts))
+    (lines (title program c.args.point) (remark_text program) (fact_line program known c.args.point) (remarks_at program known c.args.point)
+    (chosen_analyses c.args.self.now.view.facts))

@@ -5,15 +5,18 @@ use Rattle.tac_program.specs.Programs.{Program}
 use Rattle.flow_views.specs.code.Shown.{known_of}
 use Rattle.flow_texts.specs.Reports.{Knowledge}
 use Rattle.flow_views.specs.Dots.{text_if_some}
+use Rattle.flow_views.proofs.Known.{flag_known}
 use Rattle.flow_views.proofs.Tables.{none_dead, none_unset}
 use Rattle.flow_views.proofs.shown.Shown.write_path_marks.Goals as goal
 
-pub returns-then-not-has_path-clause-takes : goal.returns-then-not-has_path-clause-takes
-returns-then-not-has_path-clause-takes g c =
+pub returns-then-not-is_reached-clause-takes : goal.returns-then-not-is_reached-clause-takes
+returns-then-not-is_reached-clause-takes g c =
     let program : Program = c.args.self.now.found.graph.now in
     let known : Knowledge = known_of c.args.self.now in
-    let reached : List ℕ = text_if_some (unset_at program known c.args.point) (codes ", color=red, fontcolor=red") ++ text_if_some (dead_at program known c.args.point) (codes ", style=filled, fillcolor=khaki") in
-    takes_as _ _ _ _ c.write.ensures.takes (sym (ap (λ b. if b then reached else codes ", style=filled, fillcolor=grey80") (sym c.has_path.ensures ∙ c.if-not-has_path.true)))
+    let reached : List ℕ = text_if_some (unset_at program known c.args.point) (codes ", color=red, fontcolor=red")
+    ++ text_if_some (dead_at program known c.args.point) (codes ", style=filled, fillcolor=khaki") in
+    takes_as _ _ _ _ c.write.ensures.takes (sym (ap (λ b. if b then reached else codes ", style=filled, fillcolor=grey80")
+    (sym (flag_known c.args.self.now c.requires.shown c.args.point c.requires.point) ∙ sym c.is_reached.ensures ∙ c.if-not-is_reached.true)))
 
 pub returns-in-None-clause-takes : goal.returns-in-None-clause-takes
 returns-in-None-clause-takes g c =
@@ -23,12 +26,16 @@ returns-in-None-clause-takes g c =
     let yellow : List ℕ = codes ", style=filled, fillcolor=khaki" in
     let reached : List ℕ = text_if_some (unset_at program known c.args.point) red ++ text_if_some (dead_at program known c.args.point) yellow in
     takes_as _ _ _ _ (takes_nothing _)
-    (sym (ap (λ b. if b then reached else codes ", style=filled, fillcolor=grey80") (sym c.has_path.ensures ∙ c.if-not-has_path.false)
-    ∙ ap₂ (λ us ds. text_if_some us red ++ text_if_some ds yellow) (none_unset program known c.args.point (sym c.in-None.ensures.stmt)) (none_dead program known c.args.point (sym c.in-None.ensures.stmt))))
+    (sym (ap (λ b. if b then reached else codes ", style=filled, fillcolor=grey80")
+    (sym (flag_known c.args.self.now c.requires.shown c.args.point c.requires.point) ∙ sym c.is_reached.ensures ∙ c.if-not-is_reached.false)
+    ∙ ap₂ (λ us ds. text_if_some us red ++ text_if_some ds yellow) (none_unset program known c.args.point (sym c.in-None.ensures.stmt))
+    (none_dead program known c.args.point (sym c.in-None.ensures.stmt))))
 
 pub returns-in-Some-clause-takes : goal.returns-in-Some-clause-takes
 returns-in-Some-clause-takes g c =
     let program : Program = c.args.self.now.found.graph.now in
     let known : Knowledge = known_of c.args.self.now in
-    let reached : List ℕ = text_if_some (unset_at program known c.args.point) (codes ", color=red, fontcolor=red") ++ text_if_some (dead_at program known c.args.point) (codes ", style=filled, fillcolor=khaki") in
-    takes_as _ _ _ _ c.write_statement_marks.ensures.takes (sym (ap (λ b. if b then reached else codes ", style=filled, fillcolor=grey80") (sym c.has_path.ensures ∙ c.if-not-has_path.false)))
+    let reached : List ℕ = text_if_some (unset_at program known c.args.point) (codes ", color=red, fontcolor=red")
+    ++ text_if_some (dead_at program known c.args.point) (codes ", style=filled, fillcolor=khaki") in
+    takes_as _ _ _ _ c.write_statement_marks.ensures.takes (sym (ap (λ b. if b then reached else codes ", style=filled, fillcolor=grey80")
+    (sym (flag_known c.args.self.now c.requires.shown c.args.point c.requires.point) ∙ sym c.is_reached.ensures ∙ c.if-not-is_reached.false)))

@@ -14,11 +14,14 @@ returns-clause-takes g c =
     let program : Program = c.args.self.now.found.graph.now in
     let known : Knowledge = known_of c.args.self.now in
     let point : ℕ = c.args.point in
-    let first : List ℕ = codes "{\"type\":\"point\",\"point\":" ++ decimal point ++ codes ",\"procedure\":" ++ quoted (procedure_name program (procedure_at program point))
-    ++ codes ",\"place\":" ++ decimal (place_of program point).place ++ span_fields program point ++ codes ",\"statement\":" ++ statement_field program point ++ codes ",\"edges\":" in
+    let first : List ℕ = codes "{\"type\":\"point\",\"point\":" ++ decimal point ++ codes ",\"procedure\":"
+    ++ quoted (procedure_name program (procedure_at program point))
+    ++ codes ",\"place\":" ++ decimal (place_of program point).place ++ span_fields program point ++ codes ",\"statement\":"
+    ++ statement_field program point ++ codes ",\"edges\":" in
     takes_as _ _ _ _
     (takes_then _ _ _ _ _ (takes_then _ _ _ _ _ (takes_then _ _ _ _ _ (takes_then _ _ _ _ _ (takes_then _ _ _ _ _
     (takes_then _ _ _ _ _ (takes_then _ _ _ _ _ c.write_point_place.ensures.takes c.write_place.ensures.takes)
     c.write.ensures.takes) c.write_statement_or_null.ensures.takes) c.write-2.ensures.takes) c.write_edges.ensures.takes)
     c.write_facts_fields.ensures.takes) c.write-3.ensures.takes)
-    (ap (λ es. first ++ array (map edge_object es) ++ flat_map (facts_field program known point) (chosen_analyses c.args.self.now.view.facts) ++ codes "}\n") c.edges.ensures)
+    (ap (λ es. first ++ array (map edge_object es) ++ flat_map (facts_field program known point) (chosen_analyses c.args.self.now.view.facts)
+    ++ codes "}\n") c.edges.ensures)

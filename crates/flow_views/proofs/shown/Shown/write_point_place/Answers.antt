@@ -17,9 +17,11 @@ pub returns-clause-takes : goal.returns-clause-takes
 returns-clause-takes g c =
     let program : Program = c.args.self.now.found.graph.now in
     let first : List ℕ = codes "{\"type\":\"point\",\"point\":" ++ decimal c.args.point ++ codes ",\"procedure\":" in
-    let named : c.procedure_name.result.now ≡ procedure_name program (procedure_at program c.args.point) = c.procedure_name.ensures ∙ ap (λ (at : Place). procedure_name program at.procedure) c.place-place.ensures in
+    let named : c.procedure_name.result.now ≡ procedure_name program (procedure_at program c.args.point) =
+    c.procedure_name.ensures ∙ ap (λ (at : Place). procedure_name program at.procedure) c.place-place.ensures in
     takes_as _ _ _ _ (takes_then _ _ _ _ _ (takes_then _ _ _ _ _ (takes_then _ _ _ _ _ (takes_then _ _ _ _ _ (takes_then _ _ _ _ _
     c.write.ensures.takes c.write_number.ensures.takes) c.write-2.ensures.takes) c.write_quoted.ensures.takes)
     c.write-3.ensures.takes) c.write_number-2.ensures.takes)
     (ap (λ n. first ++ quoted n ++ codes ",\"place\":" ++ decimal c.place-place.result.place) named
-    ∙ ap (λ (at : Place). first ++ quoted (procedure_name program (procedure_at program c.args.point)) ++ codes ",\"place\":" ++ decimal at.place) c.place-place.ensures)
+    ∙ ap (λ (at : Place). first ++ quoted (procedure_name program (procedure_at program c.args.point)) ++ codes ",\"place\":" ++ decimal at.place)
+    c.place-place.ensures)

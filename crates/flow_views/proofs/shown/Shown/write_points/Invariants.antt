@@ -9,5 +9,6 @@ abbrev pub invariant-loop-point : goal.invariant-loop-point
 invariant-loop-point g l = record {
   reference : l.out.sink.ghost_name ≡ l.fn.out.sink.ghost_name;
   takes : Takes (outlet g.K.Sink.contents g.K.Sink.faults l.fn.out) (outlet g.K.Sink.contents g.K.Sink.faults l.out)
-      (flat_map (point_line l.fn.self.found.graph.now (known_of l.fn.self) l.fn.self.view.facts) (range_with_len l.fn.points.first (l.point - l.fn.points.first)));
+      (flat_map (point_line l.fn.self.found.graph.now (known_of l.fn.self) l.fn.self.view.facts)
+      (range_with_len l.fn.points.first (l.point - l.fn.points.first)));
 }

@@ -16,4 +16,5 @@ loop-point-preserved g c = record {
 pub returns-clause-takes : goal.returns-clause-takes
 returns-clause-takes g c =
     let all : c.loop-point.point ≡ c.args.points.end = omega (arith, c.requires.ordered) in
-    takes_as _ _ _ _ c.loop-point.invariant.takes (ap (λ n. flat_map (edge_lines c.args.self.now.found.graph.now c.args.self.now.view) (range_with_len c.args.points.first (n - c.args.points.first))) all)
+    takes_as _ _ _ _ c.loop-point.invariant.takes (ap (λ n. flat_map (edge_lines c.args.self.now.found.graph.now c.args.self.now.view)
+    (range_with_len c.args.points.first (n - c.args.points.first))) all)

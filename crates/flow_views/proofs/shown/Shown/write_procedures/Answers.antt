@@ -10,18 +10,23 @@ loop-procedure-preserved g c =
     let names : List (List ℕ) = c.args.self.now.found.graph.now.procedure_names in
     let i : ℕ = c.loop-procedure.procedure in
     let name : List ℕ = c.procedure_name.result.now in
-    let procs : length c.procs-count.result.now ≡ length c.args.self.now.found.graph.now.procedures = ap length c.procs-count.ensures.procedures ∙ ap (λ (p : Program). length p.procedures) c.program.ensures in
+    let procs : length c.procs-count.result.now ≡ length c.args.self.now.found.graph.now.procedures =
+    ap length c.procs-count.ensures.procedures ∙ ap (λ (p : Program). length p.procedures) c.program.ensures in
     let below : i < length names = omega (arith, c.loop-procedure-test.true, procs, c.requires.shown.found.sound.named) in
     record {
       reference = c.write_quoted.ensures.same_reference ∙ c.write_if.ensures.same_reference ∙ c.loop-procedure.invariant.reference;
       takes =
-          takes_as _ _ _ _ (takes_then _ _ _ _ _ (takes_then _ _ _ _ _ c.loop-procedure.invariant.takes c.write_if.ensures.takes) c.write_quoted.ensures.takes)
+          takes_as _ _ _ _ (takes_then _ _ _ _ _ (takes_then _ _ _ _ _ c.loop-procedure.invariant.takes c.write_if.ensures.takes)
+          c.write_quoted.ensures.takes)
           (joined_behind (codes "[") (codes ",") quoted names i name below (name_read names i name below c.procedure_name.ensures));
     }
 
 pub returns-clause-takes : goal.returns-clause-takes
 returns-clause-takes g c =
     let names : List (List ℕ) = c.args.self.now.found.graph.now.procedure_names in
-    let procs : length c.procs-count.result.now ≡ length c.args.self.now.found.graph.now.procedures = ap length c.procs-count.ensures.procedures ∙ ap (λ (p : Program). length p.procedures) c.program.ensures in
-    let all : c.loop-procedure.procedure ≡ length names = omega (arith, c.loop-procedure-test.false, c.loop-procedure.auto.procedure-end, procs, c.requires.shown.found.sound.named) in
-    takes_as _ _ _ _ (takes_then _ _ _ _ _ c.loop-procedure.invariant.takes c.write-2.ensures.takes) (joined_all (codes ",") quoted names c.loop-procedure.procedure all)
+    let procs : length c.procs-count.result.now ≡ length c.args.self.now.found.graph.now.procedures =
+    ap length c.procs-count.ensures.procedures ∙ ap (λ (p : Program). length p.procedures) c.program.ensures in
+    let all : c.loop-procedure.procedure ≡ length names =
+    omega (arith, c.loop-procedure-test.false, c.loop-procedure.auto.procedure-end, procs, c.requires.shown.found.sound.named) in
+    takes_as _ _ _ _ (takes_then _ _ _ _ _ c.loop-procedure.invariant.takes c.write-2.ensures.takes)
+    (joined_all (codes ",") quoted names c.loop-procedure.procedure all)

@@ -14,9 +14,11 @@ program_text : (procedures variables : List ℕ) {x y z k m n : ℕ} → x ≡ k
 program_text procedures variables {x} {y} {z} {k} {m} {n} e f g =
     ap (λ i. codes "{\"type\":\"program\",\"points\":" ++ decimal i ++ codes ",\"procedures\":" ++ procedures ++ codes ",\"variables\":" ++ variables
     ++ codes ",\"definitions\":" ++ decimal y ++ codes ",\"expressions\":" ++ decimal z ++ codes "}\n") e
-    ∙ ap (λ i. codes "{\"type\":\"program\",\"points\":" ++ decimal k ++ codes ",\"procedures\":" ++ procedures ++ codes ",\"variables\":" ++ variables
+    ∙ ap
+    (λ i. codes "{\"type\":\"program\",\"points\":" ++ decimal k ++ codes ",\"procedures\":" ++ procedures ++ codes ",\"variables\":" ++ variables
     ++ codes ",\"definitions\":" ++ decimal i ++ codes ",\"expressions\":" ++ decimal z ++ codes "}\n") f
-    ∙ ap (λ i. codes "{\"type\":\"program\",\"points\":" ++ decimal k ++ codes ",\"procedures\":" ++ procedures ++ codes ",\"variables\":" ++ variables
+    ∙ ap
+    (λ i. codes "{\"type\":\"program\",\"points\":" ++ decimal k ++ codes ",\"procedures\":" ++ procedures ++ codes ",\"variables\":" ++ variables
     ++ codes ",\"definitions\":" ++ decimal m ++ codes ",\"expressions\":" ++ decimal i ++ codes "}\n") g
 
 pub returns-clause-takes : goal.returns-clause-takes
@@ -28,4 +30,5 @@ returns-clause-takes g c =
     c.write.ensures.takes c.write_number.ensures.takes) c.write-2.ensures.takes) c.write_procedures.ensures.takes)
     c.write-3.ensures.takes) c.write_variables.ensures.takes) c.write-4.ensures.takes) c.write_number-2.ensures.takes)
     c.write-5.ensures.takes) c.write_number-3.ensures.takes) c.write-6.ensures.takes)
-    (program_text (array (map quoted program.procedure_names)) (array (map quoted program.variable_names)) c.points.ensures.count c.bits.ensures.count c.bits-2.ensures.count)
+    (program_text (array (map quoted program.procedure_names)) (array (map quoted program.variable_names))
+    c.points.ensures.count c.bits.ensures.count c.bits-2.ensures.count)

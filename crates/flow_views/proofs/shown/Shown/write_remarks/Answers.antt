@@ -11,10 +11,12 @@ loop-point-preserved g c = record {
   reference = c.write_remarks_at.ensures.same_reference ∙ c.loop-point.invariant.reference;
   takes =
       takes_as _ _ _ _ (takes_then _ _ _ _ _ c.loop-point.invariant.takes c.write_remarks_at.ensures.takes)
-      (walk_more (remark_lines c.args.self.now.found.graph.now (known_of c.args.self.now)) c.args.points.first c.loop-point.point c.loop-point.auto.point);
+      (walk_more (remark_lines c.args.self.now.found.graph.now (known_of c.args.self.now))
+      c.args.points.first c.loop-point.point c.loop-point.auto.point);
 }
 
 pub returns-clause-takes : goal.returns-clause-takes
 returns-clause-takes g c =
     let all : c.loop-point.point ≡ c.args.points.end = omega (arith, c.requires.ordered) in
-    takes_as _ _ _ _ c.loop-point.invariant.takes (ap (λ n. flat_map (remark_lines c.args.self.now.found.graph.now (known_of c.args.self.now)) (range_with_len c.args.points.first (n - c.args.points.first))) all)
+    takes_as _ _ _ _ c.loop-point.invariant.takes (ap (λ n. flat_map (remark_lines c.args.self.now.found.graph.now (known_of c.args.self.now))
+    (range_with_len c.args.points.first (n - c.args.points.first))) all)

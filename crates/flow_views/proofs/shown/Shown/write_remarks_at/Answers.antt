@@ -6,4 +6,5 @@ use Rattle.flow_views.proofs.shown.Shown.write_remarks_at.Goals as goal
 pub returns-clause-takes : goal.returns-clause-takes
 returns-clause-takes g c =
     takes_as _ _ _ _ c.write_remarks.ensures.takes
-    (ap (flat_map (g.F.RemarkForm.text c.args.form.now c.args.self.now.found.graph.now c.args.point)) (remarks_known c.args.self.now c.requires.shown c.args.point c.requires.point))
+    (ap (flat_map (g.F.RemarkForm.text c.args.form.now c.args.self.now.found.graph.now c.args.point))
+    (remarks_known c.args.self.now c.requires.shown c.args.point c.requires.point))

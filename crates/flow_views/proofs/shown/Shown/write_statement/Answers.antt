@@ -12,9 +12,12 @@ use Rattle.flow_views.proofs.shown.Shown.write_statement.Goals as goal
 pub write_statement-requires-clause-sound : goal.write_statement-requires-clause-sound
 write_statement-requires-clause-sound g c =
     let program : Program = c.args.self.now.found.graph.now in
-    let here = sound_here program c.requires.shown.found.sound c.args.point c.args.stmt.now.kind c.requires.point (ap (option_map (λ (s : Stmt). s.kind)) c.requires.statement) in
-    subst (λ (p : Program). IsSoundStatement (length p.variable_names) (length (names_in p c.scope.result.procedure).labels) (length p.procedure_names) c.args.stmt.now.kind) (sym c.scope.ensures.program)
-    (subst (λ (q : ℕ). IsSoundStatement (length program.variable_names) (length (names_in program q).labels) (length program.procedure_names) c.args.stmt.now.kind) (sym c.scope.ensures.procedure) here)
+    let here = sound_here program c.requires.shown.found.sound c.args.point c.args.stmt.now.kind c.requires.point
+    (ap (option_map (λ (s : Stmt). s.kind)) c.requires.statement) in
+    subst (λ (p : Program). IsSoundStatement (length p.variable_names) (length (names_in p c.scope.result.procedure).labels)
+    (length p.procedure_names) c.args.stmt.now.kind) (sym c.scope.ensures.program)
+    (subst (λ (q : ℕ). IsSoundStatement (length program.variable_names) (length (names_in program q).labels) (length program.procedure_names)
+    c.args.stmt.now.kind) (sym c.scope.ensures.procedure) here)
 
 pub returns-clause-takes : goal.returns-clause-takes
 returns-clause-takes g c =

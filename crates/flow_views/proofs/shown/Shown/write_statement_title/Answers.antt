@@ -6,6 +6,7 @@ use Rattle.flow_views.proofs.shown.Shown.write_statement_title.Goals as goal
 
 pub returns-clause-takes : goal.returns-clause-takes
 returns-clause-takes g c =
-    shows_then (decimal c.args.stmt.now.span.line ++ codes ": ") (statement_text (names_at c.args.self.now.found.graph.now c.args.point) c.args.stmt.now.kind) _ _ _
+    shows_then (decimal c.args.stmt.now.span.line ++ codes ": ")
+    (statement_text (names_at c.args.self.now.found.graph.now c.args.point) c.args.stmt.now.kind) _ _ _
     (shows_then (decimal c.args.stmt.now.span.line) (codes ": ") _ _ _ c.write_escaped_number.ensures.takes c.write.ensures.takes)
     c.write_statement.ensures.takes

@@ -11,19 +11,24 @@ loop-variable-preserved g c =
     let names : List (List ℕ) = c.args.self.now.found.graph.now.variable_names in
     let i : ℕ = c.loop-variable.variable in
     let name : List ℕ = c.variable.result.now in
-    let many : c.variables-variable-end.result ≡ length names = c.variables-variable-end.ensures ∙ ap (λ (p : Program). length p.variable_names) c.program-program.ensures in
+    let many : c.variables-variable-end.result ≡ length names =
+    c.variables-variable-end.ensures ∙ ap (λ (p : Program). length p.variable_names) c.program-program.ensures in
     let below : i < length names = omega (arith, c.loop-variable-test.true, many) in
-    let at : slice_get names i ≡ Some name = sym (ap (λ (p : Program). slice_get p.variable_names i) c.program-program.ensures) ∙ c.variable.ensures in
+    let at : slice_get names i ≡ Some name =
+    sym (ap (λ (p : Program). slice_get p.variable_names i) c.program-program.ensures) ∙ c.variable.ensures in
     record {
       reference = c.write_quoted.ensures.same_reference ∙ c.write_if.ensures.same_reference ∙ c.loop-variable.invariant.reference;
       takes =
-          takes_as _ _ _ _ (takes_then _ _ _ _ _ (takes_then _ _ _ _ _ c.loop-variable.invariant.takes c.write_if.ensures.takes) c.write_quoted.ensures.takes)
+          takes_as _ _ _ _ (takes_then _ _ _ _ _ (takes_then _ _ _ _ _ c.loop-variable.invariant.takes c.write_if.ensures.takes)
+          c.write_quoted.ensures.takes)
           (joined_behind (codes "[") (codes ",") quoted names i name below (sym (get_or_from_slice_get names i name name at)));
     }
 
 pub returns-clause-takes : goal.returns-clause-takes
 returns-clause-takes g c =
     let names : List (List ℕ) = c.args.self.now.found.graph.now.variable_names in
-    let many : c.variables-variable-end.result ≡ length names = c.variables-variable-end.ensures ∙ ap (λ (p : Program). length p.variable_names) c.program-program.ensures in
+    let many : c.variables-variable-end.result ≡ length names =
+    c.variables-variable-end.ensures ∙ ap (λ (p : Program). length p.variable_names) c.program-program.ensures in
     let all : c.loop-variable.variable ≡ length names = omega (arith, c.loop-variable.auto.variable-end, c.loop-variable-test.false, many) in
-    takes_as _ _ _ _ (takes_then _ _ _ _ _ c.loop-variable.invariant.takes c.write-2.ensures.takes) (joined_all (codes ",") quoted names c.loop-variable.variable all)
+    takes_as _ _ _ _ (takes_then _ _ _ _ _ c.loop-variable.invariant.takes c.write-2.ensures.takes)
+    (joined_all (codes ",") quoted names c.loop-variable.variable all)

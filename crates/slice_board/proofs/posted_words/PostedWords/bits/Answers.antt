@@ -10,4 +10,5 @@ pub returns-clause-within : goal.returns-clause-within
 returns-clause-within c point bit =
     let inside = c.self.inside in
     subst (λ (t : RowTable). contains (set_at t point) bit ≡ true → bit < t.hi) c.self.view_is
-    (λ set. (bit_within inside.bits inside.flags.items (word_of (slots_items inside.closed.words) inside.first (length inside.flags.items)) point bit set).1)
+    (λ set. (bit_within inside.bits inside.flags.items (word_of (slots_items inside.closed.words) inside.first (length inside.flags.items))
+    point bit set).1)

@@ -13,7 +13,13 @@ returns-then-draw-clause-draws g c =
     let slices = ap (λ (b : BoardState _). slice_count b.cut) c.self.view_is in
     let count = c.slices.ensures.count in
     let test = c.loop-pass-test.true in
-    omega (arith, ap (λ (q : PassState _). length q.claimed) c.if-draw.ensures, ap (λ (q : PassState _). length q.found) c.if-draw.ensures, length-append p.claimed (p.next ∷ []), found_to-lengths c.args.pass.now p i.from i.found)
+    omega (
+      arith,
+      ap (λ (q : PassState _). length q.claimed) c.if-draw.ensures,
+      ap (λ (q : PassState _). length q.found) c.if-draw.ensures,
+      length-append p.claimed (p.next ∷ []),
+      found_to-lengths c.args.pass.now p i.from i.found,
+    )
 
 pub loop-pass-preserved : goal.loop-pass-preserved
 loop-pass-preserved g c =
@@ -21,7 +27,10 @@ loop-pass-preserved g c =
     let i = c.loop-pass.invariant in
     let next = ap (λ (q : PassState _). q.next) c.if-draw.ensures in
     record {
-      of = record { table = ap (λ (q : PassState _). q.table) c.if-draw.ensures ∙ i.of.table; about = ap (λ (q : PassState _). q.about) c.if-draw.ensures ∙ i.of.about };
+      of = record {
+        table = ap (λ (q : PassState _). q.table) c.if-draw.ensures ∙ i.of.table;
+        about = ap (λ (q : PassState _). q.about) c.if-draw.ensures ∙ i.of.about;
+      };
       free = ap (λ (q : PassState _). q.held) c.if-draw.ensures ∙ i.free;
       from = omega (arith, i.from);
       found = c.if-draw.ensures ∙ found_to-more c.args.pass.now p i.from i.found ∙ ap (found_to c.args.pass.now) (sym next);

@@ -31,9 +31,12 @@ words-preserved g c =
     let places : c.min.result ≡ min (slice_count c.args.self.now.cut - 64 * c.words.word) 64 = omega arith in
     record {
       of = record { table = ap (λ (q : PassState _). q.table) new ∙ i.of.table; about = ap (λ (q : PassState _). q.about) new ∙ i.of.about };
-      same = new ∙ ap (λ (q : PassState _). record q { counted = c.words.pass.counted ++ load_of c.words.word c.load_done-value.result ∷ [] }) i.same ∙ ap (λ (l : _). record c.args.pass.now { counted = l }) (sym (ap (λ (q : PassState _). q.counted) new));
-      so_far = CountedTo-more (slice_count c.args.self.now.cut) c.words.word c.words.done c.ones-done.result c.load_done-value.result c.args.pass.now c.words.pass c.load_done-value.new.pass i.so_far i.same (omega arith)
-          (ap (λ (q : PassState _). q.counted) new) c.load_done-value.ensures.own (c.ones-done.ensures.value ∙ ap (λ (n : ℕ). ones_below n c.load_done-value.result) places);
+      same = new ∙ ap (λ (q : PassState _). record q { counted = c.words.pass.counted ++ load_of c.words.word c.load_done-value.result ∷ [] }) i.same
+          ∙ ap (λ (l : _). record c.args.pass.now { counted = l }) (sym (ap (λ (q : PassState _). q.counted) new));
+      so_far = CountedTo-more (slice_count c.args.self.now.cut) c.words.word c.words.done c.ones-done.result c.load_done-value.result c.args.pass.now
+          c.words.pass c.load_done-value.new.pass i.so_far i.same (omega arith)
+          (ap (λ (q : PassState _). q.counted) new) c.load_done-value.ensures.own
+          (c.ones-done.ensures.value ∙ ap (λ (n : ℕ). ones_below n c.load_done-value.result) places);
     }
 
 pub returns-clause-counted : goal.returns-clause-counted

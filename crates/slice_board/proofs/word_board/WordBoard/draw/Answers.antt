@@ -11,8 +11,11 @@ pub fetch_or-before-requires : goal.fetch_or-before-requires
 fetch_or-before-requires g c =
     let p = c.pass.inside in
     let below = next_below c.self.invariant c.self.view_is c.pass.view_is c.requires.of c.requires.more in
-    let wide = c.self.invariant.wide in
-    (sits c.self.invariant c.self.view_is c.pass.view_is c.requires.of, omega arith, draws_by g.T.Wanted.wants (about_key c.self.inside.table.shared.key) _ _ p.next _ p.seat.me below (one_shl (p.next % 64) 64 (omega arith)))
+    let wide = c.self.invariant.wide in (
+      sits c.self.invariant c.self.view_is c.pass.view_is c.requires.of,
+      omega arith,
+      draws_by g.T.Wanted.wants (about_key c.self.inside.table.shared.key) _ _ p.next _ p.seat.me below (one_shl (p.next % 64) 64 (omega arith)),
+    )
 
 pub overflow_add-pass : goal.overflow_add-pass
 overflow_add-pass g c = omega (arith, c.requires.fits, ap (λ (p : PassState _). p.next) c.pass.view_is)
@@ -23,7 +26,9 @@ invariant_of-pass g c =
     let told = c.fetch_or-before.ensures in
     let after = drawn_free 0 p.next _ c.fetch_or-before.result told.2 (one_shl (p.next % 64) 64 (omega arith)) c.if-free.true in
     let old : PassState _ = pass_state p.seat.table_id p.seat.me.0 p.held p.next in
-    let new = kept_claim old (about_key c.self.inside.table.shared.key) (knows c.self.invariant c.self.view_is c.pass.view_is c.requires.of) (next_below c.self.invariant c.self.view_is c.pass.view_is c.requires.of c.requires.more) c.pass.invariant.0 (ap (λ (p : PassState _). p.held) c.pass.view_is ∙ c.requires.free) in
+    let new = kept_claim old (about_key c.self.inside.table.shared.key) (knows c.self.invariant c.self.view_is c.pass.view_is c.requires.of)
+    (next_below c.self.invariant c.self.view_is c.pass.view_is c.requires.of c.requires.more) c.pass.invariant.0
+    (ap (λ (p : PassState _). p.held) c.pass.view_is ∙ c.requires.free) in
     (subst IsKept (λ i. pass_state (sym told.0 i) (sym after i).0 (Some p.next) (p.next + 1)) new, (λ i. (after i).1) ∙ c.pass.invariant.1)
 
 pub invariant_of-pass-else-free : goal.invariant_of-pass-else-free
@@ -32,7 +37,8 @@ invariant_of-pass-else-free g c =
     let told = c.fetch_or-before.ensures in
     let after = drawn_taken 0 p.next _ c.fetch_or-before.result told.2 (one_shl (p.next % 64) 64 (omega arith)) c.if-free.false in
     let old : PassState _ = pass_state p.seat.table_id p.seat.me.0 p.held p.next in
-    let new = kept_find old (about_key c.self.inside.table.shared.key) (knows c.self.invariant c.self.view_is c.pass.view_is c.requires.of) (next_below c.self.invariant c.self.view_is c.pass.view_is c.requires.of c.requires.more) c.pass.invariant.0 in
+    let new = kept_find old (about_key c.self.inside.table.shared.key) (knows c.self.invariant c.self.view_is c.pass.view_is c.requires.of)
+    (next_below c.self.invariant c.self.view_is c.pass.view_is c.requires.of c.requires.more) c.pass.invariant.0 in
     (subst IsKept (λ i. pass_state (sym told.0 i) (sym after i).0 p.held (p.next + 1)) new, (λ i. (after i).1) ∙ c.pass.invariant.1)
 
 pub returns-then-free : goal.returns-then-free

@@ -30,9 +30,11 @@ invariant_of-pass g c =
     let p = c.pass.inside in
     let tally = tally_is laid is _ _ c.words_needed.ensures c.slices.ensures.count in
     let told = c.fetch_or.ensures in
-    let after = told.2 (about_key c.self.inside.table.shared.key) (knows laid is c.pass.view_is c.requires.of) c.args.slice (omega arith) (one_shl (c.args.slice % 64) 64 (omega arith)) in
+    let after = told.2 (about_key c.self.inside.table.shared.key) (knows laid is c.pass.view_is c.requires.of) c.args.slice (omega arith)
+    (one_shl (c.args.slice % 64) 64 (omega arith)) in
     kept_after p.seat.me None p.next told.0 after c.pass.invariant.1
-    (kept_finish (pass_state p.seat.table_id p.seat.me.0 p.held p.next) c.args.slice (ap (λ (q : PassState _). q.held) c.pass.view_is ∙ c.requires.held) c.pass.invariant.0)
+    (kept_finish (pass_state p.seat.table_id p.seat.me.0 p.held p.next) c.args.slice
+    (ap (λ (q : PassState _). q.held) c.pass.view_is ∙ c.requires.held) c.pass.invariant.0)
 
 pub returns : goal.returns
 returns g c =
@@ -41,6 +43,7 @@ returns g c =
     let p = c.pass.inside in
     let tally = tally_is laid is _ _ c.words_needed.ensures c.slices.ensures.count in
     let told = c.fetch_or.ensures in
-    let after = told.2 (about_key c.self.inside.table.shared.key) (knows laid is c.pass.view_is c.requires.of) c.args.slice (omega arith) (one_shl (c.args.slice % 64) 64 (omega arith)) in
+    let after = told.2 (about_key c.self.inside.table.shared.key) (knows laid is c.pass.view_is c.requires.of) c.args.slice (omega arith)
+    (one_shl (c.args.slice % 64) 64 (omega arith)) in
     state_after p.seat.me None p.next told.0 after
     ∙ ap (λ (q : PassState _). record q { finished = q.finished ++ c.args.slice ∷ []; held = None }) c.pass.view_is

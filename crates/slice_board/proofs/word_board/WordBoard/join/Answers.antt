@@ -24,8 +24,11 @@ pub load-requires : goal.load-requires
 load-requires g c =
     let laid = c.self.invariant in
     let is = c.self.view_is in
-    let wide = laid.wide in
-    (c.join_seat.ensures.0 ∙ sits laid is c.first.view_is c.requires.first, omega arith, checks g.T.Wanted.wants (about_key c.self.inside.table.shared.key) _ _ _ c.join_seat.new.seat.me)
+    let wide = laid.wide in (
+      c.join_seat.ensures.0 ∙ sits laid is c.first.view_is c.requires.first,
+      omega arith,
+      checks g.T.Wanted.wants (about_key c.self.inside.table.shared.key) _ _ _ c.join_seat.new.seat.me,
+    )
 
 pub invariant_of-result : goal.invariant_of-result
 invariant_of-result g c =
@@ -37,11 +40,14 @@ invariant_of-result g c =
     let first : PassState _ = pass_state p.seat.table_id p.seat.me.0 p.held p.next in
     let second : PassState _ = pass_state q.seat.table_id q.seat.me.0 q.held q.next in
     let one : ¬ (IsSome p.held × IsSome q.held) = elim c.else-is_some.branch [
-      | else-is_some-via-then-is_some+else-is_some-2 w ↦ λ some. is_none q.held (w.if-is_some-2.ensures ∙ ap (λ (r : PassState _). is_some r.held) (w.second.view_is ∙ sym c.second-2.view_is)) some.1
+      | else-is_some-via-then-is_some+else-is_some-2 w ↦ λ some.
+          is_none q.held (w.if-is_some-2.ensures ∙ ap (λ (r : PassState _). is_some r.held) (w.second.view_is ∙ sym c.second-2.view_is)) some.1
       | else-is_some-via-else-is_some w ↦ λ some. is_none p.held w.if-is_some.ensures some.0
     ] in
-    let both = kept_joined first second (knows laid is c.first.view_is c.requires.first ∙ sym (knows laid is c.second-2.view_is c.requires.second)) one c.first.invariant.0 c.second-2.invariant.0 in (
-      subst IsKept (λ i. pass_state ((sym (c.load.ensures.0 ∙ c.join_seat.ensures.0)) i) (sym after i).0 (sym c.either-held.ensures i) (sym c.max-next.ensures i)) both,
+    let both = kept_joined first second (knows laid is c.first.view_is c.requires.first ∙ sym (knows laid is c.second-2.view_is c.requires.second))
+    one c.first.invariant.0 c.second-2.invariant.0 in (
+      subst IsKept (λ i. pass_state ((sym (c.load.ensures.0 ∙ c.join_seat.ensures.0)) i) (sym after i).0 (sym c.either-held.ensures i)
+          (sym c.max-next.ensures i)) both,
       (λ i. (after i).1) ∙ c.first.invariant.1,
     )
 

@@ -27,9 +27,11 @@ invariant_of-pass g c =
     let p = c.pass.inside in
     let tally = tally_is laid is _ _ c.words_needed.ensures c.slices.ensures.count in
     let told = c.load.ensures in
-    let after = told.2 (about_key c.self.inside.table.shared.key) (knows laid is c.pass.view_is c.requires.of) c.args.word (tally_below laid is c.args.word c.requires.below) (omega arith) in
+    let after = told.2 (about_key c.self.inside.table.shared.key) (knows laid is c.pass.view_is c.requires.of) c.args.word
+    (tally_below laid is c.args.word c.requires.below) (omega arith) in
     kept_after p.seat.me p.held p.next told.0 after.0 c.pass.invariant.1
-    (kept_marks (pass_state p.seat.table_id p.seat.me.0 p.held p.next) p.seat.me.0.posted p.seat.me.0.seen (p.seat.me.0.counted ++ load_of c.args.word c.load.result ∷ []) c.pass.invariant.0)
+    (kept_marks (pass_state p.seat.table_id p.seat.me.0 p.held p.next) p.seat.me.0.posted p.seat.me.0.seen
+    (p.seat.me.0.counted ++ load_of c.args.word c.load.result ∷ []) c.pass.invariant.0)
 
 pub returns-clause-counted : goal.returns-clause-counted
 returns-clause-counted g c =
@@ -38,7 +40,8 @@ returns-clause-counted g c =
     let p = c.pass.inside in
     let tally = tally_is laid is _ _ c.words_needed.ensures c.slices.ensures.count in
     let told = c.load.ensures in
-    let after = told.2 (about_key c.self.inside.table.shared.key) (knows laid is c.pass.view_is c.requires.of) c.args.word (tally_below laid is c.args.word c.requires.below) (omega arith) in
+    let after = told.2 (about_key c.self.inside.table.shared.key) (knows laid is c.pass.view_is c.requires.of) c.args.word
+    (tally_below laid is c.args.word c.requires.below) (omega arith) in
     state_after p.seat.me p.held p.next told.0 after.0
     ∙ ap (λ (q : PassState _). record q { counted = q.counted ++ load_of c.args.word c.load.result ∷ [] }) c.pass.view_is
 
@@ -47,5 +50,6 @@ returns-clause-own g c =
     let laid = c.self.invariant in
     let is = c.self.view_is in
     let tally = tally_is laid is _ _ c.words_needed.ensures c.slices.ensures.count in
-    let after = c.load.ensures.2 (about_key c.self.inside.table.shared.key) (knows laid is c.pass.view_is c.requires.of) c.args.word (tally_below laid is c.args.word c.requires.below) (omega arith) in
+    let after = c.load.ensures.2 (about_key c.self.inside.table.shared.key) (knows laid is c.pass.view_is c.requires.of) c.args.word
+    (tally_below laid is c.args.word c.requires.below) (omega arith) in
     shows_own laid is c.pass.view_is c.requires.of c.args.word c.load.result after.1

@@ -25,9 +25,11 @@ invariant_of-pass g c =
     let p = c.pass.inside in
     let place = place_of laid is c.args.point c.args.word c.requires.place in
     let told = c.load.ensures in
-    let after = told.2 (about_key c.self.inside.table.shared.key) (knows laid is c.pass.view_is c.requires.of) c.args.point c.args.word place.0 place.1 (row_is laid is _ c.args.point c.args.word c.row_place-place.ensures.value) in
+    let after = told.2 (about_key c.self.inside.table.shared.key) (knows laid is c.pass.view_is c.requires.of)
+    c.args.point c.args.word place.0 place.1 (row_is laid is _ c.args.point c.args.word c.row_place-place.ensures.value) in
     kept_after p.seat.me p.held p.next told.0 after.0 c.pass.invariant.1
-    (kept_marks (pass_state p.seat.table_id p.seat.me.0 p.held p.next) p.seat.me.0.posted (p.seat.me.0.seen ++ mark c.args.point c.args.word c.load.result ∷ []) p.seat.me.0.counted c.pass.invariant.0)
+    (kept_marks (pass_state p.seat.table_id p.seat.me.0 p.held p.next) p.seat.me.0.posted
+    (p.seat.me.0.seen ++ mark c.args.point c.args.word c.load.result ∷ []) p.seat.me.0.counted c.pass.invariant.0)
 
 pub returns-clause-seen : goal.returns-clause-seen
 returns-clause-seen g c =
@@ -36,7 +38,8 @@ returns-clause-seen g c =
     let p = c.pass.inside in
     let place = place_of laid is c.args.point c.args.word c.requires.place in
     let told = c.load.ensures in
-    let after = told.2 (about_key c.self.inside.table.shared.key) (knows laid is c.pass.view_is c.requires.of) c.args.point c.args.word place.0 place.1 (row_is laid is _ c.args.point c.args.word c.row_place-place.ensures.value) in
+    let after = told.2 (about_key c.self.inside.table.shared.key) (knows laid is c.pass.view_is c.requires.of)
+    c.args.point c.args.word place.0 place.1 (row_is laid is _ c.args.point c.args.word c.row_place-place.ensures.value) in
     state_after p.seat.me p.held p.next told.0 after.0
     ∙ ap (λ (q : PassState _). record q { seen = q.seen ++ mark c.args.point c.args.word c.load.result ∷ [] }) c.pass.view_is
 
@@ -45,21 +48,26 @@ returns-clause-own g c i within marked =
     let laid = c.self.invariant in
     let is = c.self.view_is in
     let place = place_of laid is c.args.point c.args.word c.requires.place in
-    let after = c.load.ensures.2 (about_key c.self.inside.table.shared.key) (knows laid is c.pass.view_is c.requires.of) c.args.point c.args.word place.0 place.1 (row_is laid is _ c.args.point c.args.word c.row_place-place.ensures.value) in
-    bit_of_one c.load.result i (after.1 i (at_place _ c.args.point c.args.word i within (subst (λ (q : PassState _). IsMarked q.posted c.args.point (64 * c.args.word + i)) (sym c.pass.view_is) marked)))
+    let after = c.load.ensures.2 (about_key c.self.inside.table.shared.key) (knows laid is c.pass.view_is c.requires.of)
+    c.args.point c.args.word place.0 place.1 (row_is laid is _ c.args.point c.args.word c.row_place-place.ensures.value) in
+    bit_of_one c.load.result i (after.1 i (at_place _ c.args.point c.args.word i within (subst (λ (q : PassState _).
+    IsMarked q.posted c.args.point (64 * c.args.word + i)) (sym c.pass.view_is) marked)))
 
 pub returns-clause-again : goal.returns-clause-again
 returns-clause-again g c i within marked =
     let laid = c.self.invariant in
     let is = c.self.view_is in
     let place = place_of laid is c.args.point c.args.word c.requires.place in
-    let after = c.load.ensures.2 (about_key c.self.inside.table.shared.key) (knows laid is c.pass.view_is c.requires.of) c.args.point c.args.word place.0 place.1 (row_is laid is _ c.args.point c.args.word c.row_place-place.ensures.value) in
-    bit_of_one c.load.result i (after.2 i (at_place _ c.args.point c.args.word i within (subst (λ (q : PassState _). IsMarked q.seen c.args.point (64 * c.args.word + i)) (sym c.pass.view_is) marked)))
+    let after = c.load.ensures.2 (about_key c.self.inside.table.shared.key) (knows laid is c.pass.view_is c.requires.of)
+    c.args.point c.args.word place.0 place.1 (row_is laid is _ c.args.point c.args.word c.row_place-place.ensures.value) in
+    bit_of_one c.load.result i (after.2 i (at_place _ c.args.point c.args.word i within (subst (λ (q : PassState _).
+    IsMarked q.seen c.args.point (64 * c.args.word + i)) (sym c.pass.view_is) marked)))
 
 pub returns-clause-wanted : goal.returns-clause-wanted
 returns-clause-wanted g c i within set =
     let laid = c.self.invariant in
     let is = c.self.view_is in
     let place = place_of laid is c.args.point c.args.word c.requires.place in
-    let after = c.load.ensures.2 (about_key c.self.inside.table.shared.key) (knows laid is c.pass.view_is c.requires.of) c.args.point c.args.word place.0 place.1 (row_is laid is _ c.args.point c.args.word c.row_place-place.ensures.value) in
+    let after = c.load.ensures.2 (about_key c.self.inside.table.shared.key) (knows laid is c.pass.view_is c.requires.of)
+    c.args.point c.args.word place.0 place.1 (row_is laid is _ c.args.point c.args.word c.row_place-place.ensures.value) in
     subst (λ (t : _). g.T.Wanted.wants t c.args.point (64 * c.args.word + i)) (same_wanted laid is) (after.3 i (one_of_bit c.load.result i set))

@@ -14,7 +14,8 @@ fetch_or-requires g c =
     let place = place_of laid is c.args.point c.args.word c.requires.place in (
       sits laid is c.pass.view_is c.requires.of,
       rw (ap (λ (t : _). t.words) (same_table laid is)) c.row_place-place.ensures.present,
-      puts_at g.T.Wanted.wants (about_key c.self.inside.table.shared.key) _ _ c.args.point c.args.word c.args.mask _ c.pass.inside.seat.me place.0 place.1
+      puts_at g.T.Wanted.wants (about_key c.self.inside.table.shared.key)
+          _ _ c.args.point c.args.word c.args.mask _ c.pass.inside.seat.me place.0 place.1
           (wanted_mask laid is c.args.point c.args.word c.args.mask c.ranges.mask.fits c.requires.wanted)
           (row_is laid is _ c.args.point c.args.word c.row_place-place.ensures.value),
     )
@@ -26,9 +27,11 @@ invariant_of-pass g c =
     let p = c.pass.inside in
     let place = place_of laid is c.args.point c.args.word c.requires.place in
     let told = c.fetch_or.ensures in
-    let after = told.2 (about_key c.self.inside.table.shared.key) (knows laid is c.pass.view_is c.requires.of) c.args.point c.args.word place.0 (row_is laid is _ c.args.point c.args.word c.row_place-place.ensures.value) in
+    let after = told.2 (about_key c.self.inside.table.shared.key) (knows laid is c.pass.view_is c.requires.of) c.args.point c.args.word place.0
+    (row_is laid is _ c.args.point c.args.word c.row_place-place.ensures.value) in
     kept_after p.seat.me p.held p.next told.0 after c.pass.invariant.1
-    (kept_marks (pass_state p.seat.table_id p.seat.me.0 p.held p.next) (p.seat.me.0.posted ++ mark c.args.point c.args.word c.args.mask ∷ []) p.seat.me.0.seen p.seat.me.0.counted c.pass.invariant.0)
+    (kept_marks (pass_state p.seat.table_id p.seat.me.0 p.held p.next) (p.seat.me.0.posted ++ mark c.args.point c.args.word c.args.mask ∷ [])
+    p.seat.me.0.seen p.seat.me.0.counted c.pass.invariant.0)
 
 pub returns : goal.returns
 returns g c =
@@ -37,6 +40,7 @@ returns g c =
     let p = c.pass.inside in
     let place = place_of laid is c.args.point c.args.word c.requires.place in
     let told = c.fetch_or.ensures in
-    let after = told.2 (about_key c.self.inside.table.shared.key) (knows laid is c.pass.view_is c.requires.of) c.args.point c.args.word place.0 (row_is laid is _ c.args.point c.args.word c.row_place-place.ensures.value) in
+    let after = told.2 (about_key c.self.inside.table.shared.key) (knows laid is c.pass.view_is c.requires.of) c.args.point c.args.word place.0
+    (row_is laid is _ c.args.point c.args.word c.row_place-place.ensures.value) in
     state_after p.seat.me p.held p.next told.0 after
     ∙ ap (λ (q : PassState _). record q { posted = q.posted ++ mark c.args.point c.args.word c.args.mask ∷ [] }) c.pass.view_is

@@ -6,5 +6,8 @@ use Rattle.slice_board.proofs.word_board.WordBoard.split.Goals as goal
 
 pub split_seat-requires : goal.split_seat-requires
 split_seat-requires g c =
-    let wide = c.self.invariant.wide in
-    (sits c.self.invariant c.self.view_is c.pass.view_is c.requires, omega arith, splits g.T.Wanted.wants (about_key c.self.inside.table.shared.key) _ c.pass.inside.seat.me.0)
+    let wide = c.self.invariant.wide in (
+      sits c.self.invariant c.self.view_is c.pass.view_is c.requires,
+      omega arith,
+      splits g.T.Wanted.wants (about_key c.self.inside.table.shared.key) _ c.pass.inside.seat.me.0,
+    )

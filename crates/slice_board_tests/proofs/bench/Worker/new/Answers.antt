@@ -10,5 +10,6 @@ pub returns-clause-noted : goal.returns-clause-noted
 returns-clause-noted c point bit has =
     let m = c.in_ok-mine.mine in
     absurd (both_ways (contains (set_at m point) bit)
-    (ap (λ t. contains (set_at t point) bit) c.in_ok-mine.ensures ∙ ap (λ s. contains s bit) (set_at-blank_table _ 0 c.hi.result point) ∙ contains-empty_set 0 c.hi.result bit)
+    (ap (λ t. contains (set_at t point) bit) c.in_ok-mine.ensures ∙ ap (λ s. contains s bit) (set_at-blank_table _ 0 c.hi.result point)
+    ∙ contains-empty_set 0 c.hi.result bit)
     has)

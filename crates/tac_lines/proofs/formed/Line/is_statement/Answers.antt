@@ -7,4 +7,5 @@ use Rattle.tac_lines.proofs.formed.Line.is_statement.Goals as goal
 pub returns : goal.returns
 returns c text =
     let line = c.args.self.now in
-    some_row line.form (length line.tokens.now - 2 * line.labels) (behind_labels (tokens_view text line.tokens.now)) c.is_some.result (line.formed text) c.is_some.ensures
+    some_row line.form (length line.tokens.now - 2 * line.labels) (behind_labels (tokens_view text line.tokens.now)) c.is_some.result
+    (line.formed text) c.is_some.ensures

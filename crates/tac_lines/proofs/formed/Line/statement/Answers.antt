@@ -12,7 +12,9 @@ pub slice_bounds-result-count : goal.slice_bounds-result-count
 slice_bounds-result-count c = let line = c.args.self.now in twice_within [] line.tokens.now line.labels (line.counted [])
 
 pub invariant_of-result : goal.invariant_of-result
-invariant_of-result c = let line = c.args.self.now in record { formed = λ text. left_formed text line.tokens.now line.labels (line.counted text) line.form (line.formed text) }
+invariant_of-result c =
+    let line = c.args.self.now in
+    record { formed = λ text. left_formed text line.tokens.now line.labels (line.counted text) line.form (line.formed text) }
 
 pub returns : goal.returns
 returns c text = let line = c.args.self.now in left_is text line.tokens.now line.labels (line.counted text)

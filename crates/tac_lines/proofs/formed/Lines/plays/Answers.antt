@@ -10,4 +10,5 @@ returns-in-None c text r played =
 pub returns-in-Some : goal.returns-in-Some
 returns-in-Some c text r played =
     let lines = c.args.self.now in
-    no_cells_of c.args.role text lines.tokens.now lines.ranges.now c.args.at r _ c.requires lines.formed c.in-Some.form c.in-Some.is (sym c.has_role.ensures ∙ played)
+    no_cells_of c.args.role text lines.tokens.now lines.ranges.now c.args.at r _ c.requires lines.formed c.in-Some.form c.in-Some.is
+    (sym c.has_role.ensures ∙ played)

@@ -9,13 +9,17 @@ use Rattle.tac_program.proofs.names.NameTable.seed.Goals as goal
 pub invariant_of-self-2 : goal.invariant_of-self-2
 invariant_of-self-2 c =
     let keys = c.self.inside.names.keys in
-    let anew = put_anew (λ x y. bytes_eq x.bytes.items y.bytes.items) (λ x y. nat_list_eq_equiv.symm x.bytes.items y.bytes.items) [] keys c.len.ensures.unique in
-    let same = c.in_ok-append.ensures.keys ∙ ap (λ ks. fold (insert_key (λ (x y : NameKey). bytes_eq x.bytes.items y.bytes.items)) ks keys) c.with_hasher-seeded.ensures.empty ∙ anew in
+    let anew = put_anew (λ x y. bytes_eq x.bytes.items y.bytes.items) (λ x y. nat_list_eq_equiv.symm x.bytes.items y.bytes.items)
+    [] keys c.len.ensures.unique in
+    let same = c.in_ok-append.ensures.keys
+    ∙ ap (λ ks. fold (insert_key (λ (x y : NameKey). bytes_eq x.bytes.items y.bytes.items)) ks keys) c.with_hasher-seeded.ensures.empty ∙ anew in
     subst (λ (ks : List NameKey). length ks < 2 ^ 32) (sym same) c.self.invariant
 
 pub returns : goal.returns
 returns c =
     let keys = c.self.inside.names.keys in
-    let anew = put_anew (λ x y. bytes_eq x.bytes.items y.bytes.items) (λ x y. nat_list_eq_equiv.symm x.bytes.items y.bytes.items) [] keys c.len.ensures.unique in
-    let same = c.in_ok-append.ensures.keys ∙ ap (λ ks. fold (insert_key (λ (x y : NameKey). bytes_eq x.bytes.items y.bytes.items)) ks keys) c.with_hasher-seeded.ensures.empty ∙ anew in
+    let anew = put_anew (λ x y. bytes_eq x.bytes.items y.bytes.items) (λ x y. nat_list_eq_equiv.symm x.bytes.items y.bytes.items)
+    [] keys c.len.ensures.unique in
+    let same = c.in_ok-append.ensures.keys
+    ∙ ap (λ ks. fold (insert_key (λ (x y : NameKey). bytes_eq x.bytes.items y.bytes.items)) ks keys) c.with_hasher-seeded.ensures.empty ∙ anew in
     ap texts same ∙ c.self.view_is

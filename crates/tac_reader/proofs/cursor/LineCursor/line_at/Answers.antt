@@ -13,8 +13,11 @@ invariant_of-self c =
       | then-stop-self w ↦ subst Known (sym w.self-inside-is) (refl, omega arith, refl)
       | else-stop-self w ↦ subst Known (sym w.self-inside-is) (refl, w.if-stop-self.false, c.self.invariant.2)
     ] in
-    let same : length c.if-stop-self.self-inside.text.now ≡ length c.self.inside.text.now = ap (λ t. length t.now) known.0 in
-    (omega (arith, c.self.invariant.0), omega (arith, c.min-stop.ensures), lines_on c.if-stop-self.self-inside.text.now _ _ _ _ known.1 known.2 c.line_feeds.ensures)
+    let same : length c.if-stop-self.self-inside.text.now ≡ length c.self.inside.text.now = ap (λ t. length t.now) known.0 in (
+      omega (arith, c.self.invariant.0),
+      omega (arith, c.min-stop.ensures),
+      lines_on c.if-stop-self.self-inside.text.now _ _ _ _ known.1 known.2 c.line_feeds.ensures,
+    )
 
 pub returns-clause-line : goal.returns-clause-line
 returns-clause-line c =
@@ -25,4 +28,5 @@ returns-clause-line c =
     ] in
     let stop : c.min-stop.result ≡ min c.args.place (length c.self.inside.text.now) = omega (arith, c.min-stop.ensures) in
     lines_on c.if-stop-self.self-inside.text.now _ _ _ _ known.1 known.2 c.line_feeds.ensures
-    ∙ ap line_after (ap (λ t. take c.min-stop.result t.now) known.0 ∙ ap (λ n. take n c.self.inside.text.now) stop ∙ take_min c.args.place c.self.inside.text.now ∙ ap (take c.args.place) c.self.view_is)
+    ∙ ap line_after (ap (λ t. take c.min-stop.result t.now) known.0 ∙ ap (λ n. take n c.self.inside.text.now) stop
+    ∙ take_min c.args.place c.self.inside.text.now ∙ ap (take c.args.place) c.self.view_is)

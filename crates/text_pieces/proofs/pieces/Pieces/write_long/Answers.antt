@@ -9,7 +9,8 @@ pub loop-taken-preserved : goal.loop-taken-preserved
 loop-taken-preserved g c =
     let kept = c.keep.ensures in
     let more : List ℕ = take (c.loop-taken.taken + c.min-count.result - c.loop-taken.taken) (drop c.loop-taken.taken c.args.bytes.now) in
-    let waits : Takes (outlet g.K.Sink.contents g.K.Sink.faults c.make_room.new.self) (outlet g.K.Sink.contents g.K.Sink.faults c.keep.new.self) more =
+    let waits : Takes (outlet g.K.Sink.contents g.K.Sink.faults c.make_room.new.self) (outlet g.K.Sink.contents g.K.Sink.faults c.keep.new.self)
+    more =
     takes_waiting (outlet g.K.Sink.contents g.K.Sink.faults c.make_room.new.self) (outlet g.K.Sink.contents g.K.Sink.faults c.keep.new.self) more
     (ap g.K.Sink.contents kept.same_sink) kept.failed (ap g.K.Sink.faults kept.same_sink) kept.waiting in
     record {

@@ -13,7 +13,8 @@ returns-clause-delivers g c =
       record {
         procedure = c.in_ok-view.view.procedure;
         asked = c.in_ok-view.ensures.procedure;
-        text = subst (λ (chosen : Chosen). let view : View = record { facts = chosen; procedure = c.in_ok-view.view.procedure } in IsText c.args.self.now.format c.args.program.now view out) c.in_ok-view.ensures.facts is.2;
+        text = subst (λ (chosen : Chosen). let view : View = record { facts = chosen; procedure = c.in_ok-view.view.procedure } in
+            IsText c.args.self.now.format c.args.program.now view out) c.in_ok-view.ensures.facts is.2;
       },
     ))
     c.show_view.ensures.delivers

@@ -18,11 +18,13 @@ invariant_of-result c =
     let same : length words ≡ c.div_ceil.result = ap length is ∙ length-replicate c.div_ceil.result 0 in
     let bounds = div_ceil_times c.points-points.result 64 (omega arith) in
     let enough : c.points-points.result ≤ 64 * length words = let low = bounds.0 in let up = c.div_ceil.ensures in omega (arith, low, up, same) in
-    let full : 64 * length words < c.points-points.result + 64 = let high = bounds.1 in let up = c.div_ceil.ensures in omega (arith, high, up, same) in
+    let full : 64 * length words < c.points-points.result + 64 = let high = bounds.1 in let up = c.div_ceil.ensures in
+    omega (arith, high, up, same) in
     let few = c.points-points.ensures.order.few in
     let made = c.points-points.ensures.count in
     let count : c.points-points.result ≡ length c.in_ok-copy.field-0 = c.points-points.ensures.count ∙ ap length (sym c.in_ok-copy.ensures) in
-    subst (λ n. AreMarkWords n words) count (blank words c.points-points.result (omega (arith, few, made)) enough full (zeros words c.div_ceil.result is))
+    subst (λ n. AreMarkWords n words) count
+    (blank words c.points-points.result (omega (arith, few, made)) enough full (zeros words c.div_ceil.result is))
 
 pub returns : goal.returns
 returns c =

@@ -17,12 +17,14 @@ point_at-point-requires c =
 pub invariant_of-self : goal.invariant_of-self
 invariant_of-self c =
     let marked = subst (λ (ws : List ℕ). is_marked_in ws c.in-Some.rank ≡ true) c.as_slice-words.ensures.value c.in-Some.ensures in
-    (takes c.self.inside.words.items c.self.inside.order c.in-Some.rank c.index_mut.result.now c.point_at-point.result c.self.invariant c.point_at-point.ensures.order marked c.index_mut.ensures.value c.point_at-point.ensures.there c.point_at-point.ensures.rank).0.holds
+    (takes c.self.inside.words.items c.self.inside.order c.in-Some.rank c.index_mut.result.now c.point_at-point.result c.self.invariant
+    c.point_at-point.ensures.order marked c.index_mut.ensures.value c.point_at-point.ensures.there c.point_at-point.ensures.rank).0.holds
 
 pub returns : goal.returns
 returns c =
     let marked = subst (λ (ws : List ℕ). is_marked_in ws c.in-Some.rank ≡ true) c.as_slice-words.ensures.value c.in-Some.ensures in
-    let taken = takes c.self.inside.words.items c.self.inside.order c.in-Some.rank c.index_mut.result.now c.point_at-point.result c.self.invariant c.point_at-point.ensures.order marked c.index_mut.ensures.value c.point_at-point.ensures.there c.point_at-point.ensures.rank in (
+    let taken = takes c.self.inside.words.items c.self.inside.order c.in-Some.rank c.index_mut.result.now c.point_at-point.result c.self.invariant
+    c.point_at-point.ensures.order marked c.index_mut.ensures.value c.point_at-point.ensures.there c.point_at-point.ensures.rank in (
       subst (λ (view : List Bool). IsMarked view c.point_at-point.result) c.self.view_is taken.1,
       c.go_behind.ensures ∙ (taken.0.marks ∙ ap (λ (view : List Bool). set view c.point_at-point.result false) c.self.view_is),
     )
