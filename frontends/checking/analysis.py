@@ -21,10 +21,10 @@ from .sources import Sources
 
 # More statements of gcc's than the first are no program within tacview's limits. What weighs no more than the second mostly is one, where
 # a function weighs as much as its statements and some more. What weighs more than the third is not even tried.
-MANY_STATEMENTS = 24000
-PART = 9000
+MANY_STATEMENTS = 800000
+PART = 400000
 FUNCTION = 20
-HOPELESS = 96000
+HOPELESS = 1600000
 HERE = os.path.dirname(os.path.realpath(__file__))
 
 
@@ -110,6 +110,7 @@ def do_part(number):
     """Does a part in a process of its own."""
     analysis, parts, weights = shared
     analysis.parts = []
+    analysis.workers = 1
     try:
         analysis.try_part(parts[number], weights)
     except Refusal as refusal:
@@ -166,6 +167,7 @@ class Analysis:
         self.sources = Sources()
         self.parts = []
         self.shared = frozenset()
+        self.workers = min(task.processes, 64)
 
     def run(self):
         """Analyses the program, and joins what came of its parts."""
@@ -251,7 +253,7 @@ class Analysis:
         world = World(self.files, self.is_whole, outside)
         built = program.build(world, self.task.shows_all)
         written = emit.Writer().write(built.procedures)
-        told, said = run_tacview(written.text)
+        told, said = run_tacview(written.text, self.workers)
         if self.task.keep:
             keep(self.task.keep, written, told)
         found = Findings(built, written, read_facts(told), self.sources, self.files, self.task.shows_all)
@@ -277,12 +279,12 @@ def cut(functions, weights, count):
     return parts
 
 
-def run_tacview(text):
-    """What tacview tells of a program, as lines of JSON, and what it says on standard error, as that it runs unproved."""
+def run_tacview(text, workers):
+    """What tacview tells of a program, as lines of JSON, by so many workers, and what it says on standard error, as that it runs unproved."""
     tacview = os.environ.get("TACVIEW", os.path.join(HERE, "..", "..", "tacview"))
     try:
-        done = subprocess.run([tacview, "--format", "json", "--facts", "none"], input=text.encode("ascii"),
-                              capture_output=True, check=False)
+        words = ["--format", "json", "--facts", "none", "--limits", "large", "--workers", str(workers)]
+        done = subprocess.run([tacview, *words], input=text.encode("ascii"), capture_output=True, check=False)
     except OSError as fault:
         raise Refusal(f"{tacview}: {fault.strerror}") from None
     said = done.stderr.decode("utf-8", "replace").strip().splitlines()

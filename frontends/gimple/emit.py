@@ -8,7 +8,8 @@ from .faults import Refusal
 
 KEYWORDS = frozenset("proc end goto if ifFalse call return read print skip".split())
 LONGEST_NAME = 64
-LIMITS = {"procedures": 256, "points": 16384, "variables and definitions": 4096, "expressions": 4096, "bytes of text": 1 << 20}
+# tacview's larger limits.
+LIMITS = {"procedures": 1 << 14, "points": 1 << 20, "variables": 1 << 17, "expressions": 1 << 17, "bytes of text": 1 << 26}
 
 
 class Names:
@@ -79,18 +80,16 @@ class Writer:
         start = len(self.lines)
         self.lines.append(f"proc {procedure.name}")
         labels = {}
-        points, definitions = 1, 0
+        points = 1
         for step in procedure.steps:
             label = self.label(labels, step)
             if step.kind == "label":
                 self.lines.append(f"{label}:")
                 continue
             points += 2 if step.weak else 1
-            definitions += step.kind in ("set", "read")
             self.write_step(procedure, step, label, labels)
         self.lines.append("end")
-        self.counts[procedure] = {"points": points, "variables and definitions": definitions,
-                                  "bytes of text": sum(len(line) + 1 for line in self.lines[start:])}
+        self.counts[procedure] = {"points": points, "bytes of text": sum(len(line) + 1 for line in self.lines[start:])}
 
     @staticmethod
     def label(labels, step):
@@ -135,8 +134,7 @@ class Writer:
         """Refuses a program beyond a limit of the language."""
         totals = {"procedures": len(procedures), "expressions": len(self.expressions), "bytes of text": len(text)}
         totals["points"] = sum(count["points"] for count in self.counts.values())
-        totals["variables and definitions"] = len(self.variables.taken) - len(KEYWORDS) + sum(
-            count["variables and definitions"] for count in self.counts.values())
+        totals["variables"] = len(self.variables.taken) - len(KEYWORDS)
         for what, limit in LIMITS.items():
             if totals[what] > limit:
                 raise TooLarge(f"the program has {totals[what]} {what}, {totals[what] - limit} more than the {limit} that tacflow takes; "

@@ -131,12 +131,23 @@ def wrong_parts(folder):
         halves = analysis.cut(list(range(len(weights))), dict(enumerate(weights)), 2)
         if len(halves) != 2 or sum(halves, []) != list(range(len(weights))):
             yield f"halves of {weights}: {halves}"
-    for words in ("--together first.c second.c", "--together -j 2 first.c second.c"):
-        told = run(words + " --format json", folder)
-        places = Counter((row["file"], row["message"]) for row in map(json.loads, told.stdout.splitlines()))
+    files = tuple(Input(os.path.join(folder, name), ()) for name in ("first.c", "second.c"))
+    for processes in (1, 2):
+        outcome = in_parts(analysis.Task(files, processes=processes), MANY_STATEMENTS=100, PART=300)
+        places = Counter((os.path.basename(remark.file), remark.text) for remark in outcome.remarks.values() if remark.kind == "dead")
         gone = "assignment to 'gone' is dead"
-        if places != {("first.c", gone): 150, ("second.c", gone): 150, ("parts.h", "assignment to 'twice' is dead"): 1}:
-            yield f"check-c {words}: {places}{told.stderr}"
+        is_noted = any("analysed in parts" in note for note in outcome.notes)
+        if places != {("first.c", gone): 150, ("second.c", gone): 150, ("parts.h", "assignment to 'twice' is dead"): 1} or not is_noted:
+            yield f"parts by {processes}: {places} {outcome.notes} {outcome.faults}"
+
+
+def in_parts(task, **sizes):
+    """What comes of a task where less is taken to be a large program."""
+    usual = {name: getattr(analysis, name) for name in sizes}
+    vars(analysis).update(sizes)
+    outcome = analysis.analyse(task)
+    vars(analysis).update(usual)
+    return outcome
 
 
 def wrong_large(folder):
@@ -145,10 +156,7 @@ def wrong_large(folder):
     with open(path, "w", encoding="utf-8") as file:
         file.write("static int kept, lost;\n" + LIBRARY + "void g(int n)\n{\n    kept = n;\n    lost = n;\n}\n"
                    + "int h(void)\n{\n" + "    kept += 1;\n" * 100 + "    return kept;\n}\n")
-    limits = analysis.MANY_STATEMENTS, analysis.HOPELESS
-    analysis.MANY_STATEMENTS, analysis.HOPELESS = 100, 200
-    outcome = analysis.analyse(analysis.Task((Input(path, ()),)))
-    analysis.MANY_STATEMENTS, analysis.HOPELESS = limits
+    outcome = in_parts(analysis.Task((Input(path, ()),)), MANY_STATEMENTS=100, HOPELESS=200)
     told = sorted((remark.line, remark.text) for remark in outcome.remarks.values() if remark.kind == "dead")
     is_noted = any("'h' is left out" in note for note in outcome.notes)
     if told != [(4, "assignment to 'gone' is dead"), (10, "assignment to 'lost' is dead")] or not is_noted:
