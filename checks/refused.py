@@ -49,7 +49,7 @@ CALLS = {
     "flow_graph_tests": {"Graph::build", "Graph::succ", "Graph::leads_to", "Problem::of"},
     "flow_team_tests": {"Job::open", "analyse", "answer", "answer_here", "Answers::of_tables"},
     "flow_texts_tests": {
-        *("table_of", "TableText::of", "table_text", "Tables::of", "ReportAnswers::of", "ReportAnswers::here", "ReportAnswers::of_tables"),
+        *("table_of", "TableText::of", "table_text", "Tables::of", "ReportAnswers::of", "ReportAnswers::answered_here", "ReportAnswers::of_tables"),
         *("ReportText::of", "report", "report_here"),
     },
     "gk_solve_tests": {

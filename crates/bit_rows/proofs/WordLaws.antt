@@ -51,7 +51,7 @@ and_true : (x : Bool) → (x && true) ≡ x
 and_true true = refl
 and_true false = refl
 
--- the complement turns a word round within the range
+-- a word of the complement within the range
 pub IsWordOf-complement : (s : RowSet) (w a : ℕ) → IsWordOf s w a → a < 2 ^ 64
     → IsWordOf (complement s) w (bit_and (bit_not w64 a) (range_mask s.lo (hi_of s) w))
 IsWordOf-complement s w a p fits i within =

@@ -194,14 +194,14 @@ module _ (s t : RowSet) (lo hi : ℕ) (xs ys zs : List ℕ) (p : HoldSet s lo hi
       (λ b outside. and_left (contains s b) (not (contains t b)) (contains-below s b (omega (arith, outside, HoldSet-lo p))))
       (λ b outside. and_left (contains s b) (not (contains t b)) (contains-above s b (omega (arith, outside, HoldSet-hi p))))
 
--- the words of one row, turned round and cleared outside the range
+-- the words of one row, complemented and cleared outside the range
 pub HoldSet-complement : (s : RowSet) (lo hi : ℕ) (xs ys zs : List ℕ) → HoldSet s lo hi xs → length ys ≡ length xs → length zs ≡ length ys
     → MapsPlaces not xs ys → IsTrimmed lo hi ys zs → HoldSet (complement s) lo hi zs
 unfolding complement
-HoldSet-complement s lo hi xs ys zs p same_ys same_zs turned trimmed =
+HoldSet-complement s lo hi xs ys zs p same_ys same_zs complemented trimmed =
     let made : HoldSet (set_of lo hi (λ b. not (contains s b))) lo hi zs =
     HoldSet-trimmed lo hi ys zs (λ b. not (contains s b)) p.well_formed.ordered (same_zs ∙ same_ys ∙ p.well_formed.count) trimmed
-    (λ k i present within. turned k i (omega arith) within ∙ ap not (HoldSet-bit p k i within)) in
+    (λ k i present within. complemented k i (omega arith) within ∙ ap not (HoldSet-bit p k i within)) in
     let range : set_of lo hi (λ b. not (contains s b)) ≡ set_of s.lo (hi_of s) (λ b. not (contains s b)) =
     ap₂ (λ (a b : ℕ). set_of a b (λ c. not (contains s c))) (sym (HoldSet-lo p)) (sym (HoldSet-hi p)) in
     subst (λ (t : RowSet). HoldSet t lo hi zs) range made

@@ -5,7 +5,7 @@ ghost use Rattle.checked_examples.specs.ProgramExamples.{adds_to_itself, calls_e
 ghost use Rattle.checked_examples.specs.WorkedTexts.{known_of_endless_callee, known_of_sum};
 ghost use Rattle.flow_views.specs.Dots.{dot_of, edge_lines};
 ghost use Rattle.flow_views.specs.Json.{json_of};
-ghost use Rattle.flow_views.specs.Strings.{escaped, quoted};
+ghost use Rattle.text_pieces.specs.Strings.{escaped, quoted};
 ghost use Rattle.flow_views.specs.Views.{shown_points};
 ghost use Rattle.checked_examples.specs.WorkedViews.{first_alone, plain, reach_and_live, second_alone};
 

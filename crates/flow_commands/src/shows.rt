@@ -14,7 +14,7 @@ ghost use Rattle.flow_commands.specs.Runs.{IsShown, needs_graph as kind_needs_gr
 use crate::options::{Options, Show};
 use flow_graph::{Analysis, Graph};
 use flow_runs::{Fault, Shown, graph_of, push_report, push_text};
-use flow_team::Table;
+use flow_team::{OpenGate, Table};
 use flow_texts::{TableText, table_of};
 use std::alloc::Global;
 use std::thread::Threads;
@@ -55,7 +55,8 @@ fn table_of_graph<R: Threads + Sync, K: Sink>(
     ensures fault { IfErr result (OfProgram (λ _. ⊥) ⊥) }
     ensures faults { K.faults sink.new ≡ K.faults sink.old + write_faults_in result }
 {
-    let table = table_of(rt, alloc, graph, analysis, options.workers, options.cut)?;
+    let (workers, cut) = (options.workers, options.cut);
+    let table = table_of(rt, alloc, graph, analysis, workers, cut, &OpenGate)?;
     push_table(alloc, graph, &table, sink)
 }
 
@@ -97,7 +98,8 @@ fn show_report<R: Threads + Sync, K: Sink>(
     ensures faults { K.faults sink.new ≡ K.faults sink.old + write_faults_in result }
 {
     let graph = graph_of(alloc, program, Limits::Standard)?;
-    push_report(rt, alloc, &graph, options.workers, options.cut, sink)
+    let (workers, cut) = (options.workers, options.cut);
+    push_report(rt, alloc, &graph, workers, cut, &OpenGate, sink)
 }
 
 impl Shown for Options {

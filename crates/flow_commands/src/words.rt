@@ -11,8 +11,8 @@ ghost use Rattle.flow_commands.specs.code.Matches.{HoldsOptions};
 use crate::options::{Options, Show};
 use clap::builder::PossibleValue;
 use clap::{Arg, ArgAction, ArgMatches, Command, Error};
-use flow_runs::{cut_option, kind_word, number_of, workers_option};
-use std::alloc::{AllocError, Global};
+use flow_runs::{OutOfMemory, cut_option, kind_word, number_of, workers_option};
+use std::alloc::Global;
 
 const ABOUT: &str =
     "Reads a program of three-address code from standard input, and writes what is asked for to standard output.";
@@ -62,7 +62,7 @@ fn show_option<'a>(alloc: Global, kinds: &'a [PossibleValue<'a>]) -> Arg<'a>
         .help("What to write")
 }
 
-fn command<'a>(alloc: Global, kinds: &'a [PossibleValue<'a>]) -> Result<Command<'a>, AllocError>
+fn command<'a>(alloc: Global, kinds: &'a [PossibleValue<'a>]) -> Result<Command<'a>, OutOfMemory>
     ensures { IfOk result (λ c. app_of c ≡ tacflow_command kinds.entry) }
 {
     Command::new(alloc, "tacflow")

@@ -5,8 +5,8 @@ use clap::error;
 use failing_streams::{Page, Pieces, blank_page};
 use flow_commands::{Options, Show, run};
 use flow_graph::GraphFault;
-use flow_runs::{Fault, fault_line};
-use std::alloc::{AllocError, Global};
+use flow_runs::{Fault, OutOfMemory, fault_line};
+use std::alloc::Global;
 use std::io::{ErrorKind, Read};
 use std::process::Abort;
 use std::test::Fail;
@@ -408,7 +408,7 @@ fn faults_around_the_smallest(rt: HostRuntime) -> Result<(), Fail> {
 const PRINTS: u32 = 12_000;
 
 // That program, as a listing has it.
-fn prints(alloc: Global) -> Result<String, AllocError> {
+fn prints(alloc: Global) -> Result<String, OutOfMemory> {
     repeated(
         alloc,
         "proc main\n",

@@ -1,4 +1,5 @@
 pub mod Analyses
+pub mod Directions
 pub mod Edges
 pub mod Examples
 pub mod Leading

@@ -41,8 +41,8 @@ may_boundary form bit =
     if is_must form.analysis then not (is_in_boundary form.program form.analysis bit) else is_in_boundary form.program form.analysis bit
 
 -- A word of a set of bits: its place k is 1 exactly where bit 64 * word + k is there and is in the set.
-abbrev pub IsWordOf : (ℕ → Bool) → ℕ → ℕ → ℕ → Type 0
-IsWordOf test bits word value = (k : ℕ) → k < 64 → has_bit value k ≡ (nat_lt (64 * word + k) bits && test (64 * word + k))
+abbrev pub IsWordOfTest : (ℕ → Bool) → ℕ → ℕ → ℕ → Type 0
+IsWordOfTest test bits word value = (k : ℕ) → k < 64 → has_bit value k ≡ (nat_lt (64 * word + k) bits && test (64 * word + k))
 
 -- The step of the statement at a point generates the bit, or kills it.
 abbrev pub IsAffected : MayForm → ℕ → ℕ → Type 0

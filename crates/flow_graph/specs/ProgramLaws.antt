@@ -5,7 +5,7 @@ use Rattle.tac_program.specs.Programs.{Program}
 use Rattle.tac_program.specs.Sound.{IsSound}
 use Rattle.flow_graph.specs.Analyses.{shape_of, transfer_of, HasPathAt, IsInTable, is_backward, is_must}
 use Rattle.flow_graph.specs.Runs.{accesses_of, IsDoubtful, ReadsBeforeWriting, CallsReturn, IsLiveness}
-use Rattle.flow_graph.specs.Problems.{may_shape, may_transfer, IsWordOf, MayForm, may_gens, may_kills, may_boundary}
+use Rattle.flow_graph.specs.Problems.{may_shape, may_transfer, IsWordOfTest, MayForm, may_gens, may_kills, may_boundary}
 use Rattle.flow_graph.specs.Edges.{edges, edges_from}
 use Rattle.flow_graph.specs.Paths.{Edge, Call, Ret, source_of, target_of, HasPath, SomePathHas}
 use Rattle.flow_graph.specs.WellFormed.{IsWellFormed}
@@ -105,9 +105,9 @@ DummiesComeFirst =
 
 -- A word of a set tells each bit of it that is there, and is told by them.
 abbrev pub WordsTellBits : Type 0
-WordsTellBits = (test : ℕ → Bool) (bits bit value : ℕ) → bit < bits → IsWordOf test bits (bit / 64) value → has_bit value (bit % 64) ≡ test bit
+WordsTellBits = (test : ℕ → Bool) (bits bit value : ℕ) → bit < bits → IsWordOfTest test bits (bit / 64) value → has_bit value (bit % 64) ≡ test bit
 
 abbrev pub WordsAreTheirBits : Type 0
 WordsAreTheirBits =
     (test : ℕ → Bool) (bits word value other : ℕ) → value < 2 ^ 64 → other < 2 ^ 64
-    → IsWordOf test bits word value → IsWordOf test bits word other → value ≡ other
+    → IsWordOfTest test bits word value → IsWordOfTest test bits word other → value ≡ other

@@ -2,18 +2,18 @@
 use Rattle.std.specs.Prelude.{List, [], ◌∷◌, ◌++◌, map, not, ◌&&◌}
 use Rattle.flow_graph.specs.Paths.{Edge, Step, Call, Ret, Shape, Transfer}
 
--- An edge turned round: a return turned round is a call, a call a return.
+-- An edge reversed: a return becomes a call, a call a return.
 abbrev pub reversed_edge : Edge → Edge
 reversed_edge (Step source target) = Step target source
 reversed_edge (Call site source target) = Ret site target source
 reversed_edge (Ret site source target) = Call site target source
 
--- its edges turned round, in the opposite order
+-- its edges reversed, in the opposite order
 abbrev pub reversed_path : List Edge → List Edge
 reversed_path [] = []
 reversed_path (edge ∷ path) = reversed_path path ++ reversed_edge edge ∷ []
 
--- the shape of the reversed problem: each edge turned round, entries and exits exchanged
+-- the shape of the reversed problem: each edge reversed, entries and exits exchanged
 abbrev pub reversed_shape : Shape → Shape
 reversed_shape shape = record shape { entry = shape.exit; exit = shape.entry; edges = map reversed_edge shape.edges }
 

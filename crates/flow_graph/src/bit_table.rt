@@ -4,7 +4,8 @@ ghost use Rattle.std.specs.Prelude.{◌≡◌, ◌+◌, ◌*◌, ◌/◌, ◌<�
 ghost use Rattle.bit_rows.specs.Words.{has_bit};
 ghost use Rattle.flow_graph.specs.code.BitTables.{HasRow, IsBlank, table_has};
 
-use std::alloc::{AllocError, Global};
+use crate::OutOfMemory;
+use std::alloc::Global;
 
 /// A block of rows of bits. Bit `b` of a row stands in its word `b / 64`, at place `b % 64`.
 #[derive(Drop)]
@@ -19,7 +20,7 @@ pub struct BitTable {
 
 impl BitTable {
     /// So many rows, each of so many bits, and none set.
-    pub(crate) fn blank(alloc: Global, rows: u32, bits: u32) -> Result<BitTable, AllocError>
+    pub(crate) fn blank(alloc: Global, rows: u32, bits: u32) -> Result<BitTable, OutOfMemory>
         requires rows { rows ≤ 131072 }
         requires bits { bits ≤ 512 }
         ensures { IfOk result (λ t. IsBlank rows bits t.words.items t.width) }

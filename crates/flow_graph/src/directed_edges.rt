@@ -2,32 +2,19 @@
 
 ghost use Rattle.std.specs.Prelude.{◌≡◌, ◌++◌, IfOk, OnOk, map};
 ghost use Rattle.flow_graph.specs.Edges.{edges as edges_of};
-ghost use Rattle.flow_graph.specs.Analyses.{is_backward as is_backward_of};
 ghost use Rattle.flow_graph.specs.Problems.{may_shape};
 ghost use Rattle.flow_graph.specs.Reversals.{reversed_edge};
 
 use crate::OutOfMemory;
-use crate::analysis::Analysis;
+use crate::analysis::{Analysis, Direction};
 use crate::edge::Edge;
 use crate::edge_list::EdgeList;
 use crate::graph::Graph;
 use crate::walk::Walk;
 use std::alloc::Global;
 
-/// Whether an analysis goes from the end of `main` backwards.
-pub(crate) fn is_backward(analysis: Analysis) -> bool
-    ensures { result ≡ is_backward_of analysis }
-{
-    match analysis {
-        Analysis::Reach => false,
-        Analysis::Live => true,
-        Analysis::Avail => false,
-        Analysis::Busy => true,
-    }
-}
-
-/// An edge turned round: a call becomes a return, and a return a call.
-fn turned(edge: Edge) -> Edge
+/// An edge reversed: a call becomes a return, and a return a call.
+fn reversed(edge: Edge) -> Edge
     ensures { result ≡ reversed_edge edge }
 {
     match edge {
@@ -45,17 +32,17 @@ fn turned(edge: Edge) -> Edge
     }
 }
 
-/// The edges of a problem that goes backwards: each is turned round as it is put.
+/// The edges of a problem that goes backwards: each is reversed as it is put.
 #[derive(Drop)]
-struct TurnedEdges {
+struct ReversedEdges {
     edges: Vec<Edge>,
 }
 
-impl EdgeList for TurnedEdges {
+impl EdgeList for ReversedEdges {
     ghost listed = { λ list. map reversed_edge list.edges.items };
 
-    fn put(&mut self, edge: Edge) -> Result<(), OutOfMemory> {
-        self.edges.push(turned(edge))?;
+    fn put_edge(&mut self, edge: Edge) -> Result<(), OutOfMemory> {
+        self.edges.push(reversed(edge))?;
         Ok(())
     }
 }
@@ -83,12 +70,15 @@ pub(crate) fn directed_edges(
 {
     // Most points are left by one edge. With as many places again for what tests and calls add, the list does not move.
     let mut edges = Vec::with_capacity(alloc, graph.points() as usize * 2)?;
-    if is_backward(analysis) {
-        let mut list = TurnedEdges { edges };
-        put_all(&mut list, graph)?;
-        Ok(list.edges)
-    } else {
-        put_all(&mut edges, graph)?;
-        Ok(edges)
+    match analysis.direction() {
+        Direction::Forward => {
+            put_all(&mut edges, graph)?;
+            Ok(edges)
+        }
+        Direction::Backward => {
+            let mut list = ReversedEdges { edges };
+            put_all(&mut list, graph)?;
+            Ok(list.edges)
+        }
     }
 }

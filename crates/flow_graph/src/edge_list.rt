@@ -13,14 +13,14 @@ pub(crate) trait EdgeList {
     ghost listed: { Self → List AnEdge };
 
     /// Puts an edge last.
-    fn put(&mut self, edge: Edge) -> Result<(), OutOfMemory>
+    fn put_edge(&mut self, edge: Edge) -> Result<(), OutOfMemory>
         ensures { OnOk result (listed self.new ≡ listed self.old ++ edge ∷ []) };
 }
 
 impl EdgeList for SmallVec<Edge, 2, Global> {
     ghost listed = { λ edges. edges.items };
 
-    fn put(&mut self, edge: Edge) -> Result<(), OutOfMemory> {
+    fn put_edge(&mut self, edge: Edge) -> Result<(), OutOfMemory> {
         self.push(edge)?;
         Ok(())
     }
@@ -29,7 +29,7 @@ impl EdgeList for SmallVec<Edge, 2, Global> {
 impl EdgeList for Vec<Edge> {
     ghost listed = { λ edges. edges.items };
 
-    fn put(&mut self, edge: Edge) -> Result<(), OutOfMemory> {
+    fn put_edge(&mut self, edge: Edge) -> Result<(), OutOfMemory> {
         self.push(edge)?;
         Ok(())
     }

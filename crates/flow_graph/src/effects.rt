@@ -9,6 +9,7 @@ ghost use Rattle.flow_graph.specs.Transfers.{has_operand, names_variable, operan
 ghost use Rattle.flow_graph.specs.Universes.{bits};
 ghost use Rattle.tac_program.specs.Sound.{IsSound};
 
+use crate::OutOfMemory;
 use crate::analysis::Analysis;
 use crate::bit_table::BitTable;
 use crate::effect::Effect;
@@ -16,7 +17,7 @@ use crate::expression::Expr;
 use crate::graph::Graph;
 use crate::universes::target;
 use crate::walk::Walk;
-use std::alloc::{AllocError, Global};
+use std::alloc::Global;
 use tac_program::{Operand, Stmt, StmtKind};
 
 /// The variable that an operand is.
@@ -156,7 +157,7 @@ pub(crate) fn effects(
     alloc: Global,
     graph: &Graph<'_>,
     analysis: Analysis,
-) -> Result<Vec<Effect>, AllocError>
+) -> Result<Vec<Effect>, OutOfMemory>
     ensures { IfOk result (λ v. AreEffects graph.now analysis v.items) }
 {
     let mut effects = Vec::with_capacity(alloc, graph.points() as usize)?;
@@ -177,7 +178,7 @@ pub(crate) fn effects(
 }
 
 /// Sets a bit of a row, if there is such a row.
-fn mark(table: &mut BitTable, rows: u32, row: Option<u32>, bit: u32)
+fn mark_bit(table: &mut BitTable, rows: u32, row: Option<u32>, bit: u32)
     requires rows { rows * table.old.width ≤ length table.old.words.items }
     requires bit { bit / 64 < table.old.width }
     ensures width { table.new.width ≡ table.old.width }
@@ -200,7 +201,7 @@ pub(crate) fn dependent_words(
     alloc: Global,
     graph: &Graph<'_>,
     analysis: Analysis,
-) -> Result<BitTable, AllocError>
+) -> Result<BitTable, OutOfMemory>
     ensures { IfOk result (λ words. AreDependentWords graph.now analysis words.words.items words.width) }
 {
     let rows = graph.program().variables();
@@ -208,8 +209,8 @@ pub(crate) fn dependent_words(
     let mut words = BitTable::blank(alloc, rows, 64)?;
     for bit in 0..bits {
         let (first, second) = bit_variables(graph, analysis, bit);
-        mark(&mut words, rows, first, bit / 64 % 64);
-        mark(&mut words, rows, second, bit / 64 % 64);
+        mark_bit(&mut words, rows, first, bit / 64 % 64);
+        mark_bit(&mut words, rows, second, bit / 64 % 64);
     }
     Ok(words)
 }
@@ -229,7 +230,7 @@ pub(crate) fn put_dependence(graph: &Graph<'_>, analysis: Analysis, from: u32, t
     let count = graph.bits(analysis).saturating_sub(from).min(most);
     for place in 0..count {
         let (first, second) = bit_variables(graph, analysis, from + place);
-        mark(table, rows, first, place);
-        mark(table, rows, second, place);
+        mark_bit(table, rows, first, place);
+        mark_bit(table, rows, second, place);
     }
 }

@@ -1,4 +1,4 @@
-use std::alloc::AllocError;
+use crate::OutOfMemory;
 use thiserror::Error;
 
 /// Why a program has no graph.
@@ -15,13 +15,13 @@ pub enum GraphFault {
     OutOfMemory,
 }
 
-impl From<AllocError> for GraphFault {
+impl From<OutOfMemory> for GraphFault {
     ghost use Rattle.std.specs.Prelude.{◌≡◌};
     ghost use Rattle.flow_graph.specs.declared.fault.GraphFault.TheVariants as fault;
 
     ghost from_gives = { λ _ e. e ≡ fault.OutOfMemory };
 
-    fn from(_no_memory: AllocError) -> GraphFault {
+    fn from(_no_memory: OutOfMemory) -> GraphFault {
         GraphFault::OutOfMemory
     }
 }

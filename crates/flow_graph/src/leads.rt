@@ -12,7 +12,7 @@ use crate::OutOfMemory;
 use crate::edge::Edge;
 use crate::graph::Graph;
 use crate::number_lists::{NumberList, empty_lists, put_last};
-use std::alloc::{AllocError, Global};
+use std::alloc::Global;
 
 /// The point to which an edge leads.
 fn target(edge: Edge) -> u32
@@ -26,7 +26,7 @@ fn target(edge: Edge) -> u32
 }
 
 /// Puts the point that some edges leave last in the list of each point to which one leads.
-fn put_source(lists: &mut Vec<NumberList>, edges: &[Edge], source: u32) -> Result<(), AllocError>
+fn put_source(lists: &mut Vec<NumberList>, edges: &[Edge], source: u32) -> Result<(), OutOfMemory>
     requires { All (λ edge. target_of edge < length (contents lists.old.items)) edges.now }
     ensures { OnOk result
         (contents lists.new.items ≡ fold (λ known edge. with_last known (target_of edge) source) (contents lists.old.items) edges.now) }
@@ -51,7 +51,7 @@ fn sources(alloc: Global, graph: &Graph<'_>) -> Result<Vec<NumberList>, OutOfMem
 }
 
 /// The marked ones of so many points.
-fn marked_points(alloc: Global, marked: &[bool], count: u32) -> Result<Vec<u32>, AllocError>
+fn marked_points(alloc: Global, marked: &[bool], count: u32) -> Result<Vec<u32>, OutOfMemory>
     requires { length marked.now ≡ count }
     ensures { IfOk result (λ points. points.items ≡ filter (λ point. get_or marked.now point false) (range_with_len 0 (length marked.now))) }
 {
@@ -65,7 +65,7 @@ fn marked_points(alloc: Global, marked: &[bool], count: u32) -> Result<Vec<u32>,
 }
 
 /// Makes a point known; where it was not, it is put to the work.
-fn know(known: &mut Vec<bool>, work: &mut Vec<u32>, point: u32) -> Result<(), AllocError>
+fn know_point(known: &mut Vec<bool>, work: &mut Vec<u32>, point: u32) -> Result<(), OutOfMemory>
     requires { point < length known.old.items }
     ensures { OnOk result (search_of known.new.items work.new.items ≡ with_known (search_of known.old.items work.old.items) point) }
 {
@@ -78,12 +78,12 @@ fn know(known: &mut Vec<bool>, work: &mut Vec<u32>, point: u32) -> Result<(), Al
 }
 
 /// Makes each of some points known.
-fn know_all(known: &mut Vec<bool>, work: &mut Vec<u32>, points: &[u32]) -> Result<(), AllocError>
+fn know_all(known: &mut Vec<bool>, work: &mut Vec<u32>, points: &[u32]) -> Result<(), OutOfMemory>
     requires { All (λ point. point < length known.old.items) points.now }
     ensures { OnOk result (search_of known.new.items work.new.items ≡ fold with_known (search_of known.old.items work.old.items) points.now) }
 {
     for point in points {
-        know(known, work, *point)?;
+        know_point(known, work, *point)?;
     }
     Ok(())
 }

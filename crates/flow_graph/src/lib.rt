@@ -28,7 +28,7 @@ mod universes;
 mod walk;
 mod words;
 
-pub use analysis::Analysis;
+pub use analysis::{Analysis, Direction, Join};
 pub use bit_table::BitTable;
 pub use edge::Edge;
 pub use expression::Expr;

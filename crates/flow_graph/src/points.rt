@@ -9,9 +9,10 @@ ghost use Rattle.tac_program.specs.Sound.{IsSound};
 ghost use Rattle.tac_program.specs.declared.limits.Limits.TheVariants.{Large, Standard};
 ghost use Rattle.flow_graph.specs.declared.fault.GraphFault.TheVariants.{TooManyPoints, TooManyBits};
 
+use crate::OutOfMemory;
 use crate::fault::GraphFault;
 use crate::place::Place;
-use std::alloc::{AllocError, Global};
+use std::alloc::Global;
 use std::marker::Model;
 use tac_program::{Limits, Program, Stmt};
 
@@ -59,7 +60,7 @@ fn has_few_points(program: &Program, limits: Limits) -> bool
 }
 
 /// The first point of each procedure.
-fn first_points(alloc: Global, program: &Program) -> Result<Vec<u32>, AllocError>
+fn first_points(alloc: Global, program: &Program) -> Result<Vec<u32>, OutOfMemory>
     requires { HasFewPoints Large program.now }
     ensures { IfOk result (λ firsts. AreFirstPoints program.now firsts.items) }
 {
@@ -74,7 +75,7 @@ fn first_points(alloc: Global, program: &Program) -> Result<Vec<u32>, AllocError
 }
 
 /// The procedure of each point, for so many points.
-fn point_procedures(alloc: Global, program: &Program) -> Result<Vec<u32>, AllocError>
+fn point_procedures(alloc: Global, program: &Program) -> Result<Vec<u32>, OutOfMemory>
     requires { HasFewPoints Large program.now }
     ensures { IfOk result (λ procedures. AreProcedures program.now procedures.items) }
 {

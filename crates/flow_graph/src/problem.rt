@@ -1,7 +1,8 @@
 ghost use Rattle.std.specs.Prelude.{◌≡◌, ◌+◌, ◌*◌, ◌/◌, ◌%◌, ◌^◌, ◌<◌, ◌≤◌, ℕ, false, true, IfOk, IfSome, length, option_map, unwrap_or};
 ghost use Rattle.bit_rows.specs.Words.{has_bit};
-ghost use Rattle.flow_graph.specs.Analyses.{is_backward as is_backward_of, is_must, main_procedure};
-ghost use Rattle.flow_graph.specs.Problems.{may_shape, IsAffected, IsWordOf, may_boundary, may_gens, may_kills};
+ghost use Rattle.flow_graph.specs.Analyses.{is_backward, is_must, main_procedure};
+ghost use Rattle.flow_graph.specs.Directions.{goes_backward};
+ghost use Rattle.flow_graph.specs.Problems.{may_shape, IsAffected, IsWordOfTest, may_boundary, may_gens, may_kills};
 ghost use Rattle.flow_graph.specs.code.Effects.{IsDependence, depends};
 ghost use Rattle.flow_graph.specs.Limits.{HasFewBits, HasFewPoints};
 ghost use Rattle.flow_graph.specs.WellFormed.{IsWellFormed};
@@ -11,9 +12,9 @@ ghost use Rattle.tac_program.specs.Sound.{IsSound};
 ghost use Rattle.tac_program.specs.declared.limits.Limits.TheVariants.{Large};
 
 use crate::OutOfMemory;
-use crate::analysis::Analysis;
+use crate::analysis::{Analysis, Direction, Join};
 use crate::bit_table::BitTable;
-use crate::directed_edges::{directed_edges, is_backward};
+use crate::directed_edges::directed_edges;
 use crate::edge::Edge;
 use crate::effect::Effect;
 use crate::effects::{bit_variables, dependent_words, effects, put_dependence};
@@ -25,7 +26,7 @@ use std::alloc::Global;
 use std::marker::Model;
 
 /// The may form of an analysis: the forward problem, in which a path has a bit where some edge has put it in, by which the
-/// analysis is solved. A backward analysis has its edges turned round, and an analysis over every path its sets complemented.
+/// analysis is solved. A backward analysis has its edges reversed, and an analysis over every path its sets complemented.
 pub struct Problem<'g, 'p> {
     graph: &'g Graph<'p>,
     analysis: Analysis,
@@ -123,10 +124,9 @@ impl<'g, 'p> Problem<'g, 'p> {
         requires { procedure < length self.now.program.procedures }
         ensures { result ≡ (may_shape self.now.program self.now.analysis).entry procedure }
     {
-        if is_backward(self.analysis) {
-            self.end(procedure)
-        } else {
-            self.graph.point(procedure, 0)
+        match self.analysis.direction() {
+            Direction::Forward => self.graph.point(procedure, 0),
+            Direction::Backward => self.end(procedure),
         }
     }
 
@@ -135,10 +135,9 @@ impl<'g, 'p> Problem<'g, 'p> {
         requires { procedure < length self.now.program.procedures }
         ensures { result ≡ (may_shape self.now.program self.now.analysis).exit procedure }
     {
-        if !is_backward(self.analysis) {
-            self.end(procedure)
-        } else {
-            self.graph.point(procedure, 0)
+        match self.analysis.direction() {
+            Direction::Forward => self.end(procedure),
+            Direction::Backward => self.graph.point(procedure, 0),
         }
     }
 
@@ -150,7 +149,7 @@ impl<'g, 'p> Problem<'g, 'p> {
         self.graph.place(point).procedure
     }
 
-    /// The edges, each turned round where the analysis goes backwards, in the order of the points that they leave in the
+    /// The edges, each reversed where the analysis goes backwards, in the order of the points that they leave in the
     /// graph. They fit together with entries, exits and procedures, as the laws over paths want it.
     pub fn edges(&self) -> &[Edge]
         ensures edges { result.now ≡ (may_shape self.now.program self.now.analysis).edges }
@@ -184,22 +183,20 @@ impl<'g, 'p> Problem<'g, 'p> {
         self.graph.bits(self.analysis)
     }
 
-    /// Whether the edges are turned round: whether the analysis goes backwards.
-    pub fn reverses(&self) -> bool
-        ensures { result ≡ is_backward_of self.now.analysis }
+    /// Which way the analysis goes: the edges are reversed where it goes backwards.
+    pub fn direction(&self) -> Direction
+        ensures { goes_backward result ≡ is_backward self.now.analysis }
     {
-        is_backward(self.analysis)
+        self.analysis.direction()
     }
 
     /// Whether the sets are complemented: whether the analysis is over every path.
     pub fn complements(&self) -> bool
         ensures { result ≡ is_must self.now.analysis }
     {
-        match self.analysis {
-            Analysis::Reach => false,
-            Analysis::Live => false,
-            Analysis::Avail => true,
-            Analysis::Busy => true,
+        match self.analysis.join() {
+            Join::Union => false,
+            Join::Intersection => true,
         }
     }
 
@@ -284,7 +281,7 @@ impl<'g, 'p> Problem<'g, 'p> {
         requires table { IsDependence self.now.program self.now.analysis table.now.first table.now.words.items table.now.width }
         requires from { table.now.first ≤ word }
         requires until { word < table.now.first + table.now.width }
-        ensures { IsWordOf (may_gens self.now point) (bits_of self.now.program self.now.analysis) word result }
+        ensures { IsWordOfTest (may_gens self.now point) (bits_of self.now.program self.now.analysis) word result }
     {
         let effect = self.effects[point as usize];
         let own = own_word(effect, word);
@@ -298,7 +295,7 @@ impl<'g, 'p> Problem<'g, 'p> {
         requires table { IsDependence self.now.program self.now.analysis table.now.first table.now.words.items table.now.width }
         requires from { table.now.first ≤ word }
         requires until { word < table.now.first + table.now.width }
-        ensures { IsWordOf (may_kills self.now point) (bits_of self.now.program self.now.analysis) word result }
+        ensures { IsWordOfTest (may_kills self.now point) (bits_of self.now.program self.now.analysis) word result }
     {
         let effect = self.effects[point as usize];
         let own = own_word(effect, word);
@@ -344,7 +341,7 @@ impl<'g, 'p> Problem<'g, 'p> {
 
     /// The bits that hold where the problem begins, by words.
     pub fn boundary_word(&self, word: u32) -> u64
-        ensures { IsWordOf (may_boundary self.now) (bits_of self.now.program self.now.analysis) word result }
+        ensures { IsWordOfTest (may_boundary self.now) (bits_of self.now.program self.now.analysis) word result }
     {
         self.boundary_places(word) & full_word(self.bits(), word)
     }

@@ -6,9 +6,10 @@ ghost use Rattle.flow_graph.specs.code.NumberLists.{contents, with_last};
 ghost use Rattle.flow_graph.specs.Points.{point_count};
 ghost use Rattle.flow_graph.specs.code.Sites.{AreSites};
 
+use crate::OutOfMemory;
 use crate::number_lists::{NumberList, empty_lists, put_last};
 use crate::points::Points;
-use std::alloc::{AllocError, Global};
+use std::alloc::Global;
 use tac_program::StmtKind;
 
 /// The procedures that a statement may call.
@@ -43,7 +44,7 @@ fn callees<'p>(points: &Points<'p>, point: u32) -> &'p [u32]
 }
 
 /// Puts a call site last in the list of each procedure that it may call.
-fn put_site(lists: &mut Vec<NumberList>, callees: &[u32], site: u32) -> Result<(), AllocError>
+fn put_site(lists: &mut Vec<NumberList>, callees: &[u32], site: u32) -> Result<(), OutOfMemory>
     requires { All (λ procedure. procedure < length (contents lists.old.items)) callees.now }
     ensures { OnOk result
         (contents lists.new.items ≡ fold (λ known procedure. with_last known procedure site) (contents lists.old.items) callees.now) }
@@ -55,7 +56,7 @@ fn put_site(lists: &mut Vec<NumberList>, callees: &[u32], site: u32) -> Result<(
 }
 
 /// The call sites of each procedure, in the order of points.
-pub fn call_sites(alloc: Global, points: &Points<'_>) -> Result<Vec<NumberList>, AllocError>
+pub fn call_sites(alloc: Global, points: &Points<'_>) -> Result<Vec<NumberList>, OutOfMemory>
     ensures { IfOk result (λ sites. AreSites points.now (contents sites.items)) }
 {
     let procs = points.program().procs();

@@ -49,12 +49,12 @@ fn put_test<E: EdgeList>(edges: &mut E, point: u32, target: u32) -> Result<(), O
     ensures { OnOk result (E.listed edges.new ≡ E.listed edges.old ++ two_steps point target) }
 {
     let next = point + 1;
-    edges.put(Edge::Step {
+    edges.put_edge(Edge::Step {
         from: point,
         to: next,
     })?;
     if target != next {
-        edges.put(Edge::Step {
+        edges.put_edge(Edge::Step {
             from: point,
             to: target,
         })?;
@@ -73,7 +73,7 @@ fn put_calls<E: EdgeList>(
     ensures { OnOk result (E.listed edges.new ≡ E.listed edges.old ++ map (λ callee. Call point point (entry_point points.now callee)) callees.now) }
 {
     for callee in callees {
-        edges.put(Edge::Call {
+        edges.put_edge(Edge::Call {
             site: point,
             from: point,
             to: points.point(*callee, 0),
@@ -88,7 +88,7 @@ fn put_returns<E: EdgeList>(edges: &mut E, point: u32, sites: &[u32]) -> Result<
     ensures { OnOk result (E.listed edges.new ≡ E.listed edges.old ++ map (λ site. Ret site point (suc site)) sites.now) }
 {
     for site in sites {
-        edges.put(Edge::Ret {
+        edges.put_edge(Edge::Ret {
             site: *site,
             from: point,
             to: *site + 1,
@@ -111,7 +111,7 @@ fn put_statement<E: EdgeList>(
     ensures { OnOk result (E.listed edges.new ≡ E.listed edges.old ++ edges_of points.now point kind.now) }
 {
     match kind {
-        StmtKind::Goto { label } => edges.put(Edge::Step {
+        StmtKind::Goto { label } => edges.put_edge(Edge::Step {
             from: point,
             to: label_target(points, point, *label),
         }),
@@ -123,7 +123,7 @@ fn put_statement<E: EdgeList>(
             put_test(edges, point, label_target(points, point, *label))
         },
         StmtKind::Call { callees } => put_calls(edges, points, point, callees.as_slice()),
-        StmtKind::Return => edges.put(Edge::Step {
+        StmtKind::Return => edges.put_edge(Edge::Step {
             from: point,
             to: end_target(points, point),
         }),
@@ -132,7 +132,7 @@ fn put_statement<E: EdgeList>(
         | StmtKind::Binary { .. }
         | StmtKind::Read { .. }
         | StmtKind::Print { .. }
-        | StmtKind::Skip => edges.put(Edge::Step {
+        | StmtKind::Skip => edges.put_edge(Edge::Step {
             from: point,
             to: point + 1,
         }),

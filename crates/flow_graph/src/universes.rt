@@ -7,10 +7,11 @@ ghost use Rattle.flow_graph.specs.Points.{point_count};
 ghost use Rattle.flow_graph.specs.Universes.{definitions as definitions_of, expression_at, expression_of, expressions as expressions_of, noted};
 ghost use Rattle.flow_graph.specs.Universes.{some_expression, target_at, defined_variable};
 
+use crate::OutOfMemory;
 use crate::expression::Expr;
 use crate::points::Points;
 use indexmap::IndexSet;
-use std::alloc::{AllocError, Global};
+use std::alloc::Global;
 use tac_program::StmtKind;
 
 /// The variable that a statement defines.
@@ -81,7 +82,7 @@ fn expression_of_point(points: &Points<'_>, point: u32) -> Option<Expr>
 }
 
 /// The dummy definitions.
-fn dummies(alloc: Global, variables: u32) -> Result<Vec<(u32, Option<u32>)>, AllocError>
+fn dummies(alloc: Global, variables: u32) -> Result<Vec<(u32, Option<u32>)>, OutOfMemory>
     ensures { IfOk result (λ v. v.items ≡ map (λ x. (x, None)) (range_with_len 0 variables)) }
 {
     let mut definitions = Vec::with_capacity(alloc, variables as usize)?;
@@ -95,7 +96,7 @@ fn dummies(alloc: Global, variables: u32) -> Result<Vec<(u32, Option<u32>)>, All
 pub fn definitions(
     alloc: Global,
     points: &Points<'_>,
-) -> Result<Vec<(u32, Option<u32>)>, AllocError>
+) -> Result<Vec<(u32, Option<u32>)>, OutOfMemory>
     ensures { IfOk result (λ v. v.items ≡ definitions_of points.now) }
 {
     let mut definitions = dummies(alloc, points.program().variables())?;
@@ -109,10 +110,10 @@ pub fn definitions(
 }
 
 /// The number of an expression, which is put last unless it is there.
-fn note(
+fn note_expression(
     expressions: &mut IndexSet<Expr>,
     expression: Option<Expr>,
-) -> Result<Option<u32>, AllocError>
+) -> Result<Option<u32>, OutOfMemory>
     requires { length expressions.old.keys < 2 ^ 31 }
     ensures noted { OnOk result (expressions.new.keys ≡ fold noted expressions.old.keys (some_expression expression)) }
     ensures number { IfOk result (λ number. IsNumberOf expressions.new.keys expression number) }
@@ -130,14 +131,14 @@ fn note(
 pub fn expressions(
     alloc: Global,
     points: &Points<'_>,
-) -> Result<(IndexSet<Expr>, Vec<Option<u32>>), AllocError>
+) -> Result<(IndexSet<Expr>, Vec<Option<u32>>), OutOfMemory>
     ensures expressions { IfOk result (λ r. (r.0).keys ≡ expressions_of points.now) }
     ensures evaluated { IfOk result (λ r. AreEvaluated points.now (r.1).items) }
 {
     let mut expressions = IndexSet::new(alloc);
     let mut evaluated = Vec::with_capacity(alloc, points.count() as usize)?;
     for point in 0..points.count() {
-        evaluated.push(note(&mut expressions, expression_of_point(points, point))?)?;
+        evaluated.push(note_expression(&mut expressions, expression_of_point(points, point))?)?;
     }
     Ok((expressions, evaluated))
 }

@@ -196,8 +196,8 @@ fn write_leading(
 pub fn write_frame(text: &mut String, problem: &Problem<'_, '_>) -> Result<(), OutOfMemory> {
     write!(
         text,
-        "reverses {}, complements {}\n",
-        problem.reverses(),
+        "{:?}, complements {}\n",
+        problem.direction(),
         problem.complements()
     )?;
     write!(text, "root {}\n", problem.root())?;

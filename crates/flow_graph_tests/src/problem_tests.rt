@@ -16,22 +16,22 @@ const MAY_FORMS: &[Row] = &[
     (
         adds_to_itself::TEXT,
         Question::Frame(Analysis::Reach),
-        "reverses false, complements false\nroot 0\n0: 0 to 1\n 0 0\n 0-1",
+        "Forward, complements false\nroot 0\n0: 0 to 1\n 0 0\n 0-1",
     ),
     (
         adds_to_itself::TEXT,
         Question::Frame(Analysis::Live),
-        "reverses true, complements false\nroot 0\n0: 1 to 0\n 0 0\n 1-0",
+        "Backward, complements false\nroot 0\n0: 1 to 0\n 0 0\n 1-0",
     ),
     (
         adds_to_itself::TEXT,
         Question::Frame(Analysis::Avail),
-        "reverses false, complements true\nroot 0\n0: 0 to 1\n 0 0\n 0-1",
+        "Forward, complements true\nroot 0\n0: 0 to 1\n 0 0\n 0-1",
     ),
     (
         adds_to_itself::TEXT,
         Question::Frame(Analysis::Busy),
-        "reverses true, complements true\nroot 0\n0: 1 to 0\n 0 0\n 1-0",
+        "Backward, complements true\nroot 0\n0: 1 to 0\n 0 0\n 1-0",
     ),
     (
         adds_to_itself::TEXT,
@@ -56,7 +56,7 @@ const MAY_FORMS: &[Row] = &[
     (
         CALLS_MAIN,
         Question::Frame(Analysis::Live),
-        "reverses true, complements false\nroot 0\n0: 4 to 0\n1: 5 to 5\n 0 0 0 0 0 1\n 1-0 3-0 2-1 return 0-2 at 2 4-3 call 3-4 at 2",
+        "Backward, complements false\nroot 0\n0: 4 to 0\n1: 5 to 5\n 0 0 0 0 0 1\n 1-0 3-0 2-1 return 0-2 at 2 4-3 call 3-4 at 2",
     ),
     (
         EACH_KIND,

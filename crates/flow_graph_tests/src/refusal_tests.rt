@@ -125,8 +125,7 @@ fn leads_to_is_refused(rt: HostRuntime) -> Result<(), Fail> {
 
 #[test]
 fn problem_is_refused(rt: HostRuntime) -> Result<(), Fail> {
-    let frame =
-        "reverses false, complements false\nroot 0\n0: 0 to 3\n1: 4 to 7\n 0 0 0 0 1 1 1 1\n \
+    let frame = "Forward, complements false\nroot 0\n0: 0 to 3\n1: 4 to 7\n 0 0 0 0 1 1 1 1\n \
         0-1 call 1-4 at 1 2-3 4-5 4-7 call 5-4 at 5 6-7 return 7-2 at 1 return 7-6 at 5";
     check(&rt, recursion::TEXT, Call::ProblemOf, frame)
 }

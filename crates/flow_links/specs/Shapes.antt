@@ -8,7 +8,7 @@ use Rattle.flow_graph.specs.Paths.{Shape, IsEdge, source_of, target_of}
 use Rattle.flow_graph.specs.Reversals.{reversed_shape}
 use Rattle.flow_graph.specs.WellFormed.{IsWellFormed}
 
--- a program, and whether its edges are turned round
+-- a program, and whether its edges are reversed
 pub record LinkedProgram : Type 0 where
   pub program : Program
   pub backward : Bool

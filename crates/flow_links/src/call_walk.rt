@@ -61,7 +61,7 @@ impl CallWalk {
     }
 
     // Enters a procedure that was not entered.
-    fn enter(&mut self, procedure: u32) -> Result<(), OutOfMemory> {
+    fn enter_procedure(&mut self, procedure: u32) -> Result<(), OutOfMemory> {
         match self.entered.get_mut(procedure as usize) {
             Some(entered) if !*entered => *entered = true,
             _ => return Ok(()),
@@ -74,7 +74,7 @@ impl CallWalk {
     }
 
     // Goes over the next call of a procedure that was entered, or leaves it.
-    fn visit(
+    fn visit_procedure(
         &mut self,
         links: &Links<'_, '_>,
         way: Way,
@@ -90,7 +90,7 @@ impl CallWalk {
                     procedure: latest.procedure,
                     calls: latest.calls.saturating_add(1),
                 })?;
-                self.enter(other)
+                self.enter_procedure(other)
             }
             None => {
                 self.left.push(latest.procedure)?;
@@ -106,13 +106,13 @@ impl CallWalk {
         way: Way,
         procedure: u32,
     ) -> Result<usize, OutOfMemory> {
-        self.enter(procedure)?;
+        self.enter_procedure(procedure)?;
         // A step for each call, of which a point has eight at most, and one for each procedure that is left.
         let most = 16 * u64::from(links.points());
         'steps: for _ in 0..most {
             match self.open.pop() {
                 Some(latest) if latest.procedure < links.procedures() => {
-                    self.visit(links, way, latest)?;
+                    self.visit_procedure(links, way, latest)?;
                 }
                 _ => break,
             }

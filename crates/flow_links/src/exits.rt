@@ -39,7 +39,7 @@ impl ExitWalk {
     }
 
     // Reaches a point.
-    fn reach(&mut self, point: u32) -> Result<(), OutOfMemory> {
+    fn reach_point(&mut self, point: u32) -> Result<(), OutOfMemory> {
         match self.reached.get_mut(point as usize) {
             Some(reached) if !*reached => *reached = true,
             _ => return Ok(()),
@@ -63,15 +63,15 @@ impl ExitWalk {
     }
 
     // Goes on from a point that was reached.
-    fn visit(&mut self, links: &Links<'_, '_>, point: u32) -> Result<(), OutOfMemory>
+    fn visit_point(&mut self, links: &Links<'_, '_>, point: u32) -> Result<(), OutOfMemory>
         requires { point < point_count links.now.program }
     {
         for target in links.steps_from(point) {
-            self.reach(*target)?;
+            self.reach_point(*target)?;
         }
         for call in links.calls_from(point) {
             if self.leads_on(links, *call) {
-                self.reach(call.after)?;
+                self.reach_point(call.after)?;
             }
         }
         // Their contracts tell that the procedure is there, and that there are few.
@@ -90,7 +90,7 @@ impl ExitWalk {
         for _ in 0..links.points() {
             match self.waiting.pop() {
                 Some(point) if point < links.points() => {
-                    self.visit(links, point)?;
+                    self.visit_point(links, point)?;
                 }
                 _ => return Ok(()),
             }
@@ -112,7 +112,7 @@ impl ExitWalk {
             if is_reached && *caller < links.points() {
                 // All calls of a point lead to the same one behind it.
                 if let Some(call) = links.calls_from(*caller).first() {
-                    self.reach(call.after)?;
+                    self.reach_point(call.after)?;
                 }
             }
         }
@@ -149,7 +149,7 @@ fn walk_in_rounds(
     // Its contract tells where entries lie.
     let _ = links.points();
     for procedure in 0..links.procedures() {
-        walk.reach(links.entry(procedure))?;
+        walk.reach_point(links.entry(procedure))?;
     }
     for round in 0..links.procedures() {
         walk.visit_waiting(links)?;

@@ -1,5 +1,6 @@
 ghost use Rattle.std.specs.Prelude.{◌≡◌, ◌<◌, ◌≤◌, ℕ, IfOk, length, slice_index};
-ghost use Rattle.flow_graph.specs.Analyses.{is_backward as is_backward_of};
+ghost use Rattle.flow_graph.specs.Analyses.{is_backward};
+ghost use Rattle.flow_graph.specs.Directions.{goes_backward};
 ghost use Rattle.flow_graph.specs.Problems.{may_shape};
 ghost use Rattle.flow_graph.specs.Limits.{HasFewPoints};
 ghost use Rattle.tac_program.specs.declared.limits.Limits.TheVariants.{Large};
@@ -12,7 +13,7 @@ use crate::OutOfMemory;
 use crate::link::{CallLink, SiteLink};
 use crate::lists::{CallLists, PointLists, SiteLists, edge_lists};
 use crate::orders::{Orders, number_orders, orders_of};
-use flow_graph::Problem;
+use flow_graph::{Direction, Problem};
 use std::alloc::Global;
 use std::marker::Model;
 use std::snapshot::Snapshot;
@@ -25,7 +26,7 @@ use work_list::Order;
 /// The lists lie side by side in a handful of blocks, made in time that goes with the number of edges.
 pub struct Links<'g, 'p> {
     problem: Snapshot<Problem<'g, 'p>>,
-    backward: bool,
+    direction: Direction,
     root: u32,
     entries: Vec<u32>,
     exits: Vec<u32>,
@@ -39,15 +40,16 @@ pub struct Links<'g, 'p> {
 }
 
 impl<'g, 'p> Model for Links<'g, 'p> {
+    ghost use Rattle.flow_graph.specs.Directions.{goes_backward};
     ghost use Rattle.flow_links.specs.Shapes.{LinkedProgram};
     ghost use Rattle.flow_links.specs.Tables.LinkTables.{AreTables};
 
     ghost Value = { LinkedProgram };
 
-    ghost view = { λ links. record { program = links.problem.value.program; backward = links.backward } };
+    ghost view = { λ links. record { program = links.problem.value.program; backward = goes_backward links.direction } };
 
-    ghost invariant = { λ links. AreTables links.problem.value links.backward links.root links.entries.items links.exits.items links.procedures.items
-        links.steps.starts.items links.steps.items.items links.calls.starts.items links.calls.items.items
+    ghost invariant = { λ links. AreTables links.problem.value (goes_backward links.direction) links.root links.entries.items links.exits.items
+        links.procedures.items links.steps.starts.items links.steps.items.items links.calls.starts.items links.calls.items.items
         links.callers.starts.items links.callers.items.items links.sites.starts.items links.sites.items.items links.order links.call_order };
 }
 
@@ -56,7 +58,7 @@ impl Drop for Links<'_, '_> {
     fn drop(self) {
         let Links {
             problem: _,
-            backward: _,
+            direction: _,
             root: _,
             entries: _,
             exits: _,
@@ -143,14 +145,14 @@ fn place_tables(alloc: Global, problem: &Problem<'_, '_>) -> Result<PlaceTables,
 impl<'g, 'p> Links<'g, 'p> {
     // The links of a problem, in the order of the numbers.
     fn unordered(alloc: Global, problem: &Problem<'g, 'p>) -> Result<Self, OutOfMemory>
-        ensures { IfOk result (λ links. links ≡ record { program = problem.now.program; backward = is_backward_of problem.now.analysis }) }
+        ensures { IfOk result (λ links. links ≡ record { program = problem.now.program; backward = is_backward problem.now.analysis }) }
     {
         let tables = place_tables(alloc, problem)?;
         let orders = number_orders(alloc, problem.points(), problem.procedures())?;
         let lists = edge_lists(alloc, problem)?;
         Ok(Links {
             problem: Snapshot::of(problem),
-            backward: problem.reverses(),
+            direction: problem.direction(),
             root: problem.root(),
             entries: tables.entries,
             exits: tables.exits,
@@ -178,7 +180,7 @@ impl<'g, 'p> Links<'g, 'p> {
 
     /// The links of a problem.
     pub fn of(alloc: Global, problem: &Problem<'g, 'p>) -> Result<Self, OutOfMemory>
-        ensures { IfOk result (λ links. links ≡ record { program = problem.now.program; backward = is_backward_of problem.now.analysis }) }
+        ensures { IfOk result (λ links. links ≡ record { program = problem.now.program; backward = is_backward problem.now.analysis }) }
     {
         let links = Links::unordered(alloc, problem)?;
         let Orders { points, procedures } = orders_of(alloc, &links)?;
@@ -209,7 +211,7 @@ impl<'g, 'p> Links<'g, 'p> {
         self.root
     }
 
-    /// The point at which a procedure is entered: its last, where the edges are turned round.
+    /// The point at which a procedure is entered: its last, where the edges are reversed.
     pub fn entry(&self, procedure: u32) -> u32
         requires { procedure < (directed_shape self.now).procedures }
         ensures { result ≡ (directed_shape self.now).entry procedure }
@@ -217,7 +219,7 @@ impl<'g, 'p> Links<'g, 'p> {
         self.entries[procedure as usize]
     }
 
-    /// The point at which a procedure is left: its first, where the edges are turned round.
+    /// The point at which a procedure is left: its first, where the edges are reversed.
     pub fn exit(&self, procedure: u32) -> u32
         requires { procedure < (directed_shape self.now).procedures }
         ensures { result ≡ (directed_shape self.now).exit procedure }
@@ -233,11 +235,11 @@ impl<'g, 'p> Links<'g, 'p> {
         self.procedures[point as usize]
     }
 
-    /// Whether the edges are turned round.
-    pub fn is_backward(&self) -> bool
-        ensures { result ≡ self.now.backward }
+    /// The direction of the problem's analysis: the edges are reversed where it goes backwards.
+    pub fn direction(&self) -> Direction
+        ensures { goes_backward result ≡ self.now.backward }
     {
-        self.backward
+        self.direction
     }
 
     /// The points to which steps lead from a point.

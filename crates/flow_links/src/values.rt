@@ -7,7 +7,7 @@ ghost use Rattle.flow_links.specs.Tables.EdgeLists.{AreEdges, call_link, call_so
 
 use crate::OutOfMemory;
 use crate::link::{CallLink, SiteLink};
-use flow_graph::{Edge, Problem};
+use flow_graph::{Direction, Edge, Problem};
 use std::alloc::Global;
 
 // The point to which a step leads.
@@ -46,7 +46,10 @@ fn link_of(problem: &Problem<'_, '_>, edge: Edge) -> CallLink
         Edge::Step { .. } => CallLink { exit: 0, after: 0 },
         Edge::Call { site, to, .. } => {
             let exit = problem.exit(problem.procedure(to));
-            let after = if problem.reverses() { site } else { site + 1 };
+            let after = match problem.direction() {
+                Direction::Forward => site + 1,
+                Direction::Backward => site,
+            };
             CallLink { exit, after }
         }
         Edge::Ret { .. } => CallLink { exit: 0, after: 0 },

@@ -44,7 +44,7 @@ impl StepWalk {
 
     // Puts a point that was not entered on what is to be done.
     #[inline(always)]
-    fn put(&mut self, point: u32) -> Result<(), OutOfMemory> {
+    fn put_point(&mut self, point: u32) -> Result<(), OutOfMemory> {
         if self.is_new(point) {
             self.open.push(Visit::Enter(point))?;
         }
@@ -52,7 +52,7 @@ impl StepWalk {
     }
 
     // Enters a point: it is left when those behind its steps and its calls are.
-    fn enter(&mut self, links: &Links<'_, '_>, point: u32) -> Result<(), OutOfMemory>
+    fn enter_point(&mut self, links: &Links<'_, '_>, point: u32) -> Result<(), OutOfMemory>
         requires { point < point_count links.now.program }
     {
         match self.entered.get_mut(point as usize) {
@@ -62,23 +62,23 @@ impl StepWalk {
         self.open.push(Visit::Leave(point))?;
         // All calls of a point lead to the same one behind it.
         if let Some(call) = links.calls_from(point).first() {
-            self.put(call.after)?;
+            self.put_point(call.after)?;
         }
         for target in links.steps_from(point) {
-            self.put(*target)?;
+            self.put_point(*target)?;
         }
         Ok(())
     }
 
     // Walks from a point on.
     fn walk_from(&mut self, links: &Links<'_, '_>, point: u32) -> Result<(), OutOfMemory> {
-        self.put(point)?;
+        self.put_point(point)?;
         // Each point is left once, and is put here by its steps and its calls: no walk does as much.
         let most = 8 * u64::from(links.points());
         for _ in 0..most {
             match self.open.pop() {
                 Some(Visit::Enter(point)) if point < links.points() => {
-                    self.enter(links, point)?;
+                    self.enter_point(links, point)?;
                 }
                 Some(Visit::Leave(point)) => self.left.push(point)?,
                 _ => return Ok(()),

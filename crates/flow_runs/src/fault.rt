@@ -3,9 +3,10 @@
 ghost use Rattle.std.specs.Prelude.{◌≡◌, ◌++◌, IfOk, OnOk, codes};
 ghost use Rattle.flow_runs.specs.FaultLines.{fault_text, line_of_fault, name_of_kind, refusal_text};
 
+use crate::OutOfMemory;
 use flow_graph::GraphFault;
-use std::alloc::{AllocError, Global};
-use tac_lines::{OutOfMemory, Refusal, RefusalKind};
+use std::alloc::Global;
+use tac_lines::{Refusal, RefusalKind};
 use thiserror::Error;
 
 /// Why a run did not write all of its text.
@@ -31,13 +32,13 @@ pub enum Fault {
     Write,
 }
 
-impl From<AllocError> for Fault {
+impl From<OutOfMemory> for Fault {
     ghost use Rattle.std.specs.Prelude.{◌≡◌};
     ghost use Rattle.flow_runs.specs.declared.fault.Fault.TheVariants as fault;
 
     ghost from_gives = { λ _ e. e ≡ fault.OutOfMemory };
 
-    fn from(_no_memory: AllocError) -> Fault {
+    fn from(_no_memory: OutOfMemory) -> Fault {
         Fault::OutOfMemory
     }
 }
@@ -72,7 +73,7 @@ pub fn line_with(alloc: Global, program: &str, rest: &[u8]) -> Result<Vec<u8>, O
 }
 
 // What is told of a refusal behind the program's name.
-fn refusal_end(alloc: Global, refusal: &Refusal) -> Result<Vec<u8>, AllocError>
+fn refusal_end(alloc: Global, refusal: &Refusal) -> Result<Vec<u8>, OutOfMemory>
     ensures { IfOk result (λ rest. rest.items ≡ codes ": " ++ refusal_text refusal.now ++ codes "\n") }
 {
     let line = refusal.line;
@@ -84,7 +85,7 @@ fn refusal_end(alloc: Global, refusal: &Refusal) -> Result<Vec<u8>, AllocError>
 }
 
 // What is told of a fault behind the program's name.
-fn fault_end(alloc: Global, fault: &Fault) -> Result<Vec<u8>, AllocError>
+fn fault_end(alloc: Global, fault: &Fault) -> Result<Vec<u8>, OutOfMemory>
     ensures { IfOk result (λ rest. rest.items ≡ codes ": " ++ fault_text fault.now ++ codes "\n") }
 {
     let rest: &[u8] = match fault {

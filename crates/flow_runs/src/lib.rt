@@ -19,4 +19,5 @@ pub use ranges::are_in_range;
 pub use reports::push_report;
 pub use runs::run;
 pub use showing::Shown;
+pub use std::alloc::AllocError as OutOfMemory;
 pub use streams::{tell_line, tell_no_words, tell_words};

@@ -1,25 +1,25 @@
 // A program's standard streams, and what is told of its words and its faults, with the statuses.
 
+use crate::OutOfMemory;
 use crate::fault::{Fault, fault_line};
 use clap::Error;
 use clap::error::ErrorKind;
 use std::io;
 use std::io::Write;
 use std::process::ExitCode;
-use tac_lines::OutOfMemory;
 
 /// Tells a line on standard error; where no memory was left to make it, fixed words. The status is 1.
 pub fn tell_line(rt: &HostRuntime, program: &str, line: Result<Vec<u8>, OutOfMemory>) -> ExitCode {
     let mut errors = rt.stderr();
     let _ = match line {
         Ok(line) => errors.write_all(&line),
-        Err(_) => tell(&mut errors, program, b": out of memory\n"),
+        Err(_) => tell_bytes(&mut errors, program, b": out of memory\n"),
     };
     ExitCode::FAILURE
 }
 
 // Tells the program's name and fixed bytes behind it, with no need of memory.
-fn tell<W: Write>(errors: &mut W, program: &str, bytes: &[u8]) -> io::Result<()> {
+fn tell_bytes<W: Write>(errors: &mut W, program: &str, bytes: &[u8]) -> io::Result<()> {
     errors.write_all(program.as_bytes())?;
     errors.write_all(bytes)
 }
@@ -39,7 +39,7 @@ pub fn tell_words(rt: &HostRuntime, program: &str, error: &Error) -> ExitCode {
         if error.kind() == ErrorKind::UnknownArgument {
             let mut errors = rt.stderr();
             let _ = errors.write_all(b"\nThe program is read from standard input: ");
-            let _ = tell(&mut errors, program, b" < FILE\n");
+            let _ = tell_bytes(&mut errors, program, b" < FILE\n");
         }
         return ExitCode::from(2);
     }
@@ -58,6 +58,6 @@ pub fn tell_no_words(rt: &HostRuntime, program: &str, error: &io::Error) -> Exit
             fault_line(rt.alloc(), program, &Fault::OutOfMemory),
         );
     }
-    let _ = tell(&mut rt.stderr(), program, b": a word is no text\n");
+    let _ = tell_bytes(&mut rt.stderr(), program, b": a word is no text\n");
     ExitCode::from(2)
 }

@@ -13,8 +13,8 @@ use Rattle.flow_team.specs.Sets.{IsInMaySet}
 use Rattle.flow_team.specs.Teams.{PostsMore}
 use Rattle.flow_team.proofs.Posts.{marked_still}
 use Rattle.gk_solve.specs.Solved.{SliceTable, TellWords, word_at}
-use Rattle.slice_board.specs.Passes.{PassState, IsMarked}
-use Rattle.slice_board.specs.declared.view.Mark.{Mark}
+use Rattle.slice_board.specs.Passes.{PassState, IsLogged}
+use Rattle.slice_board.specs.declared.view.LoggedWord.{LoggedWord}
 
 -- what is wanted of an ask's number is wanted of the ask
 wanted_of : (asked : Asked) (q : ℕ) (ask : Ask) → slice_get asked.order q ≡ Some ask → (bit : ℕ) → IsWanted asked 0 bit → bit / 64 ≡ q
@@ -52,7 +52,7 @@ module _ (asked : Asked) where
   pub done_still : {T : Type 0} → (done : ℕ → Type 0) (old new : PassState T) → PostsMore old new → AreDone asked done old.posted
       → AreDone asked done new.posted
   done_still done old new posts all bit want at =
-      subst (λ (pass : PassState _). IsMarked pass.posted 0 bit) (sym posts.same) (marked_still old.posted posts.more 0 bit (all bit want at))
+      subst (λ (pass : PassState _). IsLogged pass.posted 0 bit) (sym posts.same) (marked_still old.posted posts.more 0 bit (all bit want at))
 
   -- one ask more of an analysis
   pub done_more : {T : Type 0} → (analysis : Analysis) (from q : ℕ) (old new : PassState T) → PostsMore old new
@@ -79,7 +79,7 @@ module _ (asked : Asked) where
         ap (λ (a : Ask). a.analysis) same ∙ is,
   )
 
-  all_of : (from until : ℕ) (marks : List Mark) → ((analysis : Analysis) → AreDone asked (IsAmong asked.order from until analysis) marks)
+  all_of : (from until : ℕ) (marks : List LoggedWord) → ((analysis : Analysis) → AreDone asked (IsAmong asked.order from until analysis) marks)
       → AreDone asked (λ q. (from ≤ q) × (q < until)) marks
   all_of from until marks each bit want at =
       each want.ask.analysis bit want (among from until (bit / 64) want.ask want.ask.analysis want.there refl at.0 at.1)

@@ -5,6 +5,6 @@ pub mod Posts
 pub mod Sent
 pub mod TableAnswers
 pub mod Told
-pub mod TurnedTables
-pub mod Turns
+pub mod ComplementedTables
+pub mod ComplementedPlaces
 pub mod Words

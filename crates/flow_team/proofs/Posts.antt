@@ -6,33 +6,33 @@ use Rattle.std.proofs.lemmas.List.{append-nil}
 use Rattle.std.proofs.lemmas.Nat.Bits.{bit_at-zero}
 use Rattle.bit_rows.specs.Words.{has_bit}
 use Rattle.slice_board.specs.Boards.{BoardState, IsOf}
-use Rattle.slice_board.specs.Passes.{PassState, IsMarked, mark}
-use Rattle.slice_board.specs.declared.view.Mark.{Mark}
+use Rattle.slice_board.specs.Passes.{PassState, IsLogged, logged_word}
+use Rattle.slice_board.specs.declared.view.LoggedWord.{LoggedWord}
 use Rattle.slice_board.proofs.Calls.{one_of_bit}
-use Rattle.slice_board.proofs.Sums.{mark_here, marks_at-append}
+use Rattle.slice_board.proofs.Sums.{logged_here, logged_at-append}
 use Rattle.flow_team.specs.code.Posting.{IsPosted}
 use Rattle.flow_team.specs.Teams.{PostsMore}
 
 -- what was marked is marked
-pub marked_still : (old more : List Mark) (point bit : ℕ) → IsMarked old point bit → IsMarked (old ++ more) point bit
-marked_still old more point bit is = let e = marks_at-append point (bit / 64) (bit % 64) old more in omega arith
+pub marked_still : (old more : List LoggedWord) (point bit : ℕ) → IsLogged old point bit → IsLogged (old ++ more) point bit
+marked_still old more point bit is = let e = logged_at-append point (bit / 64) (bit % 64) old more in omega arith
 
 -- a bit of the mask that was posted last is marked
-pub marked_last : (old : List Mark) (point word mask bit : ℕ) → bit / 64 ≡ word → has_bit mask (bit % 64) ≡ true
-    → IsMarked (old ++ mark point word mask ∷ []) point bit
+pub marked_last : (old : List LoggedWord) (point word mask bit : ℕ) → bit / 64 ≡ word → has_bit mask (bit % 64) ≡ true
+    → IsLogged (old ++ logged_word point word mask ∷ []) point bit
 marked_last old point word mask bit at has =
-    subst (λ (w : ℕ). IsMarked (old ++ mark point w mask ∷ []) point bit) at
-    (let e = mark_here point (bit / 64) mask (bit % 64) old in let one = one_of_bit mask (bit % 64) has in omega arith)
+    subst (λ (w : ℕ). IsLogged (old ++ logged_word point w mask ∷ []) point bit) at
+    (let e = logged_here point (bit / 64) mask (bit % 64) old in let one = one_of_bit mask (bit % 64) has in omega arith)
 
 module _ {T : Type 0} where
   pub posts_none : (pass : PassState T) → PostsMore pass pass
-  posts_none pass = record { more = []; same = ap (λ (marks : List Mark). record pass { posted = marks }) (sym (append-nil pass.posted)) }
+  posts_none pass = record { more = []; same = ap (λ (marks : List LoggedWord). record pass { posted = marks }) (sym (append-nil pass.posted)) }
 
   pub posts_more : (old mid new : PassState T) → PostsMore old mid → PostsMore mid new → PostsMore old new
   posts_more old mid new before after = record {
     more = before.more ++ after.more;
     same = after.same ∙ ap (λ (pass : PassState T). record pass { posted = pass.posted ++ after.more }) before.same
-        ∙ ap (λ (marks : List Mark). record old { posted = marks }) (append_assoc old.posted before.more after.more);
+        ∙ ap (λ (marks : List LoggedWord). record old { posted = marks }) (append_assoc old.posted before.more after.more);
   }
 
   pub of_still : (board : BoardState T) (old new : PassState T) → PostsMore old new → IsOf board old → IsOf board new
@@ -41,7 +41,7 @@ module _ {T : Type 0} where
   pub posted_still : (wanted : ℕ → ℕ → Type 0) (lo hi : ℕ) (done : ℕ → ℕ → Type 0) (old new : PassState T) → PostsMore old new
       → IsPosted wanted lo hi done old.posted → IsPosted wanted lo hi done new.posted
   posted_still wanted lo hi done old new posts all point bit want low high is =
-      subst (λ (pass : PassState T). IsMarked pass.posted point bit) (sym posts.same)
+      subst (λ (pass : PassState T). IsLogged pass.posted point bit) (sym posts.same)
       (marked_still old.posted posts.more point bit (all point bit want low high is))
 
 -- no bit of 0 is set

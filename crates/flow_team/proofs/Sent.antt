@@ -14,7 +14,7 @@ use Rattle.flow_team.proofs.slice_job.SliceJob.TheSendSync.{the_sync as jobs_syn
 use Rattle.flow_team.specs.contracts.job.Job as Job
 use Rattle.flow_team.specs.contracts.sets.GraphSets as GraphSets
 use Rattle.flow_team.specs.contracts.asked.AskedWords as AskedWords
-use Rattle.flow_team.specs.contracts.direction.Direction as Direction
+use Rattle.flow_team.specs.contracts.direction.DirectionSolvers as DirectionSolvers
 
 program_sync : IsSync Program.the_row
 program_sync = search (crosses, sendable) depth 60 fits 5000
@@ -66,10 +66,10 @@ job_sync g p = search (jobs_sync, sets_cross) depth 60 fits 5000
 
 pub ruleset jobs_cross = (job_sync, crosses, sendable)
 
-pub direction_send : (g p : NamedLft) → IsSend (Direction.the_row g p)
+pub direction_send : (g p : NamedLft) → IsSend (DirectionSolvers.the_row g p)
 direction_send g p = search (routes_send, solver_send, crosses, sendable) depth 60 fits 5000
 
-direction_sync : (g p : NamedLft) → IsSync (Direction.the_row g p)
+direction_sync : (g p : NamedLft) → IsSync (DirectionSolvers.the_row g p)
 direction_sync g p = search (routes_sync, solver_sync, crosses, sendable) depth 60 fits 5000
 
 pub ruleset directions_cross = (graph_sync, direction_send, crosses, sendable)

@@ -19,9 +19,9 @@ use Rattle.flow_team.specs.Asks.{AreAnswers, AreAsksOf, IsAnswerTo}
 use Rattle.flow_team.specs.Sets.{IsInMaySet}
 use Rattle.flow_team.specs.code.Boards.{Asked, IsWanted}
 use Rattle.flow_team.specs.code.Directions.{form_of}
-use Rattle.flow_team.specs.code.Turned.{turned}
+use Rattle.flow_team.specs.code.Complements.{complemented}
 use Rattle.flow_team.specs.declared.ask.Ask.{Ask}
-use Rattle.flow_team.proofs.Turns.{has_bit-xor, turned_place}
+use Rattle.flow_team.proofs.ComplementedPlaces.{has_bit-xor, complemented_place}
 
 -- what is wanted of an ask's place
 wanted_place : (asked : Asked) (j k : ℕ) (ask : Ask) → AreAsksOf asked.program asked.order → slice_get asked.order j ≡ Some ask → k < 64
@@ -50,22 +50,22 @@ wanted_place asked j k ask of there small set told =
     )
 
 -- a posted word, complemented at the places of its bits where the analysis is over every path, is the answer
-pub word_answers : (asked : Asked) (j : ℕ) (ask : Ask) (rows : RowTable) (value turn limit : ℕ) (must : Bool) → AreAsksOf asked.program asked.order
+pub word_answers : (asked : Asked) (j : ℕ) (ask : Ask) (rows : RowTable) (value mask limit : ℕ) (must : Bool) → AreAsksOf asked.program asked.order
     → slice_get asked.order j ≡ Some ask → ((point bit : ℕ) → (contains (set_at rows point) bit ≡ true) ↔ IsWanted asked point bit)
     → IsWordOf (set_at rows 0) j value → must ≡ is_must ask.analysis → limit ≡ bits asked.program ask.analysis
-    → ((k : ℕ) → k < 64 → has_bit turn k ≡ (must && nat_lt (64 * ask.word + k) limit)) → IsAnswerTo asked.program ask (bit_xor value turn)
-word_answers asked j ask rows value turn limit must of there told is musts limits turns k small =
+    → ((k : ℕ) → k < 64 → has_bit mask k ≡ (must && nat_lt (64 * ask.word + k) limit)) → IsAnswerTo asked.program ask (bit_xor value mask)
+word_answers asked j ask rows value mask limit must of there told is musts limits complements k small =
     let b = 64 * ask.word + k in
     let set = contains (set_at rows 0) (64 * j + k) in
     let most = bits asked.program ask.analysis in
-    let placed : has_bit (bit_xor value turn) k ≡ turned (has_bit turn k) set =
-    has_bit-xor value turn k ∙ ap (turned (has_bit turn k)) (is k small) in
+    let placed : has_bit (bit_xor value mask) k ≡ complemented (has_bit mask k) set =
+    has_bit-xor value mask k ∙ ap (complemented (has_bit mask k)) (is k small) in
     subst (λ (one : Bool). (one ≡ true) ↔ ((b < most) × IsInTable asked.program ask.analysis ask.point b)) (sym placed)
-    (turned_place (IsInTable asked.program ask.analysis ask.point b)
+    (complemented_place (IsInTable asked.program ask.analysis ask.point b)
     (SomePathHas (may_shape asked.program ask.analysis) (may_transfer asked.program ask.analysis b) ask.point) b most
-    (is_must ask.analysis) set (has_bit turn k)
+    (is_must ask.analysis) set (has_bit mask k)
     (may_tables_are_may_forms asked.program ask.analysis ask.point b) (must_tables_are_may_forms asked.program ask.analysis ask.point b)
-    (turns k small ∙ ap₂ (λ m n. m && nat_lt b n) musts limits)
+    (complements k small ∙ ap₂ (λ m n. m && nat_lt b n) musts limits)
     (wanted_place asked j k ask of there small set (told 0 (64 * j + k))))
 
 -- words that answer the asks, and the flags of both directions, are the answers

@@ -1,5 +1,5 @@
 -- What solved words and rows say of the sets that are wanted.
-use Rattle.std.proofs.Common.{◌≡◌, ◌↔◌, ℕ, true, arith}
+use Rattle.std.proofs.Common.{◌≡◌, ◌↔◌, ℕ, ◌+◌, ◌*◌, true, arith}
 use Rattle.bit_rows.specs.RowSet.{contains}
 use Rattle.bit_rows.specs.RowTable.{RowTable, set_at}
 use Rattle.flow_graph.specs.Problems.{MayForm}
@@ -29,3 +29,13 @@ rows_are_meet form rows lo hi flags held = record {
     (λ some. (held point bit).1 (there, high, some)),
   );
 }
+
+-- what tells the may form's sets tells what is wanted, where that is the same
+pub tell_wanted : (wanted : ℕ → ℕ → Type 0) (form : MayForm) (slice : SliceTable)
+    → ((point bit : ℕ) → wanted point bit ↔ IsInMaySet form point bit) → TellWords (IsInMaySet form) slice → TellWords wanted slice
+tell_wanted wanted form slice wants tell point word k there from until small =
+    let is = tell point word k there from until small in
+    let same = wants point (64 * word + k) in (
+      (λ has. let told = is.0 has in (told.0, told.1, same.1 told.2)),
+      (λ want. is.1 (want.0, want.1, same.0 want.2)),
+    )

@@ -1,8 +1,8 @@
 -- What a worker's call does with its pass.
 use Rattle.std.specs.Prelude.{◌≡◌, ℕ, ◌+◌, ◌<◌, List, [], ◌∷◌, ◌++◌, Some, None}
 use Rattle.slice_board.specs.Boards.{BoardState, InSlice, slice_count}
-use Rattle.slice_board.specs.Passes.{PassState, IsMarked, times}
-use Rattle.slice_board.specs.declared.view.Mark.{Mark}
+use Rattle.slice_board.specs.Passes.{PassState, IsLogged, times}
+use Rattle.slice_board.specs.declared.view.LoggedWord.{LoggedWord}
 
 module _ {T : Type 0} where
   -- What was finished, posted, seen and counted stands, and nothing came to it.
@@ -14,7 +14,7 @@ module _ {T : Type 0} where
 
   -- The pass is as it was, but for marks that were posted.
   pub record PostsMore (old new : PassState T) : Type 0 where
-    pub more : List Mark
+    pub more : List LoggedWord
     pub same : new ≡ record old { posted = old.posted ++ more }
 
   -- The slice was held before, or was drawn by the call, and then the pass had not claimed it before.
@@ -26,9 +26,9 @@ module _ {T : Type 0} where
   pub record Works (wants : T → ℕ → ℕ → Type 0) (board : BoardState T) (old new : PassState T) (slice : ℕ) : Type 0 where
     pub there : slice < slice_count board.cut
     pub taken : Takes old new slice
-    pub more : List Mark
+    pub more : List LoggedWord
     pub posted : new.posted ≡ old.posted ++ more
-    pub whole : (point bit : ℕ) → wants board.wanted point bit → InSlice board.cut slice bit → IsMarked new.posted point bit
+    pub whole : (point bit : ℕ) → wants board.wanted point bit → InSlice board.cut slice bit → IsLogged new.posted point bit
     pub seen : new.seen ≡ old.seen
     pub counted : new.counted ≡ old.counted
     pub finished : new.finished ≡ old.finished ++ slice ∷ []

@@ -1,4 +1,4 @@
 pub mod Boards
 pub mod Directions
 pub mod Posting
-pub mod Turned
+pub mod Complements

@@ -74,7 +74,7 @@ fn keys(alloc: Global, asks: &[Ask], groups: u32) -> Result<Vec<u32>, OutOfMemor
 }
 
 // The asks at these places, one after the other.
-fn picked(alloc: Global, asks: &[Ask], places: &[u32]) -> Result<Vec<Ask>, OutOfMemory>
+fn asks_at(alloc: Global, asks: &[Ask], places: &[u32]) -> Result<Vec<Ask>, OutOfMemory>
     requires { (j : ℕ) → j < length places.now → slice_index places.now j < length asks.now }
     ensures count { IfOk result (λ order. length order.items ≡ length places.now) }
     ensures each { IfOk result (λ order. (j : ℕ) → j < length places.now → slice_get order.items j ≡ slice_get asks.now (slice_index places.now j)) }
@@ -87,14 +87,14 @@ fn picked(alloc: Global, asks: &[Ask], places: &[u32]) -> Result<Vec<Ask>, OutOf
 }
 
 /// The asks in an order in which those of one analysis and of one group of words, which are solved together, stand side by side.
-pub(crate) fn arranged(alloc: Global, asks: &[Ask]) -> Result<AskOrder, OutOfMemory>
+pub(crate) fn arranged_asks(alloc: Global, asks: &[Ask]) -> Result<AskOrder, OutOfMemory>
     requires { length asks.now < 2 ^ 32 }
     ensures { IfOk result (λ r. Arranges asks.now r.order.items r.places.items) }
 {
     let groups = group_count(asks);
     let keys = keys(alloc, asks, groups)?;
     let grouped = group(alloc, keys.as_slice(), 4 * groups)?;
-    let order = picked(alloc, asks, grouped.places.as_slice())?;
+    let order = asks_at(alloc, asks, grouped.places.as_slice())?;
     Ok(AskOrder {
         order,
         places: grouped.places,

@@ -3,7 +3,6 @@ ghost use Rattle.std.specs.Prelude.{◌≡◌, ℕ, ◌+◌, ◌*◌, ◌/◌, �
 ghost use Rattle.std.specs.Prelude.{IfSome, IfNone};
 ghost use Rattle.bit_rows.specs.RowSet.{contains};
 ghost use Rattle.bit_rows.specs.RowTable.{set_at};
-ghost use Rattle.flow_graph.specs.Analyses.{is_must};
 ghost use Rattle.flow_graph.specs.Universes.{bits as bits_of};
 ghost use Rattle.flow_graph.specs.declared.analysis.Analysis.TheVariants.{Reach, Live, Avail, Busy};
 ghost use Rattle.gk_solve.specs.Solved.{HasPathFlags, TellWords, direction_of};
@@ -16,9 +15,9 @@ ghost use Rattle.flow_team.specs.code.Directions.{form_of};
 
 use crate::OutOfMemory;
 use crate::ask::Ask;
-use crate::direction::Direction;
+use crate::complemented_words::complement_mask;
+use crate::direction::DirectionSolvers;
 use crate::solve::Solve;
-use crate::turned_words::turned_word;
 use flow_graph::Analysis;
 use gk_solve::{Routes, SliceWords, Solver};
 use slice_board::{Pass, PostedWords, Wanted, WordBoard};
@@ -27,8 +26,8 @@ use std::marker::Model;
 
 /// What is asked of a graph, and solvers of both directions.
 pub(crate) struct AskedWords<'g, 'p> {
-    forward: Direction<'g, 'p>,
-    backward: Direction<'g, 'p>,
+    forward: DirectionSolvers<'g, 'p>,
+    backward: DirectionSolvers<'g, 'p>,
     asks: Vec<Ask>,
     order: Vec<Ask>,
     places: Vec<u32>,
@@ -60,16 +59,6 @@ impl Drop for AskedWords<'_, '_> {
 
 impl<'g, 'p> Wanted for AskedWords<'g, 'p> {
     ghost wants = { IsWanted };
-}
-
-// Whether an analysis is over every path.
-fn is_over_every_path(analysis: Analysis) -> bool
-    ensures { result ≡ is_must analysis }
-{
-    match analysis {
-        Analysis::Avail | Analysis::Busy => true,
-        Analysis::Reach | Analysis::Live => false,
-    }
 }
 
 // Whether one of the asks from one up to another is of an analysis.
@@ -145,8 +134,8 @@ fn memory<'g, 'p>(
 impl<'g, 'p> AskedWords<'g, 'p> {
     /// What is asked of a graph, with the same asks in the order in which they are solved and the number of each of these.
     pub(crate) fn of(
-        forward: Direction<'g, 'p>,
-        backward: Direction<'g, 'p>,
+        forward: DirectionSolvers<'g, 'p>,
+        backward: DirectionSolvers<'g, 'p>,
         asks: Vec<Ask>,
         order: Vec<Ask>,
         places: Vec<u32>,
@@ -200,7 +189,7 @@ impl<'g, 'p> AskedWords<'g, 'p> {
     {
         let ask = self.ask(j);
         let bits = self.bits(ask.analysis);
-        posted.word(0, j) ^ turned_word(bits, is_over_every_path(ask.analysis), ask.word)
+        posted.word(0, j) ^ complement_mask(bits, ask.analysis.join(), ask.word)
     }
 
     /// Puts the answers to their asks' numbers, of what was posted.

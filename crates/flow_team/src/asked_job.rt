@@ -7,16 +7,16 @@ ghost use Rattle.flow_team.specs.Asks.{AreAnswers, AreAsksOf};
 
 use crate::OutOfMemory;
 use crate::answers::Answers;
-use crate::arrange::arranged;
+use crate::arrange::arranged_asks;
 use crate::ask::Ask;
 use crate::asked::AskedWords;
-use crate::direction::Direction;
+use crate::direction::DirectionSolvers;
 use crate::halves::{Half, side_by_side};
 use crate::slice_job::SliceJob;
 use bit_rows::{Cut, CutFault};
 use flow_graph::{Analysis, Graph};
 use slice_board::{Pass, WordBoard};
-use std::alloc::{AllocError, Global};
+use std::alloc::Global;
 use std::thread::Threads;
 
 // What finds a direction of a graph.
@@ -27,13 +27,13 @@ struct Finding<'g, 'p> {
     every: Analysis,
 }
 
-impl<'g, 'p> Half<Direction<'g, 'p>> for Finding<'g, 'p> {
+impl<'g, 'p> Half<DirectionSolvers<'g, 'p>> for Finding<'g, 'p> {
     ghost is_ready = { λ finding. is_backward finding.some ≡ is_backward finding.every };
 
     ghost gives = { λ finding d. d ≡ record { program = finding.graph.now; some = finding.some; every = finding.every } };
 
-    fn find(self, alloc: Global) -> Result<Direction<'g, 'p>, OutOfMemory> {
-        Direction::of(alloc, self.graph, self.some, self.every)
+    fn find(self, alloc: Global) -> Result<DirectionSolvers<'g, 'p>, OutOfMemory> {
+        DirectionSolvers::of(alloc, self.graph, self.some, self.every)
     }
 }
 
@@ -43,7 +43,7 @@ pub(crate) fn directions<'g, 'p, R: Threads + Sync>(
     alloc: Global,
     graph: &'g Graph<'p>,
     workers: u32,
-) -> Result<(Direction<'g, 'p>, Direction<'g, 'p>), OutOfMemory>
+) -> Result<(DirectionSolvers<'g, 'p>, DirectionSolvers<'g, 'p>), OutOfMemory>
     ensures forward { IfOk result (λ r. r.0 ≡ record { program = graph.now; some = Reach; every = Avail }) }
     ensures backward { IfOk result (λ r. r.1 ≡ record { program = graph.now; some = Live; every = Busy }) }
 {
@@ -68,12 +68,12 @@ pub(crate) fn directions<'g, 'p, R: Threads + Sync>(
 pub(crate) fn directions_here<'g, 'p>(
     alloc: Global,
     graph: &'g Graph<'p>,
-) -> Result<(Direction<'g, 'p>, Direction<'g, 'p>), OutOfMemory>
+) -> Result<(DirectionSolvers<'g, 'p>, DirectionSolvers<'g, 'p>), OutOfMemory>
     ensures forward { IfOk result (λ r. r.0 ≡ record { program = graph.now; some = Reach; every = Avail }) }
     ensures backward { IfOk result (λ r. r.1 ≡ record { program = graph.now; some = Live; every = Busy }) }
 {
-    let forward = Direction::of(alloc, graph, Analysis::Reach, Analysis::Avail)?;
-    let backward = Direction::of(alloc, graph, Analysis::Live, Analysis::Busy)?;
+    let forward = DirectionSolvers::of(alloc, graph, Analysis::Reach, Analysis::Avail)?;
+    let backward = DirectionSolvers::of(alloc, graph, Analysis::Live, Analysis::Busy)?;
     Ok((forward, backward))
 }
 
@@ -117,7 +117,7 @@ fn cut_of(alloc: Global, starts: &[u32], slice_groups: u32, count: u32) -> Resul
     let ends = ends(alloc, starts, slice_groups, count)?;
     match Cut::at(alloc, 64 * count, ends.as_slice()) {
         Ok(cut) => Ok(cut),
-        Err(CutFault::OutOfMemory | CutFault::BadPlaces | CutFault::ZeroWidth) => Err(AllocError),
+        Err(CutFault::OutOfMemory | CutFault::BadPlaces | CutFault::ZeroWidth) => Err(OutOfMemory),
     }
 }
 
@@ -143,7 +143,7 @@ fn on_board<'g, 'p>(
 /// of words.
 pub(crate) fn asked_job<'g, 'p>(
     alloc: Global,
-    directions: (Direction<'g, 'p>, Direction<'g, 'p>),
+    directions: (DirectionSolvers<'g, 'p>, DirectionSolvers<'g, 'p>),
     asks: Vec<Ask>,
     slice_groups: u32,
 ) -> Result<(AskedJob<'g, 'p>, Pass<AskedWords<'g, 'p>>), OutOfMemory>
@@ -156,7 +156,7 @@ pub(crate) fn asked_job<'g, 'p>(
     ensures asks { IfOk result (λ r. r.0.wanted.asks ≡ asks.items) }
     ensures pass { IfOk result (λ r. r.1 ≡ fresh_pass r.0) }
 {
-    let arranged = arranged(alloc, asks.as_slice())?;
+    let arranged = arranged_asks(alloc, asks.as_slice())?;
     let count = asks.len() as u32;
     let cut = cut_of(alloc, arranged.starts.as_slice(), slice_groups, count)?;
     let (forward, backward) = directions;
@@ -177,6 +177,6 @@ pub(crate) fn answers_of<'g, 'p>(
     match job.close(pass) {
         Ok((asked, posted)) => Answers::of(alloc, asked, &posted),
         // A worker that was refused memory left its slice unfinished.
-        Err(_) => Err(AllocError),
+        Err(_) => Err(OutOfMemory),
     }
 }

@@ -12,14 +12,14 @@ use std::marker::Model;
 
 /// Solvers of a graph's analysis over some path in a direction and of the one over every path, and the edges and the path flags, which both
 /// share.
-pub(crate) struct Direction<'g, 'p> {
+pub(crate) struct DirectionSolvers<'g, 'p> {
     some: Solver<'g, 'p>,
     every: Solver<'g, 'p>,
     routes: Routes<'g, 'p>,
     flags: Vec<bool>,
 }
 
-impl<'g, 'p> Model for Direction<'g, 'p> {
+impl<'g, 'p> Model for DirectionSolvers<'g, 'p> {
     ghost use Rattle.flow_team.specs.code.Directions.{IsDirection, Pair};
 
     ghost Value = { Pair };
@@ -29,10 +29,10 @@ impl<'g, 'p> Model for Direction<'g, 'p> {
     ghost invariant = { λ d. IsDirection d.some d.every d.routes d.flags.items };
 }
 
-impl Drop for Direction<'_, '_> {
+impl Drop for DirectionSolvers<'_, '_> {
     // By hand: who gives a direction up then makes one call.
     fn drop(self) {
-        let Direction {
+        let DirectionSolvers {
             some: _,
             every: _,
             routes: _,
@@ -53,7 +53,7 @@ fn solver_of<'g, 'p>(
     Solver::of(alloc, problem)
 }
 
-impl<'g, 'p> Direction<'g, 'p> {
+impl<'g, 'p> DirectionSolvers<'g, 'p> {
     /// The direction of two analyses of a graph.
     pub(crate) fn of(
         alloc: Global,
@@ -68,7 +68,7 @@ impl<'g, 'p> Direction<'g, 'p> {
         let some = solver_of(alloc, graph, some)?;
         let routes = Routes::of(alloc, some.problem())?;
         let flags = some.flags(alloc, &routes)?;
-        Ok(Direction {
+        Ok(DirectionSolvers {
             some,
             every,
             routes,
@@ -102,7 +102,7 @@ impl<'g, 'p> Direction<'g, 'p> {
     pub(crate) fn into_flags(self) -> Vec<bool>
         ensures { HasPathFlags (form_of self.entry.program self.entry.some) result.items }
     {
-        let Direction {
+        let DirectionSolvers {
             some: _,
             every: _,
             routes: _,

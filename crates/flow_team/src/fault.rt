@@ -1,4 +1,4 @@
-use std::alloc::AllocError;
+use crate::OutOfMemory;
 use thiserror::Error;
 
 /// Why a program was not analysed.
@@ -12,13 +12,13 @@ pub enum TeamFault {
     OutOfMemory,
 }
 
-impl From<AllocError> for TeamFault {
+impl From<OutOfMemory> for TeamFault {
     ghost use Rattle.std.specs.Prelude.{◌≡◌};
     ghost use Rattle.flow_team.specs.declared.fault.TeamFault.TheVariants as fault;
 
     ghost from_gives = { λ _ e. e ≡ fault.OutOfMemory };
 
-    fn from(_no_memory: AllocError) -> TeamFault {
+    fn from(_no_memory: OutOfMemory) -> TeamFault {
         TeamFault::OutOfMemory
     }
 }

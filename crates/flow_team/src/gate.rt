@@ -1,13 +1,20 @@
-// What is called between the steps of a worker.
+// What is called around the work and between the steps of a worker.
 ghost use Rattle.std.specs.Prelude.{◌<◌};
 ghost use Rattle.slice_board.specs.Passes.{times};
 
 use slice_board::{Pass, Wanted};
 
-/// What a caller does when a slice is claimed and when it is finished, on the thread of the worker that does so.
+/// What a caller does when a slice is claimed and when it is finished, on the thread of the worker that does so, and before and after all
+/// of that.
 ///
 /// It may hold the worker up, for instance until another one is there. The analysis answers where its gate returns.
 pub trait Gate: Sync {
+    /// So many slices are to be solved; no worker has begun.
+    fn begun(&self, _slices: u32) {}
+
+    /// All workers have ended. Where one was refused memory, not all slices are finished.
+    fn ended(&self) {}
+
     /// A worker drew the slice, and has not yet begun to solve it.
     fn claimed(&self, worker: u32, slice: u32);
 

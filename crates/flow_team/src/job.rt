@@ -3,7 +3,7 @@ ghost use Rattle.std.specs.Prelude.{◌≡◌, ℕ, ◌+◌, ◌*◌, ◌<◌, �
 ghost use Rattle.bit_rows.specs.Words.{has_bit};
 ghost use Rattle.flow_graph.specs.Universes.{bits as bits_of};
 ghost use Rattle.slice_board.specs.Boards.{IsOf, IsPlace, CountsOnce, fresh_pass, slice_count};
-ghost use Rattle.slice_board.specs.Passes.{IsMarked, joined, mark, times};
+ghost use Rattle.slice_board.specs.Passes.{IsLogged, joined, logged_word, times};
 ghost use Rattle.flow_team.specs.Sets.{IsInMaySet};
 ghost use Rattle.flow_team.specs.Tables.{IsTableOf};
 ghost use Rattle.flow_team.specs.Teams.{Works, Idles, Holds};
@@ -107,9 +107,9 @@ impl<'g, 'p> Job<'g, 'p> {
     pub fn look(&self, pass: &mut Pass<GraphSets<'g, 'p>>, point: u32, word: u32) -> u64
         requires of { IsOf self.now pass.old }
         requires place { IsPlace self.now point word }
-        ensures seen { pass.new ≡ record pass.old { seen = pass.old.seen ++ mark point word result ∷ [] } }
-        ensures own { (i : ℕ) → i < 64 → IsMarked pass.old.posted point (64 * word + i) → has_bit result i ≡ true }
-        ensures again { (i : ℕ) → i < 64 → IsMarked pass.old.seen point (64 * word + i) → has_bit result i ≡ true }
+        ensures seen { pass.new ≡ record pass.old { seen = pass.old.seen ++ logged_word point word result ∷ [] } }
+        ensures own { (i : ℕ) → i < 64 → IsLogged pass.old.posted point (64 * word + i) → has_bit result i ≡ true }
+        ensures again { (i : ℕ) → i < 64 → IsLogged pass.old.seen point (64 * word + i) → has_bit result i ≡ true }
         ensures wanted { (i : ℕ) → i < 64 → has_bit result i ≡ true → IsInMaySet self.now.wanted point (64 * word + i) }
     {
         self.slices.look(pass, point, word)

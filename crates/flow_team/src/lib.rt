@@ -9,6 +9,7 @@ mod arrange;
 mod ask;
 mod asked;
 mod asked_job;
+mod complemented_words;
 mod direction;
 mod fault;
 mod gate;
@@ -22,7 +23,6 @@ mod solve;
 mod table;
 mod tables;
 mod team;
-mod turned_words;
 mod workers;
 
 pub use answers::Answers;

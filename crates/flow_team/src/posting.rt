@@ -1,12 +1,20 @@
 // Solved words, posted at all points.
-ghost use Rattle.std.specs.Prelude.{◌≡◌, ℕ, ◌+◌, ◌*◌, ◌<◌, ◌≤◌};
-ghost use Rattle.gk_solve.specs.Solved.{TellWords};
-ghost use Rattle.slice_board.specs.Boards.{IsOf, IsPlace, point_count};
-ghost use Rattle.flow_team.specs.code.Posting.{IsPosted};
+ghost use Rattle.std.specs.Prelude.{◌≡◌, ℕ, ◌+◌, ◌*◌, ◌/◌, ◌<◌, ◌≤◌};
+ghost use Rattle.gk_solve.specs.Solved.{IsSliceOf, TellWords, direction_of};
+ghost use Rattle.slice_board.specs.Boards.{IsOf, IsPlace, board_points};
+ghost use Rattle.flow_team.specs.code.Posting.{CanPost, HasPosted, IsPosted};
 ghost use Rattle.flow_team.specs.Teams.{PostsMore};
 
-use gk_solve::SliceWords;
+use flow_graph::Problem;
+use gk_solve::{Routes, SliceWords, Solver, TakeWords};
 use slice_board::{Pass, Wanted, WordBoard};
+
+/// A board on which solved words are posted, and the pass of who posts them.
+#[derive(Drop)]
+struct Posting<'a, W: Wanted> {
+    board: &'a WordBoard<W>,
+    pass: &'a mut Pass<W>,
+}
 
 // Posts a solved word at a point, unless it has no bit.
 fn post_word<W: Wanted>(
@@ -44,7 +52,7 @@ fn post_point<W: Wanted>(
     requires of { IsOf board.now pass.old }
     requires words { TellWords (W.wants board.now.wanted) slice.now }
     requires point { point < slice.now.points }
-    requires points { slice.now.points ≡ point_count board.now }
+    requires points { slice.now.points ≡ board_points board.now }
     requires range { (slice.now.from ≡ from) × (slice.now.until ≡ until) }
     requires within { 64 * until < board.now.cut.bits + 64 }
     ensures more { PostsMore pass.old pass.new }
@@ -56,8 +64,8 @@ fn post_point<W: Wanted>(
     }
 }
 
-/// Posts the solved words of all points.
-pub(crate) fn post_words<W: Wanted>(
+// Posts the solved words of all points.
+fn post_words<W: Wanted>(
     board: &WordBoard<W>,
     pass: &mut Pass<W>,
     slice: &SliceWords,
@@ -66,14 +74,47 @@ pub(crate) fn post_words<W: Wanted>(
 )
     requires of { IsOf board.now pass.old }
     requires words { TellWords (W.wants board.now.wanted) slice.now }
-    requires points { slice.now.points ≡ point_count board.now }
+    requires points { slice.now.points ≡ board_points board.now }
     requires range { (slice.now.from ≡ from) × (slice.now.until ≡ until) }
     requires within { 64 * until < board.now.cut.bits + 64 }
     ensures more { PostsMore pass.old pass.new }
     ensures posted { IsPosted (W.wants board.now.wanted) slice.now.lo slice.now.hi
-        (λ p word. (p < point_count board.now) × (from ≤ word) × (word < until)) pass.new.posted }
+        (λ p word. (p < board_points board.now) × (from ≤ word) × (word < until)) pass.new.posted }
 {
     for point in 0..slice.points() {
         post_point(board, pass, slice, point, from, until);
     }
+}
+
+impl<W: Wanted> TakeWords for Posting<'_, W> {
+    ghost is_ready = { λ posting form _ hi. CanPost (W.wants posting.board.now.wanted) form hi posting.board.now posting.pass.now };
+
+    ghost has = { λ start posting _ lo hi word. (posting.board.now ≡ start.board.now)
+        × ((posting.pass.ghost_name ≡ start.pass.ghost_name)
+        × HasPosted (W.wants start.board.now.wanted) lo hi word start.pass.now posting.pass.now) };
+
+    fn take_words(&mut self, _problem: &Problem<'_, '_>, slice: &SliceWords) {
+        let (from, until) = slice.solved();
+        post_words(self.board, self.pass, slice, from, until);
+    }
+}
+
+/// Solves the words of a slice, and posts them.
+pub(crate) fn post_slice_words<'a, 'g, 'p, W: Wanted>(
+    solver: &'a Solver<'g, 'p>,
+    routes: &'a Routes<'g, 'p>,
+    slice: &mut SliceWords,
+    board: &WordBoard<W>,
+    pass: &mut Pass<W>,
+)
+    requires routes { routes.now ≡ direction_of solver.now }
+    requires slice { IsSliceOf solver.now slice.old }
+    requires ready { CanPost (W.wants board.now.wanted) solver.now slice.old.hi board.now pass.old }
+    ensures { HasPosted (W.wants board.now.wanted) slice.old.lo slice.old.hi ((slice.old.hi + 63) / 64) pass.old pass.new }
+{
+    let mut posting = Posting {
+        board: &*board,
+        pass: &mut *pass,
+    };
+    solver.solve_each(routes, slice, &mut posting);
 }

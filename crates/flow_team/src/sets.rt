@@ -1,22 +1,21 @@
 // The sets of a graph's analysis, slice by slice.
-ghost use Rattle.std.specs.Prelude.{◌≡◌, ℕ, ◌+◌, ◌*◌, ◌<◌, ◌≤◌, ◌↔◌, true, length, IfOk};
+ghost use Rattle.std.specs.Prelude.{◌≡◌, ℕ, ◌+◌, ◌/◌, ◌<◌, ◌↔◌, true, IfOk};
 ghost use Rattle.bit_rows.specs.RowSet.{contains};
 ghost use Rattle.bit_rows.specs.RowTable.{set_at};
 ghost use Rattle.flow_graph.specs.Points.{point_count};
 ghost use Rattle.flow_graph.specs.Universes.{bits as bits_of};
 ghost use Rattle.gk_solve.specs.Solved.{HasPathFlags, IsSliceOf};
 ghost use Rattle.slice_board.specs.Boards.{IsOf};
-ghost use Rattle.slice_board.specs.Passes.{IsMarked};
+ghost use Rattle.slice_board.specs.Passes.{IsLogged};
 ghost use Rattle.flow_team.specs.Sets.{IsInMaySet};
 ghost use Rattle.flow_team.specs.Tables.{IsTableOf};
-ghost use Rattle.flow_team.specs.Teams.{PostsMore};
 ghost use Rattle.flow_team.specs.code.Boards.{IsTableBoard};
 
 use crate::OutOfMemory;
-use crate::posting::post_words;
+use crate::complemented_words::ComplementedWords;
+use crate::posting::post_slice_words;
 use crate::solve::Solve;
 use crate::table::Table;
-use crate::turned_words::TurnedWords;
 use flow_graph::{Analysis, Graph, Problem};
 use gk_solve::{Routes, SliceWords, Solver};
 use slice_board::{Pass, PostedWords, Wanted, WordBoard};
@@ -85,34 +84,9 @@ impl<'g, 'p> GraphSets<'g, 'p> {
         ensures analysis { result.analysis ≡ self.now.analysis }
         ensures table { IsTableOf self.now.program result }
     {
-        let problem = self.solver.problem();
-        let words = TurnedWords::of(posted, problem.complements());
-        Table::of(problem.analysis(), words)
-    }
-
-    // Solves the words of a slice, and posts them.
-    fn post_groups(
-        &self,
-        board: &WordBoard<GraphSets<'g, 'p>>,
-        pass: &mut Pass<GraphSets<'g, 'p>>,
-        slice: &mut SliceWords,
-        lo: u32,
-        hi: u32,
-    )
-        requires on { IsTableBoard self.now board.now }
-        requires of { IsOf board.now pass.old }
-        requires slice { IsSliceOf self.now slice.old }
-        requires range { (slice.old.lo ≡ lo) × (slice.old.hi ≡ hi) }
-        requires within { hi ≤ board.now.cut.bits }
-        ensures more { PostsMore pass.old pass.new }
-        ensures posted { (point bit : ℕ) → IsInMaySet self.now point bit → lo ≤ bit → bit < hi → IsMarked pass.new.posted point bit }
-    {
-        let mut word = lo / 64;
-        'groups: while word < hi.div_ceil(64) {
-            let until = self.solver.solve_from(&self.routes, slice, word);
-            post_words(board, pass, &*slice, word, until);
-            word = until;
-        }
+        let analysis = self.solver.problem().analysis();
+        let words = ComplementedWords::of(posted, analysis.join());
+        Table::of(analysis, words)
     }
 }
 
@@ -131,7 +105,7 @@ impl<'g, 'p> Solve<GraphSets<'g, 'p>> for GraphSets<'g, 'p> {
         let _ = cut.slices();
         let (lo, hi) = cut.range(slice);
         let mut words = self.solver.slice(alloc, &self.routes, lo, hi)?;
-        self.post_groups(board, pass, &mut words, lo, hi);
+        post_slice_words(&self.solver, &self.routes, &mut words, board, pass);
         Ok(())
     }
 }

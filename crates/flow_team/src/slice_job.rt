@@ -4,7 +4,7 @@ ghost use Rattle.bit_rows.specs.RowSet.{contains};
 ghost use Rattle.bit_rows.specs.RowTable.{set_at};
 ghost use Rattle.bit_rows.specs.Words.{has_bit};
 ghost use Rattle.slice_board.specs.Boards.{IsOf, IsPlace, CountsOnce, fresh_pass, slice_count};
-ghost use Rattle.slice_board.specs.Passes.{IsMarked, joined, mark, times};
+ghost use Rattle.slice_board.specs.Passes.{IsLogged, joined, logged_word, times};
 ghost use Rattle.flow_team.specs.Teams.{Keeps, Takes, Works, Idles, Holds};
 
 use crate::OutOfMemory;
@@ -70,9 +70,9 @@ impl<W: Wanted + Sync + Send, S: Solve<W>> SliceJob<W, S> {
     pub(crate) fn look(&self, pass: &mut Pass<W>, point: u32, word: u32) -> u64
         requires of { IsOf self.now pass.old }
         requires place { IsPlace self.now point word }
-        ensures seen { pass.new ≡ record pass.old { seen = pass.old.seen ++ mark point word result ∷ [] } }
-        ensures own { (i : ℕ) → i < 64 → IsMarked pass.old.posted point (64 * word + i) → has_bit result i ≡ true }
-        ensures again { (i : ℕ) → i < 64 → IsMarked pass.old.seen point (64 * word + i) → has_bit result i ≡ true }
+        ensures seen { pass.new ≡ record pass.old { seen = pass.old.seen ++ logged_word point word result ∷ [] } }
+        ensures own { (i : ℕ) → i < 64 → IsLogged pass.old.posted point (64 * word + i) → has_bit result i ≡ true }
+        ensures again { (i : ℕ) → i < 64 → IsLogged pass.old.seen point (64 * word + i) → has_bit result i ≡ true }
         ensures wanted { (i : ℕ) → i < 64 → has_bit result i ≡ true → W.wants self.now.wanted point (64 * word + i) }
     {
         self.board.look(pass, point, word)

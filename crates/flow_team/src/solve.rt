@@ -1,7 +1,7 @@
 // What can be solved slice by slice.
 ghost use Rattle.std.specs.Prelude.{◌≡◌, ℕ, ◌<◌, IfOk, IfErr};
 ghost use Rattle.slice_board.specs.Boards.{BoardState, IsOf, InSlice, slice_count};
-ghost use Rattle.slice_board.specs.Passes.{IsMarked};
+ghost use Rattle.slice_board.specs.Passes.{IsLogged};
 ghost use Rattle.flow_team.specs.Teams.{PostsMore};
 
 use crate::OutOfMemory;
@@ -26,6 +26,6 @@ pub(crate) trait Solve<W: Wanted + Sync + Send>: Sync + Send + Drop {
         requires there { slice < slice_count board.now.cut }
         ensures more { PostsMore pass.old pass.new }
         ensures whole { IfOk result (λ _. (point bit : ℕ) → W.wants board.now.wanted point bit
-            → InSlice board.now.cut slice bit → IsMarked pass.new.posted point bit) }
+            → InSlice board.now.cut slice bit → IsLogged pass.new.posted point bit) }
         ensures refused { IfErr result (λ _. pass.new ≡ pass.old) };
 }

@@ -1,9 +1,9 @@
 ghost use Rattle.std.specs.Prelude.{◌≡◌, ℕ, ◌+◌, ◌*◌, ◌≤◌, ◌<◌, false, length};
 ghost use Rattle.bit_rows.specs.Words.{has_bit};
 ghost use Rattle.flow_team.specs.Tables.{facts_of};
-ghost use Rattle.flow_team.specs.code.Turned.{table_facts};
+ghost use Rattle.flow_team.specs.code.Complements.{table_facts};
 
-use crate::turned_words::TurnedWords;
+use crate::complemented_words::ComplementedWords;
 use flow_graph::Analysis;
 use std::marker::Model;
 
@@ -12,12 +12,12 @@ use std::marker::Model;
 #[derive(Drop)]
 pub struct Table {
     analysis: Analysis,
-    words: TurnedWords,
+    words: ComplementedWords,
 }
 
 impl Model for Table {
     ghost use Rattle.flow_team.specs.Tables.{TableFacts};
-    ghost use Rattle.flow_team.specs.code.Turned.{table_facts};
+    ghost use Rattle.flow_team.specs.code.Complements.{table_facts};
 
     ghost Value = { TableFacts };
 
@@ -26,7 +26,7 @@ impl Model for Table {
 
 impl Table {
     /// The table of these sets.
-    pub(crate) fn of(analysis: Analysis, words: TurnedWords) -> Table
+    pub(crate) fn of(analysis: Analysis, words: ComplementedWords) -> Table
         ensures { result ≡ table_facts analysis words }
     {
         Table { analysis, words }

@@ -4,35 +4,40 @@ ghost use Rattle.flow_team.specs.Ranges.{AreInRange};
 ghost use Rattle.flow_team.specs.AllTables.{AreTablesOf};
 
 use crate::OutOfMemory;
-use crate::gate::OpenGate;
+use crate::fault::TeamFault;
+use crate::gate::{Gate, OpenGate};
 use crate::table::Table;
 use crate::team::analyse;
-use bit_rows::Cut;
+use bit_rows::{Cut, CutFault};
 use flow_graph::{Analysis, Graph};
-use std::alloc::{AllocError, Global};
+use std::alloc::Global;
 use std::thread::Threads;
 
-/// The table of an analysis, by so many workers, in slices of so many bits.
+/// The table of an analysis, by so many workers, in slices of so many bits, which the gate is told of.
 ///
 /// The condition: 1 to 64 workers, and 1 to 4,096 bits. Fails only where memory runs out.
-pub fn table_of<R: Threads + Sync>(
+pub fn table_of<R: Threads + Sync, G: Gate>(
     rt: &R,
     alloc: Global,
     graph: &Graph<'_>,
     analysis: Analysis,
     workers: u32,
     cut: u32,
+    gate: &G,
 ) -> Result<Table, OutOfMemory>
     requires { AreInRange workers cut }
     ensures analysis { IfOk result (λ table. table.analysis ≡ analysis) }
     ensures table { IfOk result (IsTableOf graph.now) }
 {
-    let Ok(slices) = Cut::even(alloc, graph.bits(analysis), cut) else {
-        return Err(AllocError);
+    let slices = match Cut::even(alloc, graph.bits(analysis), cut) {
+        Ok(slices) => slices,
+        Err(CutFault::OutOfMemory) => return Err(OutOfMemory),
+        Err(CutFault::ZeroWidth | CutFault::BadPlaces) => unreachable!(),
     };
-    match analyse(rt, alloc, graph, analysis, slices, workers, &OpenGate) {
+    match analyse(rt, alloc, graph, analysis, slices, workers, gate) {
         Ok(table) => Ok(table),
-        Err(_) => Err(AllocError),
+        Err(TeamFault::OutOfMemory) => Err(OutOfMemory),
+        Err(TeamFault::BadWorkers) => unreachable!(),
     }
 }
 
@@ -62,10 +67,10 @@ impl Tables {
         requires { AreInRange workers cut }
         ensures { IfOk result (AreTablesOf graph.now) }
     {
-        let reach = table_of(rt, alloc, graph, Analysis::Reach, workers, cut)?;
-        let live = table_of(rt, alloc, graph, Analysis::Live, workers, cut)?;
-        let avail = table_of(rt, alloc, graph, Analysis::Avail, workers, cut)?;
-        let busy = table_of(rt, alloc, graph, Analysis::Busy, workers, cut)?;
+        let reach = table_of(rt, alloc, graph, Analysis::Reach, workers, cut, &OpenGate)?;
+        let live = table_of(rt, alloc, graph, Analysis::Live, workers, cut, &OpenGate)?;
+        let avail = table_of(rt, alloc, graph, Analysis::Avail, workers, cut, &OpenGate)?;
+        let busy = table_of(rt, alloc, graph, Analysis::Busy, workers, cut, &OpenGate)?;
         Ok(Tables {
             reach,
             live,

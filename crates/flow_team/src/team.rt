@@ -18,7 +18,7 @@ use crate::table::Table;
 use crate::workers::{run_here, run_workers};
 use bit_rows::Cut;
 use flow_graph::{Analysis, Graph};
-use std::alloc::{AllocError, Global};
+use std::alloc::Global;
 use std::thread::Threads;
 
 // Whether a team cannot be of so many workers.
@@ -48,7 +48,7 @@ fn worked_table<'g, 'p, R: Threads + Sync, G: Gate>(
     match job.close(pass) {
         Ok(table) => Ok(table),
         // A worker that was refused memory left its slice unfinished.
-        Err(_) => Err(AllocError),
+        Err(_) => Err(OutOfMemory),
     }
 }
 

@@ -12,7 +12,7 @@ use std::alloc::Global;
 use std::thread::{Threads, join};
 
 // One worker: works until all slices are claimed.
-fn drain<W: Wanted + Sync + Send, S: Solve<W>, G: Gate>(
+fn drain_slices<W: Wanted + Sync + Send, S: Solve<W>, G: Gate>(
     alloc: Global,
     job: &SliceJob<W, S>,
     gate: &G,
@@ -32,7 +32,7 @@ fn drain<W: Wanted + Sync + Send, S: Solve<W>, G: Gate>(
 }
 
 // The pass of both.
-fn united<W: Wanted + Sync + Send, S: Solve<W>>(
+fn united_pass<W: Wanted + Sync + Send, S: Solve<W>>(
     job: &SliceJob<W, S>,
     first: Pass<W>,
     second: Pass<W>,
@@ -74,18 +74,18 @@ fn run_threads<W: Wanted + Sync + Send, S: Solve<W>, R: Threads + Sync, G: Gate>
         move || -> Result<Pass<W>, OutOfMemory>
             requires { IsSync G.row × IsOf job.now mine }
             ensures { IfOk result (IsOf job.entry.now) }
-        { drain(alloc, job, gate, from, mine) },
+        { drain_slices(alloc, job, gate, from, mine) },
         move || -> Result<Pass<W>, OutOfMemory>
             requires { IsSync R.row × IsSync G.row × (next + others < 2 ^ 32) × IsOf job.now theirs }
             ensures { IfOk result (IsOf job.entry.now) }
         { run_threads(rt, alloc, job, gate, next, others, theirs) },
     );
-    Ok(united(job, mine?, theirs?))
+    Ok(united_pass(job, mine?, theirs?))
 }
 
 /// Runs so many workers, numbered from 0, each on a thread of its own and with a pass of its own, and answers the pass of all once all have
-/// ended. This thread waits: where it worked too, a thread that it started could be kept waiting, on the same processor, for as long as the
-/// system lets one run.
+/// ended. The gate is told before and after. This thread waits: where it worked too, a thread that it started could be kept waiting, on the
+/// same processor, for as long as the system lets one run.
 pub(crate) fn run_workers<W: Wanted + Sync + Send, S: Solve<W>, R: Threads + Sync, G: Gate>(
     rt: &R,
     alloc: Global,
@@ -97,7 +97,10 @@ pub(crate) fn run_workers<W: Wanted + Sync + Send, S: Solve<W>, R: Threads + Syn
     requires pass { IsOf job.now pass }
     ensures { IfOk result (IsOf job.now) }
 {
-    run_threads(rt, alloc, job, gate, 0, workers, pass)
+    gate.begun(job.slices());
+    let answered = run_threads(rt, alloc, job, gate, 0, workers, pass);
+    gate.ended();
+    answered
 }
 
 /// Has the calling thread work until no slice is left, for a caller that may start no thread.
@@ -109,5 +112,5 @@ pub(crate) fn run_here<W: Wanted + Sync + Send, S: Solve<W>>(
     requires { IsOf job.now pass }
     ensures { IfOk result (IsOf job.now) }
 {
-    drain(alloc, job, &OpenGate, 0, pass)
+    drain_slices(alloc, job, &OpenGate, 0, pass)
 }

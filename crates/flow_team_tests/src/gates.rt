@@ -5,9 +5,12 @@ use slice_board::{Pass, Wanted};
 use std::alloc::Global;
 use std::sync::atomic::{AtomicBool, AtomicU32, AtomicU64, Ordering};
 
-/// Notes of the slices below 64 which were claimed and finished, how often each was called, and by which workers.
+/// Notes of the slices below 64 which were claimed and finished, how often each was called, and by which workers; and what was told
+/// before and after.
 #[derive(Drop)]
 pub struct Recorder {
+    pub begun: AtomicU32,
+    pub ended: AtomicU32,
     pub claimed: AtomicU64,
     pub finished: AtomicU64,
     pub claims: AtomicU32,
@@ -19,6 +22,8 @@ impl Recorder {
     /// A gate that noted nothing yet.
     pub fn new() -> Recorder {
         Recorder {
+            begun: AtomicU32::new(u32::MAX),
+            ended: AtomicU32::new(u32::MAX),
             claimed: AtomicU64::new(0),
             finished: AtomicU64::new(0),
             claims: AtomicU32::new(0),
@@ -36,9 +41,28 @@ impl Recorder {
             self.finishes.load(Ordering::SeqCst),
         )
     }
+
+    /// How many slices the work began with, and those claimed before; and how many were finished when it ended.
+    pub fn around(&self) -> (u32, u32) {
+        (
+            self.begun.load(Ordering::SeqCst),
+            self.ended.load(Ordering::SeqCst),
+        )
+    }
 }
 
 impl Gate for Recorder {
+    fn begun(&self, slices: u32) {
+        let claims = self.claims.load(Ordering::SeqCst);
+        self.begun
+            .store(slices.saturating_add(claims), Ordering::SeqCst);
+    }
+
+    fn ended(&self) {
+        let finishes = self.finishes.load(Ordering::SeqCst);
+        self.ended.store(finishes, Ordering::SeqCst);
+    }
+
     fn claimed(&self, worker: u32, slice: u32) {
         self.claimed.fetch_or(1 << (slice % 64), Ordering::SeqCst);
         self.claims.fetch_add(1, Ordering::SeqCst);

@@ -2,10 +2,10 @@
 
 ghost use Rattle.std.specs.Prelude.{◌≡◌, IfOk};
 ghost use Rattle.std.specs.Thread.{IsSync};
-ghost use Rattle.flow_graph.specs.Points.{point_count as points_of};
+ghost use Rattle.flow_graph.specs.Points.{point_count};
 ghost use Rattle.flow_graph.specs.Universes.{bits as bits_of};
 ghost use Rattle.flow_team.specs.Tables.{IsTableOf};
-ghost use Rattle.slice_board.specs.Boards.{IsOf, point_count};
+ghost use Rattle.slice_board.specs.Boards.{IsOf, board_points};
 
 use crate::gates::Recorder;
 use crate::texts::{Question, RECURSIVE_REACH, check, lines, printed, slices};
@@ -29,7 +29,7 @@ fn check_two_slices<'g, 'p, R: Abort>(
     gate: &Recorder,
 ) -> Result<(), Fail>
     requires of { IsOf job.now pass.old }
-    requires points { point_count job.now ≡ 8 }
+    requires points { board_points job.now ≡ 8 }
     requires bits { job.now.cut.bits ≡ 3 }
     ensures { IfOk result (λ _. IsOf job.now pass.new) }
 {
@@ -106,7 +106,7 @@ fn closed_in_the_end<'g, 'p, R: Abort>(
 
 // The recursive program's graph has 8 points, and 3 definitions.
 fn check_sizes<R: Abort>(rt: &R, graph: &Graph<'_>)
-    ensures points { points_of graph.now ≡ 8 }
+    ensures points { point_count graph.now ≡ 8 }
     ensures bits { bits_of graph.now Analysis.Reach ≡ 3 }
 {
     assert_eq!(rt; graph.points(), 8);

@@ -216,6 +216,7 @@ fn each_slice_is_told_once(rt: HostRuntime) -> Result<(), Fail> {
         };
         check(&rt, recursion::TEXT, &how, RECURSIVE_REACH, (1, *workers))?;
         assert_eq!(rt; gate.told(), (7, 7, 3, 3), "{workers} workers");
+        assert_eq!(rt; gate.around(), (3, 3), "{workers} workers");
     }
     Ok(())
 }

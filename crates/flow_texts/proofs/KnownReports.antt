@@ -13,7 +13,7 @@ use Rattle.flow_graph.specs.declared.analysis.Analysis.{Analysis}
 use Rattle.flow_graph.specs.declared.analysis.Analysis.TheVariants.{Reach, Live, Avail, Busy}
 use Rattle.flow_graph.specs.declared.expression.Expr.{Expr}
 use Rattle.flow_graph.proofs.places.Standing.{stands}
-use Rattle.gk_solve.proofs.ProgramTables.{tables_are_decided}
+use Rattle.summary_equations.proofs.ProgramTables.{tables_are_decided}
 use Rattle.tac_program.specs.Programs.{Program}
 use Rattle.tac_program.specs.Sound.{IsSound}
 use Rattle.tac_program.specs.declared.program.StmtKind.{StmtKind}

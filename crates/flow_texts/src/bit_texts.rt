@@ -4,10 +4,11 @@ ghost use Rattle.std.specs.Prelude.{◌≡◌, ◌++◌, ◌<◌, IfOk, OnOk, co
 ghost use Rattle.flow_graph.specs.Points.{point_count};
 ghost use Rattle.flow_graph.specs.Universes.{IsDefinitionIn, bits as bits_of};
 ghost use Rattle.text_pieces.specs.code.Blocks.{HoldsTexts};
-ghost use Rattle.text_pieces.specs.Pieces.{IsOpen, Takes, outlet};
+ghost use Rattle.text_pieces.specs.Pieces.{CanWrite, Writes};
 ghost use Rattle.flow_texts.specs.Tables.{bit_text, definition_text, expression_text, line_at};
 
-use flow_graph::{Analysis, Expr, Graph, OutOfMemory};
+use crate::OutOfMemory;
+use flow_graph::{Analysis, Expr, Graph};
 use itoa::Buffer;
 use std::alloc::Global;
 use tac_program::{write_binary_expression, write_unary_expression};
@@ -15,9 +16,8 @@ use text_pieces::{Pieces, Separator, Sink, TextBlock};
 
 /// Writes a number in decimal.
 pub fn write_number<K: Sink>(out: &mut Pieces<'_, K>, number: u32)
-    requires { IsOpen (outlet K.contents K.faults out.old) }
-    ensures same_reference { out.new.sink.ghost_name ≡ out.old.sink.ghost_name }
-    ensures takes { Takes (outlet K.contents K.faults out.old) (outlet K.contents K.faults out.new) (decimal number) }
+    requires { CanWrite K.Sink out.old }
+    ensures { Writes K.Sink out.old out.new (decimal number) }
 {
     out.write(Buffer::new().format(number).as_bytes());
 }

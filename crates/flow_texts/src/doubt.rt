@@ -11,8 +11,9 @@ ghost use Rattle.flow_texts.specs.code.Findings.{TellDoubtful};
 ghost use Rattle.flow_texts.specs.code.Reported.{TellReport};
 ghost use Rattle.flow_texts.specs.code.Told.{facts_in};
 
+use crate::OutOfMemory;
 use crate::report_answers::ReportAnswers;
-use flow_graph::{Analysis, Graph, OutOfMemory};
+use flow_graph::{Analysis, Graph};
 use std::alloc::Global;
 
 /// For each point whether it has no valid path to the end of `main`.

@@ -6,10 +6,11 @@ ghost use Rattle.flow_texts.specs.code.Findings.{AreFindings, TellDoubtful};
 ghost use Rattle.flow_texts.specs.code.Reported.{TellReport};
 ghost use Rattle.flow_texts.specs.code.Told.{ask_for, facts_in};
 
+use crate::OutOfMemory;
 use crate::bit_texts::texts_of_bits;
 use crate::doubt::doubtful_points;
 use crate::report_answers::ReportAnswers;
-use flow_graph::{Analysis, Graph, OutOfMemory};
+use flow_graph::{Analysis, Graph};
 use flow_team::Ask;
 use std::alloc::Global;
 use text_pieces::TextBlock;

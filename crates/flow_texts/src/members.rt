@@ -7,7 +7,7 @@ ghost use Rattle.bit_rows.specs.Words.{has_bit};
 ghost use Rattle.text_pieces.specs.code.Lists.{after, some_stand, text_at};
 ghost use Rattle.flow_texts.specs.code.Members.{Wrote, chosen};
 ghost use Rattle.flow_texts.specs.code.Runs.{IsRunBefore};
-ghost use Rattle.text_pieces.specs.Pieces.{IsOpen, Takes, outlet};
+ghost use Rattle.text_pieces.specs.Pieces.{CanWrite, Writes, outlet};
 ghost use Rattle.flow_texts.specs.Tables.{listed};
 
 use flow_team::Table;
@@ -49,11 +49,10 @@ fn next_zero(word: u64, from: u32) -> u32
 
 /// Writes the texts of a run, and answers whether any stands now.
 fn write_run<K: Sink>(out: &mut Pieces<'_, K>, texts: &TextBlock, run: Run) -> bool
-    requires ready { IsOpen (outlet K.contents K.faults out.old) }
+    requires ready { CanWrite K.Sink out.old }
     requires ordered { run.first ≤ run.end }
     requires end { run.end ≤ length texts.now.texts }
-    ensures same_reference { out.new.sink.ghost_name ≡ out.old.sink.ghost_name }
-    ensures takes { Takes (outlet K.contents K.faults out.old) (outlet K.contents K.faults out.new)
+    ensures writes { Writes K.Sink out.old out.new
         (after texts.now.between run.others (map (text_at texts.now.texts) (range_with_len run.first (run.end - run.first)))) }
     ensures any { result ≡ (run.others || some_stand (range_with_len run.first (run.end - run.first))) }
 {
@@ -73,16 +72,15 @@ fn with_run<K: Sink>(
     end: u32,
 ) -> Run
     ghost member: { ℕ → Bool }
-    requires ready { IsOpen (outlet K.contents K.faults out.old) }
+    requires ready { CanWrite K.Sink out.old }
     requires before { IsRunBefore member first run.first run.end }
     requires inside { (n : ℕ) → first ≤ n → n < end → member n ≡ true }
     requires ordered { first ≤ end }
     requires end { end ≤ length texts.now.texts }
-    ensures same_reference { out.new.sink.ghost_name ≡ out.old.sink.ghost_name }
     ensures later { run.first ≤ result.first }
     ensures after { IsRunBefore member end result.first result.end }
     ensures wrote { Wrote texts.now.between (chosen texts.now.texts member) run.others run.first (result.first - run.first)
-        (outlet K.contents K.faults out.old) (outlet K.contents K.faults out.new) result.others }
+        (outlet K.Sink out.old) (outlet K.Sink out.new) result.others }
 {
     if run.end == first {
         return Run {
@@ -106,17 +104,16 @@ fn write_word<K: Sink>(
     run: Run,
 ) -> Run
     ghost member: { ℕ → Bool }
-    requires ready { IsOpen (outlet K.contents K.faults out.old) }
+    requires ready { CanWrite K.Sink out.old }
     requires word { (k : ℕ) → first + k < end → has_bit word k ≡ member (first + k) }
     requires ordered { first ≤ end }
     requires width { end ≤ first + 64 }
     requires end { end ≤ length texts.now.texts }
     requires before { IsRunBefore member first run.first run.end }
-    ensures same_reference { out.new.sink.ghost_name ≡ out.old.sink.ghost_name }
     ensures later { run.first ≤ result.first }
     ensures after { IsRunBefore member end result.first result.end }
     ensures wrote { Wrote texts.now.between (chosen texts.now.texts member) run.others run.first (result.first - run.first)
-        (outlet K.contents K.faults out.old) (outlet K.contents K.faults out.new) result.others }
+        (outlet K.Sink out.old) (outlet K.Sink out.new) result.others }
 {
     let width = end - first;
     let mut last = run;
@@ -138,13 +135,12 @@ fn write_words<K: Sink>(
     bits: u32,
 ) -> bool
     ghost member: { ℕ → Bool }
-    requires ready { IsOpen (outlet K.contents K.faults out.old) }
+    requires ready { CanWrite K.Sink out.old }
     requires point { point < length table.now.paths }
     requires bits { bits ≤ length texts.now.texts }
     requires member { (bit : ℕ) → (facts_of table.now).contains point bit ≡ member bit }
-    ensures same_reference { out.new.sink.ghost_name ≡ out.old.sink.ghost_name }
-    ensures wrote { Wrote texts.now.between (chosen texts.now.texts member) false 0 bits
-        (outlet K.contents K.faults out.old) (outlet K.contents K.faults out.new) result }
+    ensures { Wrote texts.now.between (chosen texts.now.texts member) false 0 bits
+        (outlet K.Sink out.old) (outlet K.Sink out.new) result }
 {
     let mut run = Run {
         first: 0,
@@ -170,12 +166,11 @@ pub fn write_members<K: Sink>(
     point: u32,
     bits: u32,
 ) -> bool
-    requires ready { IsOpen (outlet K.contents K.faults out.old) }
+    requires ready { CanWrite K.Sink out.old }
     requires point { point < length table.now.paths }
     requires bits { bits ≤ length texts.now.texts }
-    ensures same_reference { out.new.sink.ghost_name ≡ out.old.sink.ghost_name }
-    ensures wrote { Wrote texts.now.between (chosen texts.now.texts ((facts_of table.now).contains point)) false 0 bits
-        (outlet K.contents K.faults out.old) (outlet K.contents K.faults out.new) result }
+    ensures { Wrote texts.now.between (chosen texts.now.texts ((facts_of table.now).contains point)) false 0 bits
+        (outlet K.Sink out.old) (outlet K.Sink out.new) result }
 {
     write_words(out, texts, table, point, bits)
 }
@@ -191,12 +186,11 @@ pub fn write_set<K: Sink>(
     point: u32,
     bits: u32,
 )
-    requires ready { IsOpen (outlet K.contents K.faults out.old) }
+    requires ready { CanWrite K.Sink out.old }
     requires commas { texts.now.between ≡ codes ", " }
     requires point { point < length table.now.paths }
     requires bits { bits ≤ length texts.now.texts }
-    ensures same_reference { out.new.sink.ghost_name ≡ out.old.sink.ghost_name }
-    ensures takes { Takes (outlet K.contents K.faults out.old) (outlet K.contents K.faults out.new)
+    ensures { Writes K.Sink out.old out.new
         (listed (map (text_at texts.now.texts) (filter ((facts_of table.now).contains point) (range_with_len 0 bits)))) }
 {
     if write_members(out, texts, table, point, bits) {

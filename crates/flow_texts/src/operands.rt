@@ -75,7 +75,7 @@ pub(crate) fn variables_read(kind: &StmtKind) -> VariablesRead
 }
 
 /// The variable that an assignment sets; a value that is read from outside is not assigned.
-pub(crate) fn assigned(kind: &StmtKind) -> Option<u32>
+pub(crate) fn assigned_variable(kind: &StmtKind) -> Option<u32>
     ensures { result ≡ assigned_by kind.now }
 {
     match kind {

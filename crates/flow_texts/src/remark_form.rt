@@ -1,10 +1,10 @@
 // How remarks are written.
 
-ghost use Rattle.std.specs.Prelude.{◌≡◌, ◌<◌, ℕ, List};
+ghost use Rattle.std.specs.Prelude.{◌<◌, ℕ, List};
 ghost use Rattle.flow_graph.specs.Points.{point_count};
 ghost use Rattle.tac_program.specs.Programs.{Program};
 ghost use Rattle.flow_texts.specs.code.Findings.{AreFindings, IsRemarkIn};
-ghost use Rattle.text_pieces.specs.Pieces.{IsOpen, Takes, outlet};
+ghost use Rattle.text_pieces.specs.Pieces.{CanWrite, Writes};
 ghost use Rattle.flow_texts.specs.declared.remark.Remark.{Remark as RemarkValue};
 
 use crate::findings::Findings;
@@ -25,11 +25,9 @@ pub trait RemarkForm {
         point: u32,
         remark: Remark,
     )
-        requires ready { IsOpen (outlet K.contents K.faults out.old) }
+        requires ready { CanWrite K.Sink out.old }
         requires found { AreFindings found.now }
         requires point { point < point_count found.now.graph.now }
         requires remark { IsRemarkIn found.now.graph.now remark }
-        ensures same_reference { out.new.sink.ghost_name ≡ out.old.sink.ghost_name }
-        ensures takes { Takes (outlet K.contents K.faults out.old) (outlet K.contents K.faults out.new)
-            (text self.now found.now.graph.now point remark) };
+        ensures { Writes K.Sink out.old out.new (text self.now found.now.graph.now point remark) };
 }

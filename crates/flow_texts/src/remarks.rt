@@ -8,7 +8,7 @@ ghost use Rattle.flow_graph.specs.Universes.{bits as bits_of, evaluated_at};
 ghost use Rattle.flow_graph.specs.declared.analysis.Analysis.TheVariants.{Busy, Reach};
 ghost use Rattle.flow_texts.specs.code.Findings.{AreFindings, IsRemarkIn, knowledge_of, remark_name, texts_where, words_before, words_behind};
 ghost use Rattle.text_pieces.specs.code.Lists.{some_stand};
-ghost use Rattle.text_pieces.specs.Pieces.{IsOpen, Takes, outlet};
+ghost use Rattle.text_pieces.specs.Pieces.{CanWrite, Writes};
 ghost use Rattle.flow_texts.specs.Reports.{assigned as assigned_by, busy_at, computed_at, dead_at, is_test as is_test_of, remarks_at};
 ghost use Rattle.flow_texts.specs.Reports.{remarks_when_reached, unset_at};
 ghost use Rattle.flow_texts.specs.code.Told.{ask_for};
@@ -16,7 +16,7 @@ ghost use Rattle.flow_texts.specs.declared.remark.Remark.TheVariants.{Computed, 
 
 use crate::findings::Findings;
 use crate::members::next_one;
-use crate::operands::{VariablesRead, assigned, is_test, variables_read};
+use crate::operands::{VariablesRead, assigned_variable, is_test, variables_read};
 use crate::remark::Remark;
 use crate::remark_form::RemarkForm;
 use flow_graph::Analysis;
@@ -117,13 +117,12 @@ impl Findings<'_> {
         point: u32,
         variable: u32,
     )
-        requires ready { IsOpen (outlet K.contents K.faults out.old) }
+        requires ready { CanWrite K.Sink out.old }
         requires found { AreFindings self.now }
         requires asked { slice_get self.now.answers.now.replies.asks number ≡ Some (ask_for Reach point variable) }
         requires point { point < point_count self.now.graph.now }
         requires variable { variable < length self.now.graph.now.variable_names }
-        ensures same_reference { out.new.sink.ghost_name ≡ out.old.sink.ghost_name }
-        ensures takes { Takes (outlet K.contents K.faults out.old) (outlet K.contents K.faults out.new)
+        ensures { Writes K.Sink out.old out.new
             (texts_where (λ v. F.text form.now self.now.graph.now point (Unset v)) ((knowledge_of self.now).reach.contains point) (variable ∷ [])) }
     {
         if !self.may_be_unset(number, point, variable) {
@@ -140,12 +139,11 @@ impl Findings<'_> {
         point: u32,
         kind: &StmtKind,
     )
-        requires ready { IsOpen (outlet K.contents K.faults out.old) }
+        requires ready { CanWrite K.Sink out.old }
         requires found { AreFindings self.now }
         requires point { point < point_count self.now.graph.now }
         requires kind { kind_at self.now.graph.now point ≡ Some kind.now }
-        ensures same_reference { out.new.sink.ghost_name ≡ out.old.sink.ghost_name }
-        ensures takes { Takes (outlet K.contents K.faults out.old) (outlet K.contents K.faults out.new)
+        ensures { Writes K.Sink out.old out.new
             (flat_map (λ v. F.text form.now self.now.graph.now point (Unset v)) (unset_at self.now.graph.now (knowledge_of self.now) point)) }
     {
         let reads = self.answers.places(point).reads;
@@ -182,12 +180,11 @@ impl Findings<'_> {
         point: u32,
         kind: &StmtKind,
     )
-        requires ready { IsOpen (outlet K.contents K.faults out.old) }
+        requires ready { CanWrite K.Sink out.old }
         requires found { AreFindings self.now }
         requires point { point < point_count self.now.graph.now }
         requires kind { kind_at self.now.graph.now point ≡ Some kind.now }
-        ensures same_reference { out.new.sink.ghost_name ≡ out.old.sink.ghost_name }
-        ensures takes { Takes (outlet K.contents K.faults out.old) (outlet K.contents K.faults out.new)
+        ensures { Writes K.Sink out.old out.new
             (flat_map (λ e. F.text form.now self.now.graph.now point (Computed e)) (computed_at self.now.graph.now (knowledge_of self.now) point)) }
     {
         let Some(bit) = self.graph.evaluated(point) else {
@@ -209,15 +206,14 @@ impl Findings<'_> {
         first: u32,
         end: u32,
     )
-        requires ready { IsOpen (outlet K.contents K.faults out.old) }
+        requires ready { CanWrite K.Sink out.old }
         requires found { AreFindings self.now }
         requires point { point < point_count self.now.graph.now }
         requires word { (k : ℕ) → k < 64 → has_bit ones k ≡ (knowledge_of self.now).busy.contains point (first + k) }
         requires ordered { first ≤ end }
         requires width { end ≤ first + 64 }
         requires end { end ≤ bits_of self.now.graph.now Busy }
-        ensures same_reference { out.new.sink.ghost_name ≡ out.old.sink.ghost_name }
-        ensures takes { Takes (outlet K.contents K.faults out.old) (outlet K.contents K.faults out.new)
+        ensures { Writes K.Sink out.old out.new
             (texts_where (λ e. F.text form.now self.now.graph.now point (VeryBusy e)) ((knowledge_of self.now).busy.contains point)
             (range_with_len first (end - first))) }
     {
@@ -257,13 +253,12 @@ impl Findings<'_> {
         point: u32,
         kind: &StmtKind,
     )
-        requires ready { IsOpen (outlet K.contents K.faults out.old) }
+        requires ready { CanWrite K.Sink out.old }
         requires found { AreFindings self.now }
         requires point { point < point_count self.now.graph.now }
         requires kind { kind_at self.now.graph.now point ≡ Some kind.now }
         requires test { is_test_of kind.now ≡ true }
-        ensures same_reference { out.new.sink.ghost_name ≡ out.old.sink.ghost_name }
-        ensures takes { Takes (outlet K.contents K.faults out.old) (outlet K.contents K.faults out.new)
+        ensures { Writes K.Sink out.old out.new
             (texts_where (λ e. F.text form.now self.now.graph.now point (VeryBusy e)) ((knowledge_of self.now).busy.contains point)
             (range_with_len 0 (bits_of self.now.graph.now Busy))) }
     {
@@ -294,12 +289,11 @@ impl Findings<'_> {
         point: u32,
         kind: &StmtKind,
     )
-        requires ready { IsOpen (outlet K.contents K.faults out.old) }
+        requires ready { CanWrite K.Sink out.old }
         requires found { AreFindings self.now }
         requires point { point < point_count self.now.graph.now }
         requires kind { kind_at self.now.graph.now point ≡ Some kind.now }
-        ensures same_reference { out.new.sink.ghost_name ≡ out.old.sink.ghost_name }
-        ensures takes { Takes (outlet K.contents K.faults out.old) (outlet K.contents K.faults out.new)
+        ensures { Writes K.Sink out.old out.new
             (flat_map (λ e. F.text form.now self.now.graph.now point (VeryBusy e)) (busy_at self.now.graph.now (knowledge_of self.now) point)) }
     {
         if !self.tells_busy(point, kind) {
@@ -332,7 +326,7 @@ impl Findings<'_> {
         requires kind { kind_at self.now.graph.now point ≡ Some kind.now }
         ensures { result ≡ some_stand (dead_at self.now.graph.now (knowledge_of self.now) point) }
     {
-        match assigned(kind) {
+        match assigned_variable(kind) {
             Some(variable) => self.is_dead_after(point, kind, variable),
             None => false,
         }
@@ -346,15 +340,14 @@ impl Findings<'_> {
         point: u32,
         kind: &StmtKind,
     )
-        requires ready { IsOpen (outlet K.contents K.faults out.old) }
+        requires ready { CanWrite K.Sink out.old }
         requires found { AreFindings self.now }
         requires point { point < point_count self.now.graph.now }
         requires kind { kind_at self.now.graph.now point ≡ Some kind.now }
-        ensures same_reference { out.new.sink.ghost_name ≡ out.old.sink.ghost_name }
-        ensures takes { Takes (outlet K.contents K.faults out.old) (outlet K.contents K.faults out.new)
+        ensures { Writes K.Sink out.old out.new
             (flat_map (λ v. F.text form.now self.now.graph.now point (Dead v)) (dead_at self.now.graph.now (knowledge_of self.now) point)) }
     {
-        let Some(variable) = assigned(kind) else {
+        let Some(variable) = assigned_variable(kind) else {
             return;
         };
         if !self.is_dead_after(point, kind, variable) {
@@ -371,12 +364,11 @@ impl Findings<'_> {
         point: u32,
         kind: &StmtKind,
     )
-        requires ready { IsOpen (outlet K.contents K.faults out.old) }
+        requires ready { CanWrite K.Sink out.old }
         requires found { AreFindings self.now }
         requires point { point < point_count self.now.graph.now }
         requires kind { kind_at self.now.graph.now point ≡ Some kind.now }
-        ensures same_reference { out.new.sink.ghost_name ≡ out.old.sink.ghost_name }
-        ensures takes { Takes (outlet K.contents K.faults out.old) (outlet K.contents K.faults out.new)
+        ensures { Writes K.Sink out.old out.new
             (flat_map (F.text form.now self.now.graph.now point) (remarks_when_reached self.now.graph.now (knowledge_of self.now) point)) }
     {
         self.write_unset(form, out, point, kind);
@@ -395,11 +387,10 @@ impl Findings<'_> {
         out: &mut Pieces<'_, K>,
         point: u32,
     )
-        requires ready { IsOpen (outlet K.contents K.faults out.old) }
+        requires ready { CanWrite K.Sink out.old }
         requires found { AreFindings self.now }
         requires point { point < point_count self.now.graph.now }
-        ensures same_reference { out.new.sink.ghost_name ≡ out.old.sink.ghost_name }
-        ensures takes { Takes (outlet K.contents K.faults out.old) (outlet K.contents K.faults out.new)
+        ensures { Writes K.Sink out.old out.new
             (flat_map (F.text form.now self.now.graph.now point) (remarks_at self.now.graph.now (knowledge_of self.now) point)) }
     {
         if out.has_failed() {

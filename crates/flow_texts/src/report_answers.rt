@@ -7,10 +7,11 @@ ghost use Rattle.flow_team.specs.AllTables.{AreTablesOf};
 ghost use Rattle.flow_texts.specs.code.Reported.{TellReport};
 ghost use Rattle.flow_texts.specs.code.Told.{facts_in};
 
+use crate::OutOfMemory;
 use crate::report_asks::{PointAsks, report_asks};
-use flow_graph::{Analysis, Graph, OutOfMemory};
-use flow_team::{Answers, OpenGate, Tables, answer, answer_here};
-use std::alloc::{AllocError, Global};
+use flow_graph::{Analysis, Graph};
+use flow_team::{Answers, Gate, Tables, TeamFault, answer, answer_here};
+use std::alloc::Global;
 use std::marker::Model;
 use std::thread::Threads;
 
@@ -35,29 +36,31 @@ impl Model for ReportAnswers {
 }
 
 impl ReportAnswers {
-    /// What a report asks of a graph, answered by so many workers, in slices of so many bits.
+    /// What a report asks of a graph, answered by so many workers, in slices of so many bits, which the gate is told of.
     ///
     /// The condition: 1 to 64 workers, and 1 to 4,096 bits. Fails where memory runs out, and for some 2^26 asks and more, which only a
     /// program beyond the standard limits has.
-    pub fn of<R: Threads + Sync>(
+    pub fn of<R: Threads + Sync, G: Gate>(
         rt: &R,
         alloc: Global,
         graph: &Graph<'_>,
         workers: u32,
         cut: u32,
+        gate: &G,
     ) -> Result<ReportAnswers, OutOfMemory>
         requires { AreInRange workers cut }
         ensures { IfOk result (TellReport graph.now) }
     {
         let (asks, places) = report_asks(alloc, graph)?;
-        match answer(rt, alloc, graph, asks, cut, workers, &OpenGate) {
+        match answer(rt, alloc, graph, asks, cut, workers, gate) {
             Ok(answers) => Ok(ReportAnswers { answers, places }),
-            Err(_) => Err(AllocError),
+            Err(TeamFault::OutOfMemory) => Err(OutOfMemory),
+            Err(TeamFault::BadWorkers) => unreachable!(),
         }
     }
 
     /// What a report asks of a graph, answered on the calling thread. Fails as [`of`](ReportAnswers::of) does.
-    pub fn here(alloc: Global, graph: &Graph<'_>) -> Result<ReportAnswers, OutOfMemory>
+    pub fn answered_here(alloc: Global, graph: &Graph<'_>) -> Result<ReportAnswers, OutOfMemory>
         ensures { IfOk result (TellReport graph.now) }
     {
         let (asks, places) = report_asks(alloc, graph)?;

@@ -9,10 +9,11 @@ ghost use Rattle.flow_team.specs.Asks.{AreAsksOf, IsAskOf};
 ghost use Rattle.flow_texts.specs.code.Asking.{Asks, AsksAssigned, AsksBusy, AsksEvaluated, AsksReads};
 ghost use Rattle.flow_texts.specs.code.Reported.{AreAsked, AreAskedAt};
 
-use crate::operands::{VariablesRead, assigned, is_test, variables_read};
-use flow_graph::{Analysis, Graph, OutOfMemory};
+use crate::OutOfMemory;
+use crate::operands::{VariablesRead, assigned_variable, is_test, variables_read};
+use flow_graph::{Analysis, Graph};
 use flow_team::Ask;
-use std::alloc::{AllocError, Global};
+use std::alloc::Global;
 use tac_program::StmtKind;
 
 /// Which ask of a report is the first of each kind at a point.
@@ -40,7 +41,7 @@ fn ask_for(analysis: Analysis, point: u32, bit: u32) -> Ask
 }
 
 // Puts an ask behind the others.
-fn put(asks: &mut Vec<Ask>, ask: Ask) -> Result<(), OutOfMemory>
+fn put_ask(asks: &mut Vec<Ask>, ask: Ask) -> Result<(), OutOfMemory>
     ensures { IfOk result (λ _. asks.new.items ≡ asks.old.items ++ ask ∷ []) }
 {
     asks.push(ask)?;
@@ -62,10 +63,10 @@ fn ask_reads(
 {
     match variables_read(kind) {
         VariablesRead::None => Ok(()),
-        VariablesRead::One(variable) => put(asks, ask_for(Analysis::Reach, point, variable)),
+        VariablesRead::One(variable) => put_ask(asks, ask_for(Analysis::Reach, point, variable)),
         VariablesRead::Two(first, second) => {
-            put(asks, ask_for(Analysis::Reach, point, first))?;
-            put(asks, ask_for(Analysis::Reach, point, second))
+            put_ask(asks, ask_for(Analysis::Reach, point, first))?;
+            put_ask(asks, ask_for(Analysis::Reach, point, second))
         }
     }
 }
@@ -78,7 +79,7 @@ fn ask_evaluated(graph: &Graph<'_>, asks: &mut Vec<Ask>, point: u32) -> Result<(
     ensures asked { IfOk result (λ _. AsksEvaluated graph.now asks.new.items (length asks.old.items) point) }
 {
     match graph.evaluated(point) {
-        Some(bit) => put(asks, ask_for(Analysis::Avail, point, bit)),
+        Some(bit) => put_ask(asks, ask_for(Analysis::Avail, point, bit)),
         None => Ok(()),
     }
 }
@@ -98,8 +99,8 @@ fn ask_assigned(
 {
     // Its contract tells that there are few points.
     let _ = graph.points();
-    match assigned(kind) {
-        Some(variable) => put(asks, ask_for(Analysis::Live, point + 1, variable)),
+    match assigned_variable(kind) {
+        Some(variable) => put_ask(asks, ask_for(Analysis::Live, point + 1, variable)),
         None => Ok(()),
     }
 }
@@ -117,7 +118,7 @@ fn ask_all(graph: &Graph<'_>, asks: &mut Vec<Ask>, point: u32) -> Result<(), Out
             point,
             word,
         };
-        put(asks, ask)?;
+        put_ask(asks, ask)?;
     }
     Ok(())
 }
@@ -206,7 +207,7 @@ pub(crate) fn report_asks(
     let mut places = Vec::new(alloc);
     for point in 0..graph.points() {
         if MOST_ASKS < asks.len() {
-            return Err(AllocError);
+            return Err(OutOfMemory);
         }
         let here = ask_point(graph, &mut asks, point)?;
         places.push(here)?;

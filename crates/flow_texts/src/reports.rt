@@ -3,19 +3,20 @@
 ghost use Rattle.std.specs.Prelude.{◌≡◌, ◌+◌, ◌<◌, ◌≤◌, ◌++◌, IfOk, codes, decimal, length, take};
 ghost use Rattle.flow_graph.specs.Points.{point_count};
 ghost use Rattle.flow_texts.specs.code.Findings.{AreFindings, knowledge_of, line_behind, words_before, words_behind};
-ghost use Rattle.text_pieces.specs.Pieces.{IsOpen, Takes, outlet};
+ghost use Rattle.text_pieces.specs.Pieces.{CanWrite, Writes};
 ghost use Rattle.flow_team.specs.AllTables.{AreTablesOf};
 ghost use Rattle.flow_texts.specs.Reports.{IsReport, ListsSafely, count_line, lines_at, report_of};
 ghost use Rattle.flow_texts.specs.code.Reported.{TellReport};
 ghost use Rattle.flow_texts.specs.Tables.{line_at};
 
+use crate::OutOfMemory;
 use crate::bit_texts::{line, write_number};
 use crate::findings::Findings;
 use crate::remark::Remark;
 use crate::remark_form::RemarkForm;
 use crate::remarks::words_before_name;
 use crate::report_answers::ReportAnswers;
-use flow_graph::{Analysis, Graph, OutOfMemory};
+use flow_graph::{Analysis, Graph};
 use flow_team::Tables;
 use itoa::Buffer;
 use std::alloc::Global;
@@ -24,9 +25,8 @@ use text_pieces::{Pieces, Sink, Text, whole_text};
 
 // Writes a count behind what is counted.
 fn write_count<K: Sink>(out: &mut Pieces<'_, K>, counted: &[u8], count: u32)
-    requires { IsOpen (outlet K.contents K.faults out.old) }
-    ensures same_reference { out.new.sink.ghost_name ≡ out.old.sink.ghost_name }
-    ensures takes { Takes (outlet K.contents K.faults out.old) (outlet K.contents K.faults out.new) (counted.now ++ decimal count) }
+    requires { CanWrite K.Sink out.old }
+    ensures { Writes K.Sink out.old out.new (counted.now ++ decimal count) }
 {
     out.write(counted);
     write_number(out, count);
@@ -34,9 +34,8 @@ fn write_count<K: Sink>(out: &mut Pieces<'_, K>, counted: &[u8], count: u32)
 
 // Writes how many points there are, and how many bits of each kind.
 fn write_counts<K: Sink>(out: &mut Pieces<'_, K>, graph: &Graph<'_>)
-    requires { IsOpen (outlet K.contents K.faults out.old) }
-    ensures same_reference { out.new.sink.ghost_name ≡ out.old.sink.ghost_name }
-    ensures takes { Takes (outlet K.contents K.faults out.old) (outlet K.contents K.faults out.new) (count_line graph.now) }
+    requires { CanWrite K.Sink out.old }
+    ensures { Writes K.Sink out.old out.new (count_line graph.now) }
 {
     write_count(out, b"points ", graph.points());
     write_count(out, b", variables ", graph.bits(Analysis::Live));
@@ -60,9 +59,8 @@ fn words_to_end(remark: Remark) -> &'static [u8]
 
 // Writes what a remark says before what it names; most say nothing there.
 fn write_before_name<K: Sink>(out: &mut Pieces<'_, K>, remark: Remark)
-    requires { IsOpen (outlet K.contents K.faults out.old) }
-    ensures same_reference { out.new.sink.ghost_name ≡ out.old.sink.ghost_name }
-    ensures takes { Takes (outlet K.contents K.faults out.old) (outlet K.contents K.faults out.new) (words_before remark) }
+    requires { CanWrite K.Sink out.old }
+    ensures { Writes K.Sink out.old out.new (words_before remark) }
 {
     let words = words_before_name(remark);
     if words.is_empty() {
@@ -109,25 +107,21 @@ fn put_behind(buffer: &mut [u8], filled: usize, bytes: &[u8]) -> usize
 impl Findings<'_> {
     // Writes the lines of a point behind what each of them begins with.
     fn write_lines<K: Sink>(&self, out: &mut Pieces<'_, K>, point: u32, head: &[u8])
-        requires ready { IsOpen (outlet K.contents K.faults out.old) }
+        requires ready { CanWrite K.Sink out.old }
         requires found { AreFindings self.now }
         requires point { point < point_count self.now.graph.now }
         requires head { head.now ≡ decimal (line_at self.now.graph.now point) ++ codes ": " }
-        ensures same_reference { out.new.sink.ghost_name ≡ out.old.sink.ghost_name }
-        ensures takes { Takes (outlet K.contents K.faults out.old) (outlet K.contents K.faults out.new)
-            (lines_at self.now.graph.now (knowledge_of self.now) point) }
+        ensures { Writes K.Sink out.old out.new (lines_at self.now.graph.now (knowledge_of self.now) point) }
     {
         self.write_remarks(&ReportLine { head }, out, point);
     }
 
     // Writes the lines of a point. What they begin with is made once for all of them.
     fn write_point<K: Sink>(&self, out: &mut Pieces<'_, K>, point: u32)
-        requires ready { IsOpen (outlet K.contents K.faults out.old) }
+        requires ready { CanWrite K.Sink out.old }
         requires found { AreFindings self.now }
         requires point { point < point_count self.now.graph.now }
-        ensures same_reference { out.new.sink.ghost_name ≡ out.old.sink.ghost_name }
-        ensures takes { Takes (outlet K.contents K.faults out.old) (outlet K.contents K.faults out.new)
-            (lines_at self.now.graph.now (knowledge_of self.now) point) }
+        ensures { Writes K.Sink out.old out.new (lines_at self.now.graph.now (knowledge_of self.now) point) }
     {
         let mut digits = Buffer::new();
         let mut room = [0; 42];
@@ -139,11 +133,9 @@ impl Findings<'_> {
 
     // Writes the report.
     fn write<K: Sink>(&self, out: &mut Pieces<'_, K>)
-        requires ready { IsOpen (outlet K.contents K.faults out.old) }
+        requires ready { CanWrite K.Sink out.old }
         requires found { AreFindings self.now }
-        ensures same_reference { out.new.sink.ghost_name ≡ out.old.sink.ghost_name }
-        ensures takes { Takes (outlet K.contents K.faults out.old) (outlet K.contents K.faults out.new)
-            (report_of self.now.graph.now (knowledge_of self.now)) }
+        ensures { Writes K.Sink out.old out.new (report_of self.now.graph.now (knowledge_of self.now)) }
     {
         write_counts(out, self.graph);
         for point in 0..self.graph.points() {
@@ -238,6 +230,6 @@ pub fn report_here(alloc: Global, graph: &Graph<'_>) -> Result<Vec<u8>, OutOfMem
     ensures report { IfOk result (λ text. IsReport graph.now text.items) }
     ensures safe { IfOk result (λ text. ListsSafely graph.now text.items) }
 {
-    let answers = ReportAnswers::here(alloc, graph)?;
+    let answers = ReportAnswers::answered_here(alloc, graph)?;
     whole_report(alloc, graph, &answers)
 }

@@ -5,12 +5,13 @@ ghost use Rattle.flow_graph.specs.Points.{point_count};
 ghost use Rattle.flow_graph.specs.Universes.{bits as bits_of};
 ghost use Rattle.flow_team.specs.Tables.{IsTableOf, facts_of};
 ghost use Rattle.text_pieces.specs.code.Blocks.{HoldsTexts};
-ghost use Rattle.text_pieces.specs.Pieces.{IsOpen, Takes, outlet};
+ghost use Rattle.text_pieces.specs.Pieces.{CanWrite, Writes};
 ghost use Rattle.flow_texts.specs.Tables.{IsTableText, bit_text, place_text, point_line};
 
+use crate::OutOfMemory;
 use crate::bit_texts::{texts_of_bits, write_number};
 use crate::members::write_set;
-use flow_graph::{Graph, OutOfMemory};
+use flow_graph::Graph;
 use flow_team::Table;
 use std::alloc::Global;
 use std::marker::Model;
@@ -18,10 +19,9 @@ use text_pieces::{Pieces, Sink, Text, TextBlock, whole_text};
 
 /// Writes the procedure of a point and its place there.
 fn write_place<K: Sink>(out: &mut Pieces<'_, K>, graph: &Graph<'_>, point: u32)
-    requires ready { IsOpen (outlet K.contents K.faults out.old) }
+    requires ready { CanWrite K.Sink out.old }
     requires point { point < point_count graph.now }
-    ensures same_reference { out.new.sink.ghost_name ≡ out.old.sink.ghost_name }
-    ensures takes { Takes (outlet K.contents K.faults out.old) (outlet K.contents K.faults out.new) (place_text graph.now point) }
+    ensures { Writes K.Sink out.old out.new (place_text graph.now point) }
 {
     let place = graph.place(point);
     let program = graph.program();
@@ -47,13 +47,11 @@ fn write_point<K: Sink>(
     texts: &TextBlock,
     point: u32,
 )
-    requires ready { IsOpen (outlet K.contents K.faults out.old) }
+    requires ready { CanWrite K.Sink out.old }
     requires point { point < point_count graph.now }
     requires table { IsTableOf graph.now table.now }
     requires texts { HoldsTexts (codes ", ") (bit_text graph.now table.now.analysis) (bits_of graph.now table.now.analysis) texts.now }
-    ensures same_reference { out.new.sink.ghost_name ≡ out.old.sink.ghost_name }
-    ensures takes { Takes (outlet K.contents K.faults out.old) (outlet K.contents K.faults out.new)
-        (point_line graph.now table.now.analysis (facts_of table.now) point) }
+    ensures { Writes K.Sink out.old out.new (point_line graph.now table.now.analysis (facts_of table.now) point) }
 {
     if out.has_failed() {
         return;

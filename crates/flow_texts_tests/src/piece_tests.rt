@@ -4,7 +4,7 @@ ghost use Rattle.flow_team.specs.Tables.{IsTableOf};
 
 use failing_streams::{Page, page_of};
 use flow_graph::{Analysis, Graph};
-use flow_team::Table;
+use flow_team::{OpenGate, Table};
 use flow_texts::{TableText, table_of, table_text};
 use std::alloc::Global;
 use std::process::Abort;
@@ -62,7 +62,7 @@ fn texts_of_graph<R: Threads + Sync>(
     graph: &Graph<'_>,
     page: &mut Page,
 ) -> Result<(bool, Vec<u8>), Fail> {
-    let table = table_of(rt, alloc, graph, Analysis::Reach, 1, 64)?;
+    let table = table_of(rt, alloc, graph, Analysis::Reach, 1, 64, &OpenGate)?;
     texts_of_table(alloc, graph, &table, page)
 }
 

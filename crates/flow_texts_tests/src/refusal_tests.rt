@@ -6,7 +6,7 @@ ghost use Rattle.flow_team.specs.AllTables.{AreTablesOf};
 ghost use Rattle.flow_texts.specs.code.Reported.{TellReport};
 
 use flow_graph::{Analysis, Graph};
-use flow_team::Table;
+use flow_team::{OpenGate, Table};
 use flow_texts::{
     ReportAnswers, ReportText, TableText, Tables, report, report_here, table_of, table_text,
 };
@@ -42,7 +42,7 @@ fn reaching_table<R: Threads + Sync>(
     Ok(again!(
         *refused,
         "table_of",
-        table_of(rt, alloc, graph, Analysis::Reach, 1, 1)
+        table_of(rt, alloc, graph, Analysis::Reach, 1, 1, &OpenGate)
     ))
 }
 
@@ -106,7 +106,7 @@ fn answers_of_graph<R: Threads + Sync>(
     Ok(again!(
         *refused,
         "ReportAnswers::of",
-        ReportAnswers::of(rt, alloc, graph, 1, 1)
+        ReportAnswers::of(rt, alloc, graph, 1, 1, &OpenGate)
     ))
 }
 
@@ -119,8 +119,8 @@ fn answers_here(
 {
     Ok(again!(
         *refused,
-        "ReportAnswers::here",
-        ReportAnswers::here(alloc, graph)
+        "ReportAnswers::answered_here",
+        ReportAnswers::answered_here(alloc, graph)
     ))
 }
 

@@ -10,8 +10,8 @@ use Rattle.flow_texts.specs.code.Findings.{knowledge_of}
 use Rattle.flow_texts.proofs.KnownReports.{Agree, agrees, all_is_known, all_known, same_dead, same_remarks, same_unset}
 use Rattle.flow_views.specs.ShownTables.{IsShownTable}
 use Rattle.flow_views.specs.Views.{told_by}
-use Rattle.flow_views.specs.code.Shown.{AreShown, facts_or, is_chosen, known_of}
-use Rattle.flow_views.specs.declared.shown.Shown.{Shown}
+use Rattle.flow_views.specs.code.ShownProgram.{AreShown, facts_or, is_chosen, known_of}
+use Rattle.flow_views.specs.declared.shown.ShownProgram.{ShownProgram}
 
 facts_are : (program : Program) (table : TableFacts) (analysis : Analysis) → table.analysis ≡ analysis → IsTableOf program table
     → AreFacts program analysis (facts_of table)
@@ -34,7 +34,7 @@ chosen_or : (program : Program) (analysis : Analysis) (chosen : Bool) (one other
 chosen_or program analysis chosen one other None is chosen_is = absurd (cc (is.there ∙ chosen_is))
 chosen_or program analysis chosen one other (Some table) is chosen_is = refl
 
-module _ (shown : Shown) (are : AreShown shown) where
+module _ (shown : ShownProgram) (are : AreShown shown) where
   -- all that is known
   pub all_of : Knowledge
   all_of = record {

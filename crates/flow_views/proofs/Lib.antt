@@ -1,4 +1,3 @@
-pub mod Escapes
 pub mod Rows
 pub mod SameTexts
 pub mod Walks

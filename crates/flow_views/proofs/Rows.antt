@@ -9,8 +9,8 @@ use Rattle.flow_texts.specs.Tables.{listed}
 use Rattle.text_pieces.specs.code.Lists.{after, some_stand}
 use Rattle.flow_texts.proofs.ListTexts.{some_stand-map}
 use Rattle.flow_views.specs.Json.{joined}
-use Rattle.flow_views.specs.Strings.{escaped}
-use Rattle.flow_views.proofs.Escapes.{escaped-append}
+use Rattle.text_pieces.specs.Strings.{escaped}
+use Rattle.text_pieces.proofs.Escapes.{escaped-append}
 use Rattle.flow_views.proofs.Statements.{stand_before}
 
 pub after-joined : (between : List ℕ) (texts : List (List ℕ)) → after between false texts ≡ joined between texts

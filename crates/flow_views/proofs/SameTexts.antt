@@ -17,9 +17,9 @@ use Rattle.tac_program.specs.Sound.{IsSound}
 use Rattle.flow_views.specs.Dots.{cluster, dot_of, edge_lines, fact_line, head, label_line, label_lines, marks, node, path_marks, text_if_some, title}
 use Rattle.flow_views.specs.Json.{array, boolean, edge_object, facts_field, json_of, point_line, program_line, remark_lines, remark_object}
 use Rattle.flow_views.specs.Json.{span_fields, statement_field}
-use Rattle.flow_views.specs.Strings.{quoted}
+use Rattle.text_pieces.specs.Strings.{quoted}
 use Rattle.flow_views.specs.Views.{analysis_if, analysis_name, chosen_analyses, points_in, procedure_name, shown_points, shown_procedures, told_by}
-use Rattle.flow_views.specs.code.Shown.{is_chosen}
+use Rattle.flow_views.specs.code.ShownProgram.{is_chosen}
 use Rattle.flow_views.specs.declared.view.Chosen.{Chosen}
 use Rattle.flow_views.specs.declared.view.View.{View}
 use Rattle.flow_views.proofs.Tables.{ends_below}

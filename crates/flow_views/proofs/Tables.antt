@@ -30,9 +30,9 @@ use Rattle.flow_views.specs.Json.{array, boolean, span_fields}
 use Rattle.flow_views.specs.ShownTables.{AreShownTables}
 use Rattle.flow_views.specs.Views.{analysis_if}
 use Rattle.flow_views.specs.code.Names.{AreNames, numbered}
-use Rattle.flow_views.specs.code.Shown.{AreShown, IsSiteIn, contents}
+use Rattle.flow_views.specs.code.ShownProgram.{AreShown, IsSiteIn, contents}
 use Rattle.flow_views.specs.declared.names.NameForm.TheVariants.{Quoted}
-use Rattle.flow_views.specs.declared.shown.Shown.{Shown}
+use Rattle.flow_views.specs.declared.shown.ShownProgram.{ShownProgram}
 use Rattle.flow_views.specs.declared.view.View.{View}
 
 -- the edges of a point, as they are read from the table
@@ -124,7 +124,8 @@ pub one_chosen : (f : Analysis → List ℕ) (chosen : Bool) (analysis : Analysi
 one_chosen f chosen analysis is = sym (ap (λ b. flat_map f (analysis_if b analysis)) is ∙ append-nil (f analysis))
 
 -- what is shown, put together
-pub shown_is : (shown : Shown) (program : Program) → shown.found.graph.now ≡ program → AreFindings shown.found → TellDoubtful shown.found.graph.now
+pub shown_is : (shown : ShownProgram) (program : Program) → shown.found.graph.now ≡ program → AreFindings shown.found
+    → TellDoubtful shown.found.graph.now
     shown.found.doubtful.items → AreShownTables program shown.view.facts shown.tables.now → AreNames program shown.names
     → contents shown.successors.items ≡ map (edges_from program) (points program)
     → IfSome shown.view.procedure (λ procedure. procedure < length program.procedure_names) → AreShown shown

@@ -13,7 +13,7 @@ use Rattle.tac_program.specs.Listings.{statement_text}
 use Rattle.tac_program.specs.Programs.{Program}
 use Rattle.tac_program.specs.declared.program.StmtKind.{StmtKind}
 use Rattle.tac_program.specs.declared.program.StmtKind.TheVariants as kind
-use Rattle.flow_views.specs.Strings.{escaped, quoted}
+use Rattle.text_pieces.specs.Strings.{escaped, quoted}
 use Rattle.flow_views.specs.Views.{analysis_name, chosen_analyses, names_at, points_in, procedure_name, shown_points, shown_procedures, told_by}
 use Rattle.flow_views.specs.declared.view.Chosen.{Chosen}
 use Rattle.flow_views.specs.declared.view.View.{View}

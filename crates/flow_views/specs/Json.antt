@@ -14,7 +14,7 @@ use Rattle.flow_texts.specs.declared.remark.Remark.{Remark}
 use Rattle.flow_texts.specs.declared.remark.Remark.TheVariants.{NeverReached, Unset, Computed, VeryBusy, Dead}
 use Rattle.tac_program.specs.Listings.{statement_text}
 use Rattle.tac_program.specs.Programs.{Program}
-use Rattle.flow_views.specs.Strings.{quoted}
+use Rattle.text_pieces.specs.Strings.{quoted}
 use Rattle.flow_views.specs.Views.{analysis_name, chosen_analyses, names_at, procedure_name, shown_points, told_by}
 use Rattle.flow_views.specs.declared.view.Chosen.{Chosen}
 use Rattle.flow_views.specs.declared.view.View.{View}

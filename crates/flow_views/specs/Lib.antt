@@ -1,4 +1,3 @@
-pub mod Strings
 pub mod Views
 pub mod ShownTables
 pub mod Dots

@@ -4,26 +4,26 @@ ghost use Rattle.std.specs.Prelude.{◌≡◌, ◌++◌, ◌<◌, ◌≤◌, All
 ghost use Rattle.flow_graph.specs.Paths.{target_of};
 ghost use Rattle.flow_graph.specs.Points.{point_count, procedure_at, statement_at};
 ghost use Rattle.flow_team.specs.Tables.{IsTableOf, facts_of};
-ghost use Rattle.text_pieces.specs.Pieces.{IsOpen, Takes, outlet};
+ghost use Rattle.text_pieces.specs.Pieces.{CanWrite, Writes};
 ghost use Rattle.flow_texts.specs.Reports.{dead_at, remark_text, unset_at};
 ghost use Rattle.flow_texts.specs.code.Reported.{TellReport};
 ghost use Rattle.flow_texts.specs.Tables.{line_at};
 ghost use Rattle.tac_program.specs.Listings.{statement_text};
 ghost use Rattle.flow_views.specs.ShownTables.{AreShownTables};
-ghost use Rattle.flow_views.specs.code.Shown.{AreShown, IsSiteIn, is_chosen, known_of, numbers_of};
+ghost use Rattle.flow_views.specs.code.ShownProgram.{AreShown, IsSiteIn, is_chosen, known_of, numbers_of};
 ghost use Rattle.flow_views.specs.declared.names.NameForm.TheVariants.{Escaped};
 ghost use Rattle.flow_views.specs.Dots.{IsDot, arrow, calls_at, cluster, dot_of, edge_line, edge_lines, fact_line, head, is_call, is_edge_shown};
 ghost use Rattle.flow_views.specs.Dots.{label_line, label_lines, marks, node, passed_call, path_marks, shown_edge, text_if_some, title};
-ghost use Rattle.flow_views.specs.Strings.{escaped};
+ghost use Rattle.text_pieces.specs.Strings.{escaped};
 ghost use Rattle.flow_views.specs.Views.{analysis_if, chosen_analyses, names_at, points_in, procedure_name, told_by};
 
+use crate::OutOfMemory;
 use crate::names::NameForm;
-use crate::optional::write_if;
-use crate::shown::{Numbers, Shown, name_of};
+use crate::scope::write_escaped_number;
+use crate::shown::{Numbers, ShownProgram, name_of};
 use crate::shown_tables::ShownTables;
-use crate::strings::{write_escaped, write_escaped_number, write_quoted};
 use crate::view::View;
-use flow_graph::{Analysis, Edge, Graph, OutOfMemory};
+use flow_graph::{Analysis, Edge, Graph};
 use flow_team::Table;
 use flow_texts::{
     Findings, Remark, RemarkForm, ReportAnswers, line, words_before_name, words_behind_name,
@@ -32,7 +32,7 @@ use flow_texts::{
 use std::alloc::Global;
 use std::marker::Model;
 use tac_program::{Stmt, StmtKind};
-use text_pieces::{Pieces, Sink, Text};
+use text_pieces::{Pieces, Sink, Text, write_escaped, write_if, write_quoted};
 
 // A remark as a line of a label.
 #[derive(Clone, Copy)]
@@ -57,9 +57,8 @@ impl RemarkForm for DotLine {
 
 // Writes an arrow from a point to a point.
 fn write_arrow<K: Sink>(out: &mut Pieces<'_, K>, source: u32, target: u32)
-    requires { IsOpen (outlet K.contents K.faults out.old) }
-    ensures same_reference { out.new.sink.ghost_name ≡ out.old.sink.ghost_name }
-    ensures takes { Takes (outlet K.contents K.faults out.old) (outlet K.contents K.faults out.new) (arrow source target) }
+    requires { CanWrite K.Sink out.old }
+    ensures { Writes K.Sink out.old out.new (arrow source target) }
 {
     out.write(b"  ");
     write_number(out, source);
@@ -69,9 +68,8 @@ fn write_arrow<K: Sink>(out: &mut Pieces<'_, K>, source: u32, target: u32)
 
 // Writes what the text begins with.
 fn write_head<K: Sink>(out: &mut Pieces<'_, K>)
-    requires { IsOpen (outlet K.contents K.faults out.old) }
-    ensures same_reference { out.new.sink.ghost_name ≡ out.old.sink.ghost_name }
-    ensures takes { Takes (outlet K.contents K.faults out.old) (outlet K.contents K.faults out.new) head }
+    requires { CanWrite K.Sink out.old }
+    ensures { Writes K.Sink out.old out.new head }
 {
     out.write(b"digraph \"tacflow\" {\n");
     out.write(b"  graph [fontname=\"monospace\", labeljust=l];\n");
@@ -110,15 +108,14 @@ fn is_call(kind: &StmtKind) -> bool
     }
 }
 
-impl Shown<'_> {
+impl ShownProgram<'_> {
     // Writes the title of a statement.
     fn write_statement_title<K: Sink>(&self, out: &mut Pieces<'_, K>, point: u32, stmt: &Stmt)
-        requires ready { IsOpen (outlet K.contents K.faults out.old) }
+        requires ready { CanWrite K.Sink out.old }
         requires shown { AreShown self.now }
         requires point { point < point_count self.now.found.graph.now }
         requires statement { statement_at self.now.found.graph.now point ≡ Some stmt.now }
-        ensures same_reference { out.new.sink.ghost_name ≡ out.old.sink.ghost_name }
-        ensures takes { Takes (outlet K.contents K.faults out.old) (outlet K.contents K.faults out.new)
+        ensures { Writes K.Sink out.old out.new
             (escaped (decimal stmt.now.span.line ++ codes ": " ++ statement_text (names_at self.now.found.graph.now point) stmt.now.kind)) }
     {
         write_escaped_number(out, stmt.span.line as u64);
@@ -128,11 +125,10 @@ impl Shown<'_> {
 
     // Writes the title of a procedure's end.
     fn write_end_title<K: Sink>(&self, out: &mut Pieces<'_, K>, point: u32)
-        requires ready { IsOpen (outlet K.contents K.faults out.old) }
+        requires ready { CanWrite K.Sink out.old }
         requires shown { AreShown self.now }
         requires point { point < point_count self.now.found.graph.now }
-        ensures same_reference { out.new.sink.ghost_name ≡ out.old.sink.ghost_name }
-        ensures takes { Takes (outlet K.contents K.faults out.old) (outlet K.contents K.faults out.new)
+        ensures { Writes K.Sink out.old out.new
             (escaped (codes "end of " ++ procedure_name self.now.found.graph.now (procedure_at self.now.found.graph.now point))) }
     {
         out.write(b"end of ");
@@ -141,12 +137,10 @@ impl Shown<'_> {
 
     // Writes the first line of a label.
     fn write_title<K: Sink>(&self, out: &mut Pieces<'_, K>, point: u32)
-        requires ready { IsOpen (outlet K.contents K.faults out.old) }
+        requires ready { CanWrite K.Sink out.old }
         requires shown { AreShown self.now }
         requires point { point < point_count self.now.found.graph.now }
-        ensures same_reference { out.new.sink.ghost_name ≡ out.old.sink.ghost_name }
-        ensures takes { Takes (outlet K.contents K.faults out.old) (outlet K.contents K.faults out.new)
-            (escaped (title self.now.found.graph.now point)) }
+        ensures { Writes K.Sink out.old out.new (escaped (title self.now.found.graph.now point)) }
     {
         match self.found.graph.stmt(point) {
             Some(stmt) => self.write_statement_title(out, point, stmt),
@@ -162,15 +156,13 @@ impl Shown<'_> {
         point: u32,
         analysis: Analysis,
     )
-        requires ready { IsOpen (outlet K.contents K.faults out.old) }
+        requires ready { CanWrite K.Sink out.old }
         requires shown { AreShown self.now }
         requires form { self.now.names.form ≡ Escaped }
         requires table { IsTableOf self.now.found.graph.now table.now }
         requires facts { facts_of table.now ≡ told_by (known_of self.now) analysis }
         requires point { point < point_count self.now.found.graph.now }
-        ensures same_reference { out.new.sink.ghost_name ≡ out.old.sink.ghost_name }
-        ensures takes { Takes (outlet K.contents K.faults out.old) (outlet K.contents K.faults out.new)
-            (label_line (fact_line self.now.found.graph.now (known_of self.now) point analysis)) }
+        ensures { Writes K.Sink out.old out.new (label_line (fact_line self.now.found.graph.now (known_of self.now) point analysis)) }
     {
         write_escaped(out, name_of(analysis));
         out.write(b": ");
@@ -181,12 +173,11 @@ impl Shown<'_> {
 
     // Writes it where the analysis is chosen.
     fn write_fact_if<K: Sink>(&self, out: &mut Pieces<'_, K>, point: u32, analysis: Analysis)
-        requires ready { IsOpen (outlet K.contents K.faults out.old) }
+        requires ready { CanWrite K.Sink out.old }
         requires shown { AreShown self.now }
         requires form { self.now.names.form ≡ Escaped }
         requires point { point < point_count self.now.found.graph.now }
-        ensures same_reference { out.new.sink.ghost_name ≡ out.old.sink.ghost_name }
-        ensures takes { Takes (outlet K.contents K.faults out.old) (outlet K.contents K.faults out.new)
+        ensures { Writes K.Sink out.old out.new
             (flat_map (λ a. label_line (fact_line self.now.found.graph.now (known_of self.now) point a))
             (analysis_if (is_chosen self.now.view.facts analysis) analysis)) }
     {
@@ -198,12 +189,11 @@ impl Shown<'_> {
 
     // Writes what the chosen analyses tell at a point.
     fn write_facts<K: Sink>(&self, out: &mut Pieces<'_, K>, point: u32)
-        requires ready { IsOpen (outlet K.contents K.faults out.old) }
+        requires ready { CanWrite K.Sink out.old }
         requires shown { AreShown self.now }
         requires form { self.now.names.form ≡ Escaped }
         requires point { point < point_count self.now.found.graph.now }
-        ensures same_reference { out.new.sink.ghost_name ≡ out.old.sink.ghost_name }
-        ensures takes { Takes (outlet K.contents K.faults out.old) (outlet K.contents K.faults out.new)
+        ensures { Writes K.Sink out.old out.new
             (flat_map (λ a. label_line (fact_line self.now.found.graph.now (known_of self.now) point a)) (chosen_analyses self.now.view.facts)) }
     {
         self.write_fact_if(out, point, Analysis::Reach);
@@ -214,12 +204,11 @@ impl Shown<'_> {
 
     // Writes the lines of a node.
     fn write_label<K: Sink>(&self, out: &mut Pieces<'_, K>, point: u32)
-        requires ready { IsOpen (outlet K.contents K.faults out.old) }
+        requires ready { CanWrite K.Sink out.old }
         requires shown { AreShown self.now }
         requires form { self.now.names.form ≡ Escaped }
         requires point { point < point_count self.now.found.graph.now }
-        ensures same_reference { out.new.sink.ghost_name ≡ out.old.sink.ghost_name }
-        ensures takes { Takes (outlet K.contents K.faults out.old) (outlet K.contents K.faults out.new)
+        ensures { Writes K.Sink out.old out.new
             (flat_map label_line (label_lines self.now.found.graph.now (known_of self.now) self.now.view.facts point)) }
     {
         self.write_title(out, point);
@@ -230,12 +219,11 @@ impl Shown<'_> {
 
     // Writes the marks of a statement that is reached.
     fn write_statement_marks<K: Sink>(&self, out: &mut Pieces<'_, K>, point: u32, stmt: &Stmt)
-        requires ready { IsOpen (outlet K.contents K.faults out.old) }
+        requires ready { CanWrite K.Sink out.old }
         requires shown { AreShown self.now }
         requires point { point < point_count self.now.found.graph.now }
         requires statement { statement_at self.now.found.graph.now point ≡ Some stmt.now }
-        ensures same_reference { out.new.sink.ghost_name ≡ out.old.sink.ghost_name }
-        ensures takes { Takes (outlet K.contents K.faults out.old) (outlet K.contents K.faults out.new)
+        ensures { Writes K.Sink out.old out.new
             (text_if_some (unset_at self.now.found.graph.now (known_of self.now) point) (codes ", color=red, fontcolor=red")
             ++ text_if_some (dead_at self.now.found.graph.now (known_of self.now) point) (codes ", style=filled, fillcolor=khaki")) }
     {
@@ -247,12 +235,10 @@ impl Shown<'_> {
 
     // Writes the marks of a point by its valid paths.
     fn write_path_marks<K: Sink>(&self, out: &mut Pieces<'_, K>, point: u32)
-        requires ready { IsOpen (outlet K.contents K.faults out.old) }
+        requires ready { CanWrite K.Sink out.old }
         requires shown { AreShown self.now }
         requires point { point < point_count self.now.found.graph.now }
-        ensures same_reference { out.new.sink.ghost_name ≡ out.old.sink.ghost_name }
-        ensures takes { Takes (outlet K.contents K.faults out.old) (outlet K.contents K.faults out.new)
-            (path_marks self.now.found.graph.now (known_of self.now) point) }
+        ensures { Writes K.Sink out.old out.new (path_marks self.now.found.graph.now (known_of self.now) point) }
     {
         if !self.found.is_reached(point) {
             out.write(b", style=filled, fillcolor=grey80");
@@ -275,12 +261,10 @@ impl Shown<'_> {
 
     // Writes the marks of a point.
     fn write_marks<K: Sink>(&self, out: &mut Pieces<'_, K>, point: u32)
-        requires ready { IsOpen (outlet K.contents K.faults out.old) }
+        requires ready { CanWrite K.Sink out.old }
         requires shown { AreShown self.now }
         requires point { point < point_count self.now.found.graph.now }
-        ensures same_reference { out.new.sink.ghost_name ≡ out.old.sink.ghost_name }
-        ensures takes { Takes (outlet K.contents K.faults out.old) (outlet K.contents K.faults out.new)
-            (marks self.now.found.graph.now (known_of self.now) point) }
+        ensures { Writes K.Sink out.old out.new (marks self.now.found.graph.now (known_of self.now) point) }
     {
         self.write_path_marks(out, point);
         write_if(out, self.is_doubtful(point), b", peripheries=2");
@@ -288,13 +272,11 @@ impl Shown<'_> {
 
     // Writes a point as a node.
     fn write_node<K: Sink>(&self, out: &mut Pieces<'_, K>, point: u32)
-        requires ready { IsOpen (outlet K.contents K.faults out.old) }
+        requires ready { CanWrite K.Sink out.old }
         requires shown { AreShown self.now }
         requires form { self.now.names.form ≡ Escaped }
         requires point { point < point_count self.now.found.graph.now }
-        ensures same_reference { out.new.sink.ghost_name ≡ out.old.sink.ghost_name }
-        ensures takes { Takes (outlet K.contents K.faults out.old) (outlet K.contents K.faults out.new)
-            (node self.now.found.graph.now (known_of self.now) self.now.view.facts point) }
+        ensures { Writes K.Sink out.old out.new (node self.now.found.graph.now (known_of self.now) self.now.view.facts point) }
     {
         if out.has_failed() {
             return;
@@ -310,13 +292,12 @@ impl Shown<'_> {
 
     // Writes the nodes of a procedure.
     fn write_nodes<K: Sink>(&self, out: &mut Pieces<'_, K>, points: Numbers)
-        requires ready { IsOpen (outlet K.contents K.faults out.old) }
+        requires ready { CanWrite K.Sink out.old }
         requires shown { AreShown self.now }
         requires form { self.now.names.form ≡ Escaped }
         requires ordered { points.first ≤ points.end }
         requires points { points.end ≤ point_count self.now.found.graph.now }
-        ensures same_reference { out.new.sink.ghost_name ≡ out.old.sink.ghost_name }
-        ensures takes { Takes (outlet K.contents K.faults out.old) (outlet K.contents K.faults out.new)
+        ensures { Writes K.Sink out.old out.new
             (flat_map (node self.now.found.graph.now (known_of self.now) self.now.view.facts) (numbers_of points)) }
     {
         for point in points.first..points.end {
@@ -326,13 +307,11 @@ impl Shown<'_> {
 
     // Writes a procedure as a cluster.
     fn write_cluster<K: Sink>(&self, out: &mut Pieces<'_, K>, procedure: u32)
-        requires ready { IsOpen (outlet K.contents K.faults out.old) }
+        requires ready { CanWrite K.Sink out.old }
         requires shown { AreShown self.now }
         requires form { self.now.names.form ≡ Escaped }
         requires procedure { procedure < length self.now.found.graph.now.procedures }
-        ensures same_reference { out.new.sink.ghost_name ≡ out.old.sink.ghost_name }
-        ensures takes { Takes (outlet K.contents K.faults out.old) (outlet K.contents K.faults out.new)
-            (cluster self.now.found.graph.now (known_of self.now) self.now.view.facts procedure) }
+        ensures { Writes K.Sink out.old out.new (cluster self.now.found.graph.now (known_of self.now) self.now.view.facts procedure) }
     {
         out.write(b"  subgraph \"cluster_");
         write_number(out, procedure);
@@ -346,13 +325,12 @@ impl Shown<'_> {
 
     // Writes the procedures that are shown.
     fn write_clusters<K: Sink>(&self, out: &mut Pieces<'_, K>, procedures: Numbers)
-        requires ready { IsOpen (outlet K.contents K.faults out.old) }
+        requires ready { CanWrite K.Sink out.old }
         requires shown { AreShown self.now }
         requires form { self.now.names.form ≡ Escaped }
         requires ordered { procedures.first ≤ procedures.end }
         requires procedures { procedures.end ≤ length self.now.found.graph.now.procedures }
-        ensures same_reference { out.new.sink.ghost_name ≡ out.old.sink.ghost_name }
-        ensures takes { Takes (outlet K.contents K.faults out.old) (outlet K.contents K.faults out.new)
+        ensures { Writes K.Sink out.old out.new
             (flat_map (cluster self.now.found.graph.now (known_of self.now) self.now.view.facts) (numbers_of procedures)) }
     {
         for procedure in procedures.first..procedures.end {
@@ -369,10 +347,9 @@ impl Shown<'_> {
         word: &[u8],
         site: u32,
     )
-        requires ready { IsOpen (outlet K.contents K.faults out.old) }
+        requires ready { CanWrite K.Sink out.old }
         requires site { site < point_count self.now.found.graph.now }
-        ensures same_reference { out.new.sink.ghost_name ≡ out.old.sink.ghost_name }
-        ensures takes { Takes (outlet K.contents K.faults out.old) (outlet K.contents K.faults out.new) (arrow source target
+        ensures { Writes K.Sink out.old out.new (arrow source target
             ++ codes " [style=dashed, label=\"" ++ word.now ++ decimal (line_at self.now.found.graph.now site) ++ codes "\"];\n") }
     {
         write_arrow(out, source, target);
@@ -384,10 +361,9 @@ impl Shown<'_> {
 
     // Writes an edge.
     fn write_edge<K: Sink>(&self, out: &mut Pieces<'_, K>, edge: Edge)
-        requires ready { IsOpen (outlet K.contents K.faults out.old) }
+        requires ready { CanWrite K.Sink out.old }
         requires edge { IsSiteIn self.now.found.graph.now edge }
-        ensures same_reference { out.new.sink.ghost_name ≡ out.old.sink.ghost_name }
-        ensures takes { Takes (outlet K.contents K.faults out.old) (outlet K.contents K.faults out.new) (edge_line self.now.found.graph.now edge) }
+        ensures { Writes K.Sink out.old out.new (edge_line self.now.found.graph.now edge) }
     {
         match edge {
             Edge::Step { from, to } => {
@@ -400,7 +376,7 @@ impl Shown<'_> {
     }
 
     // Whether an edge is shown: of one procedure those that stay in it.
-    fn shows(&self, edge: Edge) -> bool
+    fn shows_edge(&self, edge: Edge) -> bool
         requires { AreShown self.now }
         ensures { result ≡ is_edge_shown self.now.found.graph.now self.now.view edge }
     {
@@ -414,14 +390,12 @@ impl Shown<'_> {
 
     // Writes an edge where it is shown.
     fn write_shown_edge<K: Sink>(&self, out: &mut Pieces<'_, K>, edge: Edge)
-        requires ready { IsOpen (outlet K.contents K.faults out.old) }
+        requires ready { CanWrite K.Sink out.old }
         requires shown { AreShown self.now }
         requires edge { IsSiteIn self.now.found.graph.now edge }
-        ensures same_reference { out.new.sink.ghost_name ≡ out.old.sink.ghost_name }
-        ensures takes { Takes (outlet K.contents K.faults out.old) (outlet K.contents K.faults out.new)
-            (shown_edge self.now.found.graph.now self.now.view edge) }
+        ensures { Writes K.Sink out.old out.new (shown_edge self.now.found.graph.now self.now.view edge) }
     {
-        if !self.shows(edge) {
+        if !self.shows_edge(edge) {
             return;
         }
         self.write_edge(out, edge);
@@ -429,12 +403,10 @@ impl Shown<'_> {
 
     // Writes those of some edges that are shown.
     fn write_shown_edges<K: Sink>(&self, out: &mut Pieces<'_, K>, edges: &[Edge])
-        requires ready { IsOpen (outlet K.contents K.faults out.old) }
+        requires ready { CanWrite K.Sink out.old }
         requires shown { AreShown self.now }
         requires edges { All (IsSiteIn self.now.found.graph.now) edges.now }
-        ensures same_reference { out.new.sink.ghost_name ≡ out.old.sink.ghost_name }
-        ensures takes { Takes (outlet K.contents K.faults out.old) (outlet K.contents K.faults out.new)
-            (flat_map (shown_edge self.now.found.graph.now self.now.view) edges.now) }
+        ensures { Writes K.Sink out.old out.new (flat_map (shown_edge self.now.found.graph.now self.now.view) edges.now) }
     {
         for edge in edges {
             self.write_shown_edge(out, *edge);
@@ -454,12 +426,10 @@ impl Shown<'_> {
 
     // Writes the edge to the point behind a call, where one procedure is shown.
     fn write_passed_call<K: Sink>(&self, out: &mut Pieces<'_, K>, point: u32)
-        requires ready { IsOpen (outlet K.contents K.faults out.old) }
+        requires ready { CanWrite K.Sink out.old }
         requires shown { AreShown self.now }
         requires point { point < point_count self.now.found.graph.now }
-        ensures same_reference { out.new.sink.ghost_name ≡ out.old.sink.ghost_name }
-        ensures takes { Takes (outlet K.contents K.faults out.old) (outlet K.contents K.faults out.new)
-            (passed_call self.now.found.graph.now self.now.view point) }
+        ensures { Writes K.Sink out.old out.new (passed_call self.now.found.graph.now self.now.view point) }
     {
         let Some(_) = self.view.procedure else {
             return;
@@ -473,12 +443,10 @@ impl Shown<'_> {
 
     // Writes the edges of a point.
     fn write_edges<K: Sink>(&self, out: &mut Pieces<'_, K>, point: u32)
-        requires ready { IsOpen (outlet K.contents K.faults out.old) }
+        requires ready { CanWrite K.Sink out.old }
         requires shown { AreShown self.now }
         requires point { point < point_count self.now.found.graph.now }
-        ensures same_reference { out.new.sink.ghost_name ≡ out.old.sink.ghost_name }
-        ensures takes { Takes (outlet K.contents K.faults out.old) (outlet K.contents K.faults out.new)
-            (edge_lines self.now.found.graph.now self.now.view point) }
+        ensures { Writes K.Sink out.old out.new (edge_lines self.now.found.graph.now self.now.view point) }
     {
         if out.has_failed() {
             return;
@@ -489,13 +457,11 @@ impl Shown<'_> {
 
     // Writes the edges of a procedure's points.
     fn write_procedure_edges<K: Sink>(&self, out: &mut Pieces<'_, K>, points: Numbers)
-        requires ready { IsOpen (outlet K.contents K.faults out.old) }
+        requires ready { CanWrite K.Sink out.old }
         requires shown { AreShown self.now }
         requires ordered { points.first ≤ points.end }
         requires points { points.end ≤ point_count self.now.found.graph.now }
-        ensures same_reference { out.new.sink.ghost_name ≡ out.old.sink.ghost_name }
-        ensures takes { Takes (outlet K.contents K.faults out.old) (outlet K.contents K.faults out.new)
-            (flat_map (edge_lines self.now.found.graph.now self.now.view) (numbers_of points)) }
+        ensures { Writes K.Sink out.old out.new (flat_map (edge_lines self.now.found.graph.now self.now.view) (numbers_of points)) }
     {
         for point in points.first..points.end {
             self.write_edges(out, point);
@@ -504,12 +470,11 @@ impl Shown<'_> {
 
     // Writes all edges that are shown.
     fn write_all_edges<K: Sink>(&self, out: &mut Pieces<'_, K>, procedures: Numbers)
-        requires ready { IsOpen (outlet K.contents K.faults out.old) }
+        requires ready { CanWrite K.Sink out.old }
         requires shown { AreShown self.now }
         requires ordered { procedures.first ≤ procedures.end }
         requires procedures { procedures.end ≤ length self.now.found.graph.now.procedures }
-        ensures same_reference { out.new.sink.ghost_name ≡ out.old.sink.ghost_name }
-        ensures takes { Takes (outlet K.contents K.faults out.old) (outlet K.contents K.faults out.new)
+        ensures { Writes K.Sink out.old out.new
             (flat_map (edge_lines self.now.found.graph.now self.now.view) (flat_map (points_in self.now.found.graph.now) (numbers_of procedures))) }
     {
         for procedure in procedures.first..procedures.end {
@@ -519,12 +484,10 @@ impl Shown<'_> {
 
     // Writes the whole text.
     fn write_dot<K: Sink>(&self, out: &mut Pieces<'_, K>)
-        requires ready { IsOpen (outlet K.contents K.faults out.old) }
+        requires ready { CanWrite K.Sink out.old }
         requires shown { AreShown self.now }
         requires form { self.now.names.form ≡ Escaped }
-        ensures same_reference { out.new.sink.ghost_name ≡ out.old.sink.ghost_name }
-        ensures takes { Takes (outlet K.contents K.faults out.old) (outlet K.contents K.faults out.new)
-            (dot_of self.now.found.graph.now (known_of self.now) self.now.view) }
+        ensures { Writes K.Sink out.old out.new (dot_of self.now.found.graph.now (known_of self.now) self.now.view) }
     {
         let procedures = self.procedures();
         write_head(out);
@@ -551,12 +514,12 @@ impl Shown<'_> {
 /// very busy expressions.
 #[derive(Drop)]
 pub struct DotText<'a> {
-    shown: Shown<'a>,
+    shown: ShownProgram<'a>,
 }
 
 impl<'a> Model for DotText<'a> {
     ghost use Rattle.std.specs.Prelude.{◌≡◌, List, ℕ};
-    ghost use Rattle.flow_views.specs.code.Shown.{AreShown, known_of};
+    ghost use Rattle.flow_views.specs.code.ShownProgram.{AreShown, known_of};
     ghost use Rattle.flow_views.specs.declared.names.NameForm.TheVariants.{Escaped};
     ghost use Rattle.flow_views.specs.Dots.{dot_of};
 
@@ -584,7 +547,7 @@ impl<'a> DotText<'a> {
         requires procedure { IfSome view.procedure (λ procedure. procedure < length graph.now.procedure_names) }
         ensures { IfOk result (IsDot graph.now view) }
     {
-        let shown = Shown::of(alloc, graph, tables, answers, view, NameForm::Escaped)?;
+        let shown = ShownProgram::of(alloc, graph, tables, answers, view, NameForm::Escaped)?;
         Ok(DotText { shown })
     }
 }

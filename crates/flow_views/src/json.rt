@@ -6,37 +6,35 @@ ghost use Rattle.std.specs.List.{range_with_len};
 ghost use Rattle.flow_graph.specs.Points.{place_of, point_count, procedure_at, statement_at};
 ghost use Rattle.flow_texts.specs.code.Findings.{AreFindings, IsRemarkIn};
 ghost use Rattle.text_pieces.specs.code.Lists.{text_at};
-ghost use Rattle.text_pieces.specs.Pieces.{IsOpen, Takes, outlet};
+ghost use Rattle.text_pieces.specs.Pieces.{CanWrite, Writes};
 ghost use Rattle.flow_texts.specs.code.Reported.{TellReport};
 ghost use Rattle.tac_program.specs.Listings.{statement_text};
 ghost use Rattle.flow_views.specs.ShownTables.{AreShownTables};
-ghost use Rattle.flow_views.specs.code.Shown.{AreShown, is_chosen, known_of, numbers_of};
+ghost use Rattle.flow_views.specs.code.ShownProgram.{AreShown, is_chosen, known_of, numbers_of};
 ghost use Rattle.flow_views.specs.declared.names.NameForm.TheVariants.{Quoted};
 ghost use Rattle.flow_views.specs.Json.{IsJson, array, boolean, edge_object, facts_field, json_of, point_line, program_line, remark_fields};
 ghost use Rattle.flow_views.specs.Json.{remark_lines, remark_object, span_fields, statement_field};
-ghost use Rattle.flow_views.specs.Strings.{quoted};
+ghost use Rattle.text_pieces.specs.Strings.{quoted};
 ghost use Rattle.flow_views.specs.Views.{analysis_if, chosen_analyses, names_at, points_in, procedure_name, told_by};
 
+use crate::OutOfMemory;
 use crate::names::NameForm;
-use crate::optional::write_if;
-use crate::shown::{Numbers, Shown, name_of};
+use crate::shown::{Numbers, ShownProgram, name_of};
 use crate::shown_tables::ShownTables;
-use crate::strings::write_quoted;
 use crate::view::View;
-use flow_graph::{Analysis, Edge, Graph, OutOfMemory};
+use flow_graph::{Analysis, Edge, Graph};
 use flow_team::Table;
 use flow_texts::{Findings, Remark, RemarkForm, ReportAnswers, write_members, write_number};
 use itoa::Buffer;
 use std::alloc::Global;
 use std::marker::Model;
 use tac_program::{Span, Stmt};
-use text_pieces::{Pieces, Sink, Text, TextBlock};
+use text_pieces::{Pieces, Sink, Text, TextBlock, write_if, write_quoted};
 
 // Writes a kind with the field of what is named, and the name.
 fn write_named<K: Sink>(out: &mut Pieces<'_, K>, kind: &[u8], name: &[u8])
-    requires { IsOpen (outlet K.contents K.faults out.old) }
-    ensures same_reference { out.new.sink.ghost_name ≡ out.old.sink.ghost_name }
-    ensures takes { Takes (outlet K.contents K.faults out.old) (outlet K.contents K.faults out.new) (kind.now ++ quoted name.now) }
+    requires { CanWrite K.Sink out.old }
+    ensures { Writes K.Sink out.old out.new (kind.now ++ quoted name.now) }
 {
     out.write(kind);
     write_quoted(out, name);
@@ -44,11 +42,10 @@ fn write_named<K: Sink>(out: &mut Pieces<'_, K>, kind: &[u8], name: &[u8])
 
 // Writes the kind of a remark, and what it names.
 fn write_kind<K: Sink>(out: &mut Pieces<'_, K>, found: &Findings<'_>, remark: Remark)
-    requires ready { IsOpen (outlet K.contents K.faults out.old) }
+    requires ready { CanWrite K.Sink out.old }
     requires found { AreFindings found.now }
     requires remark { IsRemarkIn found.now.graph.now remark }
-    ensures same_reference { out.new.sink.ghost_name ≡ out.old.sink.ghost_name }
-    ensures takes { Takes (outlet K.contents K.faults out.old) (outlet K.contents K.faults out.new) (remark_fields found.now.graph.now remark) }
+    ensures { Writes K.Sink out.old out.new (remark_fields found.now.graph.now remark) }
 {
     let name = found.name(remark);
     match remark {
@@ -62,18 +59,16 @@ fn write_kind<K: Sink>(out: &mut Pieces<'_, K>, found: &Findings<'_>, remark: Re
 
 // Writes a place in the text.
 fn write_position<K: Sink>(out: &mut Pieces<'_, K>, position: u64)
-    requires { IsOpen (outlet K.contents K.faults out.old) }
-    ensures same_reference { out.new.sink.ghost_name ≡ out.old.sink.ghost_name }
-    ensures takes { Takes (outlet K.contents K.faults out.old) (outlet K.contents K.faults out.new) (decimal position) }
+    requires { CanWrite K.Sink out.old }
+    ensures { Writes K.Sink out.old out.new (decimal position) }
 {
     out.write(Buffer::new().format(position).as_bytes());
 }
 
 // Writes where a statement stands.
 fn write_span<K: Sink>(out: &mut Pieces<'_, K>, span: Span)
-    requires { IsOpen (outlet K.contents K.faults out.old) }
-    ensures same_reference { out.new.sink.ghost_name ≡ out.old.sink.ghost_name }
-    ensures takes { Takes (outlet K.contents K.faults out.old) (outlet K.contents K.faults out.new)
+    requires { CanWrite K.Sink out.old }
+    ensures { Writes K.Sink out.old out.new
         (codes ",\"line\":" ++ decimal span.line ++ codes ",\"first\":" ++ decimal (span.start + 1) ++ codes ",\"last\":" ++ decimal span.end) }
 {
     out.write(b",\"line\":");
@@ -86,10 +81,9 @@ fn write_span<K: Sink>(out: &mut Pieces<'_, K>, span: Span)
 
 // Writes where the statement at a point stands; nulls at a procedure's end.
 fn write_place<K: Sink>(out: &mut Pieces<'_, K>, graph: &Graph<'_>, point: u32)
-    requires ready { IsOpen (outlet K.contents K.faults out.old) }
+    requires ready { CanWrite K.Sink out.old }
     requires point { point < point_count graph.now }
-    ensures same_reference { out.new.sink.ghost_name ≡ out.old.sink.ghost_name }
-    ensures takes { Takes (outlet K.contents K.faults out.old) (outlet K.contents K.faults out.new) (span_fields graph.now point) }
+    ensures { Writes K.Sink out.old out.new (span_fields graph.now point) }
 {
     match graph.stmt(point) {
         Some(stmt) => write_span(out, stmt.span),
@@ -122,9 +116,8 @@ impl RemarkForm for JsonLine {
 
 // Writes a truth value.
 fn write_boolean<K: Sink>(out: &mut Pieces<'_, K>, value: bool)
-    requires { IsOpen (outlet K.contents K.faults out.old) }
-    ensures same_reference { out.new.sink.ghost_name ≡ out.old.sink.ghost_name }
-    ensures takes { Takes (outlet K.contents K.faults out.old) (outlet K.contents K.faults out.new) (boolean value) }
+    requires { CanWrite K.Sink out.old }
+    ensures { Writes K.Sink out.old out.new (boolean value) }
 {
     if value {
         out.write(b"true");
@@ -141,12 +134,11 @@ fn write_array<K: Sink>(
     point: u32,
     bits: u32,
 )
-    requires ready { IsOpen (outlet K.contents K.faults out.old) }
+    requires ready { CanWrite K.Sink out.old }
     requires commas { texts.now.between ≡ codes "," }
     requires point { point < length table.now.paths }
     requires bits { bits ≤ length texts.now.texts }
-    ensures same_reference { out.new.sink.ghost_name ≡ out.old.sink.ghost_name }
-    ensures takes { Takes (outlet K.contents K.faults out.old) (outlet K.contents K.faults out.new)
+    ensures { Writes K.Sink out.old out.new
         (array (map (text_at texts.now.texts) (filter ((facts_of table.now).contains point) (range_with_len 0 bits)))) }
 {
     out.write(b"[");
@@ -156,10 +148,8 @@ fn write_array<K: Sink>(
 
 // Writes an edge that goes from call to callee or back, by the call's point and where it leads.
 fn write_site<K: Sink>(out: &mut Pieces<'_, K>, kind: &[u8], site: u32, target: u32)
-    requires { IsOpen (outlet K.contents K.faults out.old) }
-    ensures same_reference { out.new.sink.ghost_name ≡ out.old.sink.ghost_name }
-    ensures takes { Takes (outlet K.contents K.faults out.old) (outlet K.contents K.faults out.new)
-        (kind.now ++ decimal site ++ codes ",\"to\":" ++ decimal target ++ codes "}") }
+    requires { CanWrite K.Sink out.old }
+    ensures { Writes K.Sink out.old out.new (kind.now ++ decimal site ++ codes ",\"to\":" ++ decimal target ++ codes "}") }
 {
     out.write(kind);
     write_number(out, site);
@@ -170,10 +160,8 @@ fn write_site<K: Sink>(out: &mut Pieces<'_, K>, kind: &[u8], site: u32, target: 
 
 // Writes a step.
 fn write_step<K: Sink>(out: &mut Pieces<'_, K>, target: u32)
-    requires { IsOpen (outlet K.contents K.faults out.old) }
-    ensures same_reference { out.new.sink.ghost_name ≡ out.old.sink.ghost_name }
-    ensures takes { Takes (outlet K.contents K.faults out.old) (outlet K.contents K.faults out.new)
-        (codes "{\"kind\":\"step\",\"to\":" ++ decimal target ++ codes "}") }
+    requires { CanWrite K.Sink out.old }
+    ensures { Writes K.Sink out.old out.new (codes "{\"kind\":\"step\",\"to\":" ++ decimal target ++ codes "}") }
 {
     out.write(b"{\"kind\":\"step\",\"to\":");
     write_number(out, target);
@@ -182,9 +170,8 @@ fn write_step<K: Sink>(out: &mut Pieces<'_, K>, target: u32)
 
 // Writes an edge.
 fn write_edge<K: Sink>(out: &mut Pieces<'_, K>, edge: Edge)
-    requires { IsOpen (outlet K.contents K.faults out.old) }
-    ensures same_reference { out.new.sink.ghost_name ≡ out.old.sink.ghost_name }
-    ensures takes { Takes (outlet K.contents K.faults out.old) (outlet K.contents K.faults out.new) (edge_object edge) }
+    requires { CanWrite K.Sink out.old }
+    ensures { Writes K.Sink out.old out.new (edge_object edge) }
 {
     match edge {
         Edge::Step { to, .. } => write_step(out, to),
@@ -195,9 +182,8 @@ fn write_edge<K: Sink>(out: &mut Pieces<'_, K>, edge: Edge)
 
 // Writes edges as an array.
 fn write_edges<K: Sink>(out: &mut Pieces<'_, K>, edges: &[Edge])
-    requires { IsOpen (outlet K.contents K.faults out.old) }
-    ensures same_reference { out.new.sink.ghost_name ≡ out.old.sink.ghost_name }
-    ensures takes { Takes (outlet K.contents K.faults out.old) (outlet K.contents K.faults out.new) (array (map edge_object edges.now)) }
+    requires { CanWrite K.Sink out.old }
+    ensures { Writes K.Sink out.old out.new (array (map edge_object edges.now)) }
 {
     out.write(b"[");
     for (place, edge) in edges.iter().enumerate() {
@@ -207,14 +193,12 @@ fn write_edges<K: Sink>(out: &mut Pieces<'_, K>, edges: &[Edge])
     out.write(b"]");
 }
 
-impl Shown<'_> {
+impl ShownProgram<'_> {
     // Writes the names of the procedures as an array.
     fn write_procedures<K: Sink>(&self, out: &mut Pieces<'_, K>)
-        requires ready { IsOpen (outlet K.contents K.faults out.old) }
+        requires ready { CanWrite K.Sink out.old }
         requires shown { AreShown self.now }
-        ensures same_reference { out.new.sink.ghost_name ≡ out.old.sink.ghost_name }
-        ensures takes { Takes (outlet K.contents K.faults out.old) (outlet K.contents K.faults out.new)
-            (array (map quoted self.now.found.graph.now.procedure_names)) }
+        ensures { Writes K.Sink out.old out.new (array (map quoted self.now.found.graph.now.procedure_names)) }
     {
         let count = self.found.graph.program().procs().len();
         out.write(b"[");
@@ -227,10 +211,8 @@ impl Shown<'_> {
 
     // Writes the names of the variables as an array.
     fn write_variables<K: Sink>(&self, out: &mut Pieces<'_, K>)
-        requires ready { IsOpen (outlet K.contents K.faults out.old) }
-        ensures same_reference { out.new.sink.ghost_name ≡ out.old.sink.ghost_name }
-        ensures takes { Takes (outlet K.contents K.faults out.old) (outlet K.contents K.faults out.new)
-            (array (map quoted self.now.found.graph.now.variable_names)) }
+        requires ready { CanWrite K.Sink out.old }
+        ensures { Writes K.Sink out.old out.new (array (map quoted self.now.found.graph.now.variable_names)) }
     {
         let program = self.found.graph.program();
         out.write(b"[");
@@ -243,10 +225,9 @@ impl Shown<'_> {
 
     // Writes the line of the program.
     fn write_program<K: Sink>(&self, out: &mut Pieces<'_, K>)
-        requires ready { IsOpen (outlet K.contents K.faults out.old) }
+        requires ready { CanWrite K.Sink out.old }
         requires shown { AreShown self.now }
-        ensures same_reference { out.new.sink.ghost_name ≡ out.old.sink.ghost_name }
-        ensures takes { Takes (outlet K.contents K.faults out.old) (outlet K.contents K.faults out.new) (program_line self.now.found.graph.now) }
+        ensures { Writes K.Sink out.old out.new (program_line self.now.found.graph.now) }
     {
         let graph = self.found.graph;
         out.write(b"{\"type\":\"program\",\"points\":");
@@ -264,13 +245,11 @@ impl Shown<'_> {
 
     // Writes a statement between quotes.
     fn write_statement_field<K: Sink>(&self, out: &mut Pieces<'_, K>, point: u32, stmt: &Stmt)
-        requires ready { IsOpen (outlet K.contents K.faults out.old) }
+        requires ready { CanWrite K.Sink out.old }
         requires shown { AreShown self.now }
         requires point { point < point_count self.now.found.graph.now }
         requires statement { statement_at self.now.found.graph.now point ≡ Some stmt.now }
-        ensures same_reference { out.new.sink.ghost_name ≡ out.old.sink.ghost_name }
-        ensures takes { Takes (outlet K.contents K.faults out.old) (outlet K.contents K.faults out.new)
-            (quoted (statement_text (names_at self.now.found.graph.now point) stmt.now.kind)) }
+        ensures { Writes K.Sink out.old out.new (quoted (statement_text (names_at self.now.found.graph.now point) stmt.now.kind)) }
     {
         out.write(b"\"");
         self.write_statement(out, point, stmt);
@@ -279,12 +258,10 @@ impl Shown<'_> {
 
     // Writes the statement at a point; null at a procedure's end.
     fn write_statement_or_null<K: Sink>(&self, out: &mut Pieces<'_, K>, point: u32)
-        requires ready { IsOpen (outlet K.contents K.faults out.old) }
+        requires ready { CanWrite K.Sink out.old }
         requires shown { AreShown self.now }
         requires point { point < point_count self.now.found.graph.now }
-        ensures same_reference { out.new.sink.ghost_name ≡ out.old.sink.ghost_name }
-        ensures takes { Takes (outlet K.contents K.faults out.old) (outlet K.contents K.faults out.new)
-            (statement_field self.now.found.graph.now point) }
+        ensures { Writes K.Sink out.old out.new (statement_field self.now.found.graph.now point) }
     {
         match self.found.graph.stmt(point) {
             Some(stmt) => self.write_statement_field(out, point, stmt),
@@ -300,15 +277,13 @@ impl Shown<'_> {
         point: u32,
         analysis: Analysis,
     )
-        requires ready { IsOpen (outlet K.contents K.faults out.old) }
+        requires ready { CanWrite K.Sink out.old }
         requires shown { AreShown self.now }
         requires form { self.now.names.form ≡ Quoted }
         requires table { IsTableOf self.now.found.graph.now table.now }
         requires facts { facts_of table.now ≡ told_by (known_of self.now) analysis }
         requires point { point < point_count self.now.found.graph.now }
-        ensures same_reference { out.new.sink.ghost_name ≡ out.old.sink.ghost_name }
-        ensures takes { Takes (outlet K.contents K.faults out.old) (outlet K.contents K.faults out.new)
-            (facts_field self.now.found.graph.now (known_of self.now) point analysis) }
+        ensures { Writes K.Sink out.old out.new (facts_field self.now.found.graph.now (known_of self.now) point analysis) }
     {
         let bits = self.found.graph.bits(analysis);
         out.write(b",\"");
@@ -324,13 +299,13 @@ impl Shown<'_> {
 
     // Writes it where the analysis is chosen.
     fn write_facts_field_if<K: Sink>(&self, out: &mut Pieces<'_, K>, point: u32, analysis: Analysis)
-        requires ready { IsOpen (outlet K.contents K.faults out.old) }
+        requires ready { CanWrite K.Sink out.old }
         requires shown { AreShown self.now }
         requires form { self.now.names.form ≡ Quoted }
         requires point { point < point_count self.now.found.graph.now }
-        ensures same_reference { out.new.sink.ghost_name ≡ out.old.sink.ghost_name }
-        ensures takes { Takes (outlet K.contents K.faults out.old) (outlet K.contents K.faults out.new) (flat_map
-            (facts_field self.now.found.graph.now (known_of self.now) point) (analysis_if (is_chosen self.now.view.facts analysis) analysis)) }
+        ensures { Writes K.Sink out.old out.new
+            (flat_map (facts_field self.now.found.graph.now (known_of self.now) point)
+            (analysis_if (is_chosen self.now.view.facts analysis) analysis)) }
     {
         let Some(table) = self.table(analysis) else {
             return;
@@ -340,12 +315,11 @@ impl Shown<'_> {
 
     // Writes what the chosen analyses tell at a point.
     fn write_facts_fields<K: Sink>(&self, out: &mut Pieces<'_, K>, point: u32)
-        requires ready { IsOpen (outlet K.contents K.faults out.old) }
+        requires ready { CanWrite K.Sink out.old }
         requires shown { AreShown self.now }
         requires form { self.now.names.form ≡ Quoted }
         requires point { point < point_count self.now.found.graph.now }
-        ensures same_reference { out.new.sink.ghost_name ≡ out.old.sink.ghost_name }
-        ensures takes { Takes (outlet K.contents K.faults out.old) (outlet K.contents K.faults out.new)
+        ensures { Writes K.Sink out.old out.new
             (flat_map (facts_field self.now.found.graph.now (known_of self.now) point) (chosen_analyses self.now.view.facts)) }
     {
         self.write_facts_field_if(out, point, Analysis::Reach);
@@ -356,11 +330,10 @@ impl Shown<'_> {
 
     // Writes which point it is.
     fn write_point_place<K: Sink>(&self, out: &mut Pieces<'_, K>, point: u32)
-        requires ready { IsOpen (outlet K.contents K.faults out.old) }
+        requires ready { CanWrite K.Sink out.old }
         requires shown { AreShown self.now }
         requires point { point < point_count self.now.found.graph.now }
-        ensures same_reference { out.new.sink.ghost_name ≡ out.old.sink.ghost_name }
-        ensures takes { Takes (outlet K.contents K.faults out.old) (outlet K.contents K.faults out.new)
+        ensures { Writes K.Sink out.old out.new
             (codes "{\"type\":\"point\",\"point\":" ++ decimal point ++ codes ",\"procedure\":"
             ++ quoted (procedure_name self.now.found.graph.now (procedure_at self.now.found.graph.now point)) ++ codes ",\"place\":"
             ++ decimal (place_of self.now.found.graph.now point).place) }
@@ -376,13 +349,11 @@ impl Shown<'_> {
 
     // Writes the line of a point.
     fn write_point<K: Sink>(&self, out: &mut Pieces<'_, K>, point: u32)
-        requires ready { IsOpen (outlet K.contents K.faults out.old) }
+        requires ready { CanWrite K.Sink out.old }
         requires shown { AreShown self.now }
         requires form { self.now.names.form ≡ Quoted }
         requires point { point < point_count self.now.found.graph.now }
-        ensures same_reference { out.new.sink.ghost_name ≡ out.old.sink.ghost_name }
-        ensures takes { Takes (outlet K.contents K.faults out.old) (outlet K.contents K.faults out.new)
-            (point_line self.now.found.graph.now (known_of self.now) self.now.view.facts point) }
+        ensures { Writes K.Sink out.old out.new (point_line self.now.found.graph.now (known_of self.now) self.now.view.facts point) }
     {
         if out.has_failed() {
             return;
@@ -399,13 +370,12 @@ impl Shown<'_> {
 
     // Writes the lines of a procedure's points.
     fn write_points<K: Sink>(&self, out: &mut Pieces<'_, K>, points: Numbers)
-        requires ready { IsOpen (outlet K.contents K.faults out.old) }
+        requires ready { CanWrite K.Sink out.old }
         requires shown { AreShown self.now }
         requires form { self.now.names.form ≡ Quoted }
         requires ordered { points.first ≤ points.end }
         requires points { points.end ≤ point_count self.now.found.graph.now }
-        ensures same_reference { out.new.sink.ghost_name ≡ out.old.sink.ghost_name }
-        ensures takes { Takes (outlet K.contents K.faults out.old) (outlet K.contents K.faults out.new)
+        ensures { Writes K.Sink out.old out.new
             (flat_map (point_line self.now.found.graph.now (known_of self.now) self.now.view.facts) (numbers_of points)) }
     {
         for point in points.first..points.end {
@@ -415,13 +385,12 @@ impl Shown<'_> {
 
     // Writes the lines of all points that are shown.
     fn write_all_points<K: Sink>(&self, out: &mut Pieces<'_, K>, procedures: Numbers)
-        requires ready { IsOpen (outlet K.contents K.faults out.old) }
+        requires ready { CanWrite K.Sink out.old }
         requires shown { AreShown self.now }
         requires form { self.now.names.form ≡ Quoted }
         requires ordered { procedures.first ≤ procedures.end }
         requires procedures { procedures.end ≤ length self.now.found.graph.now.procedures }
-        ensures same_reference { out.new.sink.ghost_name ≡ out.old.sink.ghost_name }
-        ensures takes { Takes (outlet K.contents K.faults out.old) (outlet K.contents K.faults out.new)
+        ensures { Writes K.Sink out.old out.new
             (flat_map (point_line self.now.found.graph.now (known_of self.now) self.now.view.facts)
             (flat_map (points_in self.now.found.graph.now) (numbers_of procedures))) }
     {
@@ -432,13 +401,11 @@ impl Shown<'_> {
 
     // Writes the remarks on a procedure's statements.
     fn write_remarks<K: Sink>(&self, out: &mut Pieces<'_, K>, points: Numbers)
-        requires ready { IsOpen (outlet K.contents K.faults out.old) }
+        requires ready { CanWrite K.Sink out.old }
         requires shown { AreShown self.now }
         requires ordered { points.first ≤ points.end }
         requires points { points.end ≤ point_count self.now.found.graph.now }
-        ensures same_reference { out.new.sink.ghost_name ≡ out.old.sink.ghost_name }
-        ensures takes { Takes (outlet K.contents K.faults out.old) (outlet K.contents K.faults out.new)
-            (flat_map (remark_lines self.now.found.graph.now (known_of self.now)) (numbers_of points)) }
+        ensures { Writes K.Sink out.old out.new (flat_map (remark_lines self.now.found.graph.now (known_of self.now)) (numbers_of points)) }
     {
         for point in points.first..points.end {
             self.write_remarks_at(&JsonLine, out, point);
@@ -447,13 +414,13 @@ impl Shown<'_> {
 
     // Writes all remarks that are shown.
     fn write_all_remarks<K: Sink>(&self, out: &mut Pieces<'_, K>, procedures: Numbers)
-        requires ready { IsOpen (outlet K.contents K.faults out.old) }
+        requires ready { CanWrite K.Sink out.old }
         requires shown { AreShown self.now }
         requires ordered { procedures.first ≤ procedures.end }
         requires procedures { procedures.end ≤ length self.now.found.graph.now.procedures }
-        ensures same_reference { out.new.sink.ghost_name ≡ out.old.sink.ghost_name }
-        ensures takes { Takes (outlet K.contents K.faults out.old) (outlet K.contents K.faults out.new) (flat_map
-            (remark_lines self.now.found.graph.now (known_of self.now)) (flat_map (points_in self.now.found.graph.now) (numbers_of procedures))) }
+        ensures { Writes K.Sink out.old out.new
+            (flat_map (remark_lines self.now.found.graph.now (known_of self.now))
+            (flat_map (points_in self.now.found.graph.now) (numbers_of procedures))) }
     {
         for procedure in procedures.first..procedures.end {
             self.write_remarks(out, self.points_of(procedure));
@@ -462,12 +429,10 @@ impl Shown<'_> {
 
     // Writes the whole text.
     fn write_json<K: Sink>(&self, out: &mut Pieces<'_, K>)
-        requires ready { IsOpen (outlet K.contents K.faults out.old) }
+        requires ready { CanWrite K.Sink out.old }
         requires shown { AreShown self.now }
         requires form { self.now.names.form ≡ Quoted }
-        ensures same_reference { out.new.sink.ghost_name ≡ out.old.sink.ghost_name }
-        ensures takes { Takes (outlet K.contents K.faults out.old) (outlet K.contents K.faults out.new)
-            (json_of self.now.found.graph.now (known_of self.now) self.now.view) }
+        ensures { Writes K.Sink out.old out.new (json_of self.now.found.graph.now (known_of self.now) self.now.view) }
     {
         let procedures = self.procedures();
         self.write_program(out);
@@ -497,12 +462,12 @@ impl Shown<'_> {
 /// very busy expressions.
 #[derive(Drop)]
 pub struct JsonText<'a> {
-    shown: Shown<'a>,
+    shown: ShownProgram<'a>,
 }
 
 impl<'a> Model for JsonText<'a> {
     ghost use Rattle.std.specs.Prelude.{◌≡◌, List, ℕ};
-    ghost use Rattle.flow_views.specs.code.Shown.{AreShown, known_of};
+    ghost use Rattle.flow_views.specs.code.ShownProgram.{AreShown, known_of};
     ghost use Rattle.flow_views.specs.declared.names.NameForm.TheVariants.{Quoted};
     ghost use Rattle.flow_views.specs.Json.{json_of};
 
@@ -530,7 +495,7 @@ impl<'a> JsonText<'a> {
         requires procedure { IfSome view.procedure (λ procedure. procedure < length graph.now.procedure_names) }
         ensures { IfOk result (IsJson graph.now view) }
     {
-        let shown = Shown::of(alloc, graph, tables, answers, view, NameForm::Quoted)?;
+        let shown = ShownProgram::of(alloc, graph, tables, answers, view, NameForm::Quoted)?;
         Ok(JsonText { shown })
     }
 }

@@ -4,11 +4,9 @@
 mod dots;
 mod json;
 mod names;
-mod optional;
 mod scope;
 mod shown;
 mod shown_tables;
-mod strings;
 mod view;
 
 pub use dots::DotText;

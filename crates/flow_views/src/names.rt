@@ -5,12 +5,12 @@ ghost use Rattle.text_pieces.specs.code.Blocks.{HoldsTexts, separator_text};
 ghost use Rattle.flow_views.specs.code.Names.{AreNames, AreNamesOf, between, name_in, numbered as numbered_of};
 ghost use Rattle.flow_views.specs.declared.names.NameForm.TheVariants.{Quoted};
 
-use crate::strings::{push_escaped, push_quoted};
-use flow_graph::{Analysis, Graph, OutOfMemory};
+use crate::OutOfMemory;
+use flow_graph::{Analysis, Graph};
 use flow_texts::texts_of_bits;
 use itoa::Buffer;
 use std::alloc::Global;
-use text_pieces::{Separator, TextBlock};
+use text_pieces::{Separator, TextBlock, push_escaped, push_quoted};
 
 /// How the names of bits are written.
 #[derive(Clone, Copy)]

@@ -1,17 +1,24 @@
 // The text of a statement, as it stands between quotes.
 
-ghost use Rattle.std.specs.Prelude.{◌≡◌, ◌++◌, ◌<◌, All, codes, length};
-ghost use Rattle.text_pieces.specs.Pieces.{IsOpen, Takes, outlet};
+ghost use Rattle.std.specs.Prelude.{◌++◌, ◌<◌, All, codes, decimal, length};
+ghost use Rattle.text_pieces.specs.Pieces.{CanWrite, Writes};
 ghost use Rattle.tac_program.specs.Listings.{binary_text, callees_text, goto_text, name_at, operand_text, statement_text, unary_text};
 ghost use Rattle.tac_program.specs.Sound.{IsSoundOperand, IsSoundStatement};
 ghost use Rattle.tac_program.specs.declared.program.StmtKind.TheVariants as kind_of;
-ghost use Rattle.flow_views.specs.Strings.{escaped};
+ghost use Rattle.text_pieces.specs.Strings.{escaped};
 ghost use Rattle.flow_views.specs.Views.{names_in};
 
-use crate::optional::write_if;
-use crate::strings::{write_escaped, write_escaped_number};
+use itoa::Buffer;
 use tac_program::{Op, Operand, Program, StmtKind};
-use text_pieces::{Pieces, Sink};
+use text_pieces::{Pieces, Sink, write_escaped, write_if};
+
+/// Writes a number as it stands between quotes.
+pub(crate) fn write_escaped_number<K: Sink>(out: &mut Pieces<'_, K>, number: u64)
+    requires { CanWrite K.Sink out.old }
+    ensures { Writes K.Sink out.old out.new (escaped (decimal number)) }
+{
+    write_escaped(out, Buffer::new().format(number).as_bytes());
+}
 
 /// A procedure of a program, whose names the numbers in a statement stand for.
 #[derive(Clone, Copy)]
@@ -24,21 +31,17 @@ pub(crate) struct Scope<'a> {
 
 impl Scope<'_> {
     fn write_variable<K: Sink>(&self, out: &mut Pieces<'_, K>, variable: u32)
-        requires ready { IsOpen (outlet K.contents K.faults out.old) }
+        requires ready { CanWrite K.Sink out.old }
         requires variable { variable < length self.now.program.now.variable_names }
-        ensures same_reference { out.new.sink.ghost_name ≡ out.old.sink.ghost_name }
-        ensures takes { Takes (outlet K.contents K.faults out.old) (outlet K.contents K.faults out.new)
-            (escaped (name_at self.now.program.now.variable_names variable)) }
+        ensures { Writes K.Sink out.old out.new (escaped (name_at self.now.program.now.variable_names variable)) }
     {
         write_escaped(out, self.program.variable(variable));
     }
 
     fn write_operand<K: Sink>(&self, out: &mut Pieces<'_, K>, operand: Operand)
-        requires ready { IsOpen (outlet K.contents K.faults out.old) }
+        requires ready { CanWrite K.Sink out.old }
         requires operand { IsSoundOperand (length self.now.program.now.variable_names) operand }
-        ensures same_reference { out.new.sink.ghost_name ≡ out.old.sink.ghost_name }
-        ensures takes { Takes (outlet K.contents K.faults out.old) (outlet K.contents K.faults out.new)
-            (escaped (operand_text (names_in self.now.program.now self.now.procedure) operand)) }
+        ensures { Writes K.Sink out.old out.new (escaped (operand_text (names_in self.now.program.now self.now.procedure) operand)) }
     {
         match operand {
             Operand::Variable(variable) => self.write_variable(out, variable),
@@ -47,23 +50,19 @@ impl Scope<'_> {
     }
 
     fn write_unary<K: Sink>(&self, out: &mut Pieces<'_, K>, op: Op, operand: Operand)
-        requires ready { IsOpen (outlet K.contents K.faults out.old) }
+        requires ready { CanWrite K.Sink out.old }
         requires operand { IsSoundOperand (length self.now.program.now.variable_names) operand }
-        ensures same_reference { out.new.sink.ghost_name ≡ out.old.sink.ghost_name }
-        ensures takes { Takes (outlet K.contents K.faults out.old) (outlet K.contents K.faults out.new)
-            (escaped (unary_text (names_in self.now.program.now self.now.procedure) op operand)) }
+        ensures { Writes K.Sink out.old out.new (escaped (unary_text (names_in self.now.program.now self.now.procedure) op operand)) }
     {
         write_escaped(out, op.sign());
         self.write_operand(out, operand);
     }
 
     fn write_binary<K: Sink>(&self, out: &mut Pieces<'_, K>, left: Operand, op: Op, right: Operand)
-        requires ready { IsOpen (outlet K.contents K.faults out.old) }
+        requires ready { CanWrite K.Sink out.old }
         requires left { IsSoundOperand (length self.now.program.now.variable_names) left }
         requires right { IsSoundOperand (length self.now.program.now.variable_names) right }
-        ensures same_reference { out.new.sink.ghost_name ≡ out.old.sink.ghost_name }
-        ensures takes { Takes (outlet K.contents K.faults out.old) (outlet K.contents K.faults out.new)
-            (escaped (binary_text (names_in self.now.program.now self.now.procedure) left op right)) }
+        ensures { Writes K.Sink out.old out.new (escaped (binary_text (names_in self.now.program.now self.now.procedure) left op right)) }
     {
         self.write_operand(out, left);
         out.write(b" ");
@@ -74,34 +73,29 @@ impl Scope<'_> {
 
     // Writes what an assignment begins with.
     fn write_target<K: Sink>(&self, out: &mut Pieces<'_, K>, target: u32)
-        requires ready { IsOpen (outlet K.contents K.faults out.old) }
+        requires ready { CanWrite K.Sink out.old }
         requires target { target < length self.now.program.now.variable_names }
-        ensures same_reference { out.new.sink.ghost_name ≡ out.old.sink.ghost_name }
-        ensures takes { Takes (outlet K.contents K.faults out.old) (outlet K.contents K.faults out.new)
-            (escaped (name_at self.now.program.now.variable_names target ++ codes " = ")) }
+        ensures { Writes K.Sink out.old out.new (escaped (name_at self.now.program.now.variable_names target ++ codes " = ")) }
     {
         self.write_variable(out, target);
         out.write(b" = ");
     }
 
     fn write_goto<K: Sink>(&self, out: &mut Pieces<'_, K>, label: u32)
-        requires ready { IsOpen (outlet K.contents K.faults out.old) }
+        requires ready { CanWrite K.Sink out.old }
         requires label { label < length (names_in self.now.program.now self.now.procedure).labels }
         requires procedure { self.now.procedure < length self.now.program.now.procedures }
-        ensures same_reference { out.new.sink.ghost_name ≡ out.old.sink.ghost_name }
-        ensures takes { Takes (outlet K.contents K.faults out.old) (outlet K.contents K.faults out.new)
-            (escaped (goto_text (names_in self.now.program.now self.now.procedure) label)) }
+        ensures { Writes K.Sink out.old out.new (escaped (goto_text (names_in self.now.program.now self.now.procedure) label)) }
     {
         out.write(b"goto ");
         write_escaped(out, self.program.label(self.procedure, label));
     }
 
     fn write_copy<K: Sink>(&self, out: &mut Pieces<'_, K>, target: u32, value: Operand)
-        requires ready { IsOpen (outlet K.contents K.faults out.old) }
+        requires ready { CanWrite K.Sink out.old }
         requires target { target < length self.now.program.now.variable_names }
         requires value { IsSoundOperand (length self.now.program.now.variable_names) value }
-        ensures same_reference { out.new.sink.ghost_name ≡ out.old.sink.ghost_name }
-        ensures takes { Takes (outlet K.contents K.faults out.old) (outlet K.contents K.faults out.new)
+        ensures { Writes K.Sink out.old out.new
             (escaped (statement_text (names_in self.now.program.now self.now.procedure) (kind_of.Copy target value))) }
     {
         self.write_target(out, target);
@@ -115,11 +109,10 @@ impl Scope<'_> {
         op: Op,
         operand: Operand,
     )
-        requires ready { IsOpen (outlet K.contents K.faults out.old) }
+        requires ready { CanWrite K.Sink out.old }
         requires target { target < length self.now.program.now.variable_names }
         requires operand { IsSoundOperand (length self.now.program.now.variable_names) operand }
-        ensures same_reference { out.new.sink.ghost_name ≡ out.old.sink.ghost_name }
-        ensures takes { Takes (outlet K.contents K.faults out.old) (outlet K.contents K.faults out.new)
+        ensures { Writes K.Sink out.old out.new
             (escaped (statement_text (names_in self.now.program.now self.now.procedure) (kind_of.Unary target op operand))) }
     {
         self.write_target(out, target);
@@ -134,12 +127,11 @@ impl Scope<'_> {
         op: Op,
         right: Operand,
     )
-        requires ready { IsOpen (outlet K.contents K.faults out.old) }
+        requires ready { CanWrite K.Sink out.old }
         requires target { target < length self.now.program.now.variable_names }
         requires left { IsSoundOperand (length self.now.program.now.variable_names) left }
         requires right { IsSoundOperand (length self.now.program.now.variable_names) right }
-        ensures same_reference { out.new.sink.ghost_name ≡ out.old.sink.ghost_name }
-        ensures takes { Takes (outlet K.contents K.faults out.old) (outlet K.contents K.faults out.new)
+        ensures { Writes K.Sink out.old out.new
             (escaped (statement_text (names_in self.now.program.now self.now.procedure) (kind_of.Binary op target left right))) }
     {
         self.write_target(out, target);
@@ -147,12 +139,11 @@ impl Scope<'_> {
     }
 
     fn write_if<K: Sink>(&self, out: &mut Pieces<'_, K>, condition: Operand, label: u32)
-        requires ready { IsOpen (outlet K.contents K.faults out.old) }
+        requires ready { CanWrite K.Sink out.old }
         requires condition { IsSoundOperand (length self.now.program.now.variable_names) condition }
         requires label { label < length (names_in self.now.program.now self.now.procedure).labels }
         requires procedure { self.now.procedure < length self.now.program.now.procedures }
-        ensures same_reference { out.new.sink.ghost_name ≡ out.old.sink.ghost_name }
-        ensures takes { Takes (outlet K.contents K.faults out.old) (outlet K.contents K.faults out.new)
+        ensures { Writes K.Sink out.old out.new
             (escaped (statement_text (names_in self.now.program.now self.now.procedure) (kind_of.If condition label))) }
     {
         out.write(b"if ");
@@ -162,12 +153,11 @@ impl Scope<'_> {
     }
 
     fn write_if_false<K: Sink>(&self, out: &mut Pieces<'_, K>, condition: Operand, label: u32)
-        requires ready { IsOpen (outlet K.contents K.faults out.old) }
+        requires ready { CanWrite K.Sink out.old }
         requires condition { IsSoundOperand (length self.now.program.now.variable_names) condition }
         requires label { label < length (names_in self.now.program.now self.now.procedure).labels }
         requires procedure { self.now.procedure < length self.now.program.now.procedures }
-        ensures same_reference { out.new.sink.ghost_name ≡ out.old.sink.ghost_name }
-        ensures takes { Takes (outlet K.contents K.faults out.old) (outlet K.contents K.faults out.new)
+        ensures { Writes K.Sink out.old out.new
             (escaped (statement_text (names_in self.now.program.now self.now.procedure) (kind_of.IfFalse condition label))) }
     {
         out.write(b"ifFalse ");
@@ -184,13 +174,12 @@ impl Scope<'_> {
         right: Operand,
         label: u32,
     )
-        requires ready { IsOpen (outlet K.contents K.faults out.old) }
+        requires ready { CanWrite K.Sink out.old }
         requires left { IsSoundOperand (length self.now.program.now.variable_names) left }
         requires right { IsSoundOperand (length self.now.program.now.variable_names) right }
         requires label { label < length (names_in self.now.program.now self.now.procedure).labels }
         requires procedure { self.now.procedure < length self.now.program.now.procedures }
-        ensures same_reference { out.new.sink.ghost_name ≡ out.old.sink.ghost_name }
-        ensures takes { Takes (outlet K.contents K.faults out.old) (outlet K.contents K.faults out.new)
+        ensures { Writes K.Sink out.old out.new
             (escaped (statement_text (names_in self.now.program.now self.now.procedure) (kind_of.IfCompare op label left right))) }
     {
         out.write(b"if ");
@@ -200,11 +189,9 @@ impl Scope<'_> {
     }
 
     fn write_callees<K: Sink>(&self, out: &mut Pieces<'_, K>, callees: &[u32])
-        requires ready { IsOpen (outlet K.contents K.faults out.old) }
+        requires ready { CanWrite K.Sink out.old }
         requires callees { All (λ callee. callee < length self.now.program.now.procedure_names) callees.now }
-        ensures same_reference { out.new.sink.ghost_name ≡ out.old.sink.ghost_name }
-        ensures takes { Takes (outlet K.contents K.faults out.old) (outlet K.contents K.faults out.new)
-            (escaped (callees_text (names_in self.now.program.now self.now.procedure) callees.now)) }
+        ensures { Writes K.Sink out.old out.new (escaped (callees_text (names_in self.now.program.now self.now.procedure) callees.now)) }
     {
         for (place, callee) in callees.iter().enumerate() {
             write_if(out, 0 < place, b" | ");
@@ -213,10 +200,9 @@ impl Scope<'_> {
     }
 
     fn write_call<K: Sink>(&self, out: &mut Pieces<'_, K>, callees: &[u32])
-        requires ready { IsOpen (outlet K.contents K.faults out.old) }
+        requires ready { CanWrite K.Sink out.old }
         requires callees { All (λ callee. callee < length self.now.program.now.procedure_names) callees.now }
-        ensures same_reference { out.new.sink.ghost_name ≡ out.old.sink.ghost_name }
-        ensures takes { Takes (outlet K.contents K.faults out.old) (outlet K.contents K.faults out.new)
+        ensures { Writes K.Sink out.old out.new
             (escaped (codes "call " ++ callees_text (names_in self.now.program.now self.now.procedure) callees.now)) }
     {
         out.write(b"call ");
@@ -224,22 +210,18 @@ impl Scope<'_> {
     }
 
     fn write_read<K: Sink>(&self, out: &mut Pieces<'_, K>, target: u32)
-        requires ready { IsOpen (outlet K.contents K.faults out.old) }
+        requires ready { CanWrite K.Sink out.old }
         requires target { target < length self.now.program.now.variable_names }
-        ensures same_reference { out.new.sink.ghost_name ≡ out.old.sink.ghost_name }
-        ensures takes { Takes (outlet K.contents K.faults out.old) (outlet K.contents K.faults out.new)
-            (escaped (statement_text (names_in self.now.program.now self.now.procedure) (kind_of.Read target))) }
+        ensures { Writes K.Sink out.old out.new (escaped (statement_text (names_in self.now.program.now self.now.procedure) (kind_of.Read target))) }
     {
         out.write(b"read ");
         self.write_variable(out, target);
     }
 
     fn write_print<K: Sink>(&self, out: &mut Pieces<'_, K>, value: Operand)
-        requires ready { IsOpen (outlet K.contents K.faults out.old) }
+        requires ready { CanWrite K.Sink out.old }
         requires value { IsSoundOperand (length self.now.program.now.variable_names) value }
-        ensures same_reference { out.new.sink.ghost_name ≡ out.old.sink.ghost_name }
-        ensures takes { Takes (outlet K.contents K.faults out.old) (outlet K.contents K.faults out.new)
-            (escaped (statement_text (names_in self.now.program.now self.now.procedure) (kind_of.Print value))) }
+        ensures { Writes K.Sink out.old out.new (escaped (statement_text (names_in self.now.program.now self.now.procedure) (kind_of.Print value))) }
     {
         out.write(b"print ");
         self.write_operand(out, value);
@@ -249,13 +231,11 @@ impl Scope<'_> {
     ///
     /// The conditions: the procedure is there, and so is what the statement names.
     pub(crate) fn write_statement<K: Sink>(&self, out: &mut Pieces<'_, K>, kind: &StmtKind)
-        requires ready { IsOpen (outlet K.contents K.faults out.old) }
+        requires ready { CanWrite K.Sink out.old }
         requires procedure { self.now.procedure < length self.now.program.now.procedures }
         requires sound { IsSoundStatement (length self.now.program.now.variable_names)
             (length (names_in self.now.program.now self.now.procedure).labels) (length self.now.program.now.procedure_names) kind.now }
-        ensures same_reference { out.new.sink.ghost_name ≡ out.old.sink.ghost_name }
-        ensures takes { Takes (outlet K.contents K.faults out.old) (outlet K.contents K.faults out.new)
-            (escaped (statement_text (names_in self.now.program.now self.now.procedure) kind.now)) }
+        ensures { Writes K.Sink out.old out.new (escaped (statement_text (names_in self.now.program.now self.now.procedure) kind.now)) }
     {
         match kind {
             StmtKind::Copy { target, value } => self.write_copy(out, *target, *value),

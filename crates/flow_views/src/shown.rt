@@ -4,22 +4,23 @@ ghost use Rattle.std.specs.Prelude.{◌≡◌, ◌+◌, ◌<◌, ◌≤◌, suc,
 ghost use Rattle.flow_graph.specs.Edges.{edges_from};
 ghost use Rattle.flow_graph.specs.Points.{end_place, entry_point, kind_at, point_count, points, procedure_at, statement_at};
 ghost use Rattle.flow_team.specs.Tables.{IsTableOf, facts_of};
-ghost use Rattle.text_pieces.specs.Pieces.{IsOpen, Takes, outlet};
+ghost use Rattle.text_pieces.specs.Pieces.{CanWrite, Writes};
 ghost use Rattle.flow_views.specs.ShownTables.{AreShownTables};
 ghost use Rattle.flow_texts.specs.Reports.{dead_at, remarks_at, unset_at};
 ghost use Rattle.flow_texts.specs.code.Reported.{TellReport};
 ghost use Rattle.text_pieces.specs.code.Lists.{some_stand};
 ghost use Rattle.tac_program.specs.Listings.{statement_text};
 ghost use Rattle.flow_views.specs.code.Names.{AreNamesOf};
-ghost use Rattle.flow_views.specs.code.Shown.{AreShown, contents, is_chosen, known_of, numbers_of};
-ghost use Rattle.flow_views.specs.Strings.{escaped};
+ghost use Rattle.flow_views.specs.code.ShownProgram.{AreShown, contents, is_chosen, known_of, numbers_of};
+ghost use Rattle.text_pieces.specs.Strings.{escaped};
 ghost use Rattle.flow_views.specs.Views.{analysis_name, names_at, points_in, procedure_name as name_of_procedure, shown_procedures, told_by};
 
+use crate::OutOfMemory;
 use crate::names::{NameForm, Names};
 use crate::scope::Scope;
 use crate::shown_tables::ShownTables;
 use crate::view::View;
-use flow_graph::{Analysis, Edge, Graph, OutOfMemory};
+use flow_graph::{Analysis, Edge, Graph};
 use flow_team::Table;
 use flow_texts::{Findings, RemarkForm, ReportAnswers};
 use smallvec::SmallVec;
@@ -36,7 +37,7 @@ pub(crate) struct Numbers {
 
 /// What was found of a program, what the bits of its analyses are called, its edges, and what is shown of it.
 #[derive(Drop)]
-pub(crate) struct Shown<'a> {
+pub(crate) struct ShownProgram<'a> {
     /// What was found.
     pub(crate) found: Findings<'a>,
     /// The tables of the analyses whose facts are shown.
@@ -75,7 +76,7 @@ pub(crate) fn name_of(analysis: Analysis) -> &'static [u8]
     }
 }
 
-impl<'a> Shown<'a> {
+impl<'a> ShownProgram<'a> {
     /// What is shown of a graph with its tables, and the names of bits in this form.
     ///
     /// The conditions: the answers to what a report asks and the tables are of this graph, these of the analyses that are shown, and the
@@ -87,7 +88,7 @@ impl<'a> Shown<'a> {
         answers: &'a ReportAnswers,
         view: View,
         form: NameForm,
-    ) -> Result<Shown<'a>, OutOfMemory>
+    ) -> Result<ShownProgram<'a>, OutOfMemory>
         requires tables { AreShownTables graph.now view.facts tables.now }
         requires answers { TellReport graph.now answers.now }
         requires procedure { IfSome view.procedure (λ procedure. procedure < length graph.now.procedure_names) }
@@ -99,7 +100,7 @@ impl<'a> Shown<'a> {
         let found = Findings::of(alloc, graph, answers)?;
         let names = Names::of(alloc, graph, form)?;
         let successors = successors(alloc, graph)?;
-        Ok(Shown {
+        Ok(ShownProgram {
             found,
             tables,
             names,
@@ -109,7 +110,7 @@ impl<'a> Shown<'a> {
     }
 }
 
-impl Shown<'_> {
+impl ShownProgram<'_> {
     /// What the bits of an analysis are called.
     pub(crate) fn names(&self, analysis: Analysis) -> &TextBlock
         requires { AreShown self.now }
@@ -142,11 +143,10 @@ impl Shown<'_> {
         out: &mut Pieces<'_, K>,
         point: u32,
     )
-        requires ready { IsOpen (outlet K.contents K.faults out.old) }
+        requires ready { CanWrite K.Sink out.old }
         requires shown { AreShown self.now }
         requires point { point < point_count self.now.found.graph.now }
-        ensures same_reference { out.new.sink.ghost_name ≡ out.old.sink.ghost_name }
-        ensures takes { Takes (outlet K.contents K.faults out.old) (outlet K.contents K.faults out.new)
+        ensures { Writes K.Sink out.old out.new
             (flat_map (F.text form.now self.now.found.graph.now point) (remarks_at self.now.found.graph.now (known_of self.now) point)) }
     {
         self.found.write_remarks(form, out, point);
@@ -247,13 +247,11 @@ impl Shown<'_> {
 
     /// Writes the statement at a point as it stands between quotes.
     pub(crate) fn write_statement<K: Sink>(&self, out: &mut Pieces<'_, K>, point: u32, stmt: &Stmt)
-        requires ready { IsOpen (outlet K.contents K.faults out.old) }
+        requires ready { CanWrite K.Sink out.old }
         requires shown { AreShown self.now }
         requires point { point < point_count self.now.found.graph.now }
         requires statement { statement_at self.now.found.graph.now point ≡ Some stmt.now }
-        ensures same_reference { out.new.sink.ghost_name ≡ out.old.sink.ghost_name }
-        ensures takes { Takes (outlet K.contents K.faults out.old) (outlet K.contents K.faults out.new)
-            (escaped (statement_text (names_at self.now.found.graph.now point) stmt.now.kind)) }
+        ensures { Writes K.Sink out.old out.new (escaped (statement_text (names_at self.now.found.graph.now point) stmt.now.kind)) }
     {
         self.scope(point).write_statement(out, &stmt.kind);
     }

@@ -3,11 +3,12 @@
 ghost use Rattle.std.specs.Prelude.{◌≡◌, None, Some, IfOk, MatchOption};
 ghost use Rattle.flow_team.specs.Ranges.{AreInRange};
 ghost use Rattle.flow_views.specs.ShownTables.{AreShownTables, IsShownTable};
-ghost use Rattle.flow_views.specs.code.Shown.{shown_table};
+ghost use Rattle.flow_views.specs.code.ShownProgram.{is_chosen, shown_table};
 
+use crate::OutOfMemory;
 use crate::view::Chosen;
-use flow_graph::{Analysis, Graph, OutOfMemory};
-use flow_team::Table;
+use flow_graph::{Analysis, Graph};
+use flow_team::{Gate, Table};
 use flow_texts::table_of;
 use std::alloc::Global;
 use std::thread::Threads;
@@ -36,61 +37,58 @@ impl Drop for ShownTables {
     }
 }
 
-// The table of an analysis, where it is chosen.
-fn table_if<R: Threads + Sync>(
+fn is_chosen(facts: Chosen, analysis: Analysis) -> bool
+    ensures { result ≡ is_chosen facts analysis }
+{
+    match analysis {
+        Analysis::Reach => facts.reach,
+        Analysis::Live => facts.live,
+        Analysis::Avail => facts.avail,
+        Analysis::Busy => facts.busy,
+    }
+}
+
+// The table of an analysis, where its facts are chosen.
+fn table_if<R: Threads + Sync, G: Gate>(
     rt: &R,
     alloc: Global,
     graph: &Graph<'_>,
-    chosen: bool,
+    facts: Chosen,
     analysis: Analysis,
     workers: u32,
     cut: u32,
+    gate: &G,
 ) -> Result<Option<Table>, OutOfMemory>
     requires { AreInRange workers cut }
-    ensures { IfOk result (IsShownTable graph.now analysis chosen) }
+    ensures { IfOk result (IsShownTable graph.now analysis (is_chosen facts analysis)) }
 {
-    if !chosen {
+    if !is_chosen(facts, analysis) {
         return Ok(None);
     }
-    let table = table_of(rt, alloc, graph, analysis, workers, cut)?;
+    let table = table_of(rt, alloc, graph, analysis, workers, cut, gate)?;
     Ok(Some(table))
 }
 
 impl ShownTables {
-    /// The tables of these analyses of a graph, by so many workers, in slices of so many bits.
+    /// The tables of the analyses of these facts of a graph, by so many workers, in slices of so many bits, which the gate is told of.
     ///
     /// The condition: 1 to 64 workers, and 1 to 4,096 bits. Fails only where memory runs out.
-    pub fn of<R: Threads + Sync>(
+    pub fn of<R: Threads + Sync, G: Gate>(
         rt: &R,
         alloc: Global,
         graph: &Graph<'_>,
-        chosen: Chosen,
+        facts: Chosen,
         workers: u32,
         cut: u32,
+        gate: &G,
     ) -> Result<ShownTables, OutOfMemory>
         requires { AreInRange workers cut }
-        ensures { IfOk result (AreShownTables graph.now chosen) }
+        ensures { IfOk result (AreShownTables graph.now facts) }
     {
-        let reach = table_if(
-            rt,
-            alloc,
-            graph,
-            chosen.reach,
-            Analysis::Reach,
-            workers,
-            cut,
-        )?;
-        let live = table_if(rt, alloc, graph, chosen.live, Analysis::Live, workers, cut)?;
-        let avail = table_if(
-            rt,
-            alloc,
-            graph,
-            chosen.avail,
-            Analysis::Avail,
-            workers,
-            cut,
-        )?;
-        let busy = table_if(rt, alloc, graph, chosen.busy, Analysis::Busy, workers, cut)?;
+        let reach = table_if(rt, alloc, graph, facts, Analysis::Reach, workers, cut, gate)?;
+        let live = table_if(rt, alloc, graph, facts, Analysis::Live, workers, cut, gate)?;
+        let avail = table_if(rt, alloc, graph, facts, Analysis::Avail, workers, cut, gate)?;
+        let busy = table_if(rt, alloc, graph, facts, Analysis::Busy, workers, cut, gate)?;
         Ok(ShownTables {
             reach,
             live,

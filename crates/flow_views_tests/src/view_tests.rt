@@ -6,6 +6,7 @@ ghost use Rattle.flow_views.specs.ShownTables.{AreShownTables};
 
 use failing_streams::{Page, blank_page};
 use flow_graph::Graph;
+use flow_team::OpenGate;
 use flow_texts::ReportAnswers;
 use flow_views::{Chosen, DotText, JsonText, ShownTables, View};
 use std::alloc::Global;
@@ -58,8 +59,8 @@ fn write_graph<R: Threads + Sync>(
     procedure: u32,
     page: &mut Page,
 ) -> Result<bool, Fail> {
-    let tables = ShownTables::of(rt, alloc, graph, facts, 1, 64)?;
-    let answers = ReportAnswers::of(rt, alloc, graph, 1, 64)?;
+    let tables = ShownTables::of(rt, alloc, graph, facts, 1, 64, &OpenGate)?;
+    let answers = ReportAnswers::of(rt, alloc, graph, 1, 64, &OpenGate)?;
     let count = graph.program().procs().len();
     if procedure as usize >= count {
         let view = View {

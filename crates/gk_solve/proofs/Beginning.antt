@@ -4,7 +4,7 @@ use Rattle.std.proofs.lemmas.Bool.{cases_eq, cases_lt, false≢true}
 use Rattle.std.proofs.lemmas.List.{get_or-replicate, get_or_past, length-replicate}
 use Rattle.bit_rows.specs.Words.{has_bit}
 use Rattle.bit_rows.proofs.WordBits.{has_bit-zero, has_bit-max}
-use Rattle.gk_solve.specs.Equations.{brought_by_boundary, kept_at_entry}
+use Rattle.summary_equations.specs.Equations.{brought_by_boundary, kept_at_entry}
 use Rattle.gk_solve.specs.Tables.Brought.{AreSoundBrought, brought_word}
 use Rattle.gk_solve.specs.Tables.Groups.{Group, AreSoundSummaries, kept_word, made_word, summary_at}
 use Rattle.gk_solve.specs.Tables.Words.{HasBit, AreSoundWords, IsBrought, IsKept, IsMade}

@@ -4,7 +4,7 @@ use Rattle.std.proofs.Common.{bit_or, bit_and, get_or}
 use Rattle.std.proofs.lemmas.Bool.{cases_lt, lt-ltb, le-ltb, false≢true}
 use Rattle.bit_rows.specs.Words.{has_bit}
 use Rattle.bit_rows.proofs.WordBits.{has_bit-or, has_bit-and, has_bit-zero, has_bit-shifted_same}
-use Rattle.flow_graph.specs.Problems.{IsAffected, MayForm, IsWordOf, may_gens, may_kills, may_boundary}
+use Rattle.flow_graph.specs.Problems.{IsAffected, MayForm, IsWordOfTest, may_gens, may_kills, may_boundary}
 use Rattle.flow_graph.specs.Universes.{bits as bits_of}
 use Rattle.flow_graph.specs.Points.{point_count}
 use Rattle.gk_solve.specs.Tables.Groups.{IsGroupFrame, IsIdle}
@@ -13,17 +13,18 @@ use Rattle.gk_solve.specs.Tables.Words.{place_gens, place_kills, place_boundary}
 use Rattle.flow_graph.proofs.FiniteSearch.{or_left, or_right}
 
 -- a word of the form tells the places of its number
-pub gens_of_word : (form : MayForm) (point word value k : ℕ) → k < 64 → IsWordOf (may_gens form point) (bits_of form.program form.analysis) word value
+pub gens_of_word : (form : MayForm) (point word value k : ℕ) → k < 64
+    → IsWordOfTest (may_gens form point) (bits_of form.program form.analysis) word value
     → has_bit value k ≡ place_gens form point (64 * word + k)
 unfolding place_gens
 gens_of_word form point word value k low is = is k low
 
 pub kills_of_word : (form : MayForm) (point word value k : ℕ) → k < 64
-    → IsWordOf (may_kills form point) (bits_of form.program form.analysis) word value → has_bit value k ≡ place_kills form point (64 * word + k)
+    → IsWordOfTest (may_kills form point) (bits_of form.program form.analysis) word value → has_bit value k ≡ place_kills form point (64 * word + k)
 unfolding place_kills
 kills_of_word form point word value k low is = is k low
 
-pub boundary_of_word : (form : MayForm) (word value k : ℕ) → k < 64 → IsWordOf (may_boundary form) (bits_of form.program form.analysis) word value
+pub boundary_of_word : (form : MayForm) (word value k : ℕ) → k < 64 → IsWordOfTest (may_boundary form) (bits_of form.program form.analysis) word value
     → has_bit value k ≡ place_boundary form (64 * word + k)
 unfolding place_boundary
 boundary_of_word form word value k low is = is k low

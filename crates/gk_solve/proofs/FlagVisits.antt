@@ -8,8 +8,9 @@ use Rattle.std.proofs.lemmas.List.Sums.{sum_by-set}
 use Rattle.flow_graph.specs.declared.edge.Edge.{Edge}
 use Rattle.flow_graph.specs.declared.edge.Edge.TheVariants.{Step, Call, Ret}
 use Rattle.flow_graph.specs.Paths.{Shape, IsEdge, source_of}
-use Rattle.gk_solve.specs.Equations.{CallsAt, ReturnsTo, Reached, entry_is_reached, reached_by_step, reached_by_call, Entered, entered_by_call}
-use Rattle.gk_solve.specs.Equations.{HasFlag}
+use Rattle.summary_equations.specs.Equations.{CallsAt, ReturnsTo, Reached, entry_is_reached, reached_by_step, reached_by_call, Entered}
+use Rattle.summary_equations.specs.Equations.{entered_by_call}
+use Rattle.summary_equations.specs.Equations.{HasFlag}
 use Rattle.flow_links.specs.Shapes.{IsNumbered, after_site}
 use Rattle.work_list.specs.Marks.{IsMarked}
 use Rattle.gk_solve.specs.Tables.Flags.{IsFlagged, FlagsGrow, AreSound, AreExactly, IsReachClosedAt, IsCallSettled, IsSiteSettled, IsEntryClosedAt}
@@ -17,7 +18,7 @@ use Rattle.gk_solve.specs.Tables.Flags.{unset_flags, source_procedure, ReachSpre
 use Rattle.gk_solve.specs.Tables.Visits.{IsSettled}
 use Rattle.flow_links.specs.declared.link.CallLink.{CallLink}
 use Rattle.flow_links.specs.declared.link.SiteLink.{SiteLink}
-use Rattle.gk_solve.proofs.Least.{reached_least, entered_least}
+use Rattle.summary_equations.proofs.Least.{reached_least, entered_least}
 
 -- ---- edges
 module _ {shape : Shape} {backward : Bool} {points : ℕ} (is : IsNumbered shape backward points) where

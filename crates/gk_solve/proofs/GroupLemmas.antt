@@ -5,7 +5,7 @@ use Rattle.bit_rows.specs.Words.{has_bit}
 use Rattle.flow_graph.specs.declared.edge.Edge.TheVariants.{Step}
 use Rattle.flow_graph.specs.Paths.{IsEdge}
 use Rattle.flow_graph.specs.Points.{point_count}
-use Rattle.gk_solve.specs.Equations.{Reached, HasFlag}
+use Rattle.summary_equations.specs.Equations.{Reached, HasFlag}
 use Rattle.flow_links.specs.Shapes.{LinkedProgram, directed_shape}
 use Rattle.flow_links.specs.LinkLists.{IsCallLink, IsSiteLink}
 use Rattle.gk_solve.specs.Tables.Brought.{AreBroughtOf, AreSoundBrought, brought_word}

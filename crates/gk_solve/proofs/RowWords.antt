@@ -13,12 +13,12 @@ use Rattle.flow_graph.specs.Problems.{may_shape, may_transfer, MayForm}
 use Rattle.flow_graph.specs.WellFormed.{IsWellFormed}
 use Rattle.flow_graph.specs.Points.{point_count}
 use Rattle.flow_links.specs.Shapes.{LinkedProgram, directed_shape}
-use Rattle.gk_solve.specs.Equations.{HasFlag, IsInSolution}
+use Rattle.summary_equations.specs.Equations.{HasFlag, IsInSolution}
 use Rattle.gk_solve.specs.Solved.{AreSolved, IsLeastSolution, IsMeetOverPaths, SliceTable, direction_of, word_at}
 use Rattle.gk_solve.specs.Tables.Flags.{ArePathFlags, IsFlagged}
 use Rattle.gk_solve.specs.Tables.Rows.{IsInWords, IsPut, TellsBelow}
 use Rattle.flow_graph.proofs.FiniteSearch.{and_both, and_parts, or_either, or_left, or_right}
-use Rattle.gk_solve.proofs.Meet.{solution_is_meet}
+use Rattle.summary_equations.proofs.Meet.{solution_is_meet}
 
 -- the words of the next point, put into its row
 module _ (Bit : ℕ → ℕ → Type 0) (first now : RowTable) (n from : ℕ) (masks : List ℕ) (within : n < length first.flags)

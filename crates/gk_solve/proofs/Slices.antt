@@ -5,7 +5,7 @@ use Rattle.std.proofs.lemmas.Grind.{common_steps}
 use Rattle.std.proofs.lemmas.Bool.{cases_lt, lt-ltb, ltb-true, le-ltb, false≢true}
 use Rattle.bit_rows.specs.Words.{has_bit}
 use Rattle.flow_links.specs.Shapes.{directed_shape}
-use Rattle.gk_solve.specs.Equations.{IsInSolution}
+use Rattle.summary_equations.specs.Equations.{IsInSolution}
 use Rattle.gk_solve.specs.Tables.Brought.{AreExactBrought}
 use Rattle.gk_solve.specs.Tables.Groups.{AreCompleteSummaries, AreSoundSummaries, IsGroupFrame, group_of, summary_at}
 use Rattle.gk_solve.specs.Tables.Solutions.{AreInSlice, IsSolutionAt}

@@ -10,7 +10,7 @@ use Rattle.flow_graph.specs.Universes.{bits as bits_of}
 use Rattle.flow_graph.proofs.graphs.MayForms.{steps_have_statements}
 use Rattle.flow_graph.specs.Points.{point_count}
 use Rattle.flow_links.specs.Shapes.{LinkedProgram, directed_shape}
-use Rattle.gk_solve.specs.Equations.{IsInSolution}
+use Rattle.summary_equations.specs.Equations.{IsInSolution}
 use Rattle.gk_solve.specs.Solved.{SliceTable, AreSolved, AreMeetWords, HasPathFlags, direction_of, word_at}
 use Rattle.gk_solve.specs.Tables.Flags.{ArePathFlags}
 use Rattle.gk_solve.specs.Tables.Groups.{IsGroupFrame, group_of, made_word}
@@ -18,8 +18,8 @@ use Rattle.gk_solve.specs.Tables.Solutions.{AreSliceSolutions}
 use Rattle.gk_solve.specs.Tables.Words.{HasBit, place_boundary, place_gens, place_kills, place_transfer, step_statement}
 use Rattle.gk_solve.specs.declared.group_frame.GroupFrame.{GroupFrame}
 use Rattle.gk_solve.specs.declared.summary.Summary.{Summary}
-use Rattle.gk_solve.proofs.Least.{bits_are_apart}
-use Rattle.gk_solve.proofs.Meet.{solution_is_meet}
+use Rattle.summary_equations.proofs.Least.{bits_are_apart}
+use Rattle.summary_equations.proofs.Meet.{solution_is_meet}
 
 agrees : (form : MayForm) (bit : ℕ) → bit < bits_of form.program form.analysis
     → AgreesOnSteps (may_shape form.program form.analysis) (place_transfer (is_backward form.analysis) form bit)

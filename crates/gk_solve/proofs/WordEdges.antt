@@ -4,15 +4,17 @@ use Rattle.bit_rows.specs.Words.{has_bit}
 use Rattle.flow_graph.specs.declared.edge.Edge.{Edge}
 use Rattle.flow_graph.specs.declared.edge.Edge.TheVariants.{Step, Call, Ret}
 use Rattle.flow_graph.specs.Paths.{Shape, Transfer, IsEdge}
-use Rattle.gk_solve.specs.Equations.{Reached, Entered, HasFlag, entry_is_reached, reached_by_step, reached_by_call, kept_at_entry, kept_by_step}
-use Rattle.gk_solve.specs.Equations.{kept_by_call, made_by_step, made_before_step, made_by_callee, made_before_call, entered_by_call, root_is_entered}
-use Rattle.gk_solve.specs.Equations.{brought_where_made, brought_where_kept, CallsAt, ReturnsTo}
+use Rattle.summary_equations.specs.Equations.{Reached, Entered, HasFlag, entry_is_reached, reached_by_step, reached_by_call, kept_at_entry}
+use Rattle.summary_equations.specs.Equations.{kept_by_step}
+use Rattle.summary_equations.specs.Equations.{kept_by_call, made_by_step, made_before_step, made_by_callee, made_before_call, entered_by_call}
+use Rattle.summary_equations.specs.Equations.{root_is_entered}
+use Rattle.summary_equations.specs.Equations.{brought_where_made, brought_where_kept, CallsAt, ReturnsTo}
 use Rattle.flow_links.specs.Shapes.{IsNumbered, after_site}
 use Rattle.gk_solve.specs.Tables.Flags.{IsFlagged}
 use Rattle.gk_solve.specs.Tables.Words.{HasBit, AreSoundWords, IsKeepClosedAt, IsMakeClosedAt, IsBringClosedAt, IsKept, IsMade, IsBrought}
 use Rattle.flow_graph.proofs.FiniteSearch.{or_left, or_right, or_either, and_parts, and_both}
 use Rattle.gk_solve.proofs.FlagVisits.{call_of, return_of}
-use Rattle.gk_solve.proofs.Least.{kept_least, made_least, brought_least}
+use Rattle.summary_equations.proofs.Least.{kept_least, made_least, brought_least}
 
 pub not_true : (b : Bool) → not b ≡ true → b ≡ false
 not_true false e = refl

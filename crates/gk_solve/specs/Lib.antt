@@ -1,4 +1,2 @@
-pub mod Equations
-pub mod Laws
 pub mod Solved
 pub mod Tables

@@ -9,7 +9,7 @@ use Rattle.flow_graph.specs.Paths.{HasPath, SomePathHas}
 use Rattle.flow_graph.specs.Points.{point_count}
 use Rattle.flow_graph.specs.Universes.{bits as bits_of}
 use Rattle.flow_links.specs.Shapes.{LinkedProgram}
-use Rattle.gk_solve.specs.Equations.{HasFlag, IsInSolution}
+use Rattle.summary_equations.specs.Equations.{HasFlag, IsInSolution}
 
 -- The rows have one flag for each point, true exactly where the first family holds, and of the bits from lo to hi at a point
 -- exactly those of the second.

@@ -4,7 +4,7 @@ ghost use Rattle.bit_rows.specs.Words.{has_bit};
 ghost use Rattle.flow_graph.specs.declared.edge.Edge.{Edge};
 ghost use Rattle.flow_graph.specs.Paths.{IsEdge};
 ghost use Rattle.flow_graph.specs.Points.{point_count};
-ghost use Rattle.gk_solve.specs.Equations.{IsInSolution};
+ghost use Rattle.summary_equations.specs.Equations.{IsInSolution};
 ghost use Rattle.flow_links.specs.Shapes.{directed_shape};
 ghost use Rattle.flow_links.specs.LinkLists.{IsSiteLink};
 ghost use Rattle.work_list.specs.Marks.{IsMarked};
@@ -16,13 +16,13 @@ ghost use Rattle.gk_solve.specs.Tables.Visits.{IsSettled};
 ghost use Rattle.gk_solve.specs.Tables.Words.{HasBit};
 
 use crate::group_frame::GroupFrame;
-use crate::lanes::{added, new_or_kept};
+use crate::lanes::{added_words, new_or_kept};
 use crate::summary::Summary;
 use flow_links::SiteLink;
 use work_list::Marks;
 
 // Adds to what is brought to a procedure, and where that is anything, marks it.
-fn put<const W: usize>(
+fn put_brought<const W: usize>(
     frame: &GroupFrame,
     table: &[Summary<W>],
     brought: &mut [[u64; W]],
@@ -40,7 +40,7 @@ fn put<const W: usize>(
     ensures added { (w k : ℕ) → w < W → has_bit (slice_index more.entry w) k ≡ true → HasBit (brought_word brought.new w) procedure k }
 {
     let before = brought[procedure as usize];
-    let (after, changed) = added(before, more);
+    let (after, changed) = added_words(before, more);
     if !changed {
         return;
     }
@@ -74,11 +74,11 @@ fn visit_site<const W: usize>(
     }
     let here = table[site.point as usize];
     let more = new_or_kept(here.made, brought[procedure as usize], here.kept);
-    put(frame, table, brought, dirty, site.callee, more);
+    put_brought(frame, table, brought, dirty, site.callee, more);
 }
 
 // Goes over the calls of a procedure.
-fn visit<const W: usize>(
+fn visit_procedure<const W: usize>(
     frame: &GroupFrame,
     table: &[Summary<W>],
     brought: &mut [[u64; W]],
@@ -119,7 +119,7 @@ fn boundary<const W: usize>(frame: &GroupFrame) -> [u64; W]
 }
 
 // Begins what is brought: the boundary to the root, and nothing else.
-fn begin<const W: usize>(frame: &GroupFrame, brought: &mut [[u64; W]])
+fn begin_brought<const W: usize>(frame: &GroupFrame, brought: &mut [[u64; W]])
     requires frame { IsGroupFrame W frame.now }
     requires count { length brought.now ≡ (directed_shape frame.now.links.now).procedures }
     ensures root { (w k : ℕ) → w < W → k < 64 → ((group_of frame.now W).transfer w k).boundary ≡ true
@@ -153,9 +153,9 @@ pub(crate) fn brought<const W: usize>(
     let links = frame.links;
     // Its contract tells that there are few procedures.
     let _ = links.procedures();
-    begin(frame, brought);
+    begin_brought(frame, brought);
     dirty.mark_all();
     'visits: while let Some(procedure) = dirty.take() {
-        visit(frame, table, brought, dirty, procedure as u32);
+        visit_procedure(frame, table, brought, dirty, procedure as u32);
     }
 }

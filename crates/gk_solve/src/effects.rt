@@ -118,7 +118,7 @@ fn across_words<const W: usize>(frame: &GroupFrame, point: u32, before: Summary<
 
 /// The bits after the step of the statement at a point.
 #[inline(always)]
-pub(crate) fn across<const W: usize>(
+pub(crate) fn across_step<const W: usize>(
     frame: &GroupFrame,
     point: u32,
     before: Summary<W>,

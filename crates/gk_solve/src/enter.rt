@@ -3,7 +3,7 @@ ghost use Rattle.std.specs.Prelude.{◌≡◌, ◌<◌, ◌^◌, ℕ, length};
 ghost use Rattle.flow_graph.specs.declared.edge.Edge.{Edge};
 ghost use Rattle.flow_graph.specs.Paths.{IsEdge};
 ghost use Rattle.flow_graph.specs.Points.{point_count};
-ghost use Rattle.gk_solve.specs.Equations.{Reached, Entered};
+ghost use Rattle.summary_equations.specs.Equations.{Reached, Entered};
 ghost use Rattle.flow_links.specs.Shapes.{directed_shape};
 ghost use Rattle.flow_links.specs.LinkLists.{IsSiteLink};
 ghost use Rattle.work_list.specs.Marks.{AreClear};
@@ -14,7 +14,7 @@ use flow_links::{Links, SiteLink};
 use work_list::Marks;
 
 // Sets the flag of a procedure that is entered, and where it was clear, marks it.
-fn enter(
+fn enter_procedure(
     links: &Links<'_, '_>,
     _reached: &[bool],
     flags: &mut [bool],
@@ -57,12 +57,12 @@ fn visit_site(
     // Its contract tells what a shape's edges are.
     let _ = links.points();
     if reached[site.point as usize] {
-        enter(links, reached, flags, dirty, site.callee);
+        enter_procedure(links, reached, flags, dirty, site.callee);
     }
 }
 
 // Goes over the calls of a procedure.
-fn visit(
+fn visit_procedure(
     links: &Links<'_, '_>,
     reached: &[bool],
     flags: &mut [bool],
@@ -103,10 +103,10 @@ pub(crate) fn entered(
     // Their contracts tell what a shape's edges are, and that there are few procedures.
     let _ = links.points();
     let _ = links.procedures();
-    enter(links, reached, flags, dirty, links.root());
+    enter_procedure(links, reached, flags, dirty, links.root());
     'visits: while let Some(procedure) = dirty.take() {
         if flags[procedure] {
-            visit(links, reached, flags, dirty, procedure as u32);
+            visit_procedure(links, reached, flags, dirty, procedure as u32);
         }
     }
 }

@@ -3,9 +3,10 @@ ghost use Rattle.std.specs.Prelude.{◌≡◌, ◌<◌, ◌||◌, ℕ, false, tr
 ghost use Rattle.bit_rows.specs.Words.{has_bit};
 ghost use Rattle.flow_graph.specs.declared.edge.Edge.{Edge};
 ghost use Rattle.flow_graph.specs.declared.edge.Edge.TheVariants.{Step, Call};
+ghost use Rattle.flow_graph.specs.Directions.{goes_backward};
 ghost use Rattle.flow_graph.specs.Paths.{IsEdge};
 ghost use Rattle.flow_graph.specs.Points.{point_count};
-ghost use Rattle.gk_solve.specs.Equations.{HasFlag};
+ghost use Rattle.summary_equations.specs.Equations.{HasFlag};
 ghost use Rattle.flow_links.specs.Shapes.{directed_shape};
 ghost use Rattle.flow_links.specs.LinkLists.{IsCallLink};
 ghost use Rattle.gk_solve.specs.Tables.Flags.{IsFlagged};
@@ -14,29 +15,31 @@ ghost use Rattle.gk_solve.specs.Tables.Groups.{IsSummaryCallSettled, IsSummarySe
 ghost use Rattle.gk_solve.specs.Tables.Groups.{room_of_summary};
 ghost use Rattle.gk_solve.specs.Tables.Words.{HasBit, IsKept, IsMade, step_statement};
 
-use crate::effects::across;
+use crate::count::CountSteps;
+use crate::effects::across_step;
 use crate::group_frame::GroupFrame;
-use crate::lanes::{added, both, new_or_kept};
+use crate::lanes::{added_words, common_words, new_or_kept};
 use crate::summary::Summary;
+use flow_graph::Direction;
 use flow_links::CallLink;
 use work_list::Marks;
 
 // A summary with bits added, and whether some of those were missing.
 #[inline(always)]
-fn joined<const W: usize>(before: Summary<W>, more: Summary<W>) -> (Summary<W>, bool)
+fn joined_summary<const W: usize>(before: Summary<W>, more: Summary<W>) -> (Summary<W>, bool)
     ensures kept { AreJoined W before.entry.kept more.entry.kept result.0.kept }
     ensures made { AreJoined W before.entry.made more.entry.made result.0.made }
     ensures same { result.1 ≡ false → (result.0.kept ≡ before.entry.kept) × (result.0.made ≡ before.entry.made) }
     ensures less { result.1 ≡ true → room_of_summary result.0 < room_of_summary before.entry }
 {
-    let (kept, more_kept) = added(before.kept, more.kept);
-    let (made, more_made) = added(before.made, more.made);
+    let (kept, more_kept) = added_words(before.kept, more.kept);
+    let (made, more_made) = added_words(before.made, more.made);
     (Summary { kept, made }, more_kept || more_made)
 }
 
 // Adds to the summary of a point, and where that is anything, marks it.
 #[inline(always)]
-fn put<const W: usize>(
+fn put_summary<const W: usize>(
     frame: &GroupFrame,
     table: &mut [Summary<W>],
     dirty: &mut Marks,
@@ -54,7 +57,7 @@ fn put<const W: usize>(
     ensures made_added { (w k : ℕ) → w < W → has_bit (slice_index more.entry.made w) k ≡ true → HasBit (made_word table.new w) at k }
 {
     let before = table[at as usize];
-    let (after, changed) = joined(before, more);
+    let (after, changed) = joined_summary(before, more);
     if !changed {
         return;
     }
@@ -63,10 +66,13 @@ fn put<const W: usize>(
 }
 
 // The point of a step's statement.
-fn statement_point(backward: bool, from: u32, to: u32) -> u32
-    ensures { result ≡ step_statement backward from to }
+fn statement_point(direction: Direction, from: u32, to: u32) -> u32
+    ensures { result ≡ step_statement (goes_backward direction) from to }
 {
-    if backward { to } else { from }
+    match direction {
+        Direction::Forward => from,
+        Direction::Backward => to,
+    }
 }
 
 // Goes over one step from a point with a path.
@@ -88,9 +94,9 @@ fn visit_step<const W: usize>(
     ensures settled { IsSummarySettled (group_of frame.now W) frame.now.paths.now table.new dirty.new (Step at to) }
 {
     let links = frame.links;
-    let point = statement_point(links.is_backward(), at, to);
-    let more = across(frame, point, table[at as usize]);
-    put(frame, table, dirty, to, more);
+    let point = statement_point(links.direction(), at, to);
+    let more = across_step(frame, point, table[at as usize]);
+    put_summary(frame, table, dirty, to, more);
 }
 
 // Goes over one call from a point with a path.
@@ -117,20 +123,20 @@ fn visit_call<const W: usize>(
     let before = table[at as usize];
     let through = table[call.exit as usize];
     let more = Summary {
-        kept: both(before.kept, through.kept),
+        kept: common_words(before.kept, through.kept),
         made: new_or_kept(through.made, before.made, through.kept),
     };
-    put(frame, table, dirty, call.after, more);
+    put_summary(frame, table, dirty, call.after, more);
 }
 
 // Goes over the steps from a point with a path.
 #[inline(always)]
-fn visit_steps<const W: usize>(
+fn visit_steps<const W: usize, C: CountSteps>(
     frame: &GroupFrame,
     table: &mut [Summary<W>],
     dirty: &mut Marks,
     at: u32,
-    followed: &mut u64,
+    followed: &mut C,
 )
     requires frame { IsGroupFrame W frame.now }
     requires count { length table.now ≡ point_count frame.now.links.now.program }
@@ -144,7 +150,7 @@ fn visit_steps<const W: usize>(
 {
     let links = frame.links;
     let steps = links.steps_from(at);
-    *followed = followed.saturating_add(steps.len() as u64);
+    followed.count(steps.len());
     for to in steps {
         visit_step(frame, table, dirty, at, *to);
     }
@@ -252,12 +258,12 @@ fn visit_callers<const W: usize>(
 
 // Goes over the edges that wait for a point.
 #[inline(always)]
-fn visit<const W: usize>(
+fn visit_point<const W: usize, C: CountSteps>(
     frame: &GroupFrame,
     table: &mut [Summary<W>],
     dirty: &mut Marks,
     at: u32,
-    followed: &mut u64,
+    followed: &mut C,
 )
     requires frame { IsGroupFrame W frame.now }
     requires count { length table.now ≡ point_count frame.now.links.now.program }
@@ -276,7 +282,7 @@ fn visit<const W: usize>(
 }
 
 // Begins a table: nothing is made, and an entry keeps everything.
-fn begin<const W: usize>(frame: &GroupFrame, table: &mut [Summary<W>])
+fn begin_summaries<const W: usize>(frame: &GroupFrame, table: &mut [Summary<W>])
     requires frame { IsGroupFrame W frame.now }
     requires count { length table.now ≡ point_count frame.now.links.now.program }
     ensures entries { (p w k : ℕ) → p < (directed_shape frame.now.links.now).procedures → w < W → k < 64
@@ -299,11 +305,11 @@ fn begin<const W: usize>(frame: &GroupFrame, table: &mut [Summary<W>])
 }
 
 /// Finds what is kept up to each point and made before it, at the points with a path. Counts the steps that are followed.
-pub(crate) fn kept_and_made<const W: usize>(
+pub(crate) fn kept_and_made<const W: usize, C: CountSteps>(
     frame: &GroupFrame,
     table: &mut [Summary<W>],
     dirty: &mut Marks,
-    followed: &mut u64,
+    followed: &mut C,
 )
     requires frame { IsGroupFrame W frame.now }
     requires count { length table.now ≡ point_count frame.now.links.now.program }
@@ -314,9 +320,9 @@ pub(crate) fn kept_and_made<const W: usize>(
 {
     // Its contract tells that there are few points.
     let _ = frame.links.points();
-    begin(frame, table);
+    begin_summaries(frame, table);
     dirty.mark_all();
     'visits: while let Some(at) = dirty.take() {
-        visit(frame, table, dirty, at as u32, followed);
+        visit_point(frame, table, dirty, at as u32, followed);
     }
 }

@@ -42,7 +42,7 @@ pub(crate) fn across_word(added: u64, before: u64, kill: u64) -> u64
 
 /// Words with bits added, and whether some of those were missing.
 #[inline(always)]
-pub(crate) fn added<const W: usize>(words: [u64; W], more: [u64; W]) -> ([u64; W], bool)
+pub(crate) fn added_words<const W: usize>(words: [u64; W], more: [u64; W]) -> ([u64; W], bool)
     ensures count { length result.0 ≡ W }
     ensures bits { (w k : ℕ) → w < W
         → has_bit (slice_index result.0 w) k ≡ (has_bit (slice_index words.entry w) k || has_bit (slice_index more.entry w) k) }
@@ -64,7 +64,7 @@ pub(crate) fn added<const W: usize>(words: [u64; W], more: [u64; W]) -> ([u64; W
 
 /// The bits of both.
 #[inline(always)]
-pub(crate) fn both<const W: usize>(first: [u64; W], second: [u64; W]) -> [u64; W]
+pub(crate) fn common_words<const W: usize>(first: [u64; W], second: [u64; W]) -> [u64; W]
     ensures { (w k : ℕ) → w < W
         → has_bit (slice_index result w) k ≡ (has_bit (slice_index first.entry w) k && has_bit (slice_index second.entry w) k) }
 {

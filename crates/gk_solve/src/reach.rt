@@ -3,19 +3,20 @@ ghost use Rattle.std.specs.Prelude.{◌≡◌, ◌<◌, ℕ, length};
 ghost use Rattle.flow_graph.specs.declared.edge.Edge.TheVariants.{Step, Call};
 ghost use Rattle.flow_graph.specs.Paths.{IsEdge, source_of};
 ghost use Rattle.flow_graph.specs.Points.{point_count};
-ghost use Rattle.gk_solve.specs.Equations.{Reached};
+ghost use Rattle.summary_equations.specs.Equations.{Reached};
 ghost use Rattle.flow_links.specs.Shapes.{directed_shape};
 ghost use Rattle.flow_links.specs.LinkLists.{IsCallLink};
 ghost use Rattle.work_list.specs.Marks.{IsMarked, AreClear};
 ghost use Rattle.gk_solve.specs.Tables.Flags.{IsFlagged, AreSound, AreExactly, IsCallSettled, IsReachClosedAt, ReachSpreads};
 ghost use Rattle.gk_solve.specs.Tables.Visits.{IsSettled};
 
+use crate::count::CountSteps;
 use flow_graph::Edge;
 use flow_links::{CallLink, Links};
 use work_list::Marks;
 
 // Sets the flag of a point that is reached, and where it was clear, marks the point and those that wait for it.
-fn grow(links: &Links<'_, '_>, flags: &mut [bool], dirty: &mut Marks, at: u32)
+fn reach_point(links: &Links<'_, '_>, flags: &mut [bool], dirty: &mut Marks, at: u32)
     requires count { length flags.now ≡ point_count links.now.program }
     requires dirty_count { length dirty.now ≡ point_count links.now.program }
     requires within { at < point_count links.now.program }
@@ -35,12 +36,12 @@ fn grow(links: &Links<'_, '_>, flags: &mut [bool], dirty: &mut Marks, at: u32)
 }
 
 // Goes over the steps from a reached point.
-fn visit_steps(
+fn visit_steps<C: CountSteps>(
     links: &Links<'_, '_>,
     flags: &mut [bool],
     dirty: &mut Marks,
     at: u32,
-    followed: &mut u64,
+    followed: &mut C,
 )
     requires count { length flags.now ≡ point_count links.now.program }
     requires dirty_count { length dirty.now ≡ point_count links.now.program }
@@ -50,9 +51,9 @@ fn visit_steps(
     ensures flagged { (y : ℕ) → IsEdge (directed_shape links.now) (Step at y) → IsFlagged flags.new y }
 {
     let steps = links.steps_from(at);
-    *followed = followed.saturating_add(steps.len() as u64);
+    followed.count(steps.len());
     for to in steps {
-        grow(links, flags, dirty, *to);
+        reach_point(links, flags, dirty, *to);
     }
 }
 
@@ -70,7 +71,7 @@ fn visit_call(links: &Links<'_, '_>, flags: &mut [bool], dirty: &mut Marks, at: 
     // Its contract tells what a shape's edges are.
     let _ = links.points();
     if flags[call.exit as usize] {
-        grow(links, flags, dirty, call.after);
+        reach_point(links, flags, dirty, call.after);
     }
 }
 
@@ -92,7 +93,13 @@ fn visit_calls(links: &Links<'_, '_>, flags: &mut [bool], dirty: &mut Marks, at:
 }
 
 // Goes over the edges from a point.
-fn visit(links: &Links<'_, '_>, flags: &mut [bool], dirty: &mut Marks, at: u32, followed: &mut u64)
+fn visit_point<C: CountSteps>(
+    links: &Links<'_, '_>,
+    flags: &mut [bool],
+    dirty: &mut Marks,
+    at: u32,
+    followed: &mut C,
+)
     requires count { length flags.now ≡ point_count links.now.program }
     requires dirty_count { length dirty.now ≡ point_count links.now.program }
     requires within { at < point_count links.now.program }
@@ -118,16 +125,16 @@ fn grow_entries(links: &Links<'_, '_>, flags: &mut [bool], dirty: &mut Marks)
     // Its contract tells where entries lie.
     let _ = links.points();
     for procedure in 0..links.procedures() {
-        grow(links, flags, dirty, links.entry(procedure));
+        reach_point(links, flags, dirty, links.entry(procedure));
     }
 }
 
 /// Sets the flag of each point that is reached inside its procedure. No flag is set before. Counts the steps that are followed.
-pub(crate) fn reached(
+pub(crate) fn reached<C: CountSteps>(
     links: &Links<'_, '_>,
     flags: &mut [bool],
     dirty: &mut Marks,
-    followed: &mut u64,
+    followed: &mut C,
 )
     requires count { length flags.now ≡ point_count links.now.program }
     requires dirty_count { length dirty.now ≡ point_count links.now.program }
@@ -139,6 +146,6 @@ pub(crate) fn reached(
     let _ = links.points();
     grow_entries(links, flags, dirty);
     'visits: while let Some(at) = dirty.take() {
-        visit(links, flags, dirty, at as u32, followed);
+        visit_point(links, flags, dirty, at as u32, followed);
     }
 }

@@ -3,10 +3,11 @@ ghost use Rattle.std.specs.Prelude.{◌≡◌, ◌<◌, ◌↔◌, true, IfOk, l
 ghost use Rattle.flow_graph.specs.Analyses.{is_backward};
 ghost use Rattle.flow_graph.specs.Points.{point_count};
 ghost use Rattle.flow_links.specs.Shapes.{IsNumbered, directed_shape};
-ghost use Rattle.gk_solve.specs.Equations.{Entered, Reached, HasFlag};
+ghost use Rattle.summary_equations.specs.Equations.{Entered, Reached, HasFlag};
 ghost use Rattle.gk_solve.specs.Tables.Flags.{AreExactly, ArePathFlags};
 
 use crate::OutOfMemory;
+use crate::count::{CountSteps, Uncounted};
 use crate::enter::entered;
 use crate::reach::reached;
 use flow_graph::Problem;
@@ -21,7 +22,6 @@ use work_list::Marks;
 pub struct Routes<'g, 'p> {
     links: Links<'g, 'p>,
     paths: Vec<bool>,
-    followed: u64,
 }
 
 impl<'g, 'p> Model for Routes<'g, 'p> {
@@ -39,24 +39,23 @@ impl<'g, 'p> Model for Routes<'g, 'p> {
 impl Drop for Routes<'_, '_> {
     // By hand: a caller that gives routes up then makes one call.
     fn drop(self) {
-        let Routes {
-            links: _,
-            paths: _,
-            followed: _,
-        } = self;
+        let Routes { links: _, paths: _ } = self;
     }
 }
 
-// The points that are reached, and how many steps were followed to find them.
-fn reached_points(alloc: Global, links: &Links<'_, '_>) -> Result<(Vec<bool>, u64), OutOfMemory>
+// The points that are reached.
+fn reached_points<C: CountSteps>(
+    alloc: Global,
+    links: &Links<'_, '_>,
+    followed: &mut C,
+) -> Result<Vec<bool>, OutOfMemory>
     ensures { IfOk result
-        (λ found. (length found.0.items ≡ point_count links.now.program) × AreExactly (Reached (directed_shape links.now)) found.0.items) }
+        (λ flags. (length flags.items ≡ point_count links.now.program) × AreExactly (Reached (directed_shape links.now)) flags.items) }
 {
     let mut flags = vec![in alloc; false; links.points() as usize]?;
     let mut dirty = Marks::none(alloc, links.order())?;
-    let mut followed = 0;
-    reached(links, flags.as_mut_slice(), &mut dirty, &mut followed);
-    Ok((flags, followed))
+    reached(links, flags.as_mut_slice(), &mut dirty, followed);
+    Ok(flags)
 }
 
 // The procedures that are entered.
@@ -111,13 +110,16 @@ fn paths_by_reached(
     path_flags(alloc, links, reached, entered.as_slice())
 }
 
-// The flag of each point, and how many steps were followed to find the points that are reached.
-fn paths_of(alloc: Global, links: &Links<'_, '_>) -> Result<(Vec<bool>, u64), OutOfMemory>
-    ensures { IfOk result (λ found. ArePathFlags (directed_shape links.now) (point_count links.now.program) found.0.items) }
+// The flag of each point.
+fn paths_of<C: CountSteps>(
+    alloc: Global,
+    links: &Links<'_, '_>,
+    followed: &mut C,
+) -> Result<Vec<bool>, OutOfMemory>
+    ensures { IfOk result (λ flags. ArePathFlags (directed_shape links.now) (point_count links.now.program) flags.items) }
 {
-    let (reached, followed) = reached_points(alloc, links)?;
-    let paths = paths_by_reached(alloc, links, reached.as_slice())?;
-    Ok((paths, followed))
+    let reached = reached_points(alloc, links, followed)?;
+    paths_by_reached(alloc, links, reached.as_slice())
 }
 
 impl<'g, 'p> Routes<'g, 'p> {
@@ -125,13 +127,20 @@ impl<'g, 'p> Routes<'g, 'p> {
     pub fn of(alloc: Global, problem: &Problem<'g, 'p>) -> Result<Self, OutOfMemory>
         ensures { IfOk result (λ routes. routes ≡ record { program = problem.now.program; backward = is_backward problem.now.analysis }) }
     {
+        Routes::counted(alloc, problem, &mut Uncounted)
+    }
+
+    /// The same. Counts the steps that are followed to find the points that are reached.
+    pub(crate) fn counted<C: CountSteps>(
+        alloc: Global,
+        problem: &Problem<'g, 'p>,
+        followed: &mut C,
+    ) -> Result<Self, OutOfMemory>
+        ensures { IfOk result (λ routes. routes ≡ record { program = problem.now.program; backward = is_backward problem.now.analysis }) }
+    {
         let links = Links::of(alloc, problem)?;
-        let (paths, followed) = paths_of(alloc, &links)?;
-        Ok(Routes {
-            links,
-            paths,
-            followed,
-        })
+        let paths = paths_of(alloc, &links, followed)?;
+        Ok(Routes { links, paths })
     }
 
     /// Whether some valid path leads to a point.
@@ -154,10 +163,5 @@ impl<'g, 'p> Routes<'g, 'p> {
         ensures { ArePathFlags (directed_shape self.now) (point_count self.now.program) result.now }
     {
         self.paths.as_slice()
-    }
-
-    /// How many steps were followed to find the points that are reached.
-    pub(crate) fn followed(&self) -> u64 {
-        self.followed
     }
 }

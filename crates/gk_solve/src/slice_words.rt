@@ -12,6 +12,7 @@ ghost use Rattle.gk_solve.specs.Tables.Widths.{width_of};
 ghost use Rattle.gk_solve.specs.declared.slice_words.Width.TheVariants.{One, Four, Eight};
 
 use crate::OutOfMemory;
+use crate::count::CountSteps;
 use crate::effects::with_bit;
 use crate::group_frame::GroupFrame;
 use crate::routes::Routes;
@@ -255,6 +256,20 @@ impl SliceWords {
         self.dirty.points()
     }
 
+    /// The bits of the slice: from one up to another.
+    pub(crate) fn range(&self) -> (u32, u32)
+        ensures { (result.0 ≡ self.now.lo) × (result.1 ≡ self.now.hi) }
+    {
+        (self.lo, self.hi)
+    }
+
+    /// The words that were solved last: from one up to another.
+    pub fn solved(&self) -> (u32, u32)
+        ensures { (result.0 ≡ self.now.from) × (result.1 ≡ self.now.until) }
+    {
+        (self.from, self.until)
+    }
+
     /// The word of a number that was solved last, at a point.
     pub fn word(&self, point: u32, word: u32) -> u64
         requires point { point < self.now.points }
@@ -286,13 +301,13 @@ impl SliceWords {
     }
 
     // Solves the words from one on, four, or eight of a long slice, or to the slice's end.
-    fn solve_group_from<'a, 'g, 'p>(
+    fn solve_group_from<'a, 'g, 'p, C: CountSteps>(
         &mut self,
         problem: &'a Problem<'g, 'p>,
         routes: &'a Routes<'g, 'p>,
         effects: &'a [u64],
         word: u32,
-        followed: &mut u64,
+        followed: &mut C,
     )
         requires slice { IsSliceOf problem.now self.old }
         requires routes { routes.now ≡ direction_of problem.now }
@@ -352,13 +367,13 @@ impl SliceWords {
     }
 
     /// Solves the words from one on, four, or eight of a long slice, or to the slice's end, and answers the word after the last.
-    pub(crate) fn solve_from<'a, 'g, 'p>(
+    pub(crate) fn solve_from<'a, 'g, 'p, C: CountSteps>(
         &mut self,
         problem: &'a Problem<'g, 'p>,
         routes: &'a Routes<'g, 'p>,
         effects: &'a [u64],
         word: u32,
-        followed: &mut u64,
+        followed: &mut C,
     ) -> u32
         requires slice { IsSliceOf problem.now self.old }
         requires routes { routes.now ≡ direction_of problem.now }

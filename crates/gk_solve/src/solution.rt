@@ -8,9 +8,10 @@ ghost use Rattle.gk_solve.specs.Tables.Groups.{AreCompleteSummaries, AreSoundSum
 ghost use Rattle.gk_solve.specs.Tables.Solutions.{AreInSlice, AreSliceSolutions, IsSolutionAt};
 
 use crate::bring::brought;
+use crate::count::CountSteps;
 use crate::group::kept_and_made;
 use crate::group_frame::GroupFrame;
-use crate::lanes::{both, new_or_kept};
+use crate::lanes::{common_words, new_or_kept};
 use crate::summary::Summary;
 use work_list::Marks;
 
@@ -67,7 +68,7 @@ fn solution_at<const W: usize>(
     let all = new_or_kept(here.made, brought, here.kept);
     Summary {
         kept: [0; W],
-        made: both(all, within),
+        made: common_words(all, within),
     }
 }
 
@@ -103,14 +104,14 @@ fn put_solutions<const W: usize>(
 }
 
 /// Solves a group of words: the solution's bits of a range stand in the place of what is made. Counts the steps that are followed.
-pub(crate) fn solve_group<const W: usize>(
+pub(crate) fn solve_group<const W: usize, C: CountSteps>(
     frame: &GroupFrame,
     table: &mut [Summary<W>],
     brought_words: &mut [[u64; W]],
     dirty: &mut Marks,
     callers: &mut Marks,
     range: (u32, u32),
-    followed: &mut u64,
+    followed: &mut C,
 )
     requires frame { IsGroupFrame W frame.now }
     requires count { length table.now ≡ point_count frame.now.links.now.program }

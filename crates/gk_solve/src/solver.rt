@@ -7,15 +7,17 @@ ghost use Rattle.flow_graph.specs.WellFormed.{IsWellFormed};
 ghost use Rattle.flow_graph.specs.Points.{point_count};
 ghost use Rattle.flow_graph.specs.Universes.{bits as bits_of};
 ghost use Rattle.flow_links.specs.Shapes.{directed_shape};
-ghost use Rattle.gk_solve.specs.Equations.{HasFlag};
+ghost use Rattle.summary_equations.specs.Equations.{HasFlag};
 ghost use Rattle.gk_solve.specs.Solved.{AreMeetWords, AreSolved, HasPathFlags, IsLeastSolution, IsMeetOverPaths, IsSliceOf, direction_of};
 ghost use Rattle.gk_solve.specs.Tables.Groups.{AreEffectWords};
-ghost use Rattle.gk_solve.specs.Tables.Rows.{AreWithin, IsInWords, IsPut, TellsBelow};
+ghost use Rattle.gk_solve.specs.Tables.Rows.{TellsBelow};
 
 use crate::OutOfMemory;
+use crate::count::{CountSteps, Followed, Uncounted};
 use crate::effects::effect_words;
 use crate::routes::Routes;
 use crate::slice_words::{SliceWords, slice_words};
+use crate::take_words::{TakeWords, solve_each};
 use bit_rows::Rows;
 use flow_graph::Problem;
 use std::alloc::Global;
@@ -49,24 +51,8 @@ impl Drop for Solver<'_, '_> {
     }
 }
 
-// Puts the words of a slice that were solved last into rows.
-fn put_words(slice: &SliceWords, rows: &mut Rows)
-    requires points { length rows.now.flags ≡ slice.now.points }
-    requires range { (slice.now.lo ≡ rows.now.lo) × (slice.now.hi ≡ rows.now.hi) }
-    requires within { AreWithin slice.now }
-    ensures { IsPut (IsInWords slice.now) rows.old rows.new }
-{
-    // Its contract tells that the rows are uniform.
-    let _ = rows.points();
-    let points = slice.points();
-    for point in 0..points {
-        let (first, words) = slice.words_at(point);
-        rows.or_words(point, first, words);
-    }
-}
-
 // The flags of all points once more.
-fn copied(alloc: Global, paths: &[bool]) -> Result<Vec<bool>, OutOfMemory>
+fn copied_flags(alloc: Global, paths: &[bool]) -> Result<Vec<bool>, OutOfMemory>
     ensures { IfOk result (λ copy. copy.items ≡ paths.now) }
 {
     paths.to_vec(alloc)
@@ -100,12 +86,12 @@ fn blank_rows(
 {
     // Its contract tells that there are few points.
     let _ = problem.points();
-    let paths = copied(alloc, routes.paths())?;
+    let paths = copied_flags(alloc, routes.paths())?;
     Rows::blank(alloc, paths, lo, hi)
 }
 
 // Solves the words of a slice, and puts them into its rows. Counts the steps that are followed.
-fn solve_words<'a, 'g, 'p>(
+fn solve_words<'a, 'g, 'p, C: CountSteps>(
     alloc: Global,
     problem: &'a Problem<'g, 'p>,
     routes: &'a Routes<'g, 'p>,
@@ -113,7 +99,7 @@ fn solve_words<'a, 'g, 'p>(
     rows: &mut Rows,
     lo: u32,
     hi: u32,
-    followed: &mut u64,
+    followed: &mut C,
 ) -> Result<(), OutOfMemory>
     requires routes { routes.now ≡ direction_of problem.now }
     requires effects { AreEffectWords problem.now effects.now }
@@ -123,24 +109,19 @@ fn solve_words<'a, 'g, 'p>(
     ensures { IfOk result (λ _. IsLeastSolution problem.now lo hi rows.new) }
 {
     let mut slice = slice_words(alloc, problem, routes, lo, hi)?;
-    let end = hi.div_ceil(64);
-    let mut word = lo / 64;
-    'words: while word < end {
-        word = slice.solve_from(problem, routes, effects, word, followed);
-        put_words(&slice, rows);
-    }
+    solve_each(problem, routes, effects, &mut slice, rows, followed);
     Ok(())
 }
 
 // The solution of a slice of a problem's bits, by what was found of it once. Counts the steps that are followed.
-fn solve_slice<'a, 'g, 'p>(
+fn solve_slice<'a, 'g, 'p, C: CountSteps>(
     alloc: Global,
     problem: &'a Problem<'g, 'p>,
     routes: &'a Routes<'g, 'p>,
     effects: &'a [u64],
     lo: u32,
     hi: u32,
-    followed: &mut u64,
+    followed: &mut C,
 ) -> Result<Rows, OutOfMemory>
     requires routes { routes.now ≡ direction_of problem.now }
     requires effects { lo < hi → AreEffectWords problem.now effects.now }
@@ -156,41 +137,41 @@ fn solve_slice<'a, 'g, 'p>(
     Ok(rows)
 }
 
-// The solution by what was found of the problem once, and how many steps were followed in all.
-fn solve_by<'a, 'g, 'p>(
-    alloc: Global,
-    problem: &'a Problem<'g, 'p>,
-    routes: &'a Routes<'g, 'p>,
-    effects: &'a [u64],
-    lo: u32,
-    hi: u32,
-) -> Result<(Rows, u64), OutOfMemory>
-    requires routes { routes.now ≡ direction_of problem.now }
-    requires effects { lo < hi → AreEffectWords problem.now effects.now }
-    requires ordered { lo ≤ hi }
-    requires within { hi ≤ bits_of problem.now.program problem.now.analysis }
-    ensures { IfOk result (λ solved. IsLeastSolution problem.now lo hi solved.0) }
-{
-    let mut followed = routes.followed();
-    let rows = solve_slice(alloc, problem, routes, effects, lo, hi, &mut followed)?;
-    Ok((rows, followed))
-}
-
-// The same where the words in which each statement does something are still to be found.
-fn solve_along<'a, 'g, 'p>(
+// The solution of a slice where the words in which each statement does something are still to be found.
+fn solve_along<'a, 'g, 'p, C: CountSteps>(
     alloc: Global,
     problem: &'a Problem<'g, 'p>,
     routes: &'a Routes<'g, 'p>,
     lo: u32,
     hi: u32,
-) -> Result<(Rows, u64), OutOfMemory>
+    followed: &mut C,
+) -> Result<Rows, OutOfMemory>
     requires routes { routes.now ≡ direction_of problem.now }
     requires ordered { lo ≤ hi }
     requires within { hi ≤ bits_of problem.now.program problem.now.analysis }
-    ensures { IfOk result (λ solved. IsLeastSolution problem.now lo hi solved.0) }
+    ensures { IfOk result (λ rows. IsLeastSolution problem.now lo hi rows) }
 {
     let effects = effects_within(alloc, problem, lo < hi)?;
-    solve_by(alloc, problem, routes, effects.as_slice(), lo, hi)
+    solve_slice(alloc, problem, routes, effects.as_slice(), lo, hi, followed)
+}
+
+// The same where the routes are still to be found too.
+fn solve_by<C: CountSteps>(
+    alloc: Global,
+    problem: &Problem<'_, '_>,
+    lo: u32,
+    hi: u32,
+    followed: &mut C,
+) -> Result<Rows, OutOfMemory>
+    requires ordered { lo ≤ hi }
+    requires within { hi ≤ bits_of problem.now.program problem.now.analysis }
+    ensures equations { IfOk result (λ rows. IsLeastSolution problem.now lo hi rows) }
+    ensures paths { IfOk result (λ rows. IsMeetOverPaths problem.now lo hi rows) }
+{
+    // Its contract tells that the problem is well formed.
+    let _ = problem.edges();
+    let routes = Routes::counted(alloc, problem, followed)?;
+    solve_along(alloc, problem, &routes, lo, hi, followed)
 }
 
 /// The solution of a problem on its bits `lo..hi`, and how many steps were followed to find what is reached, kept and made.
@@ -207,10 +188,9 @@ pub fn solve_counted(
     ensures equations { IfOk result (λ solved. IsLeastSolution problem.now lo hi solved.0) }
     ensures paths { IfOk result (λ solved. IsMeetOverPaths problem.now lo hi solved.0) }
 {
-    // Its contract tells that the problem is well formed.
-    let _ = problem.edges();
-    let routes = Routes::of(alloc, problem)?;
-    solve_along(alloc, problem, &routes, lo, hi)
+    let mut followed = Followed { steps: 0 };
+    let rows = solve_by(alloc, problem, lo, hi, &mut followed)?;
+    Ok((rows, followed.steps))
 }
 
 /// The solution of a problem on its bits `lo..hi`: for each point a path flag, and the set of those bits that hold there.
@@ -235,8 +215,7 @@ pub fn solve(
     ensures equations { IfOk result (λ rows. IsLeastSolution problem.now lo hi rows) }
     ensures paths { IfOk result (λ rows. IsMeetOverPaths problem.now lo hi rows) }
 {
-    let (rows, _) = solve_counted(alloc, problem, lo, hi)?;
-    Ok(rows)
+    solve_by(alloc, problem, lo, hi, &mut Uncounted)
 }
 
 impl<'g, 'p> Solver<'g, 'p> {
@@ -263,7 +242,7 @@ impl<'g, 'p> Solver<'g, 'p> {
         // Its contract tells that the problem is well formed.
         let _ = self.problem.edges();
         let flags = routes.paths();
-        copied(alloc, flags)
+        copied_flags(alloc, flags)
     }
 
     /// The solution on the bits `lo..hi`, as [`solve`] has it.
@@ -282,15 +261,15 @@ impl<'g, 'p> Solver<'g, 'p> {
     {
         // Its contract tells that the problem is well formed.
         let _ = self.problem.edges();
-        let mut followed = 0;
+        let effects = self.effects.as_slice();
         solve_slice(
             alloc,
             &self.problem,
             routes,
-            self.effects.as_slice(),
+            effects,
             lo,
             hi,
-            &mut followed,
+            &mut Uncounted,
         )
     }
 
@@ -339,13 +318,24 @@ impl<'g, 'p> Solver<'g, 'p> {
     {
         // Its contract tells that the problem is well formed.
         let _ = self.problem.edges();
-        let mut followed = 0;
-        slice.solve_from(
-            &self.problem,
-            routes,
-            self.effects.as_slice(),
-            word,
-            &mut followed,
-        )
+        let effects = self.effects.as_slice();
+        slice.solve_from(&self.problem, routes, effects, word, &mut Uncounted)
+    }
+
+    /// Solves the words of a slice, and has them taken, some at a time.
+    pub fn solve_each<'a, T: TakeWords>(
+        &'a self,
+        routes: &'a Routes<'g, 'p>,
+        slice: &mut SliceWords,
+        taker: &mut T,
+    )
+        requires routes { routes.now ≡ direction_of self.now }
+        requires slice { IsSliceOf self.now slice.old }
+        requires ready { T.is_ready taker.old self.now slice.old.lo slice.old.hi }
+        requires begun { T.has taker.old taker.old self.now slice.old.lo slice.old.hi (slice.old.lo / 64) }
+        ensures { T.has taker.old taker.new self.now slice.old.lo slice.old.hi ((slice.old.hi + 63) / 64) }
+    {
+        let effects = self.effects.as_slice();
+        solve_each(&self.problem, routes, effects, slice, taker, &mut Uncounted);
     }
 }

@@ -1,13 +1,14 @@
 // Each call on orders, sets of points and groups of places that takes memory, as `refusal_probes` has it.
 
+use flow_graph::OutOfMemory;
 use refusal_probes::{Refused, again, named};
-use std::alloc::{AllocError, Global};
+use std::alloc::Global;
 use std::process::Abort;
 use std::test::Fail;
 use work_list::{Marks, Order, group};
 
 // The order in which these points are listed.
-fn order_of(alloc: Global, listed: [u32; 3]) -> Result<Order, AllocError> {
+fn order_of(alloc: Global, listed: [u32; 3]) -> Result<Order, OutOfMemory> {
     Order::of(alloc, listed.to_vec(alloc)?)
 }
 
@@ -15,7 +16,7 @@ fn order_again(
     alloc: Global,
     listed: [u32; 3],
     refused: &mut Refused,
-) -> Result<Order, AllocError> {
+) -> Result<Order, OutOfMemory> {
     Ok(again!(*refused, "Order::of, or its list", order_of(alloc, listed)))
 }
 
@@ -24,7 +25,7 @@ fn taken(
     alloc: Global,
     order: &Order,
     refused: &mut Refused,
-) -> Result<[Option<usize>; 3], AllocError> {
+) -> Result<[Option<usize>; 3], OutOfMemory> {
     let mut marks = again!(*refused, "Marks::none", Marks::none(alloc, order));
     marks.mark_all();
     Ok([marks.take(), marks.take(), marks.take()])

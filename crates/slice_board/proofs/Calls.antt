@@ -8,14 +8,14 @@ use Rattle.atomic_table.specs.Seated.{TableId}
 use Rattle.bit_rows.specs.Words.{has_bit}
 use Rattle.bit_rows.specs.RowTable.{RowTable}
 use Rattle.bit_rows.specs.Slices.{Slices}
-use Rattle.slice_board.specs.Passes.{PassState, times, marks_at, IsMarked}
+use Rattle.slice_board.specs.Passes.{PassState, times, logged_at, IsLogged}
 use Rattle.slice_board.specs.Boards.{BoardState, slice_count, words_for, about_board, IsOf, IsPlace, InSlice}
 use Rattle.slice_board.specs.code.Words.{about_key, tally_words, row_place}
 use Rattle.slice_board.specs.code.Fields.{pass_state, IsKept, IsLaid}
 use Rattle.slice_board.specs.code.Told.{Sat, ShowsOwn}
 use Rattle.slice_board.specs.declared.view.About.{About}
 use Rattle.slice_board.specs.declared.view.View.{View}
-use Rattle.slice_board.specs.declared.view.Mark.{Mark}
+use Rattle.slice_board.specs.declared.view.LoggedWord.{LoggedWord}
 use Rattle.slice_board.specs.declared.rule.Key.{Key}
 use Rattle.slice_board.proofs.Keeps.{IsPosted}
 use Rattle.slice_board.proofs.Passing.{board_state, same_about, same_slices, same_points, same_bits, same_wanted, knows, held_low}
@@ -28,13 +28,13 @@ pub bit_of_one : (word i : ℕ) → bit_at word i ≡ 1 → has_bit word i ≡ t
 unfolding has_bit
 bit_of_one word i h = eq-eqb (bit_at word i) 1 h
 
--- a mark of a bit is one of its place in its word
-pub at_place : (marks : List Mark) (point word place : ℕ) → place < 64 → IsMarked marks point (64 * word + place)
-    → 0 < marks_at point word place marks
+-- a logged bit is one of its place in its word
+pub at_place : (marks : List LoggedWord) (point word place : ℕ) → place < 64 → IsLogged marks point (64 * word + place)
+    → 0 < logged_at point word place marks
 at_place marks point word place within marked =
     let q : (64 * word + place) / 64 ≡ word = omega arith in
     let j : (64 * word + place) % 64 ≡ place = omega arith in
-    subst (λ (a : ℕ × ℕ). 0 < marks_at point a.0 a.1 marks) (λ i. (q i, j i)) marked
+    subst (λ (a : ℕ × ℕ). 0 < logged_at point a.0 a.1 marks) (λ i. (q i, j i)) marked
 
 -- the seat after a step: its view is w
 module _ {T : Type 0} {t u : TableId} (m : Sat T) {n : Sat T} {w : View T} (held : Option ℕ) (next : ℕ) (same : u ≡ t) (after : n ≡ (w, m.1)) where
@@ -74,11 +74,11 @@ module _ {T : Type 0} {wants : T → ℕ → ℕ → Type 0} {table : TableId} {
     slice_low s k h =
         held_low (pass_state seat v held next) (about_key key) s k (knows laid board_is pass_is of) (ap (λ (p : PassState T). p.held) pass_is ∙ h)
 
-    pub is_posted : (s : ℕ) → ((point bit : ℕ) → wants board.wanted point bit → InSlice board.cut s bit → IsMarked pass.posted point bit)
+    pub is_posted : (s : ℕ) → ((point bit : ℕ) → wants board.wanted point bit → InSlice board.cut s bit → IsLogged pass.posted point bit)
         → IsPosted wants (about_key key) v s
     is_posted s h p b hp hw hi = (
       omega (arith, (laid.within p b hw).1, ap (λ (c : Slices). c.bits) laid.cut_is),
-      subst (λ (l : List Mark). IsMarked l p b) (sym (ap (λ (p : PassState T). p.posted) pass_is))
+      subst (λ (l : List LoggedWord). IsLogged l p b) (sym (ap (λ (p : PassState T). p.posted) pass_is))
           (h p b (subst (λ (t : T). wants t p b) (same_wanted laid board_is) hw) (subst (λ (c : Slices). InSlice c s b) same_cut hi)),
     )
 

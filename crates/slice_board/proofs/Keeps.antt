@@ -12,7 +12,7 @@ use Rattle.std.proofs.lemmas.Nat.{mul-add-lt}
 use Rattle.std.proofs.lemmas.Nat.Bits.{bit_at-lt}
 use Rattle.atomic_table.specs.Table.{State, step, keeps, stepped, Allows, Splits, Joins}
 use Rattle.atomic_table.proofs.Lists.{at_set, at_snoc, set_again, set_else}
-use Rattle.slice_board.specs.Passes.{times, marks_at, mark}
+use Rattle.slice_board.specs.Passes.{times, logged_at, logged_word}
 use Rattle.slice_board.specs.Boards.{slice_count, words_for, InSlice}
 use Rattle.slice_board.specs.Lawful.{shows_at, total, claims_of, IsTrueOf}
 use Rattle.slice_board.specs.Steps.{after_claim, after_finding, after_post, after_finish, after_look, after_count, fresh_view, split_view}
@@ -22,8 +22,8 @@ use Rattle.slice_board.specs.code.Told.{Sat, load_of, DrawTells, FinishTells, Po
 use Rattle.slice_board.specs.declared.view.About.{About}
 use Rattle.slice_board.specs.declared.view.View.{View}
 use Rattle.slice_board.proofs.Sums.{total-append, total-set, term_le, times-same, times-other, ored, ored_here, ored_else, Grows, ored_grows, bit_put}
-use Rattle.slice_board.proofs.Sums.{bit_stays, one_bit, one_slice, times-append, marks_at-append, shows_at-append, total_lt, one_row, mark_here}
-use Rattle.slice_board.proofs.Sums.{mark_else, count_here, count_else}
+use Rattle.slice_board.proofs.Sums.{bit_stays, one_bit, one_slice, times-append, logged_at-append, shows_at-append, total_lt, one_row, logged_here}
+use Rattle.slice_board.proofs.Sums.{logged_else, count_here, count_else}
 
 module _ {T : Type 0} (wants : T → ℕ → ℕ → Type 0) (about : About T) where
   abbrev St : Type 0
@@ -73,7 +73,7 @@ module _ {T : Type 0} (wants : T → ℕ → ℕ → Type 0) (about : About T) w
     below : (x : ℕ) → slices ≤ x → times x w.claimed ≤ times x v.claimed
     finished : (x : ℕ) → x < slices → done_bit ws x + times x v.finished ≡ done_bit s.words x + times x w.finished
     posted : (p q j : ℕ) → p < about.points → q < width
-        → (more : ℕ) × (marks_at p q j w.posted ≡ marks_at p q j v.posted + more)
+        → (more : ℕ) × (logged_at p q j w.posted ≡ logged_at p q j v.posted + more)
         × (bit_at (get_or ws (row_place about p q) 0) j ≡ max (bit_at (get_or s.words (row_place about p q) 0) j) (min 1 more))
     within : (p q j : ℕ) → p < about.points → q < width → bit_at (get_or ws (row_place about p q) 0) j ≡ 1 → wants about.wanted p (64 * q + j)
     complete : (x : ℕ) → x < slices → done_bit ws x ≡ 1
@@ -94,7 +94,7 @@ module _ {T : Type 0} (wants : T → ℕ → ℕ → Type 0) (about : About T) w
           below = below;
           once = once_of ws (set s.views id w) below claimed;
           claimed = claimed;
-          posted = λ p q j hp hq. let a = total-set (λ o. marks_at p q j o.posted) s.views id v w me in let b = l.lawful.posted p q j hp hq in
+          posted = λ p q j hp hq. let a = total-set (λ o. logged_at p q j o.posted) s.views id v w me in let b = l.lawful.posted p q j hp hq in
               let d = c.posted p q j hp hq in let d1 = d.1 in let d2 = d.2 in omega arith;
           within = c.within;
           known =
@@ -251,7 +251,7 @@ module _ {T : Type 0} (wants : T → ℕ → ℕ → Type 0) (about : About T) w
           below = below;
           once = once_of s.words (s.views ++ new ∷ []) below claimed;
           claimed = claimed;
-          posted = λ p q j hp hq. let a = total-append (λ o. marks_at p q j o.posted) s.views (new ∷ []) in let b = l.lawful.posted p q j hp hq in
+          posted = λ p q j hp hq. let a = total-append (λ o. logged_at p q j o.posted) s.views (new ∷ []) in let b = l.lawful.posted p q j hp hq in
               omega arith;
           within = l.lawful.within;
           known = λ k u e. ⊎_elim (λ h. l.lawful.known k u h) (λ h. subst (F s.words) h (fresh_fits s.words v.about (l.lawful.known id v at).board))
@@ -282,7 +282,7 @@ module _ {T : Type 0} (wants : T → ℕ → ℕ → Type 0) (about : About T) w
           below = below;
           once = once_of s.words (set vs other spent_view) below claimed;
           claimed = claimed;
-          posted = λ p q j hp hq. ap (λ (n : ℕ). min 1 n) (once (λ o. marks_at p q j o.posted) refl (marks_at-append p q j v.posted w.posted))
+          posted = λ p q j hp hq. ap (λ (n : ℕ). min 1 n) (once (λ o. logged_at p q j o.posted) refl (logged_at-append p q j v.posted w.posted))
               ∙ l.lawful.posted p q j hp hq;
           within = l.lawful.within;
           known = λ k u e. ⊎_elim (λ h. subst (F s.words) h.1 (fresh_fits s.words None no_board))
@@ -292,8 +292,8 @@ module _ {T : Type 0} (wants : T → ℕ → ℕ → Type 0) (about : About T) w
                     let d = times-append x v.claimed w.claimed in omega arith;
                 found = λ x some. let c = times-append x v.found w.found in
                     dite (dec_le 1 (times x v.found)) (λ h. f.found x h) (λ n. g.found x (omega arith));
-                seen = λ p q j hp hq some. let c = marks_at-append p q j v.seen w.seen in
-                    dite (dec_le 1 (marks_at p q j v.seen)) (λ h. f.seen p q j hp hq h) (λ n. g.seen p q j hp hq (omega arith));
+                seen = λ p q j hp hq some. let c = logged_at-append p q j v.seen w.seen in
+                    dite (dec_le 1 (logged_at p q j v.seen)) (λ h. f.seen p q j hp hq h) (λ n. g.seen p q j hp hq (omega arith));
                 counted = λ i j hi some. let c = shows_at-append i j v.counted w.counted in
                     dite (dec_le 1 (shows_at i j v.counted)) (λ h. f.counted i j hi h) (λ n. g.counted i j hi (omega arith));
               })) (λ i. l.lawful.known k u i.1) (at_set s.views id k (joined_view v w) u h.1)) (at_set vs other k spent_view u e);
@@ -307,7 +307,7 @@ module _ {T : Type 0} (wants : T → ℕ → ℕ → Type 0) (about : About T) w
   -- all that is wanted of the slice is among what the pass posted
   abbrev pub IsPosted : View T → ℕ → Type 0
   IsPosted v x = (p b : ℕ) → p < about.points → wants about.wanted p b → InSlice about.cut x b
-      → (b / 64 < width) × (0 < marks_at p (b / 64) (b % 64) v.posted)
+      → (b / 64 < width) × (0 < logged_at p (b / 64) (b % 64) v.posted)
 
   -- a slice that a pass holds is not marked as finished
   not_done : (s : St) (l : L s) (id x : ℕ) (v : View T) → get_elem? s.views id ≡ some v → x < slices → times x v.finished < times x v.claimed
@@ -338,7 +338,7 @@ module _ {T : Type 0} (wants : T → ℕ → ℕ → Type 0) (about : About T) w
         let a = all p b hp hw hi in
         let a1 = a.1 in
         let c = l.lawful.posted p (b / 64) (b % 64) hp a.0 in
-        let d = term_le (λ o. marks_at p (b / 64) (b % 64) o.posted) s.views id v me in
+        let d = term_le (λ o. logged_at p (b / 64) (b % 64) o.posted) s.views id v me in
         let e = bit_at-lt (get_or s.words (row_place about p (b / 64)) 0) (b % 64) in omega arith
 
     finishes_one : Change s v done_in (after_finish x v)
@@ -406,7 +406,7 @@ module _ {T : Type 0} (wants : T → ℕ → ℕ → Type 0) (about : About T) w
         (λ e. let same = one_row q p q' p' about.points hp h (omega arith) in inl (same.1, same.0))
         (λ n. inr ((λ e. n (λ i. row_place about (sym e.0 i) (sym e.1 i))), ored_else s.words (row_place about p q) m (row_place about p' q') n))
 
-    posts_one : Change s v row_in (after_post (mark p q m) v)
+    posts_one : Change s v row_in (after_post (logged_word p q m) v)
     posts_one = let g = ored_grows s.words (row_place about p q) m has_row in let f = grow s.words row_in v g (l.lawful.known id v me) in record {
       wide = length-set s.words (row_place about p q) (bit_or (get_or s.words (row_place about p q) 0) m);
       grows = g;
@@ -415,11 +415,11 @@ module _ {T : Type 0} (wants : T → ℕ → ℕ → Type 0) (about : About T) w
       below = λ y far. omega arith;
       finished = λ y hy. ap (λ (n : ℕ). bit_at n (y % 64) + times y v.finished) (low_stays (done_place about (y / 64)) (omega arith));
       posted = λ p' q' j hp' _. ⊎_elim
-          (λ e. subst (λ (a : ℕ × ℕ). (more : ℕ) × (marks_at a.0 a.1 j (v.posted ++ mark p q m ∷ []) ≡ marks_at a.0 a.1 j v.posted + more)
+          (λ e. subst (λ (a : ℕ × ℕ). (more : ℕ) × (logged_at a.0 a.1 j (v.posted ++ logged_word p q m ∷ []) ≡ logged_at a.0 a.1 j v.posted + more)
           × (bit_at (get_or row_in (row_place about a.0 a.1) 0) j ≡ max (bit_at (get_or s.words (row_place about a.0 a.1) 0) j) (min 1 more)))
           (λ i. (e.0 i, e.1 i))
-          (bit_at m j, mark_here p q m j v.posted, ored_here s.words (row_place about p q) m j has_row ∙ (let b = bit_at-lt m j in omega arith)))
-          (λ n. (0, mark_else p q m p' q' j v.posted n.0 ∙ omega arith, ap (λ (n : ℕ). bit_at n j) n.1 ∙ omega arith)) (row_cases p' q' hp');
+          (bit_at m j, logged_here p q m j v.posted, ored_here s.words (row_place about p q) m j has_row ∙ (let b = bit_at-lt m j in omega arith)))
+          (λ n. (0, logged_else p q m p' q' j v.posted n.0 ∙ omega arith, ap (λ (n : ℕ). bit_at n j) n.1 ∙ omega arith)) (row_cases p' q' hp');
       within = λ p' q' j hp' hq' is. ⊎_elim
           (λ e. subst (λ (a : ℕ × ℕ). bit_at (get_or row_in (row_place about a.0 a.1) 0) j ≡ 1 → wants about.wanted a.0 (64 * a.1 + j))
           (λ i. (e.0 i, e.1 i))
@@ -446,12 +446,12 @@ module _ {T : Type 0} (wants : T → ℕ → ℕ → Type 0) (about : About T) w
   pub puts : (slots id p q k : ℕ) (m : Sat T) → p < about.points → q < width → ((j : ℕ) → bit_at k j ≡ 1 → wants about.wanted p (64 * q + j))
       → Allows L slots id m (row_place about p q) (λ n. bit_or n k) (PostTells (step slots (row_place about p q) k 0 none) m)
   puts slots id p q k m hp hq hk s l _ at _ = (
-    after_post (mark p q k) m.0,
+    after_post (logged_word p q k) m.0,
     keeps,
     tt,
-    moved s l id m.0 (after_post (mark p q k) m.0) (row_in s l id p q k m.0 at hp hq hk) at (posts_one s l id p q k m.0 at hp hq hk),
+    moved s l id m.0 (after_post (logged_word p q k) m.0) (row_in s l id p q k m.0 at hp hq hk) at (posts_one s l id p q k m.0 at hp hq hk),
     λ known is p' q' h w. let it = same_place known p q p' q' (same_board s l id m.0 known at is) hp h w in
-        λ i. (after_post (mark (it.0 i) (it.1 i) k) m.0, m.1),
+        λ i. (after_post (logged_word (it.0 i) (it.1 i) k) m.0, m.1),
   )
 
   -- ---- looking and counting
@@ -470,41 +470,42 @@ module _ {T : Type 0} (wants : T → ℕ → ℕ → Type 0) (about : About T) w
     claimed = λ y hy. ap (λ (c : List ℕ). claim_bit s.words y + times y c) (sym a);
     below = λ y far. let e = ap (times y) a in omega arith;
     finished = λ y hy. ap (λ (c : List ℕ). done_bit s.words y + times y c) (sym b);
-    posted = λ p q j _ _. (0, ap (marks_at p q j) d ∙ omega arith, omega arith);
+    posted = λ p q j _ _. (0, ap (logged_at p q j) d ∙ omega arith, omega arith);
     within = l.lawful.within;
     complete = l.lawful.complete;
     padding = l.lawful.padding;
   }
 
   abbrev Says : ℕ → Sat T → Sat T → ℕ × (ℕ × About T) → Type 0
-  Says r m n a = (n ≡ (after_look (mark a.0 a.1.0 r) m.0, m.1)) × ((j : ℕ) → 0 < marks_at a.0 a.1.0 j m.0.posted → bit_at r j ≡ 1)
-      × ((j : ℕ) → 0 < marks_at a.0 a.1.0 j m.0.seen → bit_at r j ≡ 1) × ((j : ℕ) → bit_at r j ≡ 1 → wants a.1.1.wanted a.0 (64 * a.1.0 + j))
+  Says r m n a = (n ≡ (after_look (logged_word a.0 a.1.0 r) m.0, m.1)) × ((j : ℕ) → 0 < logged_at a.0 a.1.0 j m.0.posted → bit_at r j ≡ 1)
+      × ((j : ℕ) → 0 < logged_at a.0 a.1.0 j m.0.seen → bit_at r j ≡ 1) × ((j : ℕ) → bit_at r j ≡ 1 → wants a.1.1.wanted a.0 (64 * a.1.0 + j))
 
   pub looks : (slots id p q : ℕ) (m : Sat T) → p < about.points → q < width
       → Allows L slots id m (row_place about p q) (λ n. n) (LookTells wants (step slots (row_place about p q) 0 0 none) m)
   looks slots id p q m hp hq s l _ at _ = let v = m.0 in let f = l.lawful.known id v at in let r : ℕ = get_or s.words (row_place about p q) 0 in (
-    after_look (mark p q r) v,
+    after_look (logged_word p q r) v,
     keeps,
     tt,
-    read_only s l (row_place about p q) id m v (after_look (mark p q r) v) at (same_words s l v (after_look (mark p q r) v) (record {
+    read_only s l (row_place about p q) id m v (after_look (logged_word p q r) v) at (same_words s l v (after_look (logged_word p q r) v) (record {
       board = f.board;
       own = f.own;
       found = f.found;
       seen = λ p' q' j hp' hq' some-seen. dite (ℕ_discrete p p')
           (λ e. dite (ℕ_discrete q q')
-          (λ g. subst (λ (a : ℕ × ℕ). 0 < marks_at a.0 a.1 j (v.seen ++ mark p q r ∷ []) → bit_at (get_or s.words (row_place about a.0 a.1) 0) j ≡ 1)
+          (λ g. subst (λ (a : ℕ × ℕ). 0 < logged_at a.0 a.1 j (v.seen ++ logged_word p q r ∷ []) → bit_at
+          (get_or s.words (row_place about a.0 a.1) 0) j ≡ 1)
           (λ i. (e i, g i))
-          (λ h. dite (dec_le 1 (marks_at p q j v.seen)) (f.seen p q j hp hq) (λ n. let a = mark_here p q r j v.seen in let b = bit_at-lt r j in
+          (λ h. dite (dec_le 1 (logged_at p q j v.seen)) (f.seen p q j hp hq) (λ n. let a = logged_here p q r j v.seen in let b = bit_at-lt r j in
           omega arith)) some-seen)
-          (λ n. f.seen p' q' j hp' hq' (let a = mark_else p q r p' q' j v.seen (λ both. n both.1) in omega arith)))
-          (λ n. f.seen p' q' j hp' hq' (let a = mark_else p q r p' q' j v.seen (λ both. n both.0) in omega arith));
+          (λ n. f.seen p' q' j hp' hq' (let a = logged_else p q r p' q' j v.seen (λ both. n both.1) in omega arith)))
+          (λ n. f.seen p' q' j hp' hq' (let a = logged_else p q r p' q' j v.seen (λ both. n both.0) in omega arith));
       counted = f.counted;
     }) refl refl refl),
     λ known is p' q' h _ w. let same = same_board s l id m.0 known at is in let it = same_place known p q p' q' same hp h w in
-        subst (Says r m (after_look (mark p q r) v, m.1))
+        subst (Says r m (after_look (logged_word p q r) v, m.1))
         (λ i. (it.0 i, (it.1 i, same i))) (
           refl,
-          (λ j some-posted. let a = l.lawful.posted p q j hp hq in let b = term_le (λ o. marks_at p q j o.posted) s.views id v at in
+          (λ j some-posted. let a = l.lawful.posted p q j hp hq in let b = term_le (λ o. logged_at p q j o.posted) s.views id v at in
               let c = bit_at-lt r j in omega arith),
           (λ j h. f.seen p q j hp hq h),
           (λ j h. l.lawful.within p q j hp hq h),

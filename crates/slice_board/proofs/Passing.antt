@@ -23,7 +23,7 @@ use Rattle.slice_board.specs.code.Fields.{pass_state, IsKept, IsLaid}
 use Rattle.slice_board.specs.code.Told.{Sat, DrawTells}
 use Rattle.slice_board.specs.declared.view.About.{About}
 use Rattle.slice_board.specs.declared.view.View.{View}
-use Rattle.slice_board.specs.declared.view.Mark.{Mark}
+use Rattle.slice_board.specs.declared.view.LoggedWord.{LoggedWord}
 use Rattle.slice_board.specs.declared.view.Count.{Count}
 use Rattle.slice_board.specs.declared.rule.Key.{Key}
 use Rattle.slice_board.proofs.Sums.{times-append, times-same, times-other}
@@ -111,7 +111,7 @@ either_times s (Some x) None one = omega arith
 either_times s None b one = omega arith
 
 module _ {T : Type 0} where
-  pub kept_marks : (p : PassState T) (posted seen : List Mark) (counted : List Count) → IsKept p
+  pub kept_marks : (p : PassState T) (posted seen : List LoggedWord) (counted : List Count) → IsKept p
       → IsKept (record p { posted = posted; seen = seen; counted = counted })
   kept_marks p posted seen counted k = record { tried = k.tried; untried = k.untried; low = k.low; holds = k.holds }
 

@@ -9,10 +9,10 @@ use Rattle.std.specs.Int.{bit_at}
 use Rattle.std.specs.Int.Bits.{bit_or}
 use Rattle.std.proofs.lemmas.Nat.{pow_below, div-mul-add, mod-mul-add}
 use Rattle.std.proofs.lemmas.Nat.Bits.{bit_at_or, bit_at-lt, bit_at-pow_same, bit_at-pow_other}
-use Rattle.slice_board.specs.Passes.{times, marks_at, mark}
+use Rattle.slice_board.specs.Passes.{times, logged_at, logged_word}
 use Rattle.slice_board.specs.Lawful.{total, shows_at}
 use Rattle.slice_board.specs.code.Told.{load_of}
-use Rattle.slice_board.specs.declared.view.Mark.{Mark}
+use Rattle.slice_board.specs.declared.view.LoggedWord.{LoggedWord}
 use Rattle.slice_board.specs.declared.view.Count.{Count}
 
 module _ {A : Type 0} (g : A → ℕ) where
@@ -82,9 +82,9 @@ power_is i j e = dite (dec_le (suc i) j) (λ h. let a = pow_below i j h in absur
 pub one_slice : (x y : ℕ) → x / 64 ≡ y / 64 → 2 ^ (x % 64) ≡ 2 ^ (y % 64) → x ≡ y
 one_slice x y e f = let g = power_is (x % 64) (y % 64) f in omega arith
 
-pub marks_at-append : (p q j : ℕ) (l m : List Mark) → marks_at p q j (l ++ m) ≡ marks_at p q j l + marks_at p q j m
-marks_at-append p q j [] m = omega arith
-marks_at-append p q j (x ∷ xs) m = omega (arith, marks_at-append p q j xs m)
+pub logged_at-append : (p q j : ℕ) (l m : List LoggedWord) → logged_at p q j (l ++ m) ≡ logged_at p q j l + logged_at p q j m
+logged_at-append p q j [] m = omega arith
+logged_at-append p q j (x ∷ xs) m = omega (arith, logged_at-append p q j xs m)
 
 pub shows_at-append : (k j : ℕ) (l m : List Count) → shows_at k j (l ++ m) ≡ shows_at k j l + shows_at k j m
 shows_at-append k j [] m = omega arith
@@ -114,15 +114,16 @@ and_no : (b : Bool) → (b && false) ≡ false
 and_no true = refl
 and_no false = refl
 
-pub mark_here : (p q m j : ℕ) (l : List Mark) → marks_at p q j (l ++ mark p q m ∷ []) ≡ marks_at p q j l + bit_at m j
-mark_here p q m j l =
-    let a = marks_at-append p q j l (mark p q m ∷ []) in
+pub logged_here : (p q m j : ℕ) (l : List LoggedWord) → logged_at p q j (l ++ logged_word p q m ∷ []) ≡ logged_at p q j l + bit_at m j
+logged_here p q m j l =
+    let a = logged_at-append p q j l (logged_word p q m ∷ []) in
     let b = ap {B = ℕ} (λ (b : Bool). cond b (bit_at m j) 0) (λ i. (eq-eqb p p refl i) && (eq-eqb q q refl i)) in
     omega arith
 
-pub mark_else : (p q m p' q' j : ℕ) (l : List Mark) → ¬ ((p ≡ p') × (q ≡ q')) → marks_at p' q' j (l ++ mark p q m ∷ []) ≡ marks_at p' q' j l
-mark_else p q m p' q' j l n =
-    let a = marks_at-append p' q' j l (mark p q m ∷ []) in
+pub logged_else : (p q m p' q' j : ℕ) (l : List LoggedWord) → ¬ ((p ≡ p') × (q ≡ q'))
+    → logged_at p' q' j (l ++ logged_word p q m ∷ []) ≡ logged_at p' q' j l
+logged_else p q m p' q' j l n =
+    let a = logged_at-append p' q' j l (logged_word p q m ∷ []) in
     let b : cond (eqb p p' && eqb q q') (bit_at m j) 0 ≡ 0 = dite (ℕ_discrete p p')
     (λ e. dite (ℕ_discrete q q') (λ f. absurd (n (e, f)))
     (λ f. ap {B = ℕ} (λ (b : Bool). cond b (bit_at m j) 0) (ap (λ (b : Bool). eqb p p' && b) (ne_eqb q q' f) ∙ and_no (eqb p p'))))

@@ -30,16 +30,16 @@ InSlice cut s bit = (start_of cut s ≤ bit) × (bit < end_of cut s)
 
 module _ {T : Type 0} where
   -- how many points the board has
-  abbrev pub point_count : BoardState T → ℕ
-  point_count board = length board.blank.flags
+  abbrev pub board_points : BoardState T → ℕ
+  board_points board = length board.blank.flags
 
   -- the point and the word of its row are on the board
   abbrev pub IsPlace : BoardState T → ℕ → ℕ → Type 0
-  IsPlace board point word = (point < point_count board) × (word < words_for board.cut.bits)
+  IsPlace board point word = (point < board_points board) × (word < words_for board.cut.bits)
 
   -- what each pass of the board knows of it
   abbrev pub about_board : BoardState T → About T
-  about_board board = record { wanted = board.wanted; points = point_count board; cut = board.cut }
+  about_board board = record { wanted = board.wanted; points = board_points board; cut = board.cut }
 
   -- the pass is of the board
   pub record IsOf (board : BoardState T) (pass : PassState T) : Type 0 where

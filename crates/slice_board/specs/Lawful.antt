@@ -7,7 +7,7 @@ use Rattle.std.specs.Int.{bit_at}
 use Rattle.slice_board.specs.declared.view.About.{About}
 use Rattle.slice_board.specs.declared.view.View.{View}
 use Rattle.slice_board.specs.declared.view.Count.{Count}
-use Rattle.slice_board.specs.Passes.{times, marks_at}
+use Rattle.slice_board.specs.Passes.{times, logged_at}
 use Rattle.slice_board.specs.Boards.{slice_count, words_for, InSlice}
 
 -- The shared words, by number: the bits of the claim words say which slices are taken, those of the done words which are
@@ -42,7 +42,7 @@ module _ {T : Type 0} where
 
   -- how many marks that some pass posted on a point's word have the place
   abbrev pub posts_of : ℕ → ℕ → ℕ → List (View T) → ℕ
-  posts_of point word place = total (λ v. marks_at point word place v.posted)
+  posts_of point word place = total (λ v. logged_at point word place v.posted)
 
   module _ (wants : T → ℕ → ℕ → Type 0) (about : About T) where
     -- what one pass knows is so
@@ -55,7 +55,7 @@ module _ {T : Type 0} where
       pub found : (s : ℕ) → 0 < times s v.found → bit_in words.claims s ≡ 1
       -- What it saw lies within its word.
       pub seen : (point word place : ℕ) → point < about.points → word < words_for about.cut.bits
-          → 0 < marks_at point word place v.seen → bit_at (words.rows point word) place ≡ 1
+          → 0 < logged_at point word place v.seen → bit_at (words.rows point word) place ≡ 1
       -- What it counted lies within its word.
       pub counted : (word place : ℕ) → word < words_for (slice_count about.cut)
           → 0 < shows_at word place v.counted → bit_at (words.dones word) place ≡ 1

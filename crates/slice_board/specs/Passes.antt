@@ -3,7 +3,7 @@ use Rattle.std.specs.Prelude.{◌≡◌, ℕ, ◌+◌, ◌/◌, ◌%◌, ◌<◌
 use Rattle.std.specs.Int.{bit_at}
 use Rattle.atomic_table.specs.Seated.{TableId}
 use Rattle.slice_board.specs.declared.view.About.{About}
-use Rattle.slice_board.specs.declared.view.Mark.{Mark}
+use Rattle.slice_board.specs.declared.view.LoggedWord.{LoggedWord}
 use Rattle.slice_board.specs.declared.view.Count.{Count}
 
 -- The lists and records of a pass. They only ever grow, each by one entry a step.
@@ -15,8 +15,8 @@ pub record PassState (T : Type 0) : Type 0 where
   pub claimed : List ℕ
   pub finished : List ℕ
   -- the bits that it posted, and the words that it saw
-  pub posted : List Mark
-  pub seen : List Mark
+  pub posted : List LoggedWord
+  pub seen : List LoggedWord
   -- the slices whose claim bit a draw of this pass found set, and the done words that it loaded
   pub found : List ℕ
   pub counted : List Count
@@ -30,18 +30,18 @@ times x [] = 0
 times x (y ∷ ys) = (if y == x then 1 else 0) + times x ys
 
 -- how many marks of a point's word have the place
-abbrev pub marks_at : ℕ → ℕ → ℕ → List Mark → ℕ
-marks_at point word place [] = 0
-marks_at point word place (m ∷ ms) =
-    (if (m.point == point) && (m.word == word) then bit_at m.bits place else 0) + marks_at point word place ms
+abbrev pub logged_at : ℕ → ℕ → ℕ → List LoggedWord → ℕ
+logged_at point word place [] = 0
+logged_at point word place (m ∷ ms) =
+    (if (m.point == point) && (m.word == word) then bit_at m.bits place else 0) + logged_at point word place ms
 
--- some mark has the bit of the point
-abbrev pub IsMarked : List Mark → ℕ → ℕ → Type 0
-IsMarked marks point bit = 0 < marks_at point (bit / 64) (bit % 64) marks
+-- some logged_word has the bit of the point
+abbrev pub IsLogged : List LoggedWord → ℕ → ℕ → Type 0
+IsLogged marks point bit = 0 < logged_at point (bit / 64) (bit % 64) marks
 
 -- bits of a word of a point's row
-abbrev pub mark : ℕ → ℕ → ℕ → Mark
-mark point word bits = record { point = point; word = word; bits = bits }
+abbrev pub logged_word : ℕ → ℕ → ℕ → LoggedWord
+logged_word point word bits = record { point = point; word = word; bits = bits }
 
 -- 1 where the slice is the one that is held
 abbrev pub held_times : ℕ → Option ℕ → ℕ

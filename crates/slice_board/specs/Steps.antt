@@ -2,7 +2,7 @@
 use Rattle.std.specs.Prelude.{ℕ, [], ◌∷◌, ◌++◌, Option, None}
 use Rattle.slice_board.specs.declared.view.About.{About}
 use Rattle.slice_board.specs.declared.view.View.{View}
-use Rattle.slice_board.specs.declared.view.Mark.{Mark}
+use Rattle.slice_board.specs.declared.view.LoggedWord.{LoggedWord}
 use Rattle.slice_board.specs.declared.view.Count.{Count}
 
 module _ {T : Type 0} where
@@ -15,7 +15,7 @@ module _ {T : Type 0} where
   after_finding s v = record v { found = v.found ++ s ∷ [] }
 
   -- A post sets the bits of a mask in a word of a point's row.
-  abbrev pub after_post : Mark → View T → View T
+  abbrev pub after_post : LoggedWord → View T → View T
   after_post m v = record v { posted = v.posted ++ m ∷ [] }
 
   -- Finishing sets one done bit.
@@ -23,7 +23,7 @@ module _ {T : Type 0} where
   after_finish s v = record v { finished = v.finished ++ s ∷ [] }
 
   -- A look loads a word of a point's row.
-  abbrev pub after_look : Mark → View T → View T
+  abbrev pub after_look : LoggedWord → View T → View T
   after_look m v = record v { seen = v.seen ++ m ∷ [] }
 
   -- A count loads a done word.

@@ -5,7 +5,7 @@ ghost use Rattle.bit_rows.specs.RowSet.{contains};
 ghost use Rattle.bit_rows.specs.RowTable.{set_at, blank_table};
 ghost use Rattle.bit_rows.specs.Words.{has_bit};
 ghost use Rattle.slice_board.specs.Boards.{IsOf, IsPlace, InSlice, CountsOnce, fresh_pass, slice_count};
-ghost use Rattle.slice_board.specs.Passes.{IsMarked, mark, times, joined};
+ghost use Rattle.slice_board.specs.Passes.{IsLogged, logged_word, times, joined};
 
 use crate::OutOfMemory;
 use crate::pass::Pass;
@@ -136,7 +136,7 @@ impl<T: Wanted> Board<T> {
         requires place { IsPlace self.now point word }
         requires wanted { (i : ℕ) → i < 64 → has_bit mask i ≡ true
             → T.wants self.now.wanted point (64 * word + i) }
-        ensures { pass.new ≡ record pass.old { posted = pass.old.posted ++ mark point word mask ∷ [] } }
+        ensures { pass.new ≡ record pass.old { posted = pass.old.posted ++ logged_word point word mask ∷ [] } }
     {
         self.words.post(pass, point, word, mask);
     }
@@ -147,10 +147,10 @@ impl<T: Wanted> Board<T> {
         requires of { IsOf self.now pass.old }
         requires place { IsPlace self.now point word }
         ensures seen { pass.new
-            ≡ record pass.old { seen = pass.old.seen ++ mark point word result ∷ [] } }
-        ensures own { (i : ℕ) → i < 64 → IsMarked pass.old.posted point (64 * word + i)
+            ≡ record pass.old { seen = pass.old.seen ++ logged_word point word result ∷ [] } }
+        ensures own { (i : ℕ) → i < 64 → IsLogged pass.old.posted point (64 * word + i)
             → has_bit result i ≡ true }
-        ensures again { (i : ℕ) → i < 64 → IsMarked pass.old.seen point (64 * word + i)
+        ensures again { (i : ℕ) → i < 64 → IsLogged pass.old.seen point (64 * word + i)
             → has_bit result i ≡ true }
         ensures wanted { (i : ℕ) → i < 64 → has_bit result i ≡ true
             → T.wants self.now.wanted point (64 * word + i) }
@@ -164,7 +164,7 @@ impl<T: Wanted> Board<T> {
         requires of { IsOf self.now pass.old }
         requires held { pass.old.held ≡ Some slice }
         requires posted { (point bit : ℕ) → T.wants self.now.wanted point bit
-            → InSlice self.now.cut slice bit → IsMarked pass.old.posted point bit }
+            → InSlice self.now.cut slice bit → IsLogged pass.old.posted point bit }
         ensures { pass.new
             ≡ record pass.old { finished = pass.old.finished ++ slice ∷ []; held = None } }
     {

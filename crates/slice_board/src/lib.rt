@@ -18,5 +18,5 @@ pub use pass::Pass;
 pub use posted_words::PostedWords;
 pub use rule::Wanted;
 pub use std::alloc::AllocError as OutOfMemory;
-pub use view::{About, Count, Mark};
+pub use view::{About, Count, LoggedWord};
 pub use word_board::{Unfinished, WordBoard};

@@ -11,7 +11,7 @@ pub struct About<T> {
 
 /// Bits of a word of a point's row: a mask that was posted there, or a value that was seen. Contracts
 /// alone see it.
-pub struct Mark {
+pub struct LoggedWord {
     pub point: u32,
     /// The bits `64 * word` to `64 * word + 63` of the universe.
     pub word: u32,
@@ -29,8 +29,8 @@ pub struct View<T> {
     pub about: Option<About<T>>,
     pub claimed: [u32; 0],
     pub finished: [u32; 0],
-    pub posted: [Mark; 0],
-    pub seen: [Mark; 0],
+    pub posted: [LoggedWord; 0],
+    pub seen: [LoggedWord; 0],
     pub found: [u32; 0],
     pub counted: [Count; 0],
 }

@@ -13,9 +13,9 @@ use Rattle.bit_rows.proofs.WordBits.{has_bit-and, has_bit-not, has_bit-zero}
 use Rattle.bit_rows.proofs.RowSets.{contains-below, contains-above}
 use Rattle.bit_rows.proofs.SetLaws.{HasRange-with_word, contains-with_word, contains-empty_set}
 use Rattle.bit_rows.proofs.Tables.{set_at-with_set_same, set_at-with_set_other}
-use Rattle.slice_board.specs.Passes.{marks_at, mark, IsMarked}
-use Rattle.slice_board.specs.declared.view.Mark.{Mark}
-use Rattle.slice_board.proofs.Sums.{marks_at-append, mark_here}
+use Rattle.slice_board.specs.Passes.{logged_at, logged_word, IsLogged}
+use Rattle.slice_board.specs.declared.view.LoggedWord.{LoggedWord}
+use Rattle.slice_board.proofs.Sums.{logged_at-append, logged_here}
 use Rattle.slice_board.proofs.Calls.{one_of_bit}
 
 -- a mask of which nothing lies outside a word lies within it
@@ -99,14 +99,14 @@ noted_word old new point word mask uniform there is p b has = dite (ℕ_discrete
     ∙ ap (λ (t : RowTable). contains (set_at t p) b) (sym is) ∙ has))
 
 -- what was noted before a post, and its mask, are marks after it
-pub marked_more : (l : List Mark) (m : Mark) (point bit : ℕ) → IsMarked l point bit → IsMarked (l ++ m ∷ []) point bit
-marked_more l m point bit marked = omega (arith, marked, marks_at-append point (bit / 64) (bit % 64) l (m ∷ []))
+pub marked_more : (l : List LoggedWord) (m : LoggedWord) (point bit : ℕ) → IsLogged l point bit → IsLogged (l ++ m ∷ []) point bit
+marked_more l m point bit marked = omega (arith, marked, logged_at-append point (bit / 64) (bit % 64) l (m ∷ []))
 
-pub marked_both : (l m : List Mark) (point bit : ℕ) → IsMarked l point bit → IsMarked (l ++ m) point bit
-marked_both l m point bit marked = omega (arith, marked, marks_at-append point (bit / 64) (bit % 64) l m)
+pub marked_both : (l m : List LoggedWord) (point bit : ℕ) → IsLogged l point bit → IsLogged (l ++ m) point bit
+marked_both l m point bit marked = omega (arith, marked, logged_at-append point (bit / 64) (bit % 64) l m)
 
-pub marked_new : (l : List Mark) (point word mask p b : ℕ) → p ≡ point → b / 64 ≡ word → has_bit mask (b % 64) ≡ true
-    → IsMarked (l ++ mark point word mask ∷ []) p b
+pub marked_new : (l : List LoggedWord) (point word mask p b : ℕ) → p ≡ point → b / 64 ≡ word → has_bit mask (b % 64) ≡ true
+    → IsLogged (l ++ logged_word point word mask ∷ []) p b
 marked_new l point word mask p b same at set =
-    subst (λ (a : ℕ × ℕ). 0 < marks_at a.0 a.1 (b % 64) (l ++ mark point word mask ∷ [])) (λ i. (sym same i, sym at i))
-    (omega (arith, mark_here point word mask (b % 64) l, one_of_bit mask (b % 64) set))
+    subst (λ (a : ℕ × ℕ). 0 < logged_at a.0 a.1 (b % 64) (l ++ logged_word point word mask ∷ [])) (λ i. (sym same i, sym at i))
+    (omega (arith, logged_here point word mask (b % 64) l, one_of_bit mask (b % 64) set))

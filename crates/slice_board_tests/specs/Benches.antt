@@ -3,8 +3,8 @@ use Rattle.std.specs.Prelude.{◌≡◌, ℕ, ◌≤◌, ◌<◌, true, List, le
 use Rattle.bit_rows.specs.RowSet.{contains}
 use Rattle.bit_rows.specs.RowTable.{RowTable, set_at}
 use Rattle.slice_board.specs.Boards.{BoardState}
-use Rattle.slice_board.specs.Passes.{IsMarked}
-use Rattle.slice_board.specs.declared.view.Mark.{Mark}
+use Rattle.slice_board.specs.Passes.{IsLogged}
+use Rattle.slice_board.specs.declared.view.LoggedWord.{LoggedWord}
 
 -- the board has the points and the bits of these sets
 pub record IsFor {T : Type 0} (board : BoardState T) (rows : RowTable) : Type 0 where
@@ -13,8 +13,8 @@ pub record IsFor {T : Type 0} (board : BoardState T) (rows : RowTable) : Type 0 
   pub bits : board.cut.bits ≡ rows.hi
 
 -- what the worker noted was posted with its pass
-abbrev pub AreNoted : RowTable → List Mark → Type 0
-AreNoted mine posted = (point bit : ℕ) → contains (set_at mine point) bit ≡ true → IsMarked posted point bit
+abbrev pub AreNoted : RowTable → List LoggedWord → Type 0
+AreNoted mine posted = (point bit : ℕ) → contains (set_at mine point) bit ≡ true → IsLogged posted point bit
 
 -- each wanted bit of lo..hi is among the others
 abbrev pub Covers : RowTable → RowTable → ℕ → ℕ → Type 0

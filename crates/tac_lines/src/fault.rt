@@ -1,7 +1,7 @@
 // A fault of a text, by its place.
 
+use crate::OutOfMemory;
 use crate::refusal::RefusalKind;
-use std::alloc::AllocError;
 
 /// A fault, and the number of bytes before it.
 #[derive(Clone, Copy)]
@@ -17,13 +17,13 @@ pub enum Stop {
     OutOfMemory,
 }
 
-impl From<AllocError> for Stop {
+impl From<OutOfMemory> for Stop {
     ghost use Rattle.std.specs.Prelude.{◌≡◌};
     ghost use Rattle.tac_lines.specs.declared.fault.Stop.TheVariants.{OutOfMemory};
 
     ghost from_gives = { λ _ stop. stop ≡ OutOfMemory };
 
-    fn from(_: AllocError) -> Self {
+    fn from(_: OutOfMemory) -> Self {
         Stop::OutOfMemory
     }
 }

@@ -9,12 +9,12 @@ ghost use Rattle.tac_lines.specs.code.Roles.{role_test};
 ghost use Rattle.tac_lines.specs.code.Views.{form_slots, tokens_view};
 ghost use Rattle.tac_lines.specs.declared.lexed.LineRange.{LineRange};
 
+use crate::OutOfMemory;
 use crate::form::Form;
 use crate::lexed::{Lexed, LineRange};
 use crate::line::behind_labels;
 use crate::statement::{Role, has_role, statement_form};
 use crate::token::Token;
-use std::alloc::AllocError;
 
 /// The tokens of a statement, and the form that they have; no tokens have none.
 #[derive(Clone, Copy)]
@@ -46,7 +46,7 @@ pub struct Line<'a> {
 
 impl<'a> Line<'a> {
     /// The line of these tokens. Fails where it has more labels than a program counts.
-    pub fn of(tokens: &'a [Token]) -> Result<Self, AllocError>
+    pub fn of(tokens: &'a [Token]) -> Result<Self, OutOfMemory>
         ensures { IfOk result (λ line. line.tokens.now ≡ tokens.now) }
     {
         let behind = behind_labels(tokens);
@@ -185,8 +185,8 @@ impl<'a> Lines<'a> {
 }
 
 /// A count, in the width that programs count in.
-pub fn counted(count: usize) -> Result<u32, AllocError>
+pub fn counted(count: usize) -> Result<u32, OutOfMemory>
     ensures { IfOk result (λ n. n ≡ count) }
 {
-    u32::try_from(count).map_err(|_| AllocError)
+    u32::try_from(count).map_err(|_| OutOfMemory)
 }

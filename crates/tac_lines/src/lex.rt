@@ -13,6 +13,7 @@ ghost use Rattle.tac_lines.specs.code.Lexed.{some_of, text_lines, IfFault};
 ghost use Rattle.tac_lines.specs.code.Ranges.{range_views};
 ghost use Rattle.tac_lines.specs.code.Views.{tokens_view};
 
+use crate::OutOfMemory;
 use crate::fault::{Fault, Stop};
 use crate::form::{END, PROC, Slot, Walk, fits_at, follow};
 use crate::formed::{Line, counted};
@@ -22,7 +23,7 @@ use crate::piece::line_run;
 use crate::refusal::RefusalKind;
 use crate::row::read_row;
 use crate::token::{Keyword, Token};
-use std::alloc::{AllocError, Global};
+use std::alloc::Global;
 
 /// Where the line that begins at `start` ends, behind its line feed.
 fn line_stop(text: &[u8], start: usize) -> usize
@@ -67,7 +68,7 @@ fn push_line(
     tokens: &mut Vec<Token>,
     lines: &mut Vec<LineRange>,
     line: Line<'_>,
-) -> Result<(), AllocError>
+) -> Result<(), OutOfMemory>
     requires { AreLines tokens.old.items lines.old.items }
     ensures lines { OnOk result (AreLines tokens.new.items lines.new.items) }
     ensures pushed { OnOk result

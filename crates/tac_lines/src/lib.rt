@@ -19,6 +19,7 @@ pub use form::Form;
 pub use formed::{Lines, Statement, counted};
 pub use line::{label_at, stop_of};
 pub use piece::number_value;
-pub use refusal::{OutOfMemory, ReadFault, Refusal, RefusalKind};
+pub use refusal::{ReadFault, Refusal, RefusalKind};
 pub use statement::{Role, cells, has_only_variables};
+pub use std::alloc::AllocError as OutOfMemory;
 pub use token::{Token, TokenKind};

@@ -71,7 +71,7 @@ fn without_prefix(inside: bool, tokens: &[Token]) -> &[Token]
 }
 
 /// How far a line goes along the line forms.
-fn judged(inside: bool, tokens: &[Token]) -> Walk
+fn judged_line(inside: bool, tokens: &[Token]) -> Walk
     ensures { (text : List ℕ) (bad : Option ℕ) → form_faults inside (record { tokens = tokens_view text tokens.now; bad = bad })
         ≡ verdict result (is_some bad) (end_of (tokens_view text tokens.now)) }
 {
@@ -101,7 +101,7 @@ fn form_fault(inside: bool, tokens: &[Token], is_cut: bool) -> Option<Fault>
     ensures { (text : List ℕ) (bad : Option ℕ) → is_some bad ≡ is_cut
         → form_faults inside (record { tokens = tokens_view text tokens.now; bad = bad }) ≡ fault_list result }
 {
-    let place = match judged(inside, tokens) {
+    let place = match judged_line(inside, tokens) {
         Walk::Whole => return None,
         Walk::Wrong(place) => place,
         Walk::Unfinished => {
@@ -134,7 +134,7 @@ fn word_fault(text: &[u8], token: Token) -> Option<Fault>
 }
 
 /// The fault at the first place, and at one place the one of the smaller number.
-fn earlier(a: Option<Fault>, b: Option<Fault>) -> Option<Fault>
+fn earlier_fault(a: Option<Fault>, b: Option<Fault>) -> Option<Fault>
     ensures { result ≡ merged a b }
 {
     match (a, b) {
@@ -180,11 +180,11 @@ pub fn row_fault(inside: bool, text: &[u8], tokens: &[Token], bad: Option<u32>) 
     let mut at = tokens.len();
     while at > 0 {
         at -= 1;
-        first = earlier(word_fault(text, tokens[at]), first);
+        first = earlier_fault(word_fault(text, tokens[at]), first);
     }
     match bad {
         None => first,
-        Some(place) => earlier(
+        Some(place) => earlier_fault(
             Some(Fault {
                 kind: RefusalKind::BadByte,
                 place,

@@ -7,7 +7,6 @@ use std::fmt;
 use thiserror::Error;
 
 /// Memory was refused.
-pub use std::alloc::AllocError as OutOfMemory;
 
 /// Why a text is refused. `docs/LANGUAGE.md` has the place of each.
 #[derive(Clone, Copy, Debug, PartialEq, Eq)]

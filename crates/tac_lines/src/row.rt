@@ -7,11 +7,11 @@ ghost use Rattle.tac_lines.specs.Tokens.{row_from};
 ghost use Rattle.tac_lines.specs.code.Lexed.{IfFault};
 ghost use Rattle.tac_lines.specs.code.Views.{tokens_view};
 
+use crate::OutOfMemory;
 use crate::fault::{Fault, Stop};
 use crate::line::{behind_labels, row_fault, stop_of};
 use crate::piece::front;
 use crate::token::Token;
-use std::alloc::AllocError;
 
 /// After so many tokens a line is judged before the rest of it is read, and then each time that it has
 /// twice as many. The number is even, so that a label is not cut off from its colon.
@@ -33,7 +33,7 @@ fn early_fault(inside: bool, text: &[u8], row: &[Token], at: u32) -> Option<Faul
 }
 
 /// Puts a token last.
-fn push_token(row: &mut Vec<Token>, token: Token) -> Result<(), AllocError>
+fn push_token(row: &mut Vec<Token>, token: Token) -> Result<(), OutOfMemory>
     ensures { OnOk result (row.new.items ≡ row.old.items ++ token ∷ []) }
 {
     row.push(token)?;

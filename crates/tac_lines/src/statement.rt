@@ -6,10 +6,10 @@ ghost use Rattle.tac_lines.specs.Forms.{cells_of, in_slot, paired, statement_row
 ghost use Rattle.tac_lines.specs.code.Roles.{role_test};
 ghost use Rattle.tac_lines.specs.code.Views.{form_slots, slot_view, slots_view, tokens_view};
 
+use crate::OutOfMemory;
 use crate::form::{Form, Slot, Walk, follow, form_of, slots_of};
 use crate::formed::Statement;
 use crate::token::Token;
-use std::alloc::AllocError;
 
 /// What a name in a statement stands for. A place for a variable may hold a number.
 #[derive(Clone, Copy)]
@@ -46,12 +46,12 @@ fn plays(slot: Slot, role: Role) -> bool
 }
 
 /// Appends the tokens that stand in a place of that role; they fill the places from the first on.
-fn filled(
+fn append_filled(
     found: &mut Vec<Token>,
     role: Role,
     slots: &[Slot],
     tokens: &[Token],
-) -> Result<(), AllocError>
+) -> Result<(), OutOfMemory>
     ensures kept { take (vec_len found.old) found.new.items ≡ found.old.items }
     ensures appended { OnOk result ((text : List ℕ) → tokens_view text found.new.items ≡ tokens_view text found.old.items
         ++ in_slot (role_test role) (paired (slots_view slots.now) (tokens_view text tokens.now))) }
@@ -61,7 +61,7 @@ fn filled(
             if plays(*slot, role) {
                 found.push(*token)?;
             }
-            filled(found, role, slots, tokens)
+            append_filled(found, role, slots, tokens)
         }
         _ => Ok(()),
     }
@@ -160,7 +160,11 @@ pub fn has_only_variables(form: Form) -> bool
 
 /// Appends the statement's tokens that stand in a place of that role; none where they are no statement.
 /// What is found already stays, also where memory runs out.
-pub fn cells(found: &mut Vec<Token>, role: Role, statement: Statement<'_>) -> Result<(), AllocError>
+pub fn cells(
+    found: &mut Vec<Token>,
+    role: Role,
+    statement: Statement<'_>,
+) -> Result<(), OutOfMemory>
     ensures kept { take (vec_len found.old) found.new.items ≡ found.old.items }
     ensures appended { OnOk result ((text : List ℕ) → tokens_view text found.new.items ≡ tokens_view text found.old.items
         ++ in_slot (role_test role) (cells_of (tokens_view text statement.entry.tokens.now))) }
@@ -170,7 +174,7 @@ pub fn cells(found: &mut Vec<Token>, role: Role, statement: Statement<'_>) -> Re
         Some(form) => {
             if has_role(form, role) {
                 let slots = slots_of(form, statement.tokens.len());
-                filled(found, role, slots, statement.tokens)
+                append_filled(found, role, slots, statement.tokens)
             } else {
                 Ok(())
             }

@@ -15,3 +15,4 @@ pub use listings::{listing, write_binary_expression, write_unary_expression};
 pub use name_hashers::NameSeeds;
 pub use names::NameTable;
 pub use program::{Callees, Label, Op, Operand, Proc, Program, Span, Stmt, StmtKind};
+pub use std::alloc::AllocError as OutOfMemory;

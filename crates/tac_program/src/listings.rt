@@ -5,10 +5,11 @@ ghost use Rattle.tac_program.specs.Listings.{name_at, names_of, operand_text, bi
 ghost use Rattle.tac_program.specs.Listings.{labels_text, places_text, procedure_text, listing_of};
 ghost use Rattle.tac_program.specs.Programs.{LabelsRise};
 
+use crate::OutOfMemory;
 use crate::names::NameTable;
 use crate::program::{Label, Op, Operand, Proc, Program, Stmt, StmtKind};
 use itoa::Buffer;
-use std::alloc::{AllocError, Global};
+use std::alloc::Global;
 use std::marker::Model;
 
 // The names that the numbers in a procedure stand for.
@@ -58,7 +59,7 @@ impl Names<'_> {
 /// zeros. Each line ends with a line feed.
 ///
 /// The work is linear in the program and its listing. Fails only where memory runs out.
-pub fn listing(alloc: Global, program: &Program) -> Result<Vec<u8>, AllocError>
+pub fn listing(alloc: Global, program: &Program) -> Result<Vec<u8>, OutOfMemory>
     ensures { IfOk result (λ text. text.items ≡ listing_of program.now) }
 {
     let mut text = Vec::new(alloc);
@@ -75,7 +76,7 @@ pub fn write_unary_expression(
     program: &Program,
     op: Op,
     operand: Operand,
-) -> Result<(), AllocError>
+) -> Result<(), OutOfMemory>
     ensures { OnOk result (text.new.items ≡ text.old.items ++ unary_text (names_of program.now) op operand) }
 {
     write_sign(text, &names_outside(program), op, operand)
@@ -89,7 +90,7 @@ pub fn write_binary_expression(
     left: Operand,
     op: Op,
     right: Operand,
-) -> Result<(), AllocError>
+) -> Result<(), OutOfMemory>
     ensures { OnOk result (text.new.items ≡ text.old.items ++ binary_text (names_of program.now) left op right) }
 {
     write_operation(text, &names_outside(program), left, op, right)
@@ -107,7 +108,7 @@ fn names_outside<'a>(program: &'a Program) -> Names<'a>
     }
 }
 
-fn write_procedure(text: &mut Vec<u8>, program: &Program, proc: &Proc) -> Result<(), AllocError>
+fn write_procedure(text: &mut Vec<u8>, program: &Program, proc: &Proc) -> Result<(), OutOfMemory>
     ensures { OnOk result
         (text.new.items ≡ text.old.items
         ++ procedure_text program.now.procedure_names program.now.variable_names proc.now) }
@@ -130,7 +131,7 @@ fn write_places(
     names: &Names<'_>,
     labels: &[Label],
     stmts: &[Stmt],
-) -> Result<(), AllocError>
+) -> Result<(), OutOfMemory>
     requires { LabelsRise labels.now }
     ensures { OnOk result
         (text.new.items ≡ text.old.items ++ places_text names.now 0 labels.now stmts.now) }
@@ -152,7 +153,7 @@ fn write_labels<'a>(
     names: &Names<'_>,
     place: usize,
     ahead: &'a [Label],
-) -> Result<&'a [Label], AllocError>
+) -> Result<&'a [Label], OutOfMemory>
     requires rise { LabelsRise ahead.now }
     requires ahead { All (λ l. place ≤ l.place) ahead.now }
     ensures written { OnOk result
@@ -170,7 +171,11 @@ fn write_labels<'a>(
     Ok(&[])
 }
 
-fn write_statement(text: &mut Vec<u8>, names: &Names<'_>, kind: &StmtKind) -> Result<(), AllocError>
+fn write_statement(
+    text: &mut Vec<u8>,
+    names: &Names<'_>,
+    kind: &StmtKind,
+) -> Result<(), OutOfMemory>
     ensures { OnOk result (text.new.items ≡ text.old.items ++ statement_text names.now kind.now) }
 {
     match kind {
@@ -214,7 +219,7 @@ fn write_copy(
     names: &Names<'_>,
     target: u32,
     value: Operand,
-) -> Result<(), AllocError>
+) -> Result<(), OutOfMemory>
     ensures { OnOk result
         (text.new.items ≡ text.old.items ++ statement_text names.now (StmtKind.Copy target value)) }
 {
@@ -228,7 +233,7 @@ fn write_unary(
     target: u32,
     op: Op,
     operand: Operand,
-) -> Result<(), AllocError>
+) -> Result<(), OutOfMemory>
     ensures { OnOk result
         (text.new.items ≡ text.old.items
         ++ statement_text names.now (StmtKind.Unary target op operand)) }
@@ -244,7 +249,7 @@ fn write_binary(
     left: Operand,
     op: Op,
     right: Operand,
-) -> Result<(), AllocError>
+) -> Result<(), OutOfMemory>
     ensures { OnOk result
         (text.new.items ≡ text.old.items
         ++ statement_text names.now (StmtKind.Binary op target left right)) }
@@ -260,7 +265,7 @@ fn write_comparison(
     op: Op,
     right: Operand,
     label: u32,
-) -> Result<(), AllocError>
+) -> Result<(), OutOfMemory>
     ensures { OnOk result
         (text.new.items ≡ text.old.items
         ++ statement_text names.now (StmtKind.IfCompare op label left right)) }
@@ -278,7 +283,7 @@ fn write_test(
     keyword: &[u8],
     condition: Operand,
     label: u32,
-) -> Result<(), AllocError>
+) -> Result<(), OutOfMemory>
     ensures { OnOk result
         (text.new.items ≡ text.old.items
         ++ keyword.now ++ operand_text names.now condition
@@ -290,7 +295,7 @@ fn write_test(
     write_goto(text, names, label)
 }
 
-fn write_call(text: &mut Vec<u8>, names: &Names<'_>, callees: &[u32]) -> Result<(), AllocError>
+fn write_call(text: &mut Vec<u8>, names: &Names<'_>, callees: &[u32]) -> Result<(), OutOfMemory>
     ensures { OnOk result
         (text.new.items ≡ text.old.items ++ codes "call " ++ callees_text names.now callees.now) }
 {
@@ -298,7 +303,7 @@ fn write_call(text: &mut Vec<u8>, names: &Names<'_>, callees: &[u32]) -> Result<
     write_callees(text, names, callees)
 }
 
-fn write_read(text: &mut Vec<u8>, names: &Names<'_>, target: u32) -> Result<(), AllocError>
+fn write_read(text: &mut Vec<u8>, names: &Names<'_>, target: u32) -> Result<(), OutOfMemory>
     ensures { OnOk result
         (text.new.items ≡ text.old.items ++ statement_text names.now (StmtKind.Read target)) }
 {
@@ -306,7 +311,7 @@ fn write_read(text: &mut Vec<u8>, names: &Names<'_>, target: u32) -> Result<(), 
     text.extend_from_slice(names.variable(target))
 }
 
-fn write_print(text: &mut Vec<u8>, names: &Names<'_>, value: Operand) -> Result<(), AllocError>
+fn write_print(text: &mut Vec<u8>, names: &Names<'_>, value: Operand) -> Result<(), OutOfMemory>
     ensures { OnOk result
         (text.new.items ≡ text.old.items ++ statement_text names.now (StmtKind.Print value)) }
 {
@@ -314,7 +319,7 @@ fn write_print(text: &mut Vec<u8>, names: &Names<'_>, value: Operand) -> Result<
     write_operand(text, names, value)
 }
 
-fn write_target(text: &mut Vec<u8>, names: &Names<'_>, target: u32) -> Result<(), AllocError>
+fn write_target(text: &mut Vec<u8>, names: &Names<'_>, target: u32) -> Result<(), OutOfMemory>
     ensures { OnOk result
         (text.new.items ≡ text.old.items ++ name_at names.now.variables target ++ codes " = ") }
 {
@@ -328,7 +333,7 @@ fn write_sign(
     names: &Names<'_>,
     op: Op,
     operand: Operand,
-) -> Result<(), AllocError>
+) -> Result<(), OutOfMemory>
     ensures { OnOk result (text.new.items ≡ text.old.items ++ unary_text names.now op operand) }
 {
     text.extend_from_slice(op.sign())?;
@@ -342,7 +347,7 @@ fn write_operation(
     left: Operand,
     op: Op,
     right: Operand,
-) -> Result<(), AllocError>
+) -> Result<(), OutOfMemory>
     ensures { OnOk result (text.new.items ≡ text.old.items ++ binary_text names.now left op right) }
 {
     write_operand(text, names, left)?;
@@ -352,7 +357,7 @@ fn write_operation(
     write_operand(text, names, right)
 }
 
-fn write_operand(text: &mut Vec<u8>, names: &Names<'_>, operand: Operand) -> Result<(), AllocError>
+fn write_operand(text: &mut Vec<u8>, names: &Names<'_>, operand: Operand) -> Result<(), OutOfMemory>
     ensures { OnOk result (text.new.items ≡ text.old.items ++ operand_text names.now operand) }
 {
     match operand {
@@ -361,14 +366,14 @@ fn write_operand(text: &mut Vec<u8>, names: &Names<'_>, operand: Operand) -> Res
     }
 }
 
-fn write_goto(text: &mut Vec<u8>, names: &Names<'_>, label: u32) -> Result<(), AllocError>
+fn write_goto(text: &mut Vec<u8>, names: &Names<'_>, label: u32) -> Result<(), OutOfMemory>
     ensures { OnOk result (text.new.items ≡ text.old.items ++ goto_text names.now label) }
 {
     text.extend_from_slice(b"goto ")?;
     text.extend_from_slice(names.label(label))
 }
 
-fn write_callees(text: &mut Vec<u8>, names: &Names<'_>, callees: &[u32]) -> Result<(), AllocError>
+fn write_callees(text: &mut Vec<u8>, names: &Names<'_>, callees: &[u32]) -> Result<(), OutOfMemory>
     ensures { OnOk result (text.new.items ≡ text.old.items ++ callees_text names.now callees.now) }
 {
     if let [first, others @ ..] = callees {

@@ -5,10 +5,11 @@ ghost use Rattle.std.specs.Prelude.{position, bytes_eq, option_map};
 ghost use Rattle.tac_program.specs.Names.{is_one_of, noted};
 ghost use Rattle.tac_program.specs.Listings.{name_at};
 
+use crate::OutOfMemory;
 use crate::name_hashers::{NameHashers, NameSeeds};
 use crate::name_keys::{NameKey, Spelling};
 use indexmap::IndexSet;
-use std::alloc::{AllocError, Global};
+use std::alloc::Global;
 use std::marker::Model;
 
 /// How many names of a table are hashed without the text's digest. Where they all fall together, a name that is looked up
@@ -82,7 +83,7 @@ impl NameTable {
     }
 
     /// Hashes the names anew, with the text's digest, where they are more than a few.
-    fn seed(&mut self, alloc: Global, seeds: &mut NameSeeds<'_>) -> Result<(), AllocError>
+    fn seed(&mut self, alloc: Global, seeds: &mut NameSeeds<'_>) -> Result<(), OutOfMemory>
         ensures { OnOk result (self.new ≡ self.old) }
     {
         if self.is_seeded || self.names.len() < FEW_NAMES {
@@ -101,7 +102,7 @@ impl NameTable {
         alloc: Global,
         seeds: &mut NameSeeds<'_>,
         name: &[u8],
-    ) -> Result<(u32, bool), AllocError>
+    ) -> Result<(u32, bool), OutOfMemory>
         ensures noted { OnOk result (self.new ≡ noted self.old name.now) }
         ensures number { IfOk result (λ r. position (bytes_eq name.now) self.new ≡ Some r.0) }
         ensures new { IfOk result (λ r. r.1 ≡ not (is_one_of name.now self.old)) }
@@ -110,7 +111,7 @@ impl NameTable {
             return Ok((number, false));
         }
         if self.len() == u32::MAX {
-            return Err(AllocError);
+            return Err(OutOfMemory);
         }
         self.seed(alloc, seeds)?;
         let bytes = Vec::from_slice(alloc, name)?;

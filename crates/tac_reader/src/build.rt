@@ -10,8 +10,8 @@ ghost use Rattle.tac_lines.specs.Text.{line_after};
 ghost use Rattle.tac_lines.specs.code.Views.{token_view, tokens_view};
 ghost use Rattle.tac_program.specs.declared.program.StmtKind.TheVariants.{Binary, Copy, IfCompare, Unary};
 
+use crate::OutOfMemory;
 use crate::occurrences::Variables;
-use std::alloc::AllocError;
 use tac_lines::{Form, Role, Statement, Token, TokenKind, cells, number_value};
 use tac_program::{Callees, NameTable, Op, Operand, StmtKind};
 
@@ -149,7 +149,7 @@ fn callees(
     text: &[u8],
     statement: Statement<'_>,
     found: &mut Vec<Token>,
-) -> Result<Callees, AllocError>
+) -> Result<Callees, OutOfMemory>
     ensures { IfOk result (λ callees. callees ≡ call_numbers procedures.now (tokens_view text.now statement.entry.tokens.now)) }
 {
     found.clear();
@@ -166,7 +166,7 @@ pub fn kind(
     names: Names<'_>,
     statement: Statement<'_>,
     progress: &mut Progress,
-) -> Result<StmtKind, AllocError>
+) -> Result<StmtKind, OutOfMemory>
     ensures { IfOk result (λ k. k ≡ kind_of (names_view names.entry)
         (call_numbers names.entry.procedures.now (tokens_view names.entry.variables.text.now statement.entry.tokens.now))
         (form_in (tokens_view names.entry.variables.text.now statement.entry.tokens.now))

@@ -18,8 +18,9 @@ ghost use Rattle.tac_lines.specs.code.Views.{tokens_view};
 ghost use Rattle.tac_lines.specs.declared.refusal.RefusalKind.TheVariants.{DuplicateCallee, DuplicateLabel, DuplicateProcedure, NoMain};
 ghost use Rattle.tac_lines.specs.declared.refusal.RefusalKind.TheVariants.{TooManyProcedures, UnknownLabel, UnknownProcedure};
 
+use crate::OutOfMemory;
 use crate::section::{Section, labels, line_cells, section_cells};
-use std::alloc::{AllocError, Global};
+use std::alloc::Global;
 use tac_lines::{Fault, RefusalKind, Role, Stop, Token};
 use tac_program::{Limits, NameSeeds, NameTable};
 
@@ -98,7 +99,7 @@ fn first_repeated(kind: RefusalKind, text: &[u8], tokens: &[Token]) -> Option<Fa
 }
 
 /// The procedures' names.
-fn titles(alloc: Global, sections: &[Section<'_>]) -> Result<Vec<Token>, AllocError>
+fn titles(alloc: Global, sections: &[Section<'_>]) -> Result<Vec<Token>, OutOfMemory>
     ensures { IfOk result (λ found. (text : List ℕ) → tokens_view text found.items ≡ titles_of (sections_view text sections.now)) }
 {
     let mut found = Vec::with_capacity(alloc, sections.len())?;
@@ -160,7 +161,7 @@ fn section_labels(
 }
 
 /// Puts a table last.
-fn push_table(tables: &mut Vec<NameTable>, names: NameTable) -> Result<(), AllocError>
+fn push_table(tables: &mut Vec<NameTable>, names: NameTable) -> Result<(), OutOfMemory>
     ensures { OnOk result (tables.new.items ≡ tables.old.items ++ names ∷ []) }
 {
     tables.push(names)?;
@@ -197,7 +198,7 @@ fn unknown_jump(
     text: &[u8],
     section: &Section<'_>,
     labels: &NameTable,
-) -> Result<Option<Fault>, AllocError>
+) -> Result<Option<Fault>, OutOfMemory>
     requires { labels.now ≡ names_in (labels_in (section_view text.now section.now)) }
     ensures { IfOk result (λ fault.
         fault ≡ head_of (unknown UnknownLabel (labels_in (section_view text.now section.now)) (jumps_in (section_view text.now section.now)))) }
@@ -235,7 +236,7 @@ fn unknown_callee(
     text: &[u8],
     section: &Section<'_>,
     procedures: &NameTable,
-) -> Result<Option<Fault>, AllocError>
+) -> Result<Option<Fault>, OutOfMemory>
     ensures { (known : List Word) → procedures.now ≡ names_in known
         → IfOk result (λ fault. fault ≡ head_of (unknown UnknownProcedure known (callees_in (section_view text.now section.now)))) }
 {
@@ -272,7 +273,7 @@ fn repeated_callee(
     found: &mut Vec<Token>,
     text: &[u8],
     section: &Section<'_>,
-) -> Result<Option<Fault>, AllocError>
+) -> Result<Option<Fault>, OutOfMemory>
     ensures { IfOk result (λ fault.
         fault ≡ head_of (flat_map (λ c. repeated DuplicateCallee [] (callees_of c)) (statements_of (section_view text.now section.now).body))) }
 {

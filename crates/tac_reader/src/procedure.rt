@@ -12,11 +12,12 @@ ghost use Rattle.tac_reader.specs.Sections.{labels_in, only_name, statements_of,
 ghost use Rattle.tac_program.specs.Sound.{IsSound};
 ghost use Rattle.tac_lines.specs.code.Views.{tokens_view};
 
+use crate::OutOfMemory;
 use crate::build::{Names, Progress, kind};
 use crate::cursor::LineCursor;
 use crate::occurrences::{Occurrence, Variables};
 use crate::section::Section;
-use std::alloc::{AllocError, Global};
+use std::alloc::Global;
 use tac_lines::{
     Lines, Role, Statement, Token, TokenKind, cells, counted, has_only_variables, stop_of,
 };
@@ -46,7 +47,7 @@ fn statement(
     cursor: &mut LineCursor<'_>,
     formed: Statement<'_>,
     progress: &mut Progress,
-) -> Result<Stmt, AllocError>
+) -> Result<Stmt, OutOfMemory>
     requires { names.variables.text.now ≡ cursor.old }
     ensures statement { IfOk result (λ s. s ≡ statement_of cursor.old (names_view names.entry) (tokens_view cursor.old formed.entry.tokens.now)) }
     ensures text { cursor.new ≡ cursor.old }
@@ -68,7 +69,7 @@ fn statements(
     cursor: &mut LineCursor<'_>,
     lines: Lines<'_>,
     progress: &mut Progress,
-) -> Result<Vec<Stmt>, AllocError>
+) -> Result<Vec<Stmt>, OutOfMemory>
     requires { names.variables.text.now ≡ cursor.old }
     ensures statements { IfOk result
         (λ stmts. stmts.items ≡ map (statement_of cursor.old (names_view names.entry)) (statements_of (lines_view cursor.old lines.entry))) }
@@ -85,7 +86,7 @@ fn statements(
 }
 
 /// Appends so many labels for one place, numbered on.
-fn push_labels(labels: &mut Vec<Label>, count: usize, place: u32) -> Result<(), AllocError>
+fn push_labels(labels: &mut Vec<Label>, count: usize, place: u32) -> Result<(), OutOfMemory>
     ensures { OnOk result (labels.new.items ≡ labels.old.items ++ labels_at (length labels.old.items) place count) }
 {
     for _ in 0..count {
@@ -96,7 +97,7 @@ fn push_labels(labels: &mut Vec<Label>, count: usize, place: u32) -> Result<(), 
 }
 
 /// The labels of the lines, of which there are so many: by number, each with its place.
-fn section_labels(alloc: Global, count: u32, lines: Lines<'_>) -> Result<Vec<Label>, AllocError>
+fn section_labels(alloc: Global, count: u32, lines: Lines<'_>) -> Result<Vec<Label>, OutOfMemory>
     ensures { IfOk result (λ labels. (text : List ℕ) → labels.items ≡ labels_from 0 (label_places 0 (lines_view text lines.entry))) }
 {
     let mut labels = Vec::with_capacity(alloc, count as usize)?;
@@ -121,7 +122,7 @@ fn procedure(
     labels: NameTable,
     cursor: &mut LineCursor<'_>,
     progress: &mut Progress,
-) -> Result<Proc, AllocError>
+) -> Result<Proc, OutOfMemory>
     requires text { tables.variables.text.now ≡ cursor.old }
     requires labels { labels ≡ names_in (labels_in (section_view cursor.old section)) }
     ensures procedure { IfOk result (λ p.
@@ -144,7 +145,7 @@ fn procedures(
     tables: Tables<'_>,
     sections: &[Section<'_>],
     labels: Vec<NameTable>,
-) -> Result<Vec<Proc>, AllocError>
+) -> Result<Vec<Proc>, OutOfMemory>
     requires short { length tables.variables.text.now + 1 < 2 ^ 32 }
     requires labels { labels.items ≡ map (λ s. names_in (labels_in s)) (sections_view tables.variables.text.now sections.now) }
     ensures { IfOk result (λ procs. procs.items ≡ procedures_from tables.entry.variables.text.now tables.entry.procedures.now
@@ -182,7 +183,7 @@ pub fn program(
     labels: Vec<NameTable>,
     variables: NameTable,
     occurrences: Vec<Occurrence>,
-) -> Result<Program, AllocError>
+) -> Result<Program, OutOfMemory>
     requires short { length text.now + 1 < 2 ^ 32 }
     requires labels { labels.items ≡ map (λ s. names_in (labels_in s)) (sections_view text.now sections.now) }
     requires numbered { All (IsNumberedIn text.now variables) occurrences.items }
@@ -213,7 +214,7 @@ fn note_names(
     occurrences: &mut Vec<Occurrence>,
     text: &[u8],
     tokens: &[Token],
-) -> Result<(), AllocError>
+) -> Result<(), OutOfMemory>
     requires { All (IsNumberedIn text.now table.old) occurrences.old.items }
     ensures noted { OnOk result (table.new ≡ fold noted table.old (names_in (flat_map only_name (tokens_view text.now tokens.now)))) }
     ensures numbered { OnOk result (All (IsNumberedIn text.now table.new) occurrences.new.items) }
@@ -240,7 +241,7 @@ fn note_statement(
     text: &[u8],
     statement: Statement<'_>,
     found: &mut Vec<Token>,
-) -> Result<(), AllocError>
+) -> Result<(), OutOfMemory>
     requires { All (IsNumberedIn text.now table.old) occurrences.old.items }
     ensures noted { OnOk result (table.new ≡ fold noted table.old (names_in (variables_of (tokens_view text.now statement.entry.tokens.now)))) }
     ensures numbered { OnOk result (All (IsNumberedIn text.now table.new) occurrences.new.items) }
@@ -267,7 +268,7 @@ fn note_lines(
     text: &[u8],
     lines: Lines<'_>,
     found: &mut Vec<Token>,
-) -> Result<(), AllocError>
+) -> Result<(), OutOfMemory>
     requires { All (IsNumberedIn text.now table.old) occurrences.old.items }
     ensures noted { OnOk result
         (table.new ≡ fold noted table.old (names_in (flat_map variables_of (statements_of (lines_view text.now lines.entry))))) }
@@ -289,7 +290,7 @@ pub fn variables(
     seeds: &mut NameSeeds<'_>,
     text: &[u8],
     sections: &[Section<'_>],
-) -> Result<(NameTable, Vec<Occurrence>), AllocError>
+) -> Result<(NameTable, Vec<Occurrence>), OutOfMemory>
     ensures table { IfOk result (λ found. found.0 ≡ variables_in (sections_view text.now sections.now)) }
     ensures numbered { IfOk result (λ found. All (IsNumberedIn text.now found.0) (found.1).items) }
 {

@@ -42,7 +42,7 @@ fn column_of(before: &[u8]) -> u32
 }
 
 /// The refusal of a fault: its place as line and column.
-fn located(text: &[u8], fault: Fault) -> Refusal
+fn located_refusal(text: &[u8], fault: Fault) -> Refusal
     requires { length text.now < 2 ^ 31 }
     ensures { result ≡ refusal_at text.now fault }
 {
@@ -56,7 +56,7 @@ fn located(text: &[u8], fault: Fault) -> Refusal
 }
 
 /// Stops at a fault.
-fn refuse(found: Option<Fault>) -> Result<(), Stop>
+fn refuse_fault(found: Option<Fault>) -> Result<(), Stop>
     ensures ok { OnOk result (found ≡ None) }
     ensures fault { IfErr result (IfFault (λ f. found ≡ Some f)) }
 {
@@ -84,8 +84,8 @@ fn check_names(
     check_jumps(alloc, text, sections, &labels)?;
     check_callees(alloc, text, sections, &procedures)?;
     check_repeated_callees(alloc, text, sections)?;
-    refuse(check_main(&procedures))?;
-    refuse(check_count(sections, limits))?;
+    refuse_fault(check_main(&procedures))?;
+    refuse_fault(check_count(sections, limits))?;
     Ok((procedures, labels))
 }
 
@@ -143,7 +143,7 @@ pub fn read_within(alloc: Global, text: &[u8], limits: Limits) -> Result<Program
     }
     match read_checked(alloc, text, limits) {
         Ok(program) => Ok(program),
-        Err(Stop::Fault(fault)) => Err(ReadFault::Refused(located(text, fault))),
+        Err(Stop::Fault(fault)) => Err(ReadFault::Refused(located_refusal(text, fault))),
         Err(Stop::OutOfMemory) => Err(ReadFault::OutOfMemory),
     }
 }

@@ -9,7 +9,8 @@ ghost use Rattle.tac_reader.specs.Sections.{sections_in, statements_of};
 ghost use Rattle.tac_lines.specs.code.Views.{tokens_view};
 ghost use Rattle.tac_lines.specs.declared.lexed.LineRange.{LineRange};
 
-use std::alloc::{AllocError, Global};
+use crate::OutOfMemory;
+use std::alloc::Global;
 use tac_lines::lex::{is_end, is_proc};
 use tac_lines::{Lines, Role, Token, cells, label_at};
 
@@ -41,7 +42,7 @@ fn inner_lines<'a>(lines: Lines<'a>, first: usize) -> Lines<'a>
 }
 
 /// The procedures in text order: one for each `proc` line, with the lines up to the next `proc` or `end`.
-pub fn sections<'a>(alloc: Global, lines: Lines<'a>) -> Result<Vec<Section<'a>>, AllocError>
+pub fn sections<'a>(alloc: Global, lines: Lines<'a>) -> Result<Vec<Section<'a>>, OutOfMemory>
     ensures { IfOk result (λ found. (text : List ℕ) → sections_view text found.items ≡ sections_in (lines_view text lines.entry)) }
 {
     let mut found = Vec::new(alloc);
@@ -60,7 +61,7 @@ pub fn sections<'a>(alloc: Global, lines: Lines<'a>) -> Result<Vec<Section<'a>>,
 }
 
 /// Appends the labels of a line.
-fn line_labels(found: &mut Vec<Token>, line: &[Token]) -> Result<(), AllocError>
+fn line_labels(found: &mut Vec<Token>, line: &[Token]) -> Result<(), OutOfMemory>
     ensures kept { take (vec_len found.old) found.new.items ≡ found.old.items }
     ensures appended { OnOk result
         ((text : List ℕ) → tokens_view text found.new.items ≡ tokens_view text found.old.items ++ labels_of (tokens_view text line.now)) }
@@ -74,7 +75,7 @@ fn line_labels(found: &mut Vec<Token>, line: &[Token]) -> Result<(), AllocError>
 }
 
 /// Appends all labels of the lines. What is found already stays, also where memory runs out.
-pub fn labels(found: &mut Vec<Token>, lines: Lines<'_>) -> Result<(), AllocError>
+pub fn labels(found: &mut Vec<Token>, lines: Lines<'_>) -> Result<(), OutOfMemory>
     ensures kept { take (vec_len found.old) found.new.items ≡ found.old.items }
     ensures appended { OnOk result
         ((text : List ℕ) → tokens_view text found.new.items ≡ tokens_view text found.old.items ++ flat_map labels_of (lines_view text lines.entry)) }
@@ -92,7 +93,7 @@ pub fn line_cells(
     role: Role,
     lines: Lines<'_>,
     at: usize,
-) -> Result<(), AllocError>
+) -> Result<(), OutOfMemory>
     requires { at < length lines.ranges.now }
     ensures kept { take (vec_len found.old) found.new.items ≡ found.old.items }
     ensures appended { OnOk result ((text : List ℕ) (r : LineRange) → tokens_view text found.new.items ≡ tokens_view text found.old.items ++ in_slot
@@ -107,7 +108,11 @@ pub fn line_cells(
 
 /// Appends the tokens of the lines' statements that stand in a place of that role. What is found
 /// already stays, also where memory runs out.
-pub fn section_cells(found: &mut Vec<Token>, role: Role, lines: Lines<'_>) -> Result<(), AllocError>
+pub fn section_cells(
+    found: &mut Vec<Token>,
+    role: Role,
+    lines: Lines<'_>,
+) -> Result<(), OutOfMemory>
     ensures kept { take (vec_len found.old) found.new.items ≡ found.old.items }
     ensures appended { OnOk result ((text : List ℕ) → tokens_view text found.new.items ≡ tokens_view text found.old.items
         ++ flat_map (λ statement. in_slot (role_test role) (cells_of statement)) (statements_of (lines_view text lines.entry))) }

@@ -1,9 +1,11 @@
 ghost use Rattle.std.specs.Prelude.{◌≡◌};
 ghost use Rattle.tac_reader.specs.Parses.{program_of};
 
-use std::alloc::{AllocError, Global};
+use std::alloc::Global;
 use std::process::Abort;
-use tac_reader::{Label, Limits, Program, ReadFault, Span, Stmt, listing, read, read_within};
+use tac_reader::{
+    Label, Limits, OutOfMemory, Program, ReadFault, Span, Stmt, listing, read, read_within,
+};
 use worked_programs::spacing::TEXT as SPACING;
 use worked_programs::{listed, recursion, refused, smallest};
 
@@ -61,16 +63,16 @@ fn listed_within_large(alloc: Global, text: &[u8]) -> Result<Vec<u8>, ReadFault>
 }
 
 /// The listing of a program, or the message of why the text is none.
-fn told(alloc: Global, listed: Result<Vec<u8>, ReadFault>) -> Result<String, AllocError> {
+fn told(alloc: Global, listed: Result<Vec<u8>, ReadFault>) -> Result<String, OutOfMemory> {
     match listed {
         Ok(listed) => String::from_utf8_lossy(alloc, listed.as_slice()),
-        Err(ReadFault::OutOfMemory) => Err(AllocError),
+        Err(ReadFault::OutOfMemory) => Err(OutOfMemory),
         Err(fault) => fault.to_string(alloc),
     }
 }
 
 /// What is told of a text that is read.
-fn answer(alloc: Global, text: &[u8]) -> Result<String, AllocError> {
+fn answer(alloc: Global, text: &[u8]) -> Result<String, OutOfMemory> {
     told(alloc, listed(alloc, text))
 }
 
@@ -80,7 +82,11 @@ fn same(rt: &impl Abort, tried: &str, row: usize, got: &str, want: &str) {
 }
 
 /// Each text has the answer beside it.
-fn check_answers(rt: &impl Abort, alloc: Global, rows: &[(&[u8], &str)]) -> Result<(), AllocError> {
+fn check_answers(
+    rt: &impl Abort,
+    alloc: Global,
+    rows: &[(&[u8], &str)],
+) -> Result<(), OutOfMemory> {
     for (row, (text, want)) in rows.iter().enumerate() {
         same(rt, "texts", row, answer(alloc, text)?.as_str(), want);
     }
@@ -88,7 +94,7 @@ fn check_answers(rt: &impl Abort, alloc: Global, rows: &[(&[u8], &str)]) -> Resu
 }
 
 /// The text is the listing of its own program.
-fn check_listing(rt: &impl Abort, alloc: Global, text: &str) -> Result<(), AllocError> {
+fn check_listing(rt: &impl Abort, alloc: Global, text: &str) -> Result<(), OutOfMemory> {
     same(
         rt,
         "a listing",
@@ -100,7 +106,7 @@ fn check_listing(rt: &impl Abort, alloc: Global, text: &str) -> Result<(), Alloc
 }
 
 #[test]
-fn refuses_lines(rt: HostRuntime) -> Result<(), AllocError> {
+fn refuses_lines(rt: HostRuntime) -> Result<(), OutOfMemory> {
     check_answers(&rt, rt.alloc(), refused::LINES)
 }
 
@@ -141,17 +147,17 @@ const LONG_LINES: [(&[u8], &str); 8] = [
 ];
 
 #[test]
-fn judges_long_lines(rt: HostRuntime) -> Result<(), AllocError> {
+fn judges_long_lines(rt: HostRuntime) -> Result<(), OutOfMemory> {
     check_answers(&rt, rt.alloc(), &LONG_LINES)
 }
 
 #[test]
-fn refuses_names(rt: HostRuntime) -> Result<(), AllocError> {
+fn refuses_names(rt: HostRuntime) -> Result<(), OutOfMemory> {
     check_answers(&rt, rt.alloc(), refused::NAMES)
 }
 
 #[test]
-fn refuses_bytes(rt: HostRuntime) -> Result<(), AllocError> {
+fn refuses_bytes(rt: HostRuntime) -> Result<(), OutOfMemory> {
     check_answers(&rt, rt.alloc(), refused::BYTES)
 }
 
@@ -161,7 +167,7 @@ fn answer_of_parts(
     before: &[u8],
     middle: &[u8],
     after: &[u8],
-) -> Result<String, AllocError> {
+) -> Result<String, OutOfMemory> {
     let mut text = before.to_vec(alloc)?;
     text.extend_from_slice(middle)?;
     text.extend_from_slice(after)?;
@@ -195,7 +201,7 @@ fn check_around(
     alloc: Global,
     rows: &[(&[u8], &[u8], &str)],
     middles: &[(&str, &[u8])],
-) -> Result<(), AllocError> {
+) -> Result<(), OutOfMemory> {
     for (tried, middle) in middles {
         for (row, (before, after, want)) in rows.iter().enumerate() {
             let answer = answer_of_parts(alloc, before, middle, after)?;
@@ -208,12 +214,12 @@ fn check_around(
 const BYTES: [(&str, &[u8]); 3] = [("byte 0", &[0]), ("byte 13", &[13]), ("byte 255", &[255])];
 
 #[test]
-fn bytes_in_and_out_of_comments(rt: HostRuntime) -> Result<(), AllocError> {
+fn bytes_in_and_out_of_comments(rt: HostRuntime) -> Result<(), OutOfMemory> {
     check_around(&rt, rt.alloc(), &AROUND_A_BYTE, &BYTES)
 }
 
 #[test]
-fn refuses_every_beginning_of_the_smallest(rt: HostRuntime) -> Result<(), AllocError> {
+fn refuses_every_beginning_of_the_smallest(rt: HostRuntime) -> Result<(), OutOfMemory> {
     check_answers(&rt, rt.alloc(), refused::BEGINNINGS)?;
     let rows = [
         (b"proc main\nend".as_slice(), smallest::TEXT),
@@ -243,23 +249,23 @@ const AROUND_A_LONG_NAME: [(&[u8], &[u8], &str); 4] = [
 ];
 
 /// A program with names of 64 bytes.
-fn longest_names(alloc: Global) -> Result<String, AllocError> {
+fn longest_names(alloc: Global) -> Result<String, OutOfMemory> {
     format!(in alloc; "proc main\n{NAME_64}:\n  {NAME_64} = 1\nend\nproc {NAME_64}\nend\n")
 }
 
-fn check_longest_names(rt: &impl Abort, alloc: Global) -> Result<(), AllocError> {
+fn check_longest_names(rt: &impl Abort, alloc: Global) -> Result<(), OutOfMemory> {
     check_listing(rt, alloc, longest_names(alloc)?.as_str())
 }
 
 #[test]
-fn refuses_long_names(rt: HostRuntime) -> Result<(), AllocError> {
+fn refuses_long_names(rt: HostRuntime) -> Result<(), OutOfMemory> {
     let middles = [("long names", NAME_64.as_bytes())];
     check_around(&rt, rt.alloc(), &AROUND_A_LONG_NAME, &middles)?;
     check_longest_names(&rt, rt.alloc())
 }
 
 /// The procedure `main`, and this many others.
-fn procedures(alloc: Global, others: u32) -> Result<String, AllocError> {
+fn procedures(alloc: Global, others: u32) -> Result<String, OutOfMemory> {
     let mut text = format!(in alloc; "proc main\nend\n")?;
     for p in 0..others {
         write!(text, "proc p{p}\nend\n")?;
@@ -268,12 +274,12 @@ fn procedures(alloc: Global, others: u32) -> Result<String, AllocError> {
 }
 
 /// The answer of this many procedures beside `main`.
-fn answer_of_procedures(alloc: Global, others: u32) -> Result<String, AllocError> {
+fn answer_of_procedures(alloc: Global, others: u32) -> Result<String, OutOfMemory> {
     answer(alloc, procedures(alloc, others)?.as_bytes())
 }
 
 /// The procedure `main`, and this many line feeds.
-fn lines_behind(alloc: Global, lines: u32) -> Result<String, AllocError> {
+fn lines_behind(alloc: Global, lines: u32) -> Result<String, OutOfMemory> {
     let mut text = procedures(alloc, 0)?;
     for _ in 0..lines {
         text.push('\n')?;
@@ -282,7 +288,7 @@ fn lines_behind(alloc: Global, lines: u32) -> Result<String, AllocError> {
 }
 
 /// The procedure `main` and this many line feeds have this answer.
-fn check_lines(rt: &impl Abort, alloc: Global, lines: u32, want: &str) -> Result<(), AllocError> {
+fn check_lines(rt: &impl Abort, alloc: Global, lines: u32, want: &str) -> Result<(), OutOfMemory> {
     let text = lines_behind(alloc, lines)?;
     same(
         rt,
@@ -295,7 +301,7 @@ fn check_lines(rt: &impl Abort, alloc: Global, lines: u32, want: &str) -> Result
 }
 
 #[test]
-fn counts_procedures_and_bytes(rt: HostRuntime) -> Result<(), AllocError> {
+fn counts_procedures_and_bytes(rt: HostRuntime) -> Result<(), OutOfMemory> {
     let alloc = rt.alloc();
     check_listing(&rt, alloc, procedures(alloc, 255)?.as_str())?;
     let over = answer_of_procedures(alloc, 256)?;
@@ -316,7 +322,7 @@ fn check_within_large(
     alloc: Global,
     text: &[u8],
     want: &str,
-) -> Result<(), AllocError> {
+) -> Result<(), OutOfMemory> {
     let answer = told(alloc, listed_within_large(alloc, text))?;
     same(rt, "large limits", text.len(), answer.as_str(), want);
     Ok(())
@@ -327,13 +333,13 @@ fn check_procedures_within_large(
     rt: &impl Abort,
     alloc: Global,
     others: u32,
-) -> Result<(), AllocError> {
+) -> Result<(), OutOfMemory> {
     let text = procedures(alloc, others)?;
     check_within_large(rt, alloc, text.as_bytes(), text.as_str())
 }
 
 #[test]
-fn counts_procedures_within_large_limits(rt: HostRuntime) -> Result<(), AllocError> {
+fn counts_procedures_within_large_limits(rt: HostRuntime) -> Result<(), OutOfMemory> {
     let alloc = rt.alloc();
     check_procedures_within_large(&rt, alloc, 256)?;
     check_procedures_within_large(&rt, alloc, 16_383)?;
@@ -348,7 +354,7 @@ fn counts_procedures_within_large_limits(rt: HostRuntime) -> Result<(), AllocErr
 }
 
 /// This many blanks.
-fn blanks(alloc: Global, count: usize) -> Result<Vec<u8>, AllocError> {
+fn blanks(alloc: Global, count: usize) -> Result<Vec<u8>, OutOfMemory> {
     vec![in alloc; b' '; count]
 }
 
@@ -358,12 +364,12 @@ fn check_blanks(
     alloc: Global,
     count: usize,
     want: &str,
-) -> Result<(), AllocError> {
+) -> Result<(), OutOfMemory> {
     check_within_large(rt, alloc, blanks(alloc, count)?.as_slice(), want)
 }
 
 #[test]
-fn counts_bytes_within_large_limits(rt: HostRuntime) -> Result<(), AllocError> {
+fn counts_bytes_within_large_limits(rt: HostRuntime) -> Result<(), OutOfMemory> {
     let alloc = rt.alloc();
     let lines = lines_behind(alloc, 1_048_563)?;
     check_within_large(&rt, alloc, lines.as_bytes(), "proc main\nend\n")?;
@@ -383,31 +389,31 @@ const LISTED: &[(&[u8], &str)] = &[
 ];
 
 #[test]
-fn lists(rt: HostRuntime) -> Result<(), AllocError> {
+fn lists(rt: HostRuntime) -> Result<(), OutOfMemory> {
     check_answers(&rt, rt.alloc(), LISTED)?;
     check_answers(&rt, rt.alloc(), listed::LAYOUTS)
 }
 
 /// Whether the text is the listing of its own program.
-fn is_listing(alloc: Global, text: &[u8]) -> Result<bool, AllocError> {
+fn is_listing(alloc: Global, text: &[u8]) -> Result<bool, OutOfMemory> {
     match listed(alloc, text) {
         Ok(again) => Ok(again.as_slice() == text),
-        Err(ReadFault::OutOfMemory) => Err(AllocError),
+        Err(ReadFault::OutOfMemory) => Err(OutOfMemory),
         Err(ReadFault::Refused(_)) => Ok(false),
     }
 }
 
 /// Whether a text that is a program lists to a text that lists to itself.
-fn lists_to_itself(alloc: Global, text: &[u8]) -> Result<bool, AllocError> {
+fn lists_to_itself(alloc: Global, text: &[u8]) -> Result<bool, OutOfMemory> {
     match listed(alloc, text) {
         Ok(first) => is_listing(alloc, first.as_slice()),
-        Err(ReadFault::OutOfMemory) => Err(AllocError),
+        Err(ReadFault::OutOfMemory) => Err(OutOfMemory),
         Err(ReadFault::Refused(_)) => Ok(true),
     }
 }
 
 #[test]
-fn reads_its_own_listings(rt: HostRuntime) -> Result<(), AllocError> {
+fn reads_its_own_listings(rt: HostRuntime) -> Result<(), OutOfMemory> {
     let alloc = rt.alloc();
     for text in [FORMS, recursion::TEXT.as_bytes(), SPACING] {
         for stop in 0..text.len() + 1 {
@@ -493,7 +499,7 @@ fn numbers_and_spans(rt: HostRuntime) -> Result<(), ReadFault> {
 }
 
 /// A program of these labels on one line, and this one behind them.
-fn labelled(alloc: Global, labels: &[u8], last: &[u8]) -> Result<Vec<u8>, AllocError> {
+fn labelled(alloc: Global, labels: &[u8], last: &[u8]) -> Result<Vec<u8>, OutOfMemory> {
     let mut text = Vec::new(alloc);
     text.extend_from_slice(b"proc main\n")?;
     text.extend_from_slice(labels)?;
@@ -503,12 +509,12 @@ fn labelled(alloc: Global, labels: &[u8], last: &[u8]) -> Result<Vec<u8>, AllocE
 }
 
 /// The answer of the labels that fall together, and this one behind them.
-fn answer_of_labelled(alloc: Global, last: &[u8]) -> Result<String, AllocError> {
+fn answer_of_labelled(alloc: Global, last: &[u8]) -> Result<String, OutOfMemory> {
     answer(alloc, labelled(alloc, FALLING_TOGETHER, last)?.as_slice())
 }
 
 #[test]
-fn names_that_fall_together(rt: HostRuntime) -> Result<(), AllocError> {
+fn names_that_fall_together(rt: HostRuntime) -> Result<(), OutOfMemory> {
     let listed = answer_of_labelled(rt.alloc(), b"")?;
     // 270 labels of five bytes, each on a line of its own, between `proc main` and `end`.
     assert_eq!(rt; listed.len(), 10 + 270 * 7 + 4);
@@ -516,7 +522,7 @@ fn names_that_fall_together(rt: HostRuntime) -> Result<(), AllocError> {
 }
 
 #[test]
-fn a_name_twice_among_them(rt: HostRuntime) -> Result<(), AllocError> {
+fn a_name_twice_among_them(rt: HostRuntime) -> Result<(), OutOfMemory> {
     let answer = answer_of_labelled(rt.alloc(), b"aaclN:")?;
     same(
         &rt,

@@ -96,3 +96,12 @@ filled_on tells points count first start mid end old now new low high one two = 
         | inr apart ↦ inr (elim apart [ inl below ↦ inl below | inr above ↦ inr (omega (arith, above, high)) ])
       ]);
 }
+
+-- words of which none is filled
+pub no_group : (tells : ℕ → ℕ → ℕ → Type 0) (points count first start : ℕ) (words : List ℕ)
+    → AreFilled tells points count first start start words words
+no_group tells points count first start words = record {
+  size = refl;
+  filled = λ point w there small from until. absurd (omega (arith, from, until));
+  kept = λ point w small outside. refl;
+}

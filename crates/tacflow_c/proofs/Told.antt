@@ -1,5 +1,5 @@
 -- When all words are filled, the facts are told.
-use Rattle.std.proofs.Common.{◌≡◌, ◌↔◌, ℕ, ◌+◌, ◌-◌, ◌*◌, ◌/◌, ◌<◌, Bool, true, false, if◌then◌else◌, List, length, refl, subst, ◌∙◌, arith}
+use Rattle.std.proofs.Common.{◌≡◌, ◌↔◌, ℕ, ◌+◌, ◌-◌, ◌*◌, ◌/◌, ◌<◌, Bool, true, false, if◌then◌else◌, List, length, refl, ◌∙◌, arith}
 use Rattle.bit_rows.specs.Words.{word_count}
 use Rattle.flow_graph.specs.Analyses.{HasPathAt}
 use Rattle.flow_graph.specs.Points.{point_count}
@@ -40,17 +40,3 @@ all_told program analysis from until lo hi paths old_flags flags old words range
   count = filled.size ∙ room;
   told = λ row place there small. filled.filled row place there small (omega arith) (omega (arith, small));
 }
-
--- the same words, of bits that are known by other names
-pub filled_as : (program : Program) (analysis : Analysis) (from lo lo_too hi hi_too rows count first start end : ℕ) (old new : List ℕ)
-    → lo ≡ lo_too → hi ≡ hi_too → AreFilled (IsRowWord program analysis from lo hi) rows count first start end old new
-    → AreFilled (IsRowWord program analysis from lo_too hi_too) rows count first start end old new
-filled_as program analysis from lo lo_too hi hi_too rows count first start end old new los his filled =
-    subst (λ n. AreFilled (IsRowWord program analysis from lo_too n) rows count first start end old new) his
-    (subst (λ n. AreFilled (IsRowWord program analysis from n hi) rows count first start end old new) los filled)
-
--- the same words, whose number is said otherwise
-pub filled_to : (tells : ℕ → ℕ → ℕ → Type 0) (rows count count_too first start end end_too : ℕ) (old new : List ℕ) → count ≡ count_too → end ≡ end_too
-    → AreFilled tells rows count first start end old new → AreFilled tells rows count_too first start end_too old new
-filled_to tells rows count count_too first start end end_too old new counts ends filled =
-    subst (λ n. AreFilled tells rows count_too first start n old new) ends (subst (λ n. AreFilled tells rows n first start end old new) counts filled)

@@ -7,7 +7,7 @@ use std::process::ExitCode;
 use std::thread::Threads;
 use std::{env, io};
 use text_pieces::{FromRead, ToWrite};
-use view_commands::{Options, line_of, run};
+use view_commands::{Options, Progress, Terminal, line_of, run};
 
 /// The program's name, which its lines begin with.
 const NAME: &str = "tacview";
@@ -16,7 +16,15 @@ const NAME: &str = "tacview";
 fn run_by<R: Threads + Sync>(rt: &HostRuntime, threads: &R, options: &Options) -> ExitCode {
     let mut source = FromRead::new(rt.stdin());
     let mut sink = ToWrite::new(rt.stdout());
-    match run(threads, rt.alloc(), &mut source, &mut sink, options) {
+    let progress = Progress::new(rt.alloc(), Terminal::of(*rt));
+    match run(
+        threads,
+        rt.alloc(),
+        &mut source,
+        &mut sink,
+        options,
+        &progress,
+    ) {
         Ok(()) => ExitCode::SUCCESS,
         Err(fault) => {
             let procedure = options.procedure.as_ref().map(|name| name.as_str());

@@ -6,7 +6,7 @@ use Rattle.std.proofs.lemmas.List.{append_cancel_left, take-append-drop}
 use Rattle.std.proofs.KnownBytes.{Appends-kept, Appends-nil, Appends-trans, Keeps-refl, Keeps-trans}
 use Rattle.std.specs.Io.KnownBytes.{Appends, Keeps, append_known}
 use Rattle.text_pieces.specs.Devices.{AppendsBeginning}
-use Rattle.text_pieces.specs.Pieces.{IsOpen, Outlet, Takes, faults_met, fresh}
+use Rattle.text_pieces.specs.Pieces.{IsOpen, Outlet, Takes, faults_met}
 
 -- ---- beginnings
 
@@ -58,10 +58,12 @@ none_met old new n m is whole counted below =
     omega (arith, subst (λ i. m ≡ n + faults_met i false) is (subst (λ j. m ≡ n + faults_met old j) whole counted), below)
 
 -- What is put behind what waits is taken.
-pub takes_waiting : (old new : Outlet) (text : List ℕ) → new.pushed ≡ old.pushed → new.failed ≡ old.failed → new.faults ≡ old.faults
+pub takes_waiting : (old new : Outlet) (text : List ℕ) → new.reference ≡ old.reference → new.pushed ≡ old.pushed → new.failed ≡ old.failed
+    → new.faults ≡ old.faults
     → new.waiting ≡ old.waiting ++ text
     → Takes old new text
-takes_waiting old new text pushed failed faults waiting = record {
+takes_waiting old new text reference pushed failed faults waiting = record {
+  same_reference = reference;
   beginning = λ _. (0, subst (λ p. Appends old.pushed p []) (sym pushed) (Appends-nil old.pushed));
   all = λ _ _. subst (λ p. Appends (append_known old.pushed old.waiting) (append_known p new.waiting) text) (sym pushed)
       (subst (λ w. Appends (append_known old.pushed old.waiting) (append_known old.pushed w) text) (sym waiting)
@@ -83,6 +85,7 @@ takes_waiting old new text pushed failed faults waiting = record {
 -- Where nothing is written, nothing is taken.
 pub takes_nothing : (at : Outlet) → Takes at at []
 takes_nothing at = record {
+  same_reference = refl;
   beginning = λ _. (0, Appends-nil at.pushed);
   all = λ _ _. Appends-nil (append_known at.pushed at.waiting);
   stays = λ is. (is, Keeps-refl at.pushed);
@@ -100,6 +103,7 @@ takes_then first second third text more one two = go second.failed refl
   where
     go : (broken : Bool) → second.failed ≡ broken → Takes first third (text ++ more)
     go true is = record {
+      same_reference = two.same_reference ∙ one.same_reference;
       beginning = λ whole.
           begin_kept _ _ _ _ (subst (AppendsBeginning _ _) (append_assoc first.waiting text more) (begin_longer _ _ _ more (one.beginning whole)))
           (two.stays is).1;
@@ -108,6 +112,7 @@ takes_then first second third text more one two = go second.failed refl
       counted = counted_then first.failed second.failed third.failed _ _ _ (λ b. (one.stays b).0) (λ b. (two.stays b).0) one.counted two.counted;
     }
     go false is = record {
+      same_reference = two.same_reference ∙ one.same_reference;
       beginning = λ whole. begin_further _ _ _ _ _ _ _ (one.beginning whole) (one.all whole is) (two.beginning is);
       all = λ whole intact. Appends-trans _ _ _ _ _ (one.all whole is) (two.all is intact);
       stays = λ broken. absurd (true≢false (sym (one.stays broken).0 ∙ is));
@@ -123,12 +128,12 @@ stays_open old new text is_open taken = go old.failed refl
     go false is whole = none_met old.failed new.failed old.faults new.faults is whole taken.counted (is_open is)
 
 -- What was taken from the beginning on, and then pushed: a beginning of it has gone out.
-pub begun : (held : Option (List ℕ)) (faults : ℕ) (start after ended : Outlet) (text : List ℕ) → start ≡ fresh held faults → Takes start after text
-    → Takes after ended []
-    → AppendsBeginning held ended.pushed text
-begun held faults start after ended text new taken last =
-    let all : Takes (fresh held faults) ended (text ++ []) = takes_then _ _ _ _ _ (subst (λ (o : Outlet). Takes o after text) new taken) last in
-    subst (AppendsBeginning held ended.pushed) (append-nil text) (all.beginning refl)
+pub begun : (start first after ended : Outlet) (text : List ℕ) → start ≡ first → first.waiting ≡ [] → first.failed ≡ false
+    → Takes start after text → Takes after ended []
+    → AppendsBeginning first.pushed ended.pushed text
+begun start first after ended text new none whole taken last =
+    let all : Takes first ended (text ++ []) = takes_then _ _ _ _ _ (subst (λ (o : Outlet). Takes o after text) new taken) last in
+    subst (AppendsBeginning first.pushed ended.pushed) (ap (λ w. w ++ (text ++ [])) none ∙ append-nil text) (all.beginning whole)
 
 -- The same text, written otherwise.
 pub takes_as : (old new : Outlet) (text same : List ℕ) → Takes old new text → text ≡ same → Takes old new same

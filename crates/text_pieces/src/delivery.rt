@@ -15,7 +15,7 @@ use std::alloc::Global;
 const PIECE: usize = 65_536;
 
 // Pushes a text in pieces as long as the buffer, and flushes.
-fn pass<T: Text, K: Sink>(text: &T, buffer: &mut [u8], sink: &mut K) -> Result<(), DeviceFault>
+fn pass_text<T: Text, K: Sink>(text: &T, buffer: &mut [u8], sink: &mut K) -> Result<(), DeviceFault>
     requires room { 0 < length buffer.old }
     requires below { K.faults sink.old < 2 ^ 32 - 1 }
     ensures written { OnOk result (Appends (K.contents sink.old) (K.contents sink.new) (T.bytes text.now)) }
@@ -46,7 +46,7 @@ pub fn deliver<T: Text, K: Sink>(alloc: Global, text: &T, sink: &mut K) -> Resul
     let Ok(mut buffer) = vec![in alloc; 0u8; PIECE] else {
         return Err(TransferFault::OutOfMemory);
     };
-    match pass(text, &mut buffer, sink) {
+    match pass_text(text, &mut buffer, sink) {
         Ok(()) => Ok(()),
         Err(DeviceFault) => Err(TransferFault::Device),
     }

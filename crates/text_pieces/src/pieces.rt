@@ -33,7 +33,7 @@ fn push_all<K: Sink>(sink: &mut K, bytes: &[u8]) -> Result<(), DeviceFault>
 }
 
 impl<'s, K: Sink> Pieces<'s, K> {
-    ghost use Rattle.text_pieces.specs.Pieces.{IsOpen, Takes, fresh, outlet};
+    ghost use Rattle.text_pieces.specs.Pieces.{CanWrite, Writes, fresh, outlet};
 
     /// A writer over a sink that has taken nothing yet. It pushes as many bytes at a time as the buffer has; what stands in the
     /// buffer is overwritten.
@@ -41,8 +41,7 @@ impl<'s, K: Sink> Pieces<'s, K> {
     /// The condition: the buffer has room.
     pub fn new(buffer: &'s mut [u8], sink: &'s mut K) -> Pieces<'s, K>
         requires { 0 < length buffer.old }
-        ensures same_reference { result.sink.ghost_name ≡ sink.entry.ghost_name }
-        ensures fresh { outlet K.contents K.faults result ≡ fresh (K.contents sink.old) (K.faults sink.old) }
+        ensures { outlet K.Sink result ≡ fresh K.Sink sink.entry }
     {
         Pieces {
             sink,
@@ -61,7 +60,7 @@ impl<'s, K: Sink> Pieces<'s, K> {
 
     // Puts bytes behind those that wait, where there is room for them.
     #[inline]
-    fn keep(&mut self, bytes: &[u8])
+    fn keep_bytes(&mut self, bytes: &[u8])
         requires { self.old.filled + length bytes.now ≤ length self.old.buffer.now }
         ensures same_reference { self.new.sink.ghost_name ≡ self.old.sink.ghost_name }
         ensures same_sink { self.new.sink.now ≡ self.old.sink.now }
@@ -75,9 +74,8 @@ impl<'s, K: Sink> Pieces<'s, K> {
 
     // Pushes what waits.
     fn push(&mut self)
-        requires { IsOpen (outlet K.contents K.faults self.old) }
-        ensures same_reference { self.new.sink.ghost_name ≡ self.old.sink.ghost_name }
-        ensures takes { Takes (outlet K.contents K.faults self.old) (outlet K.contents K.faults self.new) [] }
+        requires { CanWrite K.Sink self.old }
+        ensures writes { Writes K.Sink self.old self.new [] }
         ensures empty { self.new.filled ≡ 0 }
     {
         if !self.failed && push_all(self.sink, &self.buffer[..self.filled]).is_err() {
@@ -88,9 +86,8 @@ impl<'s, K: Sink> Pieces<'s, K> {
 
     // Pushes what waits where the buffer is full.
     fn make_room(&mut self)
-        requires { IsOpen (outlet K.contents K.faults self.old) }
-        ensures same_reference { self.new.sink.ghost_name ≡ self.old.sink.ghost_name }
-        ensures takes { Takes (outlet K.contents K.faults self.old) (outlet K.contents K.faults self.new) [] }
+        requires { CanWrite K.Sink self.old }
+        ensures writes { Writes K.Sink self.old self.new [] }
         ensures room { self.new.filled < length self.new.buffer.now }
     {
         if self.filled == self.buffer.len() {
@@ -101,15 +98,14 @@ impl<'s, K: Sink> Pieces<'s, K> {
     // Takes bytes for which there is no room at once.
     #[inline(never)]
     fn write_long(&mut self, bytes: &[u8])
-        requires { IsOpen (outlet K.contents K.faults self.old) }
-        ensures same_reference { self.new.sink.ghost_name ≡ self.old.sink.ghost_name }
-        ensures takes { Takes (outlet K.contents K.faults self.old) (outlet K.contents K.faults self.new) bytes.now }
+        requires { CanWrite K.Sink self.old }
+        ensures { Writes K.Sink self.old self.new bytes.now }
     {
         let mut taken = 0;
         while taken < bytes.len() {
             self.make_room();
             let count = (self.buffer.len() - self.filled).min(bytes.len() - taken);
-            self.keep(&bytes[taken..taken + count]);
+            self.keep_bytes(&bytes[taken..taken + count]);
             taken += count;
         }
     }
@@ -117,12 +113,11 @@ impl<'s, K: Sink> Pieces<'s, K> {
     /// Takes these bytes: they stand behind those that were taken before, and go out when the buffer is full or at the end.
     #[inline]
     pub fn write(&mut self, bytes: &[u8])
-        requires { IsOpen (outlet K.contents K.faults self.old) }
-        ensures same_reference { self.new.sink.ghost_name ≡ self.old.sink.ghost_name }
-        ensures takes { Takes (outlet K.contents K.faults self.old) (outlet K.contents K.faults self.new) bytes.now }
+        requires { CanWrite K.Sink self.old }
+        ensures { Writes K.Sink self.old self.new bytes.now }
     {
         if bytes.len() <= self.buffer.len() - self.filled {
-            self.keep(bytes);
+            self.keep_bytes(bytes);
         } else {
             self.write_long(bytes);
         }
@@ -130,10 +125,9 @@ impl<'s, K: Sink> Pieces<'s, K> {
 
     // Flushes the sink.
     fn flush(&mut self)
-        requires ready { IsOpen (outlet K.contents K.faults self.old) }
+        requires ready { CanWrite K.Sink self.old }
         requires empty { self.old.filled ≡ 0 }
-        ensures same_reference { self.new.sink.ghost_name ≡ self.old.sink.ghost_name }
-        ensures takes { Takes (outlet K.contents K.faults self.old) (outlet K.contents K.faults self.new) [] }
+        ensures writes { Writes K.Sink self.old self.new [] }
         ensures empty { self.new.filled ≡ 0 }
         ensures flushed { self.new.failed ≡ false → K.flushed self.new.sink.now ≡ true }
     {
@@ -144,9 +138,8 @@ impl<'s, K: Sink> Pieces<'s, K> {
 
     /// Pushes what waits, and flushes. The answer is a fault where any push was answered by one, or the flush is.
     pub fn end(&mut self) -> Result<(), DeviceFault>
-        requires { IsOpen (outlet K.contents K.faults self.old) }
-        ensures same_reference { self.new.sink.ghost_name ≡ self.old.sink.ghost_name }
-        ensures takes { Takes (outlet K.contents K.faults self.old) (outlet K.contents K.faults self.new) [] }
+        requires { CanWrite K.Sink self.old }
+        ensures writes { Writes K.Sink self.old self.new [] }
         ensures empty { self.new.filled ≡ 0 }
         ensures answer { self.new.failed ≡ is_err result }
         ensures flushed { OnOk result (K.flushed self.new.sink.now ≡ true) }

@@ -6,15 +6,16 @@ ghost use Rattle.text_pieces.specs.Devices.{faults_in};
 ghost use Rattle.text_pieces.specs.Pulls.{PullsUpTo};
 ghost use Rattle.text_pieces.specs.Transfers.{device_faults_in};
 
+use crate::OutOfMemory;
 use crate::device::{DeviceFault, Source};
 use crate::transfer::TransferFault;
-use std::alloc::{AllocError, Global};
+use std::alloc::Global;
 
 // How many bytes there is room for at first: a mebibyte, and one more, which shows that a text is longer.
 const FIRST: usize = 1_048_577;
 
 // Fills a beginning of the buffer: up to the source's end, or all of it.
-fn fill<S: Source>(source: &mut S, buf: &mut [u8]) -> Result<usize, DeviceFault>
+fn fill_buffer<S: Source>(source: &mut S, buf: &mut [u8]) -> Result<usize, DeviceFault>
     requires below { S.faults source.old < 2 ^ 32 - 1 }
     requires running { S.ended source.old ≡ false }
     ensures within { IfOk result (λ n. n ≤ length buf.new) }
@@ -35,7 +36,7 @@ fn fill<S: Source>(source: &mut S, buf: &mut [u8]) -> Result<usize, DeviceFault>
 }
 
 // Makes a text twice as long, and no longer than this, by zeros behind it. Its block has room for no more.
-fn lengthen(text: &mut Vec<u8>, most: usize) -> Result<(), AllocError>
+fn lengthen_text(text: &mut Vec<u8>, most: usize) -> Result<(), OutOfMemory>
     requires { length text.old.items ≤ most }
     ensures kept { OnOk result (take (length text.old.items) text.new.items ≡ text.old.items) }
     ensures length { OnOk result (length text.new.items ≡ min (length text.old.items * 2) most) }
@@ -63,7 +64,7 @@ fn fill_behind<S: Source>(
     ensures running { IfOk result (λ n. n ≡ length text.new.items → S.ended source.new ≡ false) }
     ensures faults { S.faults source.new ≡ S.faults source.old + faults_in result }
 {
-    let count = fill(source, &mut text[filled..])?;
+    let count = fill_buffer(source, &mut text[filled..])?;
     Ok(filled + count)
 }
 
@@ -85,7 +86,7 @@ fn fill_longer<S: Source>(
         return Err(TransferFault::Device);
     };
     while filled == text.len() && filled < most {
-        if lengthen(text, most).is_err() {
+        if lengthen_text(text, most).is_err() {
             return Err(TransferFault::OutOfMemory);
         }
         let Ok(longer) = fill_behind(source, text, filled) else {

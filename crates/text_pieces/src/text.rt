@@ -1,7 +1,7 @@
 // Texts that can be written in pieces.
 
-ghost use Rattle.std.specs.Prelude.{◌≡◌, ℕ, List};
-ghost use Rattle.text_pieces.specs.Pieces.{IsOpen, Takes, outlet};
+ghost use Rattle.std.specs.Prelude.{ℕ, List};
+ghost use Rattle.text_pieces.specs.Pieces.{CanWrite, Writes};
 
 use crate::device::Sink;
 use crate::pieces::Pieces;
@@ -12,9 +12,8 @@ pub trait Text {
 
     /// Writes the text.
     fn write<K: Sink>(&self, out: &mut Pieces<'_, K>)
-        requires { IsOpen (outlet K.contents K.faults out.old) }
-        ensures same_reference { out.new.sink.ghost_name ≡ out.old.sink.ghost_name }
-        ensures takes { Takes (outlet K.contents K.faults out.old) (outlet K.contents K.faults out.new) (bytes self.now) };
+        requires { CanWrite K.Sink out.old }
+        ensures { Writes K.Sink out.old out.new (bytes self.now) };
 }
 
 /// A text that stands in memory as it is.

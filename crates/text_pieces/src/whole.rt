@@ -2,10 +2,11 @@
 
 ghost use Rattle.std.specs.Prelude.{◌≡◌, Some, IfOk, true};
 
+use crate::OutOfMemory;
 use crate::delivery::deliver;
 use crate::device::{DeviceFault, Sink};
 use crate::text::Text;
-use std::alloc::{AllocError, Global};
+use std::alloc::Global;
 
 // A sink that keeps what is pushed. A push for which memory is refused is its fault.
 #[derive(Drop)]
@@ -41,7 +42,7 @@ impl Sink for TextSink {
 }
 
 /// A text made whole. Its room grows by doubling. Fails only where memory runs out.
-pub fn whole_text<T: Text>(alloc: Global, text: &T) -> Result<Vec<u8>, AllocError>
+pub fn whole_text<T: Text>(alloc: Global, text: &T) -> Result<Vec<u8>, OutOfMemory>
     ensures { IfOk result (λ whole. whole.items ≡ T.bytes text.now) }
 {
     let mut sink = TextSink {
@@ -50,6 +51,6 @@ pub fn whole_text<T: Text>(alloc: Global, text: &T) -> Result<Vec<u8>, AllocErro
     };
     match deliver(alloc, text, &mut sink) {
         Ok(()) => Ok(sink.text),
-        Err(_) => Err(AllocError),
+        Err(_) => Err(OutOfMemory),
     }
 }

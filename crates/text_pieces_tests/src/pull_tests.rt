@@ -1,14 +1,14 @@
 // Texts that are pulled into a block that grows.
 
 use failing_streams::Pieces;
-use std::alloc::{AllocError, Global};
+use std::alloc::Global;
 use std::io::ErrorKind;
 use std::process::Abort;
 use std::test::Fail;
-use text_pieces::{FromRead, Source, pull_all};
+use text_pieces::{FromRead, OutOfMemory, Source, pull_all};
 
 // A text whose bytes tell which block they came into.
-fn long_text(alloc: Global) -> Result<Vec<u8>, AllocError> {
+fn long_text(alloc: Global) -> Result<Vec<u8>, OutOfMemory> {
     let mut text = vec![in alloc; b'a'; 1_048_577]?;
     text.resize(2_097_154, b'b')?;
     text.resize(3_000_000, b'c')?;

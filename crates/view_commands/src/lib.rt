@@ -5,10 +5,14 @@
 mod facts;
 mod lines;
 mod options;
+mod progress;
 mod runs;
+mod terminal;
 mod views;
 mod words;
 
 pub use lines::line_of;
 pub use options::{Format, Options};
+pub use progress::{Count, Progress, progress_words};
 pub use runs::run;
+pub use terminal::Terminal;

@@ -4,8 +4,8 @@ ghost use Rattle.std.specs.Prelude.{◌≡◌, ◌<◌, ◌++◌, IfOk, OnOk, So
 ghost use Rattle.flow_runs.specs.declared.fault.Fault.TheVariants as fault;
 ghost use Rattle.view_commands.specs.Lines.{escaped, escaped_byte, hex_digit, is_plain, line_told};
 
-use flow_runs::{Fault, fault_line, line_with};
-use std::alloc::{AllocError, Global};
+use flow_runs::{Fault, OutOfMemory, fault_line, line_with};
+use std::alloc::Global;
 
 fn is_plain(byte: u8) -> bool
     ensures { result ≡ is_plain byte }
@@ -21,7 +21,7 @@ fn hex_digit(n: u8) -> u8
 }
 
 // Puts a byte behind what is there, or what stands for it.
-fn push_escaped_byte(text: &mut Vec<u8>, byte: u8) -> Result<(), AllocError>
+fn push_escaped_byte(text: &mut Vec<u8>, byte: u8) -> Result<(), OutOfMemory>
     ensures { OnOk result (text.new.items ≡ text.old.items ++ escaped_byte byte) }
 {
     if is_plain(byte) {
@@ -31,7 +31,7 @@ fn push_escaped_byte(text: &mut Vec<u8>, byte: u8) -> Result<(), AllocError>
     }
 }
 
-fn push_escaped(text: &mut Vec<u8>, bytes: &[u8]) -> Result<(), AllocError>
+fn push_escaped(text: &mut Vec<u8>, bytes: &[u8]) -> Result<(), OutOfMemory>
     ensures { OnOk result (text.new.items ≡ text.old.items ++ escaped bytes.now) }
 {
     for byte in bytes {
@@ -40,7 +40,7 @@ fn push_escaped(text: &mut Vec<u8>, bytes: &[u8]) -> Result<(), AllocError>
     Ok(())
 }
 
-fn no_procedure_line(alloc: Global, name: &str) -> Result<Vec<u8>, AllocError>
+fn no_procedure_line(alloc: Global, name: &str) -> Result<Vec<u8>, OutOfMemory>
     ensures { IfOk result (λ line. line.items ≡ line_told (Some name.now) fault.NoProcedure) }
 {
     let mut rest = b": the program has no procedure ".to_vec(alloc)?;
@@ -52,7 +52,11 @@ fn no_procedure_line(alloc: Global, name: &str) -> Result<Vec<u8>, AllocError>
 /// The line on standard error that tells a fault, with its line feed; where a procedure of this name is not there, with the name,
 /// in which each byte that is no printed sign of ASCII, or is a backslash, is told as `\x` and two hexadecimal digits. Fails only
 /// where memory runs out.
-pub fn line_of(alloc: Global, procedure: Option<&str>, fault: &Fault) -> Result<Vec<u8>, AllocError>
+pub fn line_of(
+    alloc: Global,
+    procedure: Option<&str>,
+    fault: &Fault,
+) -> Result<Vec<u8>, OutOfMemory>
     ensures { IfOk result (λ line. line.items ≡ line_told (option_map (λ name. name.now) procedure.entry) fault.now) }
 {
     match (procedure, fault) {

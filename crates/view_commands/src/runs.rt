@@ -8,6 +8,8 @@ ghost use Rattle.view_commands.specs.Commands.{name_asked};
 ghost use Rattle.view_commands.specs.Views.{IsShown, LacksProcedure};
 
 use crate::options::Options;
+use crate::progress::Progress;
+use crate::views::GatedOptions;
 use flow_runs::Fault;
 use std::alloc::Global;
 use std::thread::Threads;
@@ -16,7 +18,7 @@ use text_pieces::{Sink, Source};
 /// Pulls the text until the source has ended or one byte more is in hand than the options' limits allow, makes the text of the
 /// options' format of it, with the facts and of the procedures that they name, pushes that and nothing else, in pieces of 65,536
 /// bytes, and flushes. All that it needs memory for it has before the first push. The facts are found by the options' workers, in
-/// slices of their width; what is written is the same for all of these.
+/// slices of their width, which the gate is told of; what is written is the same for all of these.
 ///
 /// The condition: the source has not ended, and both counts of faults are below `u32::MAX`.
 ///
@@ -31,6 +33,7 @@ pub fn run<R: Threads + Sync, S: Source, K: Sink>(
     source: &mut S,
     sink: &mut K,
     options: &Options,
+    gate: &Progress,
 ) -> Result<(), Fault>
     requires running { S.ended source.old ≡ false }
     requires source_below { S.faults source.old < 2 ^ 32 - 1 }
@@ -51,5 +54,5 @@ pub fn run<R: Threads + Sync, S: Source, K: Sink>(
     ensures source_faults { S.faults source.new ≡ S.faults source.old + read_faults_in result }
     ensures sink_faults { K.faults sink.new ≡ K.faults sink.old + write_faults_in result }
 {
-    flow_runs::run(rt, alloc, source, sink, options)
+    flow_runs::run(rt, alloc, source, sink, &GatedOptions { options, gate })
 }

@@ -13,6 +13,7 @@ ghost use Rattle.view_commands.specs.Commands.{name_asked};
 ghost use Rattle.view_commands.specs.Views.{HasProcedure, IsShown, IsText, LacksProcedure, ShowsProcedure};
 
 use crate::options::{Format, Options};
+use crate::progress::Progress;
 use flow_graph::Graph;
 use flow_runs::{Fault, Shown, graph_of, push_report, push_text};
 use flow_texts::ReportAnswers;
@@ -108,6 +109,7 @@ fn dot_of_graph<R: Threads + Sync, K: Sink>(
     graph: &Graph<'_>,
     view: View,
     options: &Options,
+    gate: &Progress,
     sink: &mut K,
 ) -> Result<(), Fault>
     requires threads { IsSync R.row }
@@ -119,8 +121,8 @@ fn dot_of_graph<R: Threads + Sync, K: Sink>(
     ensures faults { K.faults sink.new ≡ K.faults sink.old + write_faults_in result }
 {
     let (workers, cut) = (options.workers, options.cut);
-    let tables = ShownTables::of(rt, alloc, graph, view.facts, workers, cut)?;
-    let answers = ReportAnswers::of(rt, alloc, graph, workers, cut)?;
+    let tables = ShownTables::of(rt, alloc, graph, view.facts, workers, cut, gate)?;
+    let answers = ReportAnswers::of(rt, alloc, graph, workers, cut, gate)?;
     push_dot(alloc, graph, &tables, &answers, view, sink)
 }
 
@@ -131,6 +133,7 @@ fn json_of_graph<R: Threads + Sync, K: Sink>(
     graph: &Graph<'_>,
     view: View,
     options: &Options,
+    gate: &Progress,
     sink: &mut K,
 ) -> Result<(), Fault>
     requires threads { IsSync R.row }
@@ -142,8 +145,8 @@ fn json_of_graph<R: Threads + Sync, K: Sink>(
     ensures faults { K.faults sink.new ≡ K.faults sink.old + write_faults_in result }
 {
     let (workers, cut) = (options.workers, options.cut);
-    let tables = ShownTables::of(rt, alloc, graph, view.facts, workers, cut)?;
-    let answers = ReportAnswers::of(rt, alloc, graph, workers, cut)?;
+    let tables = ShownTables::of(rt, alloc, graph, view.facts, workers, cut, gate)?;
+    let answers = ReportAnswers::of(rt, alloc, graph, workers, cut, gate)?;
     push_json(alloc, graph, &tables, &answers, view, sink)
 }
 
@@ -154,6 +157,7 @@ fn view_of_graph<R: Threads + Sync, K: Sink>(
     graph: &Graph<'_>,
     view: View,
     options: &Options,
+    gate: &Progress,
     sink: &mut K,
 ) -> Result<(), Fault>
     requires threads { IsSync R.row }
@@ -164,10 +168,11 @@ fn view_of_graph<R: Threads + Sync, K: Sink>(
     ensures fault { IfErr result (OfProgram (λ _. ⊥) ⊥) }
     ensures faults { K.faults sink.new ≡ K.faults sink.old + write_faults_in result }
 {
+    let (workers, cut) = (options.workers, options.cut);
     match options.format {
-        Format::Dot => dot_of_graph(rt, alloc, graph, view, options, sink),
-        Format::Json => json_of_graph(rt, alloc, graph, view, options, sink),
-        Format::Report => push_report(rt, alloc, graph, options.workers, options.cut, sink),
+        Format::Dot => dot_of_graph(rt, alloc, graph, view, options, gate, sink),
+        Format::Json => json_of_graph(rt, alloc, graph, view, options, gate, sink),
+        Format::Report => push_report(rt, alloc, graph, workers, cut, gate, sink),
     }
 }
 
@@ -178,6 +183,7 @@ fn show_view<R: Threads + Sync, K: Sink>(
     program: &Program,
     view: View,
     options: &Options,
+    gate: &Progress,
     sink: &mut K,
 ) -> Result<(), Fault>
     requires threads { IsSync R.row }
@@ -190,20 +196,27 @@ fn show_view<R: Threads + Sync, K: Sink>(
     ensures faults { K.faults sink.new ≡ K.faults sink.old + write_faults_in result }
 {
     let graph = graph_of(alloc, program, options.limits)?;
-    view_of_graph(rt, alloc, &graph, view, options, sink)
+    view_of_graph(rt, alloc, &graph, view, options, gate, sink)
 }
 
-impl Shown for Options {
-    ghost limits = { λ options. options.limits };
+/// What options ask for, and the gate that is told of the slices of the work.
+#[derive(Drop)]
+pub(crate) struct GatedOptions<'a> {
+    pub(crate) options: &'a Options,
+    pub(crate) gate: &'a Progress,
+}
+
+impl Shown for GatedOptions<'_> {
+    ghost limits = { λ gated. gated.options.now.limits };
 
     ghost needs_graph = { λ _. true };
 
-    ghost is_shown = { λ options. IsShown options.format options.facts (name_asked options) };
+    ghost is_shown = { λ gated. IsShown gated.options.now.format gated.options.now.facts (name_asked gated.options.now) };
 
-    ghost lacks = { λ options. LacksProcedure (name_asked options) };
+    ghost lacks = { λ gated. LacksProcedure (name_asked gated.options.now) };
 
     fn limits(&self) -> Limits {
-        self.limits
+        self.options.limits
     }
 
     fn show<R: Threads + Sync, K: Sink>(
@@ -213,7 +226,7 @@ impl Shown for Options {
         program: &Program,
         sink: &mut K,
     ) -> Result<(), Fault> {
-        let view = view_of(program, self)?;
-        show_view(rt, alloc, program, view, self, sink)
+        let view = view_of(program, self.options)?;
+        show_view(rt, alloc, program, view, self.options, self.gate, sink)
     }
 }

@@ -14,9 +14,9 @@ use crate::options::{Format, Options};
 use clap::builder::PossibleValue;
 use clap::error::ErrorKind;
 use clap::{Arg, ArgAction, ArgMatches, Command, Error};
-use flow_runs::{cut_option, kind_word, number_of, workers_option};
+use flow_runs::{OutOfMemory, cut_option, kind_word, number_of, workers_option};
 use flow_views::Chosen;
-use std::alloc::{AllocError, Global};
+use std::alloc::Global;
 use tac_program::Limits;
 
 const ABOUT: &str =
@@ -134,7 +134,7 @@ fn limits_option<'a>(alloc: Global, sizes: &'a [PossibleValue<'a>]) -> Arg<'a>
 fn view_command<'a>(
     alloc: Global,
     formats: &'a [PossibleValue<'a>],
-) -> Result<Command<'a>, AllocError>
+) -> Result<Command<'a>, OutOfMemory>
     ensures { IfOk result (λ c. app_of c ≡ view_command formats.entry) }
 {
     Command::new(alloc, "tacview")
@@ -149,7 +149,7 @@ fn command<'a>(
     alloc: Global,
     formats: &'a [PossibleValue<'a>],
     sizes: &'a [PossibleValue<'a>],
-) -> Result<Command<'a>, AllocError>
+) -> Result<Command<'a>, OutOfMemory>
     ensures { IfOk result (λ c. app_of c ≡ tacview_command formats.entry sizes.entry) }
 {
     view_command(alloc, formats)?
@@ -185,7 +185,7 @@ fn facts_found(matches: &ArgMatches<'_>, format: Format) -> Option<Chosen>
 }
 
 // A copy of the name that was found.
-fn procedure_found(alloc: Global, matches: &ArgMatches<'_>) -> Result<Option<String>, AllocError>
+fn procedure_found(alloc: Global, matches: &ArgMatches<'_>) -> Result<Option<String>, OutOfMemory>
     ensures { IfOk result (λ name. option_map string_bytes name ≡ first_of (codes "procedure") (rows_of (found_of matches.now))) }
 {
     match matches.get_str("procedure") {
@@ -195,7 +195,7 @@ fn procedure_found(alloc: Global, matches: &ArgMatches<'_>) -> Result<Option<Str
 }
 
 // The options that the matches name. None where the list of facts names no facts.
-fn options_of(alloc: Global, matches: &ArgMatches<'_>) -> Result<Option<Options>, AllocError>
+fn options_of(alloc: Global, matches: &ArgMatches<'_>) -> Result<Option<Options>, OutOfMemory>
     requires { HoldsOptions (rows_of (found_of matches.now)) }
     ensures options { IfOk result (λ options. IfSome options (NamesOptions (rows_of (found_of matches.now)))) }
     ensures known { IfOk result (λ options. is_some options ≡ knows_facts (rows_of (found_of matches.now))) }

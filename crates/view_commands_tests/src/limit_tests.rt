@@ -2,7 +2,8 @@
 
 use crate::tacview_tests::{Asked, GRAPH, LINES, NONE, REPORT, check_by};
 use failing_streams::Pieces;
-use std::alloc::{AllocError, Global};
+use flow_runs::OutOfMemory;
+use std::alloc::Global;
 use std::io::ErrorKind;
 use std::process::Abort;
 use std::test::Fail;
@@ -50,7 +51,7 @@ const BEHIND_NAME: &str =
     "\",\"place\":0,\"line\":null,\"first\":null,\"last\":null,\"statement\":null,\"edges\":[]}\n";
 
 // The lines of JSON of 257 procedures without statements.
-fn lines_of_procedures(alloc: Global) -> Result<String, AllocError> {
+fn lines_of_procedures(alloc: Global) -> Result<String, OutOfMemory> {
     let around = (",\"q", "\"");
     let mut text = numbered(alloc, LINE_BEFORE_NAMES, 1..257, around, LINES_BEHIND_NAMES)?;
     for number in 1..257 {
@@ -62,7 +63,7 @@ fn lines_of_procedures(alloc: Global) -> Result<String, AllocError> {
 }
 
 // A program of 257 procedures.
-fn many_procedures(alloc: Global) -> Result<String, AllocError> {
+fn many_procedures(alloc: Global) -> Result<String, OutOfMemory> {
     numbered(alloc, smallest::TEXT, 1..257, AROUND_NUMBERS, "")
 }
 

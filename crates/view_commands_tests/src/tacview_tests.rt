@@ -12,7 +12,7 @@ use std::test::Fail;
 use std::thread::Threads;
 use tac_program::Limits;
 use text_pieces::{FromRead, ToWrite};
-use view_commands::{Format, Options, line_of, run};
+use view_commands::{Format, Options, Progress, Terminal, line_of, run};
 use worked_programs::{ALONE, TEAMS, call_between, recursion, small};
 
 pub(crate) const NONE: Chosen = Chosen {
@@ -91,7 +91,8 @@ pub(crate) fn run_to_page<R: Threads + Sync + AllocGlobal, D: Read + Drop>(
 ) -> Result<(), Fault> {
     let mut source = FromRead::new(reader);
     let mut sink = ToWrite::new(page);
-    run(rt, rt.alloc(), &mut source, &mut sink, options)
+    let progress = Progress::new(rt.alloc(), Terminal::none());
+    run(rt, rt.alloc(), &mut source, &mut sink, options, &progress)
 }
 
 // The line of the fault, if there was one, and behind it what was written.

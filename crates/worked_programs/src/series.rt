@@ -1,6 +1,6 @@
 //! Programs and tables of many lines of one form.
 
-use std::alloc::{AllocError, Global};
+use std::alloc::{AllocError as OutOfMemory, Global};
 use std::ops::Range;
 
 /// Between its first part and its last the text has this one so many times.
@@ -10,7 +10,7 @@ pub fn repeated(
     part: &str,
     count: usize,
     last: &str,
-) -> Result<String, AllocError> {
+) -> Result<String, OutOfMemory> {
     let mut text = String::from_str(alloc, first)?;
     for _ in 0..count {
         text.push_str(part)?;
@@ -26,7 +26,7 @@ pub fn numbered(
     numbers: Range<u32>,
     around: (&str, &str),
     last: &str,
-) -> Result<String, AllocError> {
+) -> Result<String, OutOfMemory> {
     let mut text = String::from_str(alloc, first)?;
     for number in numbers {
         write!(text, "{}{number}{}", around.0, around.1)?;
@@ -36,12 +36,12 @@ pub fn numbered(
 }
 
 /// A `main` that prints so many variables, one after the other: `v0`, `v1` and so on.
-pub fn prints(alloc: Global, count: u32) -> Result<String, AllocError> {
+pub fn prints(alloc: Global, count: u32) -> Result<String, OutOfMemory> {
     numbered(alloc, "proc main\n", 0..count, ("print v", "\n"), "end\n")
 }
 
 /// What is live there, as a table: at each point the variables that are printed from there on.
-pub fn live_of_prints(alloc: Global, count: u32) -> Result<String, AllocError> {
+pub fn live_of_prints(alloc: Global, count: u32) -> Result<String, OutOfMemory> {
     let mut text = String::new(alloc);
     for point in 0..count {
         write!(text, "main {point}: v{point}")?;

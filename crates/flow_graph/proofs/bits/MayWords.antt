@@ -8,7 +8,7 @@ use Rattle.bit_rows.proofs.WordBits.{has_bit-and, same_words}
 use Rattle.tac_program.specs.Programs.{Program}
 use Rattle.flow_graph.specs.code.Effects.{IsEffect, depends, effect_owns, gen_from, kill_from, owns, touches}
 use Rattle.flow_graph.specs.ProgramLaws.{WordsTellBits, WordsAreTheirBits}
-use Rattle.flow_graph.specs.Problems.{IsWordOf, MayForm, may_gens, may_kills}
+use Rattle.flow_graph.specs.Problems.{IsWordOfTest, MayForm, may_gens, may_kills}
 use Rattle.flow_graph.specs.Transfers.{has_operand, is_made_at}
 use Rattle.flow_graph.specs.Universes.{Analysis, Reach, Live, Avail, Busy, Definition, Expr, bits, definitions, expression_at, expressions}
 use Rattle.flow_graph.specs.Universes.{same_expression, target_at}
@@ -104,7 +104,7 @@ may_kills_are program Busy point bit = refl
 pub is_word : (test : ℕ → Bool) (bits word value full : ℕ)
     → ((k : ℕ) → k < 64 → 64 * word + k < bits → has_bit value k ≡ test (64 * word + k))
     → ((k : ℕ) → k < 64 → has_bit full k ≡ nat_lt (64 * word + k) bits)
-    → IsWordOf test bits word (bit_and value full)
+    → IsWordOfTest test bits word (bit_and value full)
 is_word test bits word value full values limit k within =
     has_bit-and value full k ∙ ap (λ t. has_bit value k && t) (limit k within) ∙ by_place (cases_lt (64 * word + k) bits)
   where
@@ -112,11 +112,11 @@ is_word test bits word value full values limit k within =
         → (has_bit value k && nat_lt (64 * word + k) bits) ≡ (nat_lt (64 * word + k) bits && test (64 * word + k))
     by_place (inl below) =
         let is : nat_lt (64 * word + k) bits ≡ true = grind arith in
-        ap₂ ◌&&◌ (values k within below) is ∙ turned (test (64 * word + k)) ∙ ap (λ t. t && test (64 * word + k)) (sym is)
+        ap₂ ◌&&◌ (values k within below) is ∙ swapped (test (64 * word + k)) ∙ ap (λ t. t && test (64 * word + k)) (sym is)
       where
-        turned : (t : Bool) → (t && true) ≡ (true && t)
-        turned true = refl
-        turned false = refl
+        swapped : (t : Bool) → (t && true) ≡ (true && t)
+        swapped true = refl
+        swapped false = refl
     by_place (inr past) =
         let is : nat_lt (64 * word + k) bits ≡ false = grind arith in
         and_right (has_bit value k) (nat_lt (64 * word + k) bits) is ∙ ap (λ t. t && test (64 * word + k)) (sym is)
@@ -133,7 +133,7 @@ words_are_their_bits test bits word value other fits other_fits is other_is =
     same_words value other fits other_fits (λ k within. is k within ∙ sym (other_is k within))
 
 -- a bit that is read from its word
-pub bit_of_word : (test : ℕ → Bool) (bits bit value : ℕ) → bit < bits → IsWordOf test bits (bit / 64) value
+pub bit_of_word : (test : ℕ → Bool) (bits bit value : ℕ) → bit < bits → IsWordOfTest test bits (bit / 64) value
     → nat_eq (bit_and (value / 2 ^ (bit % 64)) 1) 1 ≡ test bit
 unfolding has_bit
 bit_of_word test bits bit value below is = ap (λ x. eqb x 1) (shr_and_one value (bit % 64)) ∙ words_tell_bits test bits bit value below is
@@ -153,7 +153,7 @@ module _ (form : MayForm) (point word : ℕ) (e : Effect) (known : IsEffect form
       touching k within below ∙ ap (λ o. unwrap_or (option_map (λ x. depends form.program form.analysis x (64 * word + k)) o) false) known.written
 
   pub word_of_gens : ((k : ℕ) → k < 64 → has_bit value k ≡ gen_from form.analysis (has_bit own k) (has_bit touched k))
-      → IsWordOf (may_gens form point) (bits form.program form.analysis) word (bit_and value full)
+      → IsWordOfTest (may_gens form point) (bits form.program form.analysis) word (bit_and value full)
   word_of_gens made = is_word (may_gens form point) (bits form.program form.analysis) word value full
       (λ k within below.
       made k within
@@ -162,7 +162,7 @@ module _ (form : MayForm) (point word : ℕ) (e : Effect) (known : IsEffect form
       limit
 
   pub word_of_kills : ((k : ℕ) → k < 64 → has_bit value k ≡ kill_from form.analysis (has_bit own k) (has_bit touched k))
-      → IsWordOf (may_kills form point) (bits form.program form.analysis) word (bit_and value full)
+      → IsWordOfTest (may_kills form point) (bits form.program form.analysis) word (bit_and value full)
   word_of_kills made = is_word (may_kills form point) (bits form.program form.analysis) word value full
       (λ k within below.
       made k within

@@ -9,11 +9,11 @@ use Rattle.flow_graph.specs.Reversals.{reversed_edge}
 use Rattle.flow_graph.specs.Universes.{Analysis, Reach, Live, Avail, Busy}
 use Rattle.flow_graph.proofs.paths.Reversal.{edges-twice}
 
--- edges that are those of the graph, once they are turned round
-pub turned_are_directed : (program : Program) (analysis : Analysis) (turned : List Edge) → is_backward analysis ≡ true
-    → map reversed_edge turned ≡ edges program
-    → turned ≡ (may_shape program analysis).edges
-turned_are_directed program Reach turned backward are = absurd (cc backward)
-turned_are_directed program Live turned backward are = sym (edges-twice turned) ∙ ap (map reversed_edge) are
-turned_are_directed program Avail turned backward are = absurd (cc backward)
-turned_are_directed program Busy turned backward are = sym (edges-twice turned) ∙ ap (map reversed_edge) are
+-- edges that are those of the graph, once they are reversed
+pub reversed_are_directed : (program : Program) (analysis : Analysis) (reversed : List Edge) → is_backward analysis ≡ true
+    → map reversed_edge reversed ≡ edges program
+    → reversed ≡ (may_shape program analysis).edges
+reversed_are_directed program Reach reversed backward are = absurd (cc backward)
+reversed_are_directed program Live reversed backward are = sym (edges-twice reversed) ∙ ap (map reversed_edge) are
+reversed_are_directed program Avail reversed backward are = absurd (cc backward)
+reversed_are_directed program Busy reversed backward are = sym (edges-twice reversed) ∙ ap (map reversed_edge) are

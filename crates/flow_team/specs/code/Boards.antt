@@ -1,6 +1,6 @@
 -- How asks stand to their board, and how far they are posted.
 use Rattle.std.specs.Prelude.{◌≡◌, ◌≢◌, ℕ, ◌+◌, ◌*◌, ◌/◌, ◌%◌, ◌^◌, ◌<◌, ◌≤◌, List, Some, length, slice_get, slice_index}
-use Rattle.flow_graph.specs.Points.{point_count as points_of}
+use Rattle.flow_graph.specs.Points.{point_count}
 use Rattle.flow_graph.specs.Problems.{MayForm}
 use Rattle.flow_graph.specs.Universes.{bits}
 use Rattle.flow_graph.specs.declared.analysis.Analysis.{Analysis}
@@ -10,9 +10,9 @@ use Rattle.flow_team.specs.Sets.{IsInMaySet}
 use Rattle.flow_team.specs.code.Directions.{Pair, form_of}
 use Rattle.flow_team.specs.declared.ask.Ask.{Ask}
 use Rattle.gk_solve.specs.Solved.{HasPathFlags, IsSliceOf, SliceTable, TellWords}
-use Rattle.slice_board.specs.Boards.{BoardState, point_count}
-use Rattle.slice_board.specs.Passes.{IsMarked}
-use Rattle.slice_board.specs.declared.view.Mark.{Mark}
+use Rattle.slice_board.specs.Boards.{BoardState, board_points}
+use Rattle.slice_board.specs.Passes.{IsLogged}
+use Rattle.slice_board.specs.declared.view.LoggedWord.{LoggedWord}
 use Rattle.tac_program.specs.Programs.{Program}
 
 -- a program, what is asked of it, the same asks in the order in which they are solved, and the number of each of these
@@ -53,7 +53,7 @@ pub record IsWanted (asked : Asked) (point bit : ℕ) : Type 0 where
 -- The board wants what is asked: it has one point, and a word for each ask.
 pub record IsAskBoard (asked : Asked) (board : BoardState Asked) : Type 0 where
   pub wanted : board.wanted ≡ asked
-  pub one : point_count board ≡ 1
+  pub one : board_points board ≡ 1
   pub words : board.cut.bits ≡ 64 * length asked.order
 
 -- the ask is one of so many, and of the analysis
@@ -65,8 +65,8 @@ abbrev pub NoneOf : List Ask → ℕ → ℕ → Analysis → Type 0
 NoneOf asks from until analysis = (q : ℕ) (ask : Ask) → from ≤ q → q < until → slice_get asks q ≡ Some ask → ask.analysis ≢ analysis
 
 -- What is wanted of the asks that are done is posted.
-abbrev pub AreDone : Asked → (ℕ → Type 0) → List Mark → Type 0
-AreDone asked done posted = (bit : ℕ) → IsWanted asked 0 bit → done (bit / 64) → IsMarked posted 0 bit
+abbrev pub AreDone : Asked → (ℕ → Type 0) → List LoggedWord → Type 0
+AreDone asked done posted = (bit : ℕ) → IsWanted asked 0 bit → done (bit / 64) → IsLogged posted 0 bit
 
 -- Of all bits of a problem, the words from one up to another were solved last: they tell the may form's sets.
 pub record AreTold (form : MayForm) (from until : ℕ) (slice : SliceTable) : Type 0 where
@@ -83,6 +83,6 @@ AreAnswered asked done words = (j : ℕ) (ask : Ask) → j < done → slice_get 
 -- The board wants all sets of an analysis, at all points, and its flags are the path flags.
 pub record IsTableBoard (form : MayForm) (board : BoardState MayForm) : Type 0 where
   pub wanted : board.wanted ≡ form
-  pub points : point_count board ≡ points_of form.program
+  pub points : board_points board ≡ point_count form.program
   pub bits : board.cut.bits ≡ bits form.program form.analysis
   pub paths : HasPathFlags form board.blank.flags

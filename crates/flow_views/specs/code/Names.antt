@@ -6,7 +6,7 @@ use Rattle.flow_graph.specs.declared.analysis.Analysis.TheVariants.{Reach, Live,
 use Rattle.flow_texts.specs.Tables.{bit_text}
 use Rattle.text_pieces.specs.code.Blocks.{HoldsTexts, SeparatedTexts}
 use Rattle.tac_program.specs.Programs.{Program}
-use Rattle.flow_views.specs.Strings.{escaped, quoted}
+use Rattle.text_pieces.specs.Strings.{escaped, quoted}
 use Rattle.flow_views.specs.declared.names.NameForm.{NameForm}
 use Rattle.flow_views.specs.declared.names.NameForm.TheVariants.{Escaped, Quoted}
 use Rattle.flow_views.specs.declared.names.Names.{Names}

@@ -3,7 +3,7 @@ use Rattle.std.specs.Prelude.{◌≡◌, ◌↔◌, ℕ, Bool, true, false, List
 use Rattle.flow_graph.specs.declared.edge.Edge.{Edge}
 use Rattle.flow_graph.specs.declared.edge.Edge.TheVariants.{Step, Call, Ret}
 use Rattle.flow_graph.specs.Paths.{Shape, IsEdge, source_of}
-use Rattle.gk_solve.specs.Equations.{Reached, Entered, HasFlag}
+use Rattle.summary_equations.specs.Equations.{Reached, Entered, HasFlag}
 use Rattle.flow_links.specs.Shapes.{after_site}
 use Rattle.gk_solve.specs.Tables.Visits.{IsSettled, Spreads}
 use Rattle.flow_links.specs.declared.link.CallLink.{CallLink}

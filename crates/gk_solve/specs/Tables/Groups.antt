@@ -8,7 +8,7 @@ use Rattle.flow_graph.specs.Analyses.{is_backward}
 use Rattle.flow_graph.specs.Points.{point_count}
 use Rattle.flow_graph.specs.Problems.{MayForm}
 use Rattle.flow_graph.specs.code.Effects.{IsDependence}
-use Rattle.gk_solve.specs.Equations.{HasFlag}
+use Rattle.summary_equations.specs.Equations.{HasFlag}
 use Rattle.flow_graph.specs.Paths.{Shape, Transfer, IsEdge}
 use Rattle.work_list.specs.Marks.{IsMarked}
 use Rattle.flow_links.specs.Shapes.{IsNumbered, after_site, directed_shape}

@@ -5,7 +5,7 @@ use Rattle.bit_rows.specs.RowTable.{RowTable, IsUniform, set_at}
 use Rattle.bit_rows.specs.Words.{has_bit}
 use Rattle.flow_graph.specs.Problems.{may_shape, may_transfer, MayForm}
 use Rattle.flow_graph.specs.Points.{point_count}
-use Rattle.gk_solve.specs.Equations.{HasFlag, IsInSolution}
+use Rattle.summary_equations.specs.Equations.{HasFlag, IsInSolution}
 use Rattle.gk_solve.specs.Solved.{SliceTable, TellsSlice, word_at}
 
 -- The rows have got the bits of a family, as far as they lie within their range; all else is as it was.

@@ -1,7 +1,7 @@
 -- The solution's words of a group, as far as they lie within a slice.
 use Rattle.std.specs.Prelude.{◌≡◌, ◌+◌, ◌*◌, ◌<◌, ◌≤◌, ◌↔◌, ◌⊎◌, ℕ, Bool, true, List, slice_index}
 use Rattle.bit_rows.specs.Words.{has_bit}
-use Rattle.gk_solve.specs.Equations.{IsInSolution}
+use Rattle.summary_equations.specs.Equations.{IsInSolution}
 use Rattle.gk_solve.specs.Tables.Flags.{IsFlagged}
 use Rattle.gk_solve.specs.Tables.Groups.{Group, made_word}
 use Rattle.gk_solve.specs.Tables.Words.{HasBit}

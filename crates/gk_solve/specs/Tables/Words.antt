@@ -6,7 +6,7 @@ use Rattle.flow_graph.specs.declared.edge.Edge.TheVariants.{Step, Call, Ret}
 use Rattle.flow_graph.specs.Paths.{Shape, Transfer}
 use Rattle.flow_graph.specs.Problems.{MayForm, may_gens, may_kills, may_boundary}
 use Rattle.flow_graph.specs.Universes.{bits as bits_of}
-use Rattle.gk_solve.specs.Equations.{Kept, Made, Brought}
+use Rattle.summary_equations.specs.Equations.{Kept, Made, Brought}
 use Rattle.flow_links.specs.Shapes.{after_site}
 use Rattle.gk_solve.specs.Tables.Flags.{IsFlagged}
 

@@ -5,7 +5,7 @@ use Rattle.atomic_table.specs.Table.{Me, Step}
 use Rattle.slice_board.specs.declared.view.About.{About}
 use Rattle.slice_board.specs.declared.view.View.{View}
 use Rattle.slice_board.specs.declared.view.Count.{Count}
-use Rattle.slice_board.specs.Passes.{times, marks_at, mark}
+use Rattle.slice_board.specs.Passes.{times, logged_at, logged_word}
 use Rattle.slice_board.specs.Boards.{slice_count, words_for}
 use Rattle.slice_board.specs.Steps.{after_claim, after_finding, after_post, after_finish, after_look, after_count}
 use Rattle.slice_board.specs.code.Words.{tally_words, done_place, row_place}
@@ -34,15 +34,15 @@ module _ {T : Type 0} where
   abbrev pub PostTells : Step (Unit {0}) → Sat T → ℕ → Sat T → Type 0
   PostTells step old value new = (about : About T) → old.0.about ≡ Some about
       → (point word : ℕ) → point < about.points → step.word ≡ row_place about point word
-      → new ≡ (after_post (mark point word step.first) old.0, old.1)
+      → new ≡ (after_post (logged_word point word step.first) old.0, old.1)
 
   -- the value has all that the pass posted or saw there, and nothing that is not wanted
   abbrev pub LookTells : (T → ℕ → ℕ → Type 0) → Step (Unit {0}) → Sat T → ℕ → Sat T → Type 0
   LookTells wants step old value new = (about : About T) → old.0.about ≡ Some about
       → (point word : ℕ) → point < about.points → word < words_for about.cut.bits → step.word ≡ row_place about point word
-      → (new ≡ (after_look (mark point word value) old.0, old.1))
-      × ((place : ℕ) → 0 < marks_at point word place old.0.posted → bit_at value place ≡ 1)
-      × ((place : ℕ) → 0 < marks_at point word place old.0.seen → bit_at value place ≡ 1)
+      → (new ≡ (after_look (logged_word point word value) old.0, old.1))
+      × ((place : ℕ) → 0 < logged_at point word place old.0.posted → bit_at value place ≡ 1)
+      × ((place : ℕ) → 0 < logged_at point word place old.0.seen → bit_at value place ≡ 1)
       × ((place : ℕ) → bit_at value place ≡ 1 → wants about.wanted point (64 * word + place))
 
   abbrev pub CountTells : Step (Unit {0}) → Sat T → ℕ → Sat T → Type 0

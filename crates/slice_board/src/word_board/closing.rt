@@ -80,14 +80,14 @@ impl<T: Wanted> WordBoard<T> {
         let mut done = 0;
         'words: for word in 0..slices.div_ceil(64) {
             let value = self.load_done(pass, word);
-            done += ones(value, (slices - 64 * word).min(64));
+            done += low_ones(value, (slices - 64 * word).min(64));
         }
         done
     }
 }
 
 // How many of the lowest places of a word are 1.
-fn ones(word: u64, places: u32) -> u32
+fn low_ones(word: u64, places: u32) -> u32
     requires { places ≤ 64 }
     ensures value { result ≡ ones_below places word }
     ensures most { result ≤ places }

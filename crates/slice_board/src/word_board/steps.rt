@@ -4,7 +4,7 @@ ghost use Rattle.std.specs.Prelude.{IsSome, IsErr, if◌then◌else◌, true};
 ghost use Rattle.std.specs.List.{range_with_len};
 ghost use Rattle.bit_rows.specs.Words.{has_bit};
 ghost use Rattle.slice_board.specs.Boards.{IsOf, IsPlace, InSlice, fresh_pass, slice_count, about_board};
-ghost use Rattle.slice_board.specs.Passes.{IsMarked, mark, times, joined, either_of};
+ghost use Rattle.slice_board.specs.Passes.{IsLogged, logged_word, times, joined, either_of};
 ghost use Rattle.slice_board.specs.code.Words.{row_place};
 
 use super::WordBoard;
@@ -41,7 +41,7 @@ impl<T: Wanted> WordBoard<T> {
             return Err((first, second));
         }
         let next = first.next.max(second.next);
-        let held = either(first.held, second.held);
+        let held = either_slice(first.held, second.held);
         let Pass { mut seat, .. } = first;
         let Pass { seat: other, .. } = second;
         self.table.shared.join_seat::<Glue>(&mut seat, other);
@@ -51,7 +51,7 @@ impl<T: Wanted> WordBoard<T> {
     }
 
     // One draw, of the next slice. True where it was free.
-    fn draw(&self, pass: &mut Pass<T>) -> bool
+    fn draw_slice(&self, pass: &mut Pass<T>) -> bool
         requires of { IsOf self.now pass.old }
         requires free { pass.old.held ≡ None }
         requires more { pass.old.next < slice_count self.now.cut }
@@ -102,7 +102,7 @@ impl<T: Wanted> WordBoard<T> {
     {
         while pass.next < self.cut.slices() {
             let slice = pass.next;
-            if self.draw(pass) {
+            if self.draw_slice(pass) {
                 return Some(slice);
             }
         }
@@ -125,7 +125,7 @@ impl<T: Wanted> WordBoard<T> {
         requires place { IsPlace self.now point word }
         requires wanted { (i : ℕ) → i < 64 → has_bit mask i ≡ true
             → T.wants self.now.wanted point (64 * word + i) }
-        ensures { pass.new ≡ record pass.old { posted = pass.old.posted ++ mark point word mask ∷ [] } }
+        ensures { pass.new ≡ record pass.old { posted = pass.old.posted ++ logged_word point word mask ∷ [] } }
     {
         let place = self.row_place(point, word);
         self.table
@@ -139,10 +139,10 @@ impl<T: Wanted> WordBoard<T> {
         requires of { IsOf self.now pass.old }
         requires place { IsPlace self.now point word }
         ensures seen { pass.new
-            ≡ record pass.old { seen = pass.old.seen ++ mark point word result ∷ [] } }
-        ensures own { (i : ℕ) → i < 64 → IsMarked pass.old.posted point (64 * word + i)
+            ≡ record pass.old { seen = pass.old.seen ++ logged_word point word result ∷ [] } }
+        ensures own { (i : ℕ) → i < 64 → IsLogged pass.old.posted point (64 * word + i)
             → has_bit result i ≡ true }
-        ensures again { (i : ℕ) → i < 64 → IsMarked pass.old.seen point (64 * word + i)
+        ensures again { (i : ℕ) → i < 64 → IsLogged pass.old.seen point (64 * word + i)
             → has_bit result i ≡ true }
         ensures wanted { (i : ℕ) → i < 64 → has_bit result i ≡ true
             → T.wants self.now.wanted point (64 * word + i) }
@@ -157,7 +157,7 @@ impl<T: Wanted> WordBoard<T> {
         requires of { IsOf self.now pass.old }
         requires held { pass.old.held ≡ Some slice }
         requires posted { (point bit : ℕ) → T.wants self.now.wanted point bit
-            → InSlice self.now.cut slice bit → IsMarked pass.old.posted point bit }
+            → InSlice self.now.cut slice bit → IsLogged pass.old.posted point bit }
         ensures { pass.new
             ≡ record pass.old { finished = pass.old.finished ++ slice ∷ []; held = None } }
     {
@@ -171,7 +171,7 @@ impl<T: Wanted> WordBoard<T> {
 }
 
 // The one that is there.
-fn either(first: Option<u32>, second: Option<u32>) -> Option<u32>
+fn either_slice(first: Option<u32>, second: Option<u32>) -> Option<u32>
     ensures { result ≡ either_of first second }
 {
     match first {

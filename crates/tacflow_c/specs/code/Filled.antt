@@ -1,5 +1,11 @@
 -- How far a caller's words are filled.
-use Rattle.std.specs.Prelude.{◌≡◌, ℕ, ◌+◌, ◌*◌, ◌<◌, ◌≤◌, ◌⊎◌, List, length, slice_index}
+use Rattle.std.specs.Prelude.{◌≡◌, ℕ, ◌+◌, ◌-◌, ◌*◌, ◌/◌, ◌<◌, ◌≤◌, ◌⊎◌, List, length, slice_index}
+use Rattle.bit_rows.specs.RowSet.{RowSet, full_set}
+use Rattle.flow_graph.specs.Analyses.{is_must}
+use Rattle.flow_graph.specs.Directions.{is_intersection}
+use Rattle.flow_graph.specs.Points.{point_count}
+use Rattle.flow_graph.specs.Problems.{MayForm}
+use Rattle.tacflow_c.specs.declared.table.Layout.{Layout}
 
 -- Of the words of one point, which stand from a place on and the first of which is number first, those from start up to end are
 -- told. All other words are as they were.
@@ -15,3 +21,13 @@ pub record AreFilled (tells : ℕ → ℕ → ℕ → Type 0) (points count firs
       → tells point (first + w) (slice_index new (point * count + w))
   pub kept : (point w : ℕ) → w < count → (points ≤ point) ⊎ ((first + w < start) ⊎ (end ≤ first + w))
       → slice_index new (point * count + w) ≡ slice_index old (point * count + w)
+
+-- The layout is of the words of the bits lo..hi, at points of the program, in so many words.
+pub record CanFill (form : MayForm) (lo hi : ℕ) (full : RowSet) (layout : Layout) (size : ℕ) : Type 0 where
+  pub is_full : full ≡ full_set lo hi
+  pub join : is_intersection layout.join ≡ is_must form.analysis
+  pub first : layout.first ≡ lo / 64
+  pub last : layout.first + layout.count ≡ (hi + 63) / 64
+  pub from : layout.from ≤ layout.until
+  pub until : layout.until ≤ point_count form.program
+  pub room : size ≡ (layout.until - layout.from) * layout.count

@@ -16,7 +16,7 @@ loop-point-preserved c =
     let added : Option Expr = c.expression_of_point.result in
     let found : Option Expr = expression_at program n in
     let is_found : added ≡ found = c.expression_of_point.ensures in
-    let keys : c.note.new.expressions.keys ≡ fold noted old (some_expression added) = c.in_ok-note.ensures.noted in
+    let keys : c.note_expression.new.expressions.keys ≡ fold noted old (some_expression added) = c.in_ok-note_expression.ensures.noted in
     let invariant = c.loop-point.invariant in
     let all : List ℕ → List Expr = λ ns. flat_map (λ point. some_expression (expression_at program point)) ns in
     record {
@@ -27,18 +27,19 @@ loop-point-preserved c =
           ∙ sym (fold-append noted [] (all (range_with_len 0 n)) (some_expression found))
           ∙ sym (ap (fold noted []) (flat_map-range_more (λ point. some_expression (expression_at program point)) n));
       few = omega (arith, invariant.few, ap length keys, one_more_noted old added);
-      so_many = ap length c.in_ok-push.ensures.items ∙ length-append c.loop-point.evaluated.items (c.in_ok-note.field-0 ∷ [])
+      so_many = ap length c.in_ok-push.ensures.items ∙ length-append c.loop-point.evaluated.items (c.in_ok-note_expression.field-0 ∷ [])
           ∙ ap (λ m. m + 1) invariant.so_many;
       each = λ k d below.
           subst
-          (λ (items : List (Option ℕ)). IsNumberOf c.note.new.expressions.keys (expression_at program k) (get_or items k d))
+          (λ (items : List (Option ℕ)). IsNumberOf c.note_expression.new.expressions.keys (expression_at program k) (get_or items k d))
           (sym c.in_ok-push.ensures.items)
-          (pushed_each (λ k number. IsNumberOf c.note.new.expressions.keys (expression_at program k) number)
-          c.loop-point.evaluated.items c.in_ok-note.field-0 n invariant.so_many
+          (pushed_each (λ k number. IsNumberOf c.note_expression.new.expressions.keys (expression_at program k) number)
+          c.loop-point.evaluated.items c.in_ok-note_expression.field-0 n invariant.so_many
           (λ k d before.
           subst (λ (ks : List Expr). IsNumberOf ks (expression_at program k) (get_or c.loop-point.evaluated.items k d)) (sym keys)
           (numbers-stay old added (expression_at program k) _ (invariant.each k d before)))
-          (subst (λ (e : Option Expr). IsNumberOf c.note.new.expressions.keys e c.in_ok-note.field-0) is_found c.in_ok-note.ensures.number)
+          (subst (λ (e : Option Expr). IsNumberOf c.note_expression.new.expressions.keys e c.in_ok-note_expression.field-0) is_found
+          c.in_ok-note_expression.ensures.number)
           k d below);
     }
 

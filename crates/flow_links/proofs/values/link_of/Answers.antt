@@ -1,4 +1,4 @@
-use Rattle.std.proofs.Common.{◌≡◌, ◌<◌, ◌+◌, false, arith, subst, sym, ◌∙◌}
+use Rattle.std.proofs.Common.{◌≡◌, ◌<◌, ◌+◌, false, arith, subst, sym}
 use Rattle.flow_graph.specs.Analyses.{is_backward}
 use Rattle.flow_graph.specs.Points.{point_count}
 use Rattle.flow_links.specs.Shapes.{after_site}
@@ -22,7 +22,7 @@ pub overflow_add-after : goal.overflow_add-after
 overflow_add-after c =
     let range = (in_range c.args.problem.now.program c.args.problem.now.analysis c.procedures.ensures.sound c.points.ensures.few) in
     let low = after_low range.numbered c.in-Call.site _ _ (link_is_call range c.args.edge c.requires c.in-Call.is) in
-    let forward : is_backward c.args.problem.now.analysis ≡ false = sym c.reverses.ensures ∙ c.if-reverses.false in
+    let forward : is_backward c.args.problem.now.analysis ≡ false = sym c.in-Forward.ensures in
     let next : c.in-Call.site + 1 < point_count c.args.problem.now.program =
     subst (λ b. after_site b c.in-Call.site < point_count c.args.problem.now.program) forward low in
     let few = range.few in

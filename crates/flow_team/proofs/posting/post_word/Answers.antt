@@ -1,6 +1,6 @@
 use Rattle.std.proofs.Common.{◌≡◌, ◌↔◌, ℕ, ◌+◌, ◌*◌, ◌%◌, ◌<◌, ◌≤◌, true, [], ◌∷◌, ◌++◌, sym, subst}
 use Rattle.bit_rows.specs.Words.{has_bit}
-use Rattle.slice_board.specs.Passes.{PassState, IsMarked, mark}
+use Rattle.slice_board.specs.Passes.{PassState, IsLogged, logged_word}
 use Rattle.flow_team.proofs.Posts.{marked_last, none_of_zero, word_has}
 use Rattle.flow_team.proofs.posting.post_word.Goals as goal
 
@@ -24,6 +24,6 @@ returns-clause-posted g c = λ p bit want low high at.
     ↔ ((slice.lo ≤ 64 * c.args.word + k) × (64 * c.args.word + k < slice.hi) × wanted c.args.point (64 * c.args.word + k)))
     (sym c.word-mask.ensures) (c.requires.words c.args.point c.args.word k c.requires.point c.requires.from c.requires.until small))
     p bit at.0 at.1 want low high in
-    subst (λ (pass : PassState _). IsMarked pass.posted p bit) (sym c.post.ensures)
-    (subst (λ (n : ℕ). IsMarked (c.args.pass.now.posted ++ mark c.args.point c.args.word c.word-mask.result ∷ []) n bit) (sym at.0)
+    subst (λ (pass : PassState _). IsLogged pass.posted p bit) (sym c.post.ensures)
+    (subst (λ (n : ℕ). IsLogged (c.args.pass.now.posted ++ logged_word c.args.point c.args.word c.word-mask.result ∷ []) n bit) (sym at.0)
     (marked_last c.args.pass.now.posted c.args.point c.args.word c.word-mask.result bit at.1 has))

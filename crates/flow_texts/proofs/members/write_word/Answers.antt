@@ -1,4 +1,4 @@
-use Rattle.std.proofs.Common.{◌≡◌, ℕ, ◌+◌, ◌-◌, true, false, min, refl, ◌∙◌, subst, arith}
+use Rattle.std.proofs.Common.{◌≡◌, ℕ, ◌+◌, ◌-◌, true, false, min, subst, arith}
 use Rattle.flow_texts.specs.code.Members.{Named, Wrote, chosen}
 use Rattle.flow_texts.specs.code.Runs.{IsRunBefore}
 use Rattle.text_pieces.specs.Pieces.{Outlet, outlet}
@@ -12,12 +12,11 @@ pub loop-place-init : goal.loop-place-init
 loop-place-init g c =
     let run = c.args.run in
     let set : Named = chosen c.args.texts.now.texts g.member in
-    let at : Pieces _ → Outlet = outlet g.K.Sink.contents g.K.Sink.faults in
+    let at : Pieces _ → Outlet = outlet g.K.Sink in
     let place : ℕ = c.next_one-place.result in
     let width : ℕ = c.args.end - c.args.first in
     let none : 0 ≡ run.first - run.first = omega arith in
     record {
-      reference = refl;
       within = c.next_one-place.ensures.within;
       one = c.next_one-place.ensures.one;
       later = omega arith;
@@ -58,13 +57,12 @@ loop-place-preserved g c =
     let run = c.args.run in
     let last = c.with_run-last.result in
     let set : Named = chosen c.args.texts.now.texts g.member in
-    let at : Pieces _ → Outlet = outlet g.K.Sink.contents g.K.Sink.faults in
+    let at : Pieces _ → Outlet = outlet g.K.Sink in
     let first : ℕ = c.args.first in
     let width : ℕ = c.args.end - first in
     let stop : ℕ = c.min-stop.result in
     let next : ℕ = c.next_one-place-in-loop-place.result in
     record {
-      reference = c.with_run-last.ensures.same_reference ∙ c.loop-place.invariant.reference;
       within = c.next_one-place-in-loop-place.ensures.within;
       one = c.next_one-place-in-loop-place.ensures.one;
       later = omega (arith, c.loop-place.invariant.later, c.with_run-last.ensures.later);

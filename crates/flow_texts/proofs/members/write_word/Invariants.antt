@@ -10,13 +10,12 @@ ghost-with_run g a = g.member
 
 abbrev pub invariant-loop-place : goal.invariant-loop-place
 invariant-loop-place g l = record {
-  reference : l.out.sink.ghost_name ≡ l.fn.out.sink.ghost_name;
   within : l.place ≤ 64;
   one : l.place < 64 → has_bit l.word l.place ≡ true;
   later : l.fn.run.first ≤ l.last.first;
   after : IsRunBefore g.member (l.first + min l.place l.width) l.last.first l.last.end;
   wrote : Wrote l.fn.texts.between (chosen l.fn.texts.texts g.member) l.fn.run.others l.fn.run.first (l.last.first - l.fn.run.first)
-      (outlet g.K.Sink.contents g.K.Sink.faults l.fn.out) (outlet g.K.Sink.contents g.K.Sink.faults l.out) l.last.others;
+      (outlet g.K.Sink l.fn.out) (outlet g.K.Sink l.out) l.last.others;
 }
 
 abbrev pub decreases-loop-place : goal.decreases-loop-place

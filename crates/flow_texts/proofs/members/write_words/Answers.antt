@@ -38,24 +38,23 @@ loop-at-preserved g c =
     let run = c.loop-at.run in
     let next = c.write_word-run.result in
     let set : Named = chosen c.args.texts.now.texts g.member in
-    let at : Pieces _ → Outlet = outlet g.K.Sink.contents g.K.Sink.faults in
+    let at : Pieces _ → Outlet = outlet g.K.Sink in
     let first : ℕ = 64 * c.loop-at.at in
     let below : first < c.args.bits =
     omega (arith, c.div_ceil-at-end.ensures, c.loop-at-test.true, (div_ceil_times c.args.bits 64 (omega arith)).1) in
     let there : first + c.min.result ≡ min c.args.bits (64 * (c.loop-at.at + 1)) = omega (arith, below, c.min.ensures) in
     record {
-      reference = c.write_word-run.ensures.same_reference ∙ c.loop-at.invariant.reference;
       after = subst (λ p. IsRunBefore g.member p next.first next.end) there c.write_word-run.ensures.after;
       wrote = wrote-first c.args.texts.now.between set false run.first next.first (at c.args.out.now) (at c.loop-at.out) (at c.write_word-run.new.out)
           run.others next.others
           c.write_word-run.ensures.later c.loop-at.invariant.wrote c.write_word-run.ensures.wrote;
     }
 
-pub returns-clause-wrote : goal.returns-clause-wrote
-returns-clause-wrote g c =
+pub returns : goal.returns
+returns g c =
     let run = c.loop-at.run in
     let set : Named = chosen c.args.texts.now.texts g.member in
-    let at : Pieces _ → Outlet = outlet g.K.Sink.contents g.K.Sink.faults in
+    let at : Pieces _ → Outlet = outlet g.K.Sink in
     let all : min c.args.bits (64 * c.loop-at.at) ≡ c.args.bits =
     omega (arith, c.div_ceil-at-end.ensures, c.loop-at-test.false, (div_ceil_times c.args.bits 64 (omega arith)).0) in
     let last : IsRunBefore g.member c.args.bits run.first run.end =
@@ -65,4 +64,4 @@ returns-clause-wrote g c =
     (omega (arith, last.ordered, last.before)) c.loop-at.invariant.wrote
     (wrote-run c.args.texts.now.between set run.others run.first run.end c.args.bits (at c.loop-at.out) (at c.write_run.new.out)
     c.write_run.result last.ordered last.before last.inside last.behind
-    c.write_run.ensures.takes c.write_run.ensures.any)
+    c.write_run.ensures.writes c.write_run.ensures.any)

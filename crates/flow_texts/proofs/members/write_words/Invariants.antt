@@ -1,4 +1,4 @@
-use Rattle.std.proofs.Common.{◌≡◌, ◌*◌, false, min}
+use Rattle.std.proofs.Common.{◌*◌, false, min}
 use Rattle.flow_texts.specs.code.Members.{Wrote, chosen}
 use Rattle.flow_texts.specs.code.Runs.{IsRunBefore}
 use Rattle.text_pieces.specs.Pieces.{outlet}
@@ -9,8 +9,7 @@ ghost-write_word g a = g.member
 
 abbrev pub invariant-loop-at : goal.invariant-loop-at
 invariant-loop-at g l = record {
-  reference : l.out.sink.ghost_name ≡ l.fn.out.sink.ghost_name;
   after : IsRunBefore g.member (min l.bits (64 * l.at)) l.run.first l.run.end;
   wrote : Wrote l.fn.texts.between (chosen l.fn.texts.texts g.member) false 0 l.run.first
-      (outlet g.K.Sink.contents g.K.Sink.faults l.fn.out) (outlet g.K.Sink.contents g.K.Sink.faults l.out) l.run.others;
+      (outlet g.K.Sink l.fn.out) (outlet g.K.Sink l.out) l.run.others;
 }

@@ -18,14 +18,14 @@ returns-in-Some-clause-asks c =
     assigned_there program c.args.point variable c.args.kind.now stand (sym c.in-Some.ensures) in
     let of : IsAskOf program (ask_for Live (c.args.point + 1) variable) =
     record { point = next_below program c.args.point c.args.kind.now stand; word = omega (arith, there) } in
-    IfOk-weaker c.put.result _ _ (λ _ is. asks_one program c.args.asks.now.items c.put.new.asks.items c.ask_for.result 1 is
-    (subst (IsAskOf program) (sym c.ask_for.ensures) of) (omega arith)) c.put.ensures
+    IfOk-weaker c.put_ask.result _ _ (λ _ is. asks_one program c.args.asks.now.items c.put_ask.new.asks.items c.ask_for.result 1 is
+    (subst (IsAskOf program) (sym c.ask_for.ensures) of) (omega arith)) c.put_ask.ensures
 
 pub returns-in-Some-clause-asked : goal.returns-in-Some-clause-asked
 returns-in-Some-clause-asked c =
-    IfOk-weaker c.put.result _ _
+    IfOk-weaker c.put_ask.result _ _
     (λ _ is variable sets.
     let same : c.in-Some.variable ≡ variable = cc (c.in-Some.ensures ∙ sets) in
-    put_there c.args.asks.now.items c.put.new.asks.items c.ask_for.result is
+    put_there c.args.asks.now.items c.put_ask.new.asks.items c.ask_for.result is
     ∙ ap (λ a. Some a) (c.ask_for.ensures ∙ ap (ask_for Live (c.args.point + 1)) same))
-    c.put.ensures
+    c.put_ask.ensures

@@ -14,14 +14,14 @@ returns-in-Some-clause-asks c =
     let program : Program = c.args.graph.now in
     let there : c.in-Some.bit < bits program Avail = evaluated_there program c.args.point c.in-Some.bit (sym c.in-Some.ensures) in
     let of : IsAskOf program (ask_for Avail c.args.point c.in-Some.bit) = record { point = c.requires.point; word = omega (arith, there) } in
-    IfOk-weaker c.put.result _ _ (λ _ is. asks_one program c.args.asks.now.items c.put.new.asks.items c.ask_for.result 1 is
-    (subst (IsAskOf program) (sym c.ask_for.ensures) of) (omega arith)) c.put.ensures
+    IfOk-weaker c.put_ask.result _ _ (λ _ is. asks_one program c.args.asks.now.items c.put_ask.new.asks.items c.ask_for.result 1 is
+    (subst (IsAskOf program) (sym c.ask_for.ensures) of) (omega arith)) c.put_ask.ensures
 
 pub returns-in-Some-clause-asked : goal.returns-in-Some-clause-asked
 returns-in-Some-clause-asked c =
-    IfOk-weaker c.put.result _ _
+    IfOk-weaker c.put_ask.result _ _
     (λ _ is bit evaluates.
     let same : c.in-Some.bit ≡ bit = cc (c.in-Some.ensures ∙ evaluates) in
-    put_there c.args.asks.now.items c.put.new.asks.items c.ask_for.result is
+    put_there c.args.asks.now.items c.put_ask.new.asks.items c.ask_for.result is
     ∙ ap (λ a. Some a) (c.ask_for.ensures ∙ ap (ask_for Avail c.args.point) same))
-    c.put.ensures
+    c.put_ask.ensures

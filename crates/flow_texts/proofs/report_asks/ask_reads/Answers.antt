@@ -23,54 +23,54 @@ returns-in-One-clause-asks c =
     let are : AreRead c.args.kind.now (x ∷ []) = record { rising = c.in-One.ensures.rising; read = c.in-One.ensures.read } in
     let of : IsAskOf program (ask_for Reach c.args.point x) =
     read_is_ask program c.args.point c.args.kind.now c.requires.sound c.requires.point c.requires.kind (x ∷ []) are x (first_of x []) in
-    IfOk-weaker c.put.result _ _ (λ _ is. asks_one program c.args.asks.now.items c.put.new.asks.items c.ask_for.result 2 is
-    (subst (IsAskOf program) (sym c.ask_for.ensures) of) (omega arith)) c.put.ensures
+    IfOk-weaker c.put_ask.result _ _ (λ _ is. asks_one program c.args.asks.now.items c.put_ask.new.asks.items c.ask_for.result 2 is
+    (subst (IsAskOf program) (sym c.ask_for.ensures) of) (omega arith)) c.put_ask.ensures
 
 pub returns-in-One-clause-asked : goal.returns-in-One-clause-asked
 returns-in-One-clause-asked c =
     let old : List Ask = c.args.asks.now.items in
     let x : ℕ = c.in-One.variable in
     let are : AreRead c.args.kind.now (x ∷ []) = record { rising = c.in-One.ensures.rising; read = c.in-One.ensures.read } in
-    IfOk-weaker c.put.result _ _
-    (λ _ is. reads_asked c.args._graph.now c.args.point c.args.kind.now c.requires.sound c.requires.point c.requires.kind old c.put.new.asks.items
+    IfOk-weaker c.put_ask.result _ _
+    (λ _ is. reads_asked c.args._graph.now c.args.point c.args.kind.now c.requires.sound c.requires.point c.requires.kind old c.put_ask.new.asks.items
     (x ∷ []) are
     (is ∙ ap (λ a. old ++ a ∷ []) c.ask_for.ensures))
-    c.put.ensures
+    c.put_ask.ensures
 
-pub returns-in_ok-put-in-Two-clause-asks : goal.returns-in_ok-put-in-Two-clause-asks
-returns-in_ok-put-in-Two-clause-asks c =
+pub returns-in_ok-put_ask-in-Two-clause-asks : goal.returns-in_ok-put_ask-in-Two-clause-asks
+returns-in_ok-put_ask-in-Two-clause-asks c =
     let program : Program = c.args._graph.now in
     let x : ℕ = c.in-Two.first in
     let y : ℕ = c.in-Two.second in
     let old : List Ask = c.args.asks.now.items in
-    let mid : List Ask = c.put-in-Two.new.asks.items in
-    let new : List Ask = c.put-in-Two-2.new.asks.items in
+    let mid : List Ask = c.put_ask-in-Two.new.asks.items in
+    let new : List Ask = c.put_ask-in-Two-2.new.asks.items in
     let are : AreRead c.args.kind.now (x ∷ y ∷ []) = record { rising = c.in-Two.ensures.rising; read = c.in-Two.ensures.read } in
     let first : IsAskOf program (ask_for Reach c.args.point x) =
     read_is_ask program c.args.point c.args.kind.now c.requires.sound c.requires.point c.requires.kind (x ∷ y ∷ []) are x (first_of x (y ∷ [])) in
     let second : IsAskOf program (ask_for Reach c.args.point y) =
     read_is_ask program c.args.point c.args.kind.now c.requires.sound c.requires.point c.requires.kind (x ∷ y ∷ []) are y (second_of x y) in
-    IfOk-weaker c.put-in-Two-2.result _ _
+    IfOk-weaker c.put_ask-in-Two-2.result _ _
     (λ _ is. asks_then program old mid new 1 1 2
-    (asks_one program old mid c.ask_for-in-Two.result 1 c.in_ok-put-in-Two.ensures (subst (IsAskOf program) (sym c.ask_for-in-Two.ensures) first)
+    (asks_one program old mid c.ask_for-in-Two.result 1 c.in_ok-put_ask-in-Two.ensures (subst (IsAskOf program) (sym c.ask_for-in-Two.ensures) first)
     (omega arith))
     (asks_one program mid new c.ask_for-in-Two-2.result 1 is (subst (IsAskOf program) (sym c.ask_for-in-Two-2.ensures) second) (omega arith))
     (omega arith))
-    c.put-in-Two-2.ensures
+    c.put_ask-in-Two-2.ensures
 
-pub returns-in_ok-put-in-Two-clause-asked : goal.returns-in_ok-put-in-Two-clause-asked
-returns-in_ok-put-in-Two-clause-asked c =
+pub returns-in_ok-put_ask-in-Two-clause-asked : goal.returns-in_ok-put_ask-in-Two-clause-asked
+returns-in_ok-put_ask-in-Two-clause-asked c =
     let x : ℕ = c.in-Two.first in
     let y : ℕ = c.in-Two.second in
     let old : List Ask = c.args.asks.now.items in
     let one : Ask = ask_for Reach c.args.point x in
     let other : Ask = ask_for Reach c.args.point y in
     let are : AreRead c.args.kind.now (x ∷ y ∷ []) = record { rising = c.in-Two.ensures.rising; read = c.in-Two.ensures.read } in
-    IfOk-weaker c.put-in-Two-2.result _ _
+    IfOk-weaker c.put_ask-in-Two-2.result _ _
     (λ _ is. reads_asked c.args._graph.now c.args.point c.args.kind.now c.requires.sound c.requires.point c.requires.kind old
-    c.put-in-Two-2.new.asks.items (x ∷ y ∷ []) are
+    c.put_ask-in-Two-2.new.asks.items (x ∷ y ∷ []) are
     (is
-    ∙ ap (λ a. c.put-in-Two.new.asks.items ++ a ∷ []) c.ask_for-in-Two-2.ensures
-    ∙ ap (λ asks. asks ++ other ∷ []) (c.in_ok-put-in-Two.ensures ∙ ap (λ a. old ++ a ∷ []) c.ask_for-in-Two.ensures)
+    ∙ ap (λ a. c.put_ask-in-Two.new.asks.items ++ a ∷ []) c.ask_for-in-Two-2.ensures
+    ∙ ap (λ asks. asks ++ other ∷ []) (c.in_ok-put_ask-in-Two.ensures ∙ ap (λ a. old ++ a ∷ []) c.ask_for-in-Two.ensures)
     ∙ append_assoc old (one ∷ []) (other ∷ [])))
-    c.put-in-Two-2.ensures
+    c.put_ask-in-Two-2.ensures

@@ -1,5 +1,5 @@
 use Rattle.text_pieces.proofs.Taking.{takes_then}
 use Rattle.flow_texts.proofs.reports.write_count.Goals as goal
 
-pub returns-clause-takes : goal.returns-clause-takes
-returns-clause-takes g c = takes_then _ _ _ _ _ c.write.ensures.takes c.write_number.ensures.takes
+pub returns : goal.returns
+returns g c = takes_then _ _ _ _ _ c.write.ensures c.write_number.ensures

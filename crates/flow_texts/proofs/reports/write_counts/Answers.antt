@@ -28,13 +28,13 @@ counted w x y z k l m n e f g h =
     ∙ ap (λ i. codes "points " ++ decimal k ++ codes ", variables " ++ decimal l ++ codes ", definitions " ++ decimal m ++ codes ", expressions "
     ++ decimal i ++ codes "\n") h
 
-pub returns-clause-takes : goal.returns-clause-takes
-returns-clause-takes g c =
+pub returns : goal.returns
+returns g c =
     let program : Program = c.args.graph.now in
     takes_as _ _ _ (count_line program)
-    (takes_then _ _ _ _ _ (takes_then _ _ _ _ _ (takes_then _ _ _ _ _ (takes_then _ _ _ _ _ c.write_count.ensures.takes c.write_count-2.ensures.takes)
-    c.write_count-3.ensures.takes) c.write_count-4.ensures.takes)
-    c.write.ensures.takes)
+    (takes_then _ _ _ _ _ (takes_then _ _ _ _ _ (takes_then _ _ _ _ _ (takes_then _ _ _ _ _ c.write_count.ensures c.write_count-2.ensures)
+    c.write_count-3.ensures) c.write_count-4.ensures)
+    c.write.ensures)
     (counted c.points.result c.bits.result c.bits-2.result c.bits-3.result (point_count program) (length program.variable_names)
     (length (definitions program)) (length (expressions program))
     c.points.ensures.count c.bits.ensures.count c.bits-2.ensures.count c.bits-3.ensures.count)

@@ -15,13 +15,13 @@ procedure-requires g c =
     subst (λ n. n < length c.program-program.result.now.procedure_names) (sym (ap (λ p. p.procedure) c.place-place.ensures))
     (subst (λ p. procedure_at c.args.graph.now c.args.point < length p.procedure_names) (sym c.program-program.ensures) below)
 
-pub returns-clause-takes : goal.returns-clause-takes
-returns-clause-takes g c =
+pub returns : goal.returns
+returns g c =
     let named : c.procedure.result.now ≡ name_at c.args.graph.now.procedure_names (procedure_at c.args.graph.now c.args.point) =
     sym (ap (λ o. unwrap_or o []) c.procedure.ensures)
     ∙ ap (λ p. name_at p.procedure_names c.place-place.result.procedure) c.program-program.ensures
     ∙ ap (λ q. name_at c.args.graph.now.procedure_names q.procedure) c.place-place.ensures in
-    takes_as _ _ _ _ (takes_then _ _ _ _ _ (takes_then _ _ _ _ _ c.write.ensures.takes c.write-2.ensures.takes) c.write_number.ensures.takes)
+    takes_as _ _ _ _ (takes_then _ _ _ _ _ (takes_then _ _ _ _ _ c.write.ensures c.write-2.ensures) c.write_number.ensures)
     (ap (λ t. t ++ codes " " ++ decimal c.place-place.result.place) named
     ∙ ap (λ q. name_at c.args.graph.now.procedure_names (procedure_at c.args.graph.now c.args.point) ++ codes " " ++ decimal q.place)
     c.place-place.ensures)

@@ -9,8 +9,8 @@ use Rattle.flow_texts.proofs.ListTexts.{map-members}
 use Rattle.text_pieces.proofs.Taking.{takes_as, takes_then}
 use Rattle.flow_texts.proofs.table_texts.write_point.Goals as goal
 
-pub returns-clause-takes : goal.returns-clause-takes
-returns-clause-takes g c =
+pub returns : goal.returns
+returns g c =
     let table = c.args.table.now in
     let program = c.args.graph.now in
     let texts = c.args.texts.now.texts in
@@ -26,6 +26,6 @@ returns-clause-takes g c =
     let marked : c.path_mark.result.now ≡ mark = c.path_mark.ensures ∙ ap (λ b. if b then codes ": " else codes " (no path): ") c.has_path.ensures in
     let found : List (List ℕ) = map (text_at texts) (filter ((facts_of table).contains c.args.point) (range_with_len 0 c.bits.result)) in
     takes_as _ _ _ _
-    (takes_then _ _ _ _ _ (takes_then _ _ _ _ _ (takes_then _ _ _ _ _ c.write_place.ensures.takes c.write.ensures.takes) c.write_set.ensures.takes)
-    c.write-2.ensures.takes)
+    (takes_then _ _ _ _ _ (takes_then _ _ _ _ _ (takes_then _ _ _ _ _ c.write_place.ensures c.write.ensures) c.write_set.ensures)
+    c.write-2.ensures)
     (ap (λ m. place ++ m ++ listed found ++ codes "\n") marked ∙ ap (λ xs. place ++ mark ++ listed xs ++ codes "\n") same)

@@ -6,10 +6,10 @@ use Rattle.text_pieces.proofs.Taking.{takes_as, takes_then}
 use Rattle.flow_views.proofs.Rows.{after-joined}
 use Rattle.flow_views.proofs.json.write_array.Goals as goal
 
-pub returns-clause-takes : goal.returns-clause-takes
-returns-clause-takes g c =
+pub returns : goal.returns
+returns g c =
     let texts : List (List ℕ) =
     map (text_at c.args.texts.now.texts) (filter ((facts_of c.args.table.now).contains c.args.point) (range_with_len 0 c.args.bits)) in
-    takes_as _ _ _ _ (takes_then _ _ _ _ _ (takes_then _ _ _ _ _ c.write.ensures.takes c.write_members.ensures.wrote.written) c.write-2.ensures.takes)
+    takes_as _ _ _ _ (takes_then _ _ _ _ _ (takes_then _ _ _ _ _ c.write.ensures c.write_members.ensures.written) c.write-2.ensures)
     (ap (λ b. codes "[" ++ after b false texts ++ codes "]") c.requires.commas
     ∙ ap (λ t. codes "[" ++ t ++ codes "]") (after-joined (codes ",") texts))

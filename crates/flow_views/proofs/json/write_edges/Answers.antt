@@ -1,4 +1,4 @@
-use Rattle.std.proofs.Common.{codes, ◌∙◌, arith}
+use Rattle.std.proofs.Common.{codes, arith}
 use Rattle.flow_graph.proofs.edges.SourceLemmas.{get_or_any}
 use Rattle.text_pieces.proofs.Taking.{takes_as, takes_then}
 use Rattle.flow_views.specs.Json.{edge_object}
@@ -6,15 +6,13 @@ use Rattle.flow_views.proofs.Rows.{joined_all, joined_behind}
 use Rattle.flow_views.proofs.json.write_edges.Goals as goal
 
 pub loop-place-preserved : goal.loop-place-preserved
-loop-place-preserved g c = record {
-  reference = c.write_edge.ensures.same_reference ∙ c.write_if.ensures.same_reference ∙ c.loop-place.invariant.reference;
-  takes =
-      takes_as _ _ _ _ (takes_then _ _ _ _ _ (takes_then _ _ _ _ _ c.loop-place.invariant.takes c.write_if.ensures.takes) c.write_edge.ensures.takes)
-      (joined_behind (codes "[") (codes ",") edge_object c.args.edges.now c.loop-place.place _ c.loop-place-test.true
-      (get_or_any c.args.edges.now c.loop-place.place _ _ c.loop-place-test.true));
-}
+loop-place-preserved g c =
+    takes_as _ _ _ _
+    (takes_then _ _ _ _ _ (takes_then _ _ _ _ _ c.loop-place.invariant c.write_if.ensures) c.write_edge.ensures)
+    (joined_behind (codes "[") (codes ",") edge_object c.args.edges.now c.loop-place.place _ c.loop-place-test.true
+    (get_or_any c.args.edges.now c.loop-place.place _ _ c.loop-place-test.true))
 
-pub returns-clause-takes : goal.returns-clause-takes
-returns-clause-takes g c =
-    takes_as _ _ _ _ (takes_then _ _ _ _ _ c.loop-place.invariant.takes c.write-2.ensures.takes)
+pub returns : goal.returns
+returns g c =
+    takes_as _ _ _ _ (takes_then _ _ _ _ _ c.loop-place.invariant c.write-2.ensures)
     (joined_all (codes ",") edge_object c.args.edges.now c.loop-place.place (omega (arith, c.loop-place-test.false)))

@@ -3,5 +3,5 @@ use Rattle.text_pieces.proofs.Taking.{takes_as}
 use Rattle.flow_views.proofs.Tables.{no_span}
 use Rattle.flow_views.proofs.json.write_place.Goals as goal
 
-pub returns-in-None-clause-takes : goal.returns-in-None-clause-takes
-returns-in-None-clause-takes g c = takes_as _ _ _ _ c.write.ensures.takes (sym (no_span c.args.graph.now c.args.point (sym c.in-None.ensures.stmt)))
+pub returns-in-None : goal.returns-in-None
+returns-in-None g c = takes_as _ _ _ _ c.write.ensures (sym (no_span c.args.graph.now c.args.point (sym c.in-None.ensures.stmt)))

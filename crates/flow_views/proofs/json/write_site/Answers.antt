@@ -1,7 +1,7 @@
 use Rattle.text_pieces.proofs.Taking.{takes_then}
 use Rattle.flow_views.proofs.json.write_site.Goals as goal
 
-pub returns-clause-takes : goal.returns-clause-takes
-returns-clause-takes g c =
-    takes_then _ _ _ _ _ (takes_then _ _ _ _ _ (takes_then _ _ _ _ _ (takes_then _ _ _ _ _ c.write.ensures.takes
-    c.write_number.ensures.takes) c.write-2.ensures.takes) c.write_number-2.ensures.takes) c.write-3.ensures.takes
+pub returns : goal.returns
+returns g c =
+    takes_then _ _ _ _ _ (takes_then _ _ _ _ _ (takes_then _ _ _ _ _ (takes_then _ _ _ _ _ c.write.ensures
+    c.write_number.ensures) c.write-2.ensures) c.write_number-2.ensures) c.write-3.ensures

@@ -2,7 +2,7 @@ use Rattle.std.proofs.Common.{◌∷◌, [], ◌++◌, ap, ap₂, sym, ◌∙◌
 use Rattle.std.proofs.lemmas.List.{map-append}
 use Rattle.flow_graph.specs.Edges.{edges_from}
 use Rattle.flow_graph.proofs.lists.Ranges.{map-range_more}
-use Rattle.flow_views.specs.code.Shown.{contents}
+use Rattle.flow_views.specs.code.ShownProgram.{contents}
 use Rattle.flow_views.proofs.shown.successors.Goals as goal
 
 pub loop-point-preserved : goal.loop-point-preserved

@@ -1,7 +1,7 @@
 use Rattle.std.proofs.Common.{◌≡◌, map}
 use Rattle.std.specs.List.{range_with_len}
 use Rattle.flow_graph.specs.Edges.{edges_from}
-use Rattle.flow_views.specs.code.Shown.{contents}
+use Rattle.flow_views.specs.code.ShownProgram.{contents}
 use Rattle.flow_views.proofs.shown.successors.Given as goal
 
 abbrev pub invariant-loop-point : goal.invariant-loop-point

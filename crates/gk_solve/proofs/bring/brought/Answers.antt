@@ -10,18 +10,20 @@ use Rattle.gk_solve.proofs.WordEdges.{all_brought}
 use Rattle.gk_solve.proofs.bring.brought.Goals as goal
 
 pub visits-smaller : goal.visits-smaller
-visits-smaller g c = visit_falls c.visits.brought c.visits.dirty c.visit.new.brought c.take.new.self c.visit.new.dirty c.in-Some.procedure
-    c.in-Some.ensures.0 c.in-Some.ensures.1 c.visit.ensures.spreads
+visits-smaller g c = visit_falls c.visits.brought c.visits.dirty c.visit_procedure.new.brought c.take.new.self c.visit_procedure.new.dirty
+    c.in-Some.procedure
+    c.in-Some.ensures.0 c.in-Some.ensures.1 c.visit_procedure.ensures.spreads
 
 pub visits-preserved : goal.visits-preserved
 visits-preserved g c = record {
-  count = c.visit.ensures.spreads.count
+  count = c.visit_procedure.ensures.spreads.count
       ∙ (ap length c.in-Some.ensures.1 ∙ (length-set c.visits.dirty c.in-Some.procedure false ∙ c.visits.invariant.count));
   settled = visit_settles_from (IsBroughtClosedAt (group_of c.args.frame.now g.row.W) c.args.frame.now.paths.now c.args.table.now)
-      (source_procedure (directed_shape c.args.frame.now.links.now)) c.visits.brought c.visits.dirty c.visit.new.brought c.take.new.self
-      c.visit.new.dirty c.in-Some.procedure c.in-Some.ensures.1 c.visit.ensures.spreads c.visit.ensures.settled c.visits.invariant.settled;
-  root = λ w k inside low has. c.visit.ensures.spreads.grows w inside _ k (c.visits.invariant.root w k inside low has);
-  sound = c.visit.ensures.spreads.sound c.visits.invariant.sound;
+      (source_procedure (directed_shape c.args.frame.now.links.now)) c.visits.brought c.visits.dirty c.visit_procedure.new.brought c.take.new.self
+      c.visit_procedure.new.dirty c.in-Some.procedure c.in-Some.ensures.1 c.visit_procedure.ensures.spreads c.visit_procedure.ensures.settled
+      c.visits.invariant.settled;
+  root = λ w k inside low has. c.visit_procedure.ensures.spreads.grows w inside _ k (c.visits.invariant.root w k inside low has);
+  sound = c.visit_procedure.ensures.spreads.sound c.visits.invariant.sound;
 }
 
 pub returns-clause-exact : goal.returns-clause-exact
@@ -46,6 +48,6 @@ visits-init g c = record {
       let low = c.requires.frame.numbered.procedure_in_range _ (c.requires.frame.numbered.edge_in_range edge there).0 in
       inr (ap (λ (d : List Bool). get_or d from false) c.mark_all.ensures
       ∙ get_or-replicate (length c.args.dirty.now) from true false (omega (arith, low, c.requires.dirty_count)));
-  root = c.begin.ensures.root;
-  sound = c.begin.ensures.sound;
+  root = c.begin_brought.ensures.root;
+  sound = c.begin_brought.ensures.sound;
 }

@@ -8,8 +8,8 @@ use Rattle.gk_solve.proofs.GroupLemmas.{brings_bits, brings_of}
 use Rattle.gk_solve.proofs.SummaryVisits.{has_size}
 use Rattle.gk_solve.proofs.bring.visit_site.Goals as goal
 
-pub put-requires : goal.put-requires
-put-requires g c =
+pub put_brought-requires : goal.put_brought-requires
+put_brought-requires g c =
     let is = c.requires.frame in
     let narrow = is.narrow in
     let there = c.requires.there in
@@ -39,18 +39,19 @@ returns-clause-settled g c =
     let there = c.requires.there in
     let point_within : c.args.site.point < length c.args.table.now = omega (arith, c.requires.within.0, c.requires.points) in
     let procedure_within : c.args.procedure < length c.args.brought.now = omega (arith, c.requires.inside, c.requires.count) in
-    let same : ((w : ℕ) → brought_word c.put.new.brought w c.args.procedure ≡ brought_word c.args.brought.now w c.args.procedure)
-    ⊎ IsMarked c.put.new.dirty c.args.procedure =
+    let same : ((w : ℕ) → brought_word c.put_brought.new.brought w c.args.procedure ≡ brought_word c.args.brought.now w c.args.procedure)
+    ⊎ IsMarked c.put_brought.new.dirty c.args.procedure =
     elim (cases_eq c.args.procedure c.args.site.callee) [
-      | inr other ↦ inl (λ w. c.put.ensures.same w c.args.procedure other)
-      | inl here ↦ elim c.put.ensures.still [
+      | inr other ↦ inl (λ w. c.put_brought.ensures.same w c.args.procedure other)
+      | inl here ↦ elim c.put_brought.ensures.still [
         | inl still ↦ inl (λ w. ap (λ (rows : List (List ℕ)). brought_word rows w c.args.procedure) still)
-        | inr marked ↦ inr (subst (IsMarked c.put.new.dirty) (sym here) marked)
+        | inr marked ↦ inr (subst (IsMarked c.put_brought.new.dirty) (sym here) marked)
       ]
     ] in
-    site_settled (group_of c.args.frame.now g.row.W) c.args.frame.now.paths.now c.args.table.now c.args.brought.now c.put.new.brought c.put.new.dirty
+    site_settled (group_of c.args.frame.now g.row.W) c.args.frame.now.paths.now c.args.table.now c.args.brought.now c.put_brought.new.brought
+    c.put_brought.new.dirty
     c.args.site c.args.procedure c.new_or_kept-more.result there.3
     (brings_bits g.row.W c.args.frame.now is c.args.table.now c.args.brought.now c.args.procedure c.args.site there.3 point_within procedure_within
     c.index-table-site.result c.index-brought-procedure.result c.index-table-site.is c.index-brought-procedure.is
     c.new_or_kept-more.result c.new_or_kept-more.ensures)
-    c.put.ensures.added same
+    c.put_brought.ensures.added same

@@ -1,6 +1,6 @@
 use Rattle.std.proofs.Common.{◌≡◌, ◌<◌, ℕ, false, Bool, List, length, get_or, inl, inr, arith, ap, subst, sym, ◌∙◌}
 use Rattle.std.proofs.Math.ListN.{length-set, set}
-use Rattle.gk_solve.specs.Equations.{Entered, root_is_entered}
+use Rattle.summary_equations.specs.Equations.{Entered, root_is_entered}
 use Rattle.flow_graph.specs.declared.edge.Edge.{Edge}
 use Rattle.flow_graph.specs.declared.edge.Edge.TheVariants.{Step, Call, Ret}
 use Rattle.flow_graph.specs.Paths.{Shape, IsEdge}
@@ -30,8 +30,8 @@ unflagged_settles shape reached flags dirty dirty_after at taken clear before ed
       | inr still ↦ subst (λ (d : List Bool). IsSettled (IsEntryClosedAt shape reached) (source_procedure shape) flags d edge) (sym taken) still
     ]
 
-pub enter-requires-clause-entered : goal.enter-requires-clause-entered
-enter-requires-clause-entered c = subst (Entered (directed_shape c.args.links.now)) (sym c.root.ensures) root_is_entered
+pub enter_procedure-requires-clause-entered : goal.enter_procedure-requires-clause-entered
+enter_procedure-requires-clause-entered c = subst (Entered (directed_shape c.args.links.now)) (sym c.root.ensures) root_is_entered
 
 pub overflow_cast-procedure : goal.overflow_cast-procedure
 overflow_cast-procedure c =
@@ -39,8 +39,9 @@ overflow_cast-procedure c =
     omega (arith, low, c.visits.invariant.count, c.procedures.ensures)
 
 pub visits-smaller-then-flags-procedure : goal.visits-smaller-then-flags-procedure
-visits-smaller-then-flags-procedure c = visit_falls c.visits.flags c.visits.dirty c.visit.new.flags c.take.new.self c.visit.new.dirty
-    c.in-Some.procedure c.in-Some.ensures.0 c.in-Some.ensures.1 c.visit.ensures.spreads
+visits-smaller-then-flags-procedure c = visit_falls c.visits.flags c.visits.dirty c.visit_procedure.new.flags c.take.new.self
+    c.visit_procedure.new.dirty
+    c.in-Some.procedure c.in-Some.ensures.0 c.in-Some.ensures.1 c.visit_procedure.ensures.spreads
 
 pub returns : goal.returns
 returns c x = (
@@ -53,23 +54,24 @@ returns c x = (
 
 pub visits-init : goal.visits-init
 visits-init c =
-    let spreads = c.enter.ensures.spreads in
+    let spreads = c.enter_procedure.ensures.spreads in
     record {
       count = spreads.count ∙ c.requires.dirty_count;
       settled = λ edge there. spreads.settled edge there
           (inl (unflagged_closed (directed_shape c.args.links.now) c.args.reached.now c.args.flags.now edge (c.requires.none _)));
-      root = subst (IsFlagged c.enter.new.flags) c.root.ensures c.enter.ensures.flagged;
+      root = subst (IsFlagged c.enter_procedure.new.flags) c.root.ensures c.enter_procedure.ensures.flagged;
       sound = spreads.sound (λ x flagged. absurd (c.requires.none x flagged));
     }
 
 pub visits-preserved-then-flags-procedure : goal.visits-preserved-then-flags-procedure
 visits-preserved-then-flags-procedure c =
-    let spreads = c.visit.ensures.spreads in
+    let spreads = c.visit_procedure.ensures.spreads in
     record {
       count = spreads.count ∙ (ap length c.in-Some.ensures.1 ∙ (length-set c.visits.dirty c.in-Some.procedure false ∙ c.visits.invariant.count));
       settled = visit_settles_from (IsEntryClosedAt (directed_shape c.args.links.now) c.args.reached.now)
-          (source_procedure (directed_shape c.args.links.now)) c.visits.flags c.visits.dirty c.visit.new.flags c.take.new.self c.visit.new.dirty
-          c.in-Some.procedure c.in-Some.ensures.1 spreads c.visit.ensures.settled c.visits.invariant.settled;
+          (source_procedure (directed_shape c.args.links.now)) c.visits.flags c.visits.dirty c.visit_procedure.new.flags c.take.new.self
+          c.visit_procedure.new.dirty
+          c.in-Some.procedure c.in-Some.ensures.1 spreads c.visit_procedure.ensures.settled c.visits.invariant.settled;
       root = spreads.grows _ c.visits.invariant.root;
       sound = spreads.sound c.visits.invariant.sound;
     }

@@ -2,7 +2,7 @@ use Rattle.std.proofs.Common.{◌≡◌, ◌+◌, ◌*◌, length}
 use Rattle.work_list.proofs.MarkCounts.{mark_count}
 use Rattle.flow_graph.specs.declared.edge.Edge.{Edge}
 use Rattle.flow_graph.specs.Paths.{IsEdge}
-use Rattle.gk_solve.specs.Equations.{Entered}
+use Rattle.summary_equations.specs.Equations.{Entered}
 use Rattle.flow_links.specs.Shapes.{directed_shape}
 use Rattle.gk_solve.specs.Tables.Flags.{IsFlagged, AreSound, IsEntryClosedAt, unset_flags, source_procedure}
 use Rattle.gk_solve.specs.Tables.Visits.{IsSettled}

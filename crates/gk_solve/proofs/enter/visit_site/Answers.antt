@@ -1,11 +1,11 @@
 use Rattle.std.proofs.Common.{subst, sym}
-use Rattle.gk_solve.specs.Equations.{Entered}
+use Rattle.summary_equations.specs.Equations.{Entered}
 use Rattle.flow_links.specs.Shapes.{directed_shape}
 use Rattle.gk_solve.proofs.FlagVisits.{entered_across_call}
 use Rattle.gk_solve.proofs.enter.visit_site.Goals as goal
 
-pub enter-requires-clause-entered : goal.enter-requires-clause-entered
-enter-requires-clause-entered c =
+pub enter_procedure-requires-clause-entered : goal.enter_procedure-requires-clause-entered
+enter_procedure-requires-clause-entered c =
     let shape = directed_shape c.args.links.now in
     let site = c.requires.there in
     subst (Entered shape) (sym site.4)

@@ -10,20 +10,22 @@ use Rattle.gk_solve.proofs.WordEdges.{all_kept, all_made}
 use Rattle.gk_solve.proofs.group.kept_and_made.Goals as goal
 
 pub visits-smaller : goal.visits-smaller
-visits-smaller g c = visit_falls c.visits.table c.visits.dirty c.visit.new.table c.take.new.self c.visit.new.dirty c.in-Some.at c.in-Some.ensures.0
-    c.in-Some.ensures.1 c.visit.ensures.spreads
+visits-smaller g c = visit_falls c.visits.table c.visits.dirty c.visit_point.new.table c.take.new.self c.visit_point.new.dirty c.in-Some.at
+    c.in-Some.ensures.0
+    c.in-Some.ensures.1 c.visit_point.ensures.spreads
 
 pub visits-preserved : goal.visits-preserved
 visits-preserved g c = record {
-  count = c.visit.ensures.spreads.count ∙ (ap length c.in-Some.ensures.1 ∙ (length-set c.visits.dirty c.in-Some.at false ∙ c.visits.invariant.count));
+  count = c.visit_point.ensures.spreads.count ∙ (ap length c.in-Some.ensures.1 ∙ (length-set c.visits.dirty c.in-Some.at false ∙
+      c.visits.invariant.count));
   settled =
       visit_settles (λ edge. WaitsFor (directed_shape c.args.frame.now.links.now) edge c.in-Some.at)
-      c.visits.table c.visits.dirty c.visit.new.table c.take.new.self
-      c.visit.new.dirty c.in-Some.at c.in-Some.ensures.1 c.visit.ensures.spreads
+      c.visits.table c.visits.dirty c.visit_point.new.table c.take.new.self
+      c.visit_point.new.dirty c.in-Some.at c.in-Some.ensures.1 c.visit_point.ensures.spreads
       (waits_but (group_of c.args.frame.now g.row.W) c.args.frame.now.paths.now c.visits.table c.visits.dirty c.in-Some.at)
-      c.visit.ensures.settled c.visits.invariant.settled;
-  entries = λ p w k below inside low. (c.visit.ensures.spreads.grows w inside).0 _ k (c.visits.invariant.entries p w k below inside low);
-  sound = c.visit.ensures.spreads.sound c.visits.invariant.sound;
+      c.visit_point.ensures.settled c.visits.invariant.settled;
+  entries = λ p w k below inside low. (c.visit_point.ensures.spreads.grows w inside).0 _ k (c.visits.invariant.entries p w k below inside low);
+  sound = c.visit_point.ensures.spreads.sound c.visits.invariant.sound;
 }
 
 pub returns-clause-complete : goal.returns-clause-complete
@@ -42,10 +44,10 @@ returns-clause-complete g c w x k inside low flag =
 pub visits-init : goal.visits-init
 visits-init g c = record {
   count = ap length c.mark_all.ensures ∙ (length-replicate (length c.args.dirty.now) true ∙ c.requires.dirty_count);
-  settled = all_wait (group_of c.args.frame.now g.row.W) c.args.frame.now.paths.now c.begin.new.table c.mark_all.new.self (λ edge there.
+  settled = all_wait (group_of c.args.frame.now g.row.W) c.args.frame.now.paths.now c.begin_summaries.new.table c.mark_all.new.self (λ edge there.
       let low = (c.requires.frame.numbered.edge_in_range edge there).0 in
       ap (λ (d : List Bool). get_or d (source_of edge) false) c.mark_all.ensures
       ∙ get_or-replicate (length c.args.dirty.now) (source_of edge) true false (omega (arith, low, c.requires.dirty_count)));
-  entries = c.begin.ensures.entries;
-  sound = c.begin.ensures.sound;
+  entries = c.begin_summaries.ensures.entries;
+  sound = c.begin_summaries.ensures.sound;
 }

@@ -15,8 +15,8 @@ bounds-frame-call g c =
     (exit_low c.requires.frame.numbered there.0 c.args.at there.1 there.2) in
     omega (arith, low, c.requires.frame.path_count)
 
-pub put-requires : goal.put-requires
-put-requires g c =
+pub put_summary-requires : goal.put_summary-requires
+put_summary-requires g c =
     let is = c.requires.frame in
     let there = c.requires.there in
     let ends = is.numbered.edge_in_range _ there.2 in
@@ -35,11 +35,11 @@ put-requires g c =
               call_keeps_of g.row.W c.args.frame.now is c.args.table.now c.requires.sound c.args.at c.args.call there c.requires.path
                   c.if-not-frame-call.false within exit_within c.index-table-at.result c.index-table-call.result c.index-table-at.is
                   c.index-table-call.is
-                  c.both.result c.new_or_kept.result c.both.ensures c.new_or_kept.ensures,
+                  c.common_words.result c.new_or_kept.result c.common_words.ensures c.new_or_kept.ensures,
               call_makes_of g.row.W c.args.frame.now is c.args.table.now c.requires.sound c.args.at c.args.call there c.requires.path
                   c.if-not-frame-call.false within exit_within c.index-table-at.result c.index-table-call.result c.index-table-at.is
                   c.index-table-call.is
-                  c.both.result c.new_or_kept.result c.both.ensures c.new_or_kept.ensures,
+                  c.common_words.result c.new_or_kept.result c.common_words.ensures c.new_or_kept.ensures,
             ),
           ),
         ),
@@ -57,11 +57,12 @@ returns-clause-settled g c =
     let exit_within : c.args.call.exit < length c.args.table.now = omega (arith, low, c.requires.count) in
     call_settled_of g.row.W c.args.frame.now is c.args.table.now c.requires.sound c.args.at c.args.call there c.requires.path
     c.if-not-frame-call.false within exit_within c.index-table-at.result c.index-table-call.result c.index-table-at.is c.index-table-call.is
-    c.both.result c.new_or_kept.result c.both.ensures c.new_or_kept.ensures c.put.new.table c.put.new.dirty c.put.ensures.same
-    c.put.ensures.kept_added c.put.ensures.made_added
+    c.common_words.result c.new_or_kept.result c.common_words.ensures c.new_or_kept.ensures c.put_summary.new.table c.put_summary.new.dirty
+    c.put_summary.ensures.same
+    c.put_summary.ensures.kept_added c.put_summary.ensures.made_added
 
 pub returns-clause-spreads : goal.returns-clause-spreads
-returns-clause-spreads g c = c.put.ensures.spreads
+returns-clause-spreads g c = c.put_summary.ensures.spreads
 
 pub returns-then-not-frame-call-clause-spreads : goal.returns-then-not-frame-call-clause-spreads
 returns-then-not-frame-call-clause-spreads g c = same_spreads (still_summaries g.row.W) c.args.table.now c.args.dirty.now

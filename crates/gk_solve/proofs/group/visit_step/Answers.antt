@@ -5,22 +5,22 @@ use Rattle.gk_solve.proofs.GroupLemmas.{statement_low, step_kept, step_made, ste
 use Rattle.gk_solve.proofs.SummaryVisits.{has_size, step_settled}
 use Rattle.gk_solve.proofs.group.visit_step.Goals as goal
 
-pub across-more-requires : goal.across-more-requires
-across-more-requires g c = (
+pub across_step-more-requires : goal.across_step-more-requires
+across_step-more-requires g c = (
   has_size g.row.W c.requires.frame.narrow,
   (
     c.requires.frame,
     statement_low g.row.W c.args.frame.now c.requires.frame c.args.at c.args.to c.statement_point-point.result c.requires.there
-        (c.statement_point-point.ensures ∙ ap (λ b. step_statement b c.args.at c.args.to) c.is_backward.ensures),
+        (c.statement_point-point.ensures ∙ ap (λ b. step_statement b c.args.at c.args.to) c.direction.ensures),
   ),
 )
 
-pub put-requires : goal.put-requires
-put-requires g c =
+pub put_summary-requires : goal.put_summary-requires
+put_summary-requires g c =
     let is = c.requires.frame in
     let ends = is.numbered.edge_in_range _ c.requires.there in
     let within : c.args.at < length c.args.table.now = omega (arith, ends.0, c.requires.count) in
-    let point_is = c.statement_point-point.ensures ∙ ap (λ b. step_statement b c.args.at c.args.to) c.is_backward.ensures in (
+    let point_is = c.statement_point-point.ensures ∙ ap (λ b. step_statement b c.args.at c.args.to) c.direction.ensures in (
       has_size g.row.W is.narrow,
       (
         c.requires.count,
@@ -30,11 +30,11 @@ put-requires g c =
             ends.1,
             (
               step_keeps_of g.row.W c.args.frame.now is c.args.table.now c.requires.sound c.args.at c.args.to c.statement_point-point.result
-                  c.requires.there point_is c.requires.path within c.index-table-at.result c.across-more.result c.index-table-at.is
-                  c.across-more.ensures.kept c.across-more.ensures.made,
+                  c.requires.there point_is c.requires.path within c.index-table-at.result c.across_step-more.result c.index-table-at.is
+                  c.across_step-more.ensures.kept c.across_step-more.ensures.made,
               step_makes_of g.row.W c.args.frame.now is c.args.table.now c.requires.sound c.args.at c.args.to c.statement_point-point.result
-                  c.requires.there point_is c.requires.path within c.index-table-at.result c.across-more.result c.index-table-at.is
-                  c.across-more.ensures.kept c.across-more.ensures.made,
+                  c.requires.there point_is c.requires.path within c.index-table-at.result c.across_step-more.result c.index-table-at.is
+                  c.across_step-more.ensures.kept c.across_step-more.ensures.made,
             ),
           ),
         ),
@@ -46,13 +46,13 @@ returns-clause-settled g c =
     let is = c.requires.frame in
     let ends = is.numbered.edge_in_range _ c.requires.there in
     let within : c.args.at < length c.args.table.now = omega (arith, ends.0, c.requires.count) in
-    let point_is = c.statement_point-point.ensures ∙ ap (λ b. step_statement b c.args.at c.args.to) c.is_backward.ensures in
+    let point_is = c.statement_point-point.ensures ∙ ap (λ b. step_statement b c.args.at c.args.to) c.direction.ensures in
     step_settled (group_of c.args.frame.now g.row.W)
-    c.args.frame.now.paths.now c.args.at c.args.to c.args.table.now c.put.new.table c.put.new.dirty c.across-more.result
+    c.args.frame.now.paths.now c.args.at c.args.to c.args.table.now c.put_summary.new.table c.put_summary.new.dirty c.across_step-more.result
     (step_kept g.row.W c.args.frame.now is c.args.table.now c.requires.sound c.args.at c.args.to c.statement_point-point.result c.requires.there
-    point_is c.requires.path within c.index-table-at.result c.across-more.result c.index-table-at.is c.across-more.ensures.kept
-    c.across-more.ensures.made)
+    point_is c.requires.path within c.index-table-at.result c.across_step-more.result c.index-table-at.is c.across_step-more.ensures.kept
+    c.across_step-more.ensures.made)
     (step_made g.row.W c.args.frame.now is c.args.table.now c.requires.sound c.args.at c.args.to c.statement_point-point.result c.requires.there
-    point_is c.requires.path within c.index-table-at.result c.across-more.result c.index-table-at.is c.across-more.ensures.kept
-    c.across-more.ensures.made)
-    c.put.ensures.same c.put.ensures.kept_added c.put.ensures.made_added
+    point_is c.requires.path within c.index-table-at.result c.across_step-more.result c.index-table-at.is c.across_step-more.ensures.kept
+    c.across_step-more.ensures.made)
+    c.put_summary.ensures.same c.put_summary.ensures.kept_added c.put_summary.ensures.made_added

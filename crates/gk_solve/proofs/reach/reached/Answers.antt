@@ -17,11 +17,12 @@ unflagged_closed shape backward flags (Call site x y) never = λ flagged through
 unflagged_closed shape backward flags (Ret site x y) never = tt
 
 pub visits-smaller : goal.visits-smaller
-visits-smaller c = visit_falls c.visits.flags c.visits.dirty c.visit.new.flags c.take.new.self c.visit.new.dirty c.in-Some.at c.in-Some.ensures.0
-    c.in-Some.ensures.1 c.visit.ensures.spreads
+visits-smaller g c = visit_falls c.visits.flags c.visits.dirty c.visit_point.new.flags c.take.new.self c.visit_point.new.dirty c.in-Some.at
+    c.in-Some.ensures.0
+    c.in-Some.ensures.1 c.visit_point.ensures.spreads
 
 pub returns : goal.returns
-returns c x = (
+returns g c x = (
   c.visits.invariant.sound x,
   all_reached c.points.ensures.numbered c.visits.flags
       (all_closed (IsReachClosedAt (directed_shape c.args.links.now) c.args.links.now.backward) (directed_shape c.args.links.now)
@@ -30,7 +31,7 @@ returns c x = (
 )
 
 pub visits-init : goal.visits-init
-visits-init c =
+visits-init g c =
     let spreads = c.grow_entries.ensures.spreads in
     record {
       count = spreads.count ∙ c.requires.dirty_count;
@@ -41,13 +42,14 @@ visits-init c =
     }
 
 pub visits-preserved : goal.visits-preserved
-visits-preserved c =
-    let spreads = c.visit.ensures.spreads in
+visits-preserved g c =
+    let spreads = c.visit_point.ensures.spreads in
     record {
       count = spreads.count ∙ (ap length c.in-Some.ensures.1 ∙ (length-set c.visits.dirty c.in-Some.at false ∙ c.visits.invariant.count));
       settled = visit_settles_from (IsReachClosedAt (directed_shape c.args.links.now) c.args.links.now.backward)
-          source_of c.visits.flags c.visits.dirty c.visit.new.flags c.take.new.self c.visit.new.dirty c.in-Some.at c.in-Some.ensures.1 spreads
-          c.visit.ensures.settled c.visits.invariant.settled;
+          source_of c.visits.flags c.visits.dirty c.visit_point.new.flags c.take.new.self c.visit_point.new.dirty c.in-Some.at c.in-Some.ensures.1
+          spreads
+          c.visit_point.ensures.settled c.visits.invariant.settled;
       entries = λ p low. spreads.grows _ (c.visits.invariant.entries p low);
       sound = spreads.sound c.visits.invariant.sound;
     }

@@ -3,14 +3,14 @@ use Rattle.work_list.proofs.MarkCounts.{mark_count}
 use Rattle.flow_graph.specs.declared.edge.Edge.{Edge}
 use Rattle.flow_graph.specs.Paths.{IsEdge, source_of}
 use Rattle.flow_graph.specs.Points.{point_count}
-use Rattle.gk_solve.specs.Equations.{Reached}
+use Rattle.summary_equations.specs.Equations.{Reached}
 use Rattle.flow_links.specs.Shapes.{directed_shape}
 use Rattle.gk_solve.specs.Tables.Flags.{IsFlagged, AreSound, IsReachClosedAt, unset_flags}
 use Rattle.gk_solve.specs.Tables.Visits.{IsSettled}
 use Rattle.gk_solve.proofs.reach.reached.Given as goal
 
 abbrev pub invariant-visits : goal.invariant-visits
-invariant-visits l = record {
+invariant-visits g l = record {
   count : length l.dirty ≡ point_count l.links.program;
   settled : (edge : Edge) → IsEdge (directed_shape l.links) edge
       → IsSettled (IsReachClosedAt (directed_shape l.links) l.links.backward) source_of l.flags l.dirty edge;
@@ -19,4 +19,4 @@ invariant-visits l = record {
 }
 
 abbrev pub decreases-visits : goal.decreases-visits
-decreases-visits l = (length l.dirty + 1) * unset_flags l.flags + mark_count l.dirty
+decreases-visits g l = (length l.dirty + 1) * unset_flags l.flags + mark_count l.dirty

@@ -1,11 +1,11 @@
 use Rattle.std.proofs.Common.{subst, sym}
-use Rattle.gk_solve.specs.Equations.{Reached}
+use Rattle.summary_equations.specs.Equations.{Reached}
 use Rattle.flow_links.specs.Shapes.{directed_shape}
 use Rattle.gk_solve.proofs.FlagVisits.{reached_across_call}
 use Rattle.gk_solve.proofs.reach.visit_call.Goals as goal
 
-pub grow-requires-clause-reached : goal.grow-requires-clause-reached
-grow-requires-clause-reached c =
+pub reach_point-requires-clause-reached : goal.reach_point-requires-clause-reached
+reach_point-requires-clause-reached c =
     let shape = directed_shape c.args.links.now in
     let call = c.requires.there in
     let at_exit = subst (Reached shape) call.3 (c.requires.sound c.args.call.exit c.if-flags-call.true) in

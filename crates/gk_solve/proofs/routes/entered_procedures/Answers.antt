@@ -1,6 +1,6 @@
 use Rattle.std.proofs.Common.{◌≡◌, ◌∙◌, Bool, false, List, length, ap, get_or, subst, sym, arith, ◌++◌, take, drop}
 use Rattle.flow_links.specs.Shapes.{directed_shape}
-use Rattle.gk_solve.specs.Equations.{Entered}
+use Rattle.summary_equations.specs.Equations.{Entered}
 use Rattle.gk_solve.specs.Tables.Flags.{AreExactly}
 use Rattle.gk_solve.proofs.Blank.{none_flagged, unset}
 use Rattle.gk_solve.proofs.Slices.{written_over}

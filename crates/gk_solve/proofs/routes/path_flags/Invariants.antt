@@ -1,6 +1,6 @@
 use Rattle.std.proofs.Common.{◌≡◌, ◌<◌, ◌↔◌, ℕ, length}
 use Rattle.flow_links.specs.Shapes.{directed_shape}
-use Rattle.gk_solve.specs.Equations.{HasFlag}
+use Rattle.summary_equations.specs.Equations.{HasFlag}
 use Rattle.gk_solve.specs.Tables.Flags.{IsFlagged}
 use Rattle.gk_solve.proofs.routes.path_flags.Given as goal
 

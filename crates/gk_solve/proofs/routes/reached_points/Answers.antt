@@ -1,21 +1,21 @@
 use Rattle.std.proofs.Common.{◌≡◌, ◌∙◌, Bool, false, List, length, ap, get_or, subst, sym, arith, ◌++◌, take, drop}
 use Rattle.flow_links.specs.Shapes.{directed_shape}
 use Rattle.flow_graph.specs.Points.{point_count}
-use Rattle.gk_solve.specs.Equations.{Reached}
+use Rattle.summary_equations.specs.Equations.{Reached}
 use Rattle.gk_solve.specs.Tables.Flags.{AreExactly}
 use Rattle.gk_solve.proofs.Blank.{none_flagged, unset}
 use Rattle.gk_solve.proofs.Slices.{written_over}
 use Rattle.gk_solve.proofs.routes.reached_points.Goals as goal
 
 pub reached-requires-clause-none : goal.reached-requires-clause-none
-reached-requires-clause-none c =
+reached-requires-clause-none g c =
     none_flagged c.as_mut_slice.result.now _ (c.as_mut_slice.ensures.value ∙ c.in_ok-flags.ensures.items_if_clones_equal (λ y same. same))
 
 pub reached-requires-clause-clear : goal.reached-requires-clause-clear
-reached-requires-clause-clear c x = ap (λ (l : List Bool). get_or l x false) c.in_ok-dirty.ensures ∙ unset _ x
+reached-requires-clause-clear g c x = ap (λ (l : List Bool). get_or l x false) c.in_ok-dirty.ensures ∙ unset _ x
 
 pub returns : goal.returns
-returns c =
+returns g c =
     let flags = c.in_ok-flags.flags in
     let shape = directed_shape c.args.links.now in
     let count : length c.reached.new.flags ≡ length flags.items = c.reached.auto.flags ∙ ap length c.as_mut_slice.ensures.value in

@@ -3,7 +3,7 @@ use Rattle.std.proofs.lemmas.Bool.{cases_eq}
 use Rattle.std.proofs.lemmas.List.{get_or_default, get_or-set_same, get_or-set_other}
 use Rattle.bit_rows.specs.Words.{has_bit}
 use Rattle.flow_graph.specs.Points.{point_count}
-use Rattle.gk_solve.specs.Equations.{IsInSolution}
+use Rattle.summary_equations.specs.Equations.{IsInSolution}
 use Rattle.gk_solve.specs.Tables.Groups.{group_of, made_word, summary_at}
 use Rattle.gk_solve.specs.declared.summary.Summary.{Summary}
 use Rattle.gk_solve.proofs.GroupLemmas.{read_summary}

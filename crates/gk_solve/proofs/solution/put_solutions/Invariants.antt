@@ -1,5 +1,5 @@
 use Rattle.std.proofs.Common.{◌≡◌, ◌<◌, ◌≤◌, ◌+◌, ◌*◌, ◌↔◌, ℕ}
-use Rattle.gk_solve.specs.Equations.{IsInSolution}
+use Rattle.summary_equations.specs.Equations.{IsInSolution}
 use Rattle.gk_solve.specs.Tables.Groups.{group_of, made_word, summary_at}
 use Rattle.gk_solve.specs.Tables.Words.{HasBit}
 use Rattle.gk_solve.proofs.solution.put_solutions.Given as goal

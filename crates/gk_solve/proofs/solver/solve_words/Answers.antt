@@ -1,14 +1,18 @@
-use Rattle.std.proofs.Common.{◌*◌, ap, subst, sym, arith, ◌∙◌}
+use Rattle.std.proofs.Common.{◌+◌, ◌*◌, ◌/◌, ap, subst, sym, arith, refl, ◌∙◌}
 use Rattle.flow_graph.specs.Points.{point_count}
 use Rattle.flow_links.specs.Shapes.{LinkedProgram, directed_shape}
 use Rattle.gk_solve.specs.Tables.Rows.{TellsBelow}
-use Rattle.gk_solve.proofs.RowWords.{tells_all, tells_more}
+use Rattle.gk_solve.proofs.RowWords.{tells_all}
+use Rattle.gk_solve.proofs.Taken.{moved}
 use Rattle.gk_solve.proofs.solver.solve_words.Goals as goal
 
-pub words-init : goal.words-init
-words-init c =
+pub solve_each-requires : goal.solve_each-requires
+solve_each-requires g c =
     let made = c.in_ok-slice.ensures in
+    let tells = c.requires.tells in
     record {
+      routes = c.requires.routes;
+      effects = c.requires.effects;
       slice = record {
         points = made.0 ∙ ap (λ (l : LinkedProgram). point_count l.program) c.requires.routes;
         procedures = made.1 ∙ ap (λ (l : LinkedProgram). (directed_shape l).procedures) c.requires.routes;
@@ -16,25 +20,17 @@ words-init c =
         ordered = omega (arith, made.3, made.4, c.requires.ordered);
         within = omega (arith, made.4, c.requires.within);
       };
-      range = (made.3, made.4);
-      tells = c.requires.tells;
-    }
-
-pub words-preserved : goal.words-preserved
-words-preserved c =
-    let form = c.args.problem.now in
-    let before = c.words.invariant in
-    let after = c.solve_from-word.ensures in
-    let slice = c.solve_from-word.new.self in
-    record {
-      slice = after.slice;
-      range = (after.range.0 ∙ before.range.0, after.range.1 ∙ before.range.1);
-      tells = subst (λ n. TellsBelow form (64 * n) c.args.lo c.args.hi c.put_words.new.rows) after.until
-          (tells_more form slice c.words.rows c.put_words.new.rows (64 * c.words.word) c.args.lo c.args.hi after.solved after.slice.points
-          (after.range.0 ∙ before.range.0) (after.range.1 ∙ before.range.1)
-          (ap (λ n. 64 * n) (sym after.from)) (omega (arith, after.from, after.until, after.more)) c.put_words.ensures before.tells);
+      ready = (tells.count, tells.same_lo ∙ sym made.3, tells.same_hi ∙ sym made.4);
+      begun = moved (λ lo hi w. TellsBelow c.args.problem.now (64 * (lo / 64)) lo hi c.args.rows.now) _ _ _ _ 0 0 (sym made.3) (sym made.4) refl
+          tells;
     }
 
 pub returns : goal.returns
-returns c = tells_all c.args.problem.now (64 * c.words.word) c.args.lo c.args.hi c.words.rows
-    (λ _. omega (arith, c.words-test.false, c.div_ceil-end.ensures)) c.words.invariant.tells
+returns g c =
+    let form = c.args.problem.now in
+    let made = c.in_ok-slice.ensures in
+    let slice = c.in_ok-slice.slice in
+    let rows = c.solve_each.new.taker in
+    tells_all form (64 * ((slice.hi + 63) / 64)) c.args.lo c.args.hi rows (λ _. omega (arith, made.4))
+    (subst (λ lo. TellsBelow form (64 * ((slice.hi + 63) / 64)) lo c.args.hi rows) made.3
+    (subst (λ hi. TellsBelow form (64 * ((slice.hi + 63) / 64)) slice.lo hi rows) made.4 c.solve_each.ensures))

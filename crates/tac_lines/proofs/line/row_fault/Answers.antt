@@ -6,5 +6,6 @@ returns-in-None c = row_none c.args.inside c.args.text.now c.args.tokens.now c.a
     c.loop-at.invariant.first
 
 pub returns-in-Some : goal.returns-in-Some
-returns-in-Some c = row_some c.args.inside c.args.text.now c.args.tokens.now c.args.bad c.loop-at.at c.in-Some.place c.loop-at.first c.earlier.result
-    c.loop-at-test.false c.in-Some.is c.earlier.ensures c.loop-at.invariant.first
+returns-in-Some c = row_some c.args.inside c.args.text.now c.args.tokens.now c.args.bad c.loop-at.at c.in-Some.place c.loop-at.first
+    c.earlier_fault.result
+    c.loop-at-test.false c.in-Some.is c.earlier_fault.ensures c.loop-at.invariant.first

@@ -5,6 +5,6 @@ use Rattle.tacflow_c.proofs.table.put_words.Given as goal
 
 abbrev pub invariant-loop-row : goal.invariant-loop-row
 invariant-loop-row l = record {
-  filled : AreFilled (IsRowWord l.solver.program l.solver.analysis l.layout.from l.slice.lo l.slice.hi) l.row l.layout.count l.layout.first
+  filled : AreFilled (IsRowWord l.problem.program l.problem.analysis l.layout.from l.slice.lo l.slice.hi) l.row l.layout.count l.layout.first
       l.fn.solved.0 l.fn.solved.1 l.initial.words l.words;
 }

@@ -12,5 +12,5 @@ returns-clause-bytes g c before read =
     let pulled = c.in_ok-count.ensures in
     let within : c.args.filled ≤ length c.deref_mut.result.now = search rules in
     subst (Consumes before _)
-    (sym (take_written _ _ _ _ _ _ _ lent.value c.args.text.now.ok.0 (same_len_mid _ _ _ _ c.fill.auto.buf) within pulled.within))
+    (sym (take_written _ _ _ _ _ _ _ lent.value c.args.text.now.ok.0 (same_len_mid _ _ _ _ c.fill_buffer.auto.buf) within pulled.within))
     (Consumes-trans _ _ _ _ _ read pulled.bytes)

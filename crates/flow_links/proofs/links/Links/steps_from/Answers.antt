@@ -1,5 +1,6 @@
 use Rattle.std.proofs.Common.{◌<◌, arith}
 use Rattle.std.specs.List.{slice_range}
+use Rattle.flow_graph.specs.Directions.{goes_backward}
 use Rattle.flow_graph.specs.Points.{point_count}
 use Rattle.flow_links.specs.LinkLists.{AreStepsFrom}
 use Rattle.flow_links.specs.Shapes.{LinkedProgram, directed_shape}
@@ -10,11 +11,11 @@ pub returns : goal.returns
 returns c =
     let tables = c.self.invariant in
     let form = c.self.inside.problem.value in
-    let low = unseen form c.self.inside.backward c.args.self.now tables.same_direction c.self.view_is
+    let low = unseen form (goes_backward c.self.inside.direction) c.args.self.now tables.same_direction c.self.view_is
     (λ (l : LinkedProgram). c.args.point < point_count l.program) c.requires in
     let part = part_read tables.steps_are c.args.point c.index-from.result.now c.index-to.result.now c.deref.result.now low c.index-from.ensures
     c.index-to.ensures c.deref.ensures.value in
-    seen form c.self.inside.backward c.args.self.now tables.same_direction c.self.view_is
+    seen form (goes_backward c.self.inside.direction) c.args.self.now tables.same_direction c.self.view_is
     (λ (l : LinkedProgram). AreStepsFrom (directed_shape l) (point_count l.program) c.args.point
     (slice_range c.deref.result.now c.index-from.result.now c.index-to.result.now))
     (steps_are tables.numbered c.args.point low (slice_range c.deref.result.now c.index-from.result.now c.index-to.result.now) part)
@@ -22,7 +23,7 @@ returns c =
 pub index-from-requires : goal.index-from-requires
 index-from-requires c =
     let tables = c.self.invariant in
-    let low = unseen c.self.inside.problem.value c.self.inside.backward c.args.self.now tables.same_direction c.self.view_is
+    let low = unseen c.self.inside.problem.value (goes_backward c.self.inside.direction) c.args.self.now tables.same_direction c.self.view_is
     (λ (l : LinkedProgram). c.args.point < point_count l.program) c.requires in
     let long = tables.steps_are.start_count in
     let len = c.self.inside.steps.starts.ok.0 in
@@ -31,7 +32,7 @@ index-from-requires c =
 pub index-to-requires : goal.index-to-requires
 index-to-requires c =
     let tables = c.self.invariant in
-    let low = unseen c.self.inside.problem.value c.self.inside.backward c.args.self.now tables.same_direction c.self.view_is
+    let low = unseen c.self.inside.problem.value (goes_backward c.self.inside.direction) c.args.self.now tables.same_direction c.self.view_is
     (λ (l : LinkedProgram). c.args.point < point_count l.program) c.requires in
     let long = tables.steps_are.start_count in
     let len = c.self.inside.steps.starts.ok.0 in

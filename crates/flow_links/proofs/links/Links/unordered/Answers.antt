@@ -1,4 +1,5 @@
 use Rattle.std.proofs.Common.{sym, subst, ◌∙◌}
+use Rattle.flow_graph.specs.Directions.{goes_backward}
 use Rattle.flow_graph.specs.Problems.{MayForm}
 use Rattle.flow_links.specs.Tables.LinkTables.{AreTables}
 use Rattle.flow_links.proofs.ShapeLemmas.{in_range}
@@ -10,12 +11,13 @@ invariant_of-result c =
     let tables = c.in_ok-tables.tables in
     let lists = c.in_ok-lists.lists in
     let orders = c.in_ok-orders.orders in
-    subst (λ (form : MayForm). AreTables form c.reverses.result c.root.result tables.entries.items tables.exits.items tables.procedures.items
+    subst (λ (form : MayForm). AreTables form (goes_backward c.direction.result) c.root.result tables.entries.items tables.exits.items
+    tables.procedures.items
     lists.steps.starts.items lists.steps.items.items
     lists.calls.starts.items lists.calls.items.items lists.callers.starts.items lists.callers.items.items lists.sites.starts.items
     lists.sites.items.items
     orders.points orders.procedures) (sym c.of.ensures) record {
-      same_direction = c.reverses.ensures;
+      same_direction = c.direction.ensures;
       few = c.points.ensures.few;
       numbered = range.numbered;
       few_procedures = range.few_procedures;

@@ -1,5 +1,6 @@
 use Rattle.std.proofs.Common.{◌≡◌, ◌∙◌, Some, sym, subst}
 use Rattle.std.specs.Prelude.{bit_xor}
+use Rattle.flow_graph.specs.Directions.{is_intersection}
 use Rattle.flow_team.specs.Asks.{IsAnswerTo}
 use Rattle.flow_team.specs.declared.ask.Ask.{Ask}
 use Rattle.flow_team.proofs.Told.{word_answers}
@@ -11,7 +12,7 @@ returns c = λ ask there.
     let one = c.ask-ask.result in
     let both : Some one ≡ Some ask = sym c.ask-ask.ensures.ask ∙ there in
     let same : one ≡ ask = cc both in
-    subst (λ (a : Ask). IsAnswerTo asked.program a (bit_xor c.word.result c.turned_word.result)) same
-    (word_answers asked c.args.j one c.args.posted.now c.word.result c.turned_word.result c.bits-bits.result c.is_over_every_path.result
-    c.ask-ask.ensures.asks c.ask-ask.ensures.ask c.requires.rows c.word.ensures c.is_over_every_path.ensures c.bits-bits.ensures
-    c.turned_word.ensures)
+    subst (λ (a : Ask). IsAnswerTo asked.program a (bit_xor c.word.result c.complement_mask.result)) same
+    (word_answers asked c.args.j one c.args.posted.now c.word.result c.complement_mask.result c.bits-bits.result (is_intersection c.join.result)
+    c.ask-ask.ensures.asks c.ask-ask.ensures.ask c.requires.rows c.word.ensures c.join.ensures c.bits-bits.ensures
+    c.complement_mask.ensures)

@@ -3,7 +3,7 @@ use Rattle.std.proofs.lemmas.Option.{slice_get_within}
 use Rattle.bit_rows.specs.Words.{has_bit}
 use Rattle.flow_team.specs.code.Boards.{Asked, IsWanted}
 use Rattle.flow_team.proofs.Posts.{marked_last, none_of_zero}
-use Rattle.slice_board.specs.Passes.{PassState, IsMarked}
+use Rattle.slice_board.specs.Passes.{PassState, IsLogged}
 use Rattle.flow_team.proofs.Done.{ask_has, ask_wants}
 use Rattle.flow_team.proofs.asked.AskedWords.post_word.Goals as goal
 
@@ -31,5 +31,5 @@ returns-clause-done c = λ bit want at.
     let r = c.requires in
     let has = ask_has c.args.self.now c.args.words.now c.args.j c.args.ask c.word-mask.result r.there r.point r.from r.until r.range.0 r.range.1
     r.tells c.word-mask.ensures bit want at in
-    subst (λ (pass : PassState _). IsMarked pass.posted 0 bit) (sym c.post.ensures)
+    subst (λ (pass : PassState _). IsLogged pass.posted 0 bit) (sym c.post.ensures)
     (marked_last c.args.pass.now.posted 0 c.args.j c.word-mask.result bit at has)

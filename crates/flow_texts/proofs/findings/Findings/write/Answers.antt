@@ -15,8 +15,5 @@ more lines n first = append_assoc first (flat_map lines (range_with_len 0 n)) (l
 pub loop-point-preserved : goal.loop-point-preserved
 loop-point-preserved g c =
     let program : Program = c.args.self.now.graph.now in
-    record {
-      reference = c.write_point.ensures.same_reference ∙ c.loop-point.invariant.reference;
-      takes = takes_as _ _ _ _ (takes_then _ _ _ _ _ c.loop-point.invariant.takes c.write_point.ensures.takes)
-          (more (lines_at program (knowledge_of c.args.self.now)) c.loop-point.point (count_line program));
-    }
+    takes_as _ _ _ _ (takes_then _ _ _ _ _ c.loop-point.invariant c.write_point.ensures)
+    (more (lines_at program (knowledge_of c.args.self.now)) c.loop-point.point (count_line program))

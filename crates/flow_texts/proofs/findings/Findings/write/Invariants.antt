@@ -1,13 +1,11 @@
-use Rattle.std.proofs.Common.{◌≡◌, ◌++◌, flat_map}
+use Rattle.std.proofs.Common.{◌++◌, flat_map}
 use Rattle.std.specs.List.{range_with_len}
 use Rattle.flow_texts.specs.code.Findings.{knowledge_of}
-use Rattle.text_pieces.specs.Pieces.{Takes, outlet}
+use Rattle.text_pieces.specs.Pieces.{Writes}
 use Rattle.flow_texts.specs.Reports.{count_line, lines_at}
 use Rattle.flow_texts.proofs.findings.Findings.write.Given as goal
 
 abbrev pub invariant-loop-point : goal.invariant-loop-point
-invariant-loop-point g l = record {
-  reference : l.out.sink.ghost_name ≡ l.fn.out.sink.ghost_name;
-  takes : Takes (outlet g.K.Sink.contents g.K.Sink.faults l.fn.out) (outlet g.K.Sink.contents g.K.Sink.faults l.out)
-      (count_line l.self.graph.now ++ flat_map (lines_at l.self.graph.now (knowledge_of l.self)) (range_with_len 0 l.point));
-}
+invariant-loop-point g l =
+    Writes g.K.Sink l.fn.out l.out
+    (count_line l.self.graph.now ++ flat_map (lines_at l.self.graph.now (knowledge_of l.self)) (range_with_len 0 l.point))

@@ -1,5 +1,5 @@
 -- A word more, be it passed over or written.
-use Rattle.std.proofs.Common.{◌≡◌, ◌+◌, ◌-◌, ◌*◌, ◌<◌, ℕ, List, Bool, min, length, ap, ◌∙◌, sym, subst, arith}
+use Rattle.std.proofs.Common.{◌≡◌, ◌+◌, ◌-◌, ◌*◌, ◌<◌, ℕ, List, Bool, min, length, ap, sym, subst, arith}
 use Rattle.tac_program.specs.Programs.{Program}
 use Rattle.flow_graph.specs.Universes.{expressions}
 use Rattle.flow_texts.specs.code.Findings.{knowledge_of}
@@ -19,30 +19,24 @@ loop-word-preserved g c =
     let bits : ℕ = length (expressions program) in
     let word : ℕ = c.loop-word.word in
     let test : ℕ → Bool = (knowledge_of c.args.self.now).busy.contains point in
-    let at : Pieces _ → Outlet = outlet g.K.Sink.contents g.K.Sink.faults in
+    let at : Pieces _ → Outlet = outlet g.K.Sink in
     let more : List ℕ = texts_between text test (64 * word) (min bits (64 * word + 64) - 64 * word) in
     let below : 64 * word < bits = omega (arith, c.bits-bits.ensures.count, c.loop-word-test.true) in
-    let step = next_word text test bits word (at c.args.out.now) (at c.loop-word.out) (at c.if-ones-ne0.out) below c.loop-word.invariant.takes in
+    let step = next_word text test bits word (at c.args.out.now) (at c.loop-word.out) (at c.if-ones-ne0.out) below c.loop-word.invariant in
     elim c.if-ones-ne0.branch [
       | then-ones-ne0 w ↦ (
           let end : w.min-end.result ≡ min bits (64 * word + 64) = omega (arith, w.min-end.ensures, c.bits-bits.ensures.count) in
-          record {
-            reference = ap (λ p. p.sink.ghost_name) w.out-is ∙ w.write_busy_word.ensures.same_reference ∙ c.loop-word.invariant.reference;
-            takes = step (subst (λ p. Takes (at c.loop-word.out) (at p) more) (sym w.out-is)
-                (takes_as _ _ _ _ w.write_busy_word.ensures.takes (ap (λ e. texts_between text test (64 * word) (e - 64 * word)) end)));
-          })
-      | else-ones-ne0 w ↦ record {
-        reference = ap (λ p. p.sink.ghost_name) w.out-is ∙ c.loop-word.invariant.reference;
-        takes = step (subst (λ p. Takes (at c.loop-word.out) (at p) more) (sym w.out-is)
-            (takes_as _ _ _ _ (takes_nothing (at c.loop-word.out))
-            (sym (no_texts text test bits word c.busy_word-ones.result c.busy_word-ones.ensures w.if-ones-ne0.false))));
-      }
+          step (subst (λ p. Takes (at c.loop-word.out) (at p) more) (sym w.out-is)
+          (takes_as _ _ _ _ w.write_busy_word.ensures (ap (λ e. texts_between text test (64 * word) (e - 64 * word)) end))))
+      | else-ones-ne0 w ↦ step (subst (λ p. Takes (at c.loop-word.out) (at p) more) (sym w.out-is)
+          (takes_as _ _ _ _ (takes_nothing (at c.loop-word.out))
+          (sym (no_texts text test bits word c.busy_word-ones.result c.busy_word-ones.ensures w.if-ones-ne0.false))))
     ]
 
-pub returns-clause-takes : goal.returns-clause-takes
-returns-clause-takes g c =
+pub returns : goal.returns
+returns g c =
     let program : Program = c.args.self.now.graph.now in
     let text : ℕ → List ℕ = λ e. g.F.RemarkForm.text c.args.form.now program c.args.point (VeryBusy e) in
     let bits : ℕ = length (expressions program) in
     let all : min bits (64 * c.loop-word.word) ≡ bits = omega (arith, c.loop-word-test.false, c.bits-bits.ensures.count) in
-    takes_as _ _ _ _ c.loop-word.invariant.takes (ap (texts_between text ((knowledge_of c.args.self.now).busy.contains c.args.point) 0) all)
+    takes_as _ _ _ _ c.loop-word.invariant (ap (texts_between text ((knowledge_of c.args.self.now).busy.contains c.args.point) 0) all)

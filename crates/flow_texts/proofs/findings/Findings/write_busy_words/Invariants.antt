@@ -1,16 +1,14 @@
-use Rattle.std.proofs.Common.{◌≡◌, ◌*◌, min}
+use Rattle.std.proofs.Common.{◌*◌, min}
 use Rattle.std.specs.List.{range_with_len}
 use Rattle.flow_graph.specs.Universes.{bits}
 use Rattle.flow_graph.specs.declared.analysis.Analysis.TheVariants.{Busy}
 use Rattle.flow_texts.specs.code.Findings.{knowledge_of, texts_where}
-use Rattle.text_pieces.specs.Pieces.{Takes, outlet}
+use Rattle.text_pieces.specs.Pieces.{Writes}
 use Rattle.flow_texts.specs.declared.remark.Remark.TheVariants.{VeryBusy}
 use Rattle.flow_texts.proofs.findings.Findings.write_busy_words.Given as goal
 
 abbrev pub invariant-loop-word : goal.invariant-loop-word
-invariant-loop-word g l = record {
-  reference : l.out.sink.ghost_name ≡ l.fn.out.sink.ghost_name;
-  takes : Takes (outlet g.K.Sink.contents g.K.Sink.faults l.fn.out) (outlet g.K.Sink.contents g.K.Sink.faults l.out)
-      (texts_where (λ e. g.F.RemarkForm.text l.form l.self.graph.now l.point (VeryBusy e)) ((knowledge_of l.self).busy.contains l.point)
-      (range_with_len 0 (min (bits l.self.graph.now Busy) (64 * l.word))));
-}
+invariant-loop-word g l =
+    Writes g.K.Sink l.fn.out l.out
+    (texts_where (λ e. g.F.RemarkForm.text l.form l.self.graph.now l.point (VeryBusy e)) ((knowledge_of l.self).busy.contains l.point)
+    (range_with_len 0 (min (bits l.self.graph.now Busy) (64 * l.word))))

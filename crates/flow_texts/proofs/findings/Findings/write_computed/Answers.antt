@@ -6,12 +6,12 @@ use Rattle.flow_texts.proofs.RemarkLines.{computed_is}
 use Rattle.text_pieces.proofs.Taking.{takes_as}
 use Rattle.flow_texts.proofs.findings.Findings.write_computed.Goals as goal
 
-pub returns-clause-takes : goal.returns-clause-takes
-returns-clause-takes g c =
+pub returns : goal.returns
+returns g c =
     let program : Program = c.args.self.now.graph.now in
     let bit : ℕ = c.in-Some.bit in
     let text : ℕ → List ℕ = λ e. g.F.RemarkForm.text c.args.form.now program c.args.point (Computed e) in
-    takes_as _ _ _ _ c.write_remark.ensures.takes
+    takes_as _ _ _ _ c.write_remark.ensures
     (sym (ap (flat_map text) (computed_is program (knowledge_of c.args.self.now) c.args.point bit (sym c.in-Some.ensures) (sym c.is_computed.ensures
     ∙ c.if-not-is_computed.false))
     ∙ append-nil (text bit)))

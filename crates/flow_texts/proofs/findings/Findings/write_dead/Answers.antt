@@ -20,13 +20,13 @@ write_remark-requires-clause-remark g c =
     assigned_there program c.args.point c.in-Some.variable c.args.kind.now
     (stands program c.requires.found.sound c.args.point c.args.kind.now c.requires.point c.requires.kind) (sym c.in-Some.ensures)
 
-pub returns-clause-takes : goal.returns-clause-takes
-returns-clause-takes g c =
+pub returns : goal.returns
+returns g c =
     let program : Program = c.args.self.now.graph.now in
     let point : ℕ = c.args.point in
     let x : ℕ = c.in-Some.variable in
     let text : ℕ → List ℕ = λ v. g.F.RemarkForm.text c.args.form.now program point (Dead v) in
-    takes_as _ _ _ _ c.write_remark.ensures.takes
+    takes_as _ _ _ _ c.write_remark.ensures
     (sym (ap (flat_map text) (dead_is program (knowledge_of c.args.self.now) point x c.args.kind.now true c.requires.kind (sym c.in-Some.ensures)
     (sym c.is_dead_after.ensures ∙ c.if-not-is_dead_after.false))
     ∙ append-nil (text x)))

@@ -6,8 +6,8 @@ use Rattle.flow_texts.specs.Reports.{remarks_at}
 use Rattle.text_pieces.proofs.Taking.{takes_as}
 use Rattle.flow_texts.proofs.findings.Findings.write_lines.Goals as goal
 
-pub returns-clause-takes : goal.returns-clause-takes
-returns-clause-takes g c =
+pub returns : goal.returns
+returns g c =
     let program : Program = c.args.self.now.graph.now in
-    takes_as _ _ _ _ c.write_remarks.ensures.takes
+    takes_as _ _ _ _ c.write_remarks.ensures
     (ap (λ head. flat_map (line_behind head program) (remarks_at program (knowledge_of c.args.self.now) c.args.point)) c.requires.head)

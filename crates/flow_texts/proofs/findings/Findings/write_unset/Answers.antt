@@ -70,8 +70,8 @@ write_unset_variable-requires-in-Two-2-clause-variable g c =
     variables_are_there c.args.self.now.graph.now c.args.point c.args.kind.now (x ∷ y ∷ [])
     c.requires.found.sound c.requires.point c.requires.kind are y (second_of x y)
 
-pub returns-in-None-clause-takes : goal.returns-in-None-clause-takes
-returns-in-None-clause-takes g c =
+pub returns-in-None : goal.returns-in-None
+returns-in-None g c =
     let program : Program = c.args.self.now.graph.now in
     let text : ℕ → List ℕ = λ v. g.F.RemarkForm.text c.args.form.now program c.args.point (Unset v) in
     let are : AreRead c.args.kind.now [] = record { rising = c.in-None.ensures.rising; read = c.in-None.ensures.read } in
@@ -79,18 +79,18 @@ returns-in-None-clause-takes g c =
     (sym (ap (flat_map text) (unset_are program (knowledge_of c.args.self.now)
     c.args.point c.args.kind.now [] c.requires.found.sound c.requires.point c.requires.kind are)))
 
-pub returns-in-One-clause-takes : goal.returns-in-One-clause-takes
-returns-in-One-clause-takes g c =
+pub returns-in-One : goal.returns-in-One
+returns-in-One g c =
     let program : Program = c.args.self.now.graph.now in
     let text : ℕ → List ℕ = λ v. g.F.RemarkForm.text c.args.form.now program c.args.point (Unset v) in
     let x : ℕ = c.in-One.variable in
     let are : AreRead c.args.kind.now (x ∷ []) = record { rising = c.in-One.ensures.rising; read = c.in-One.ensures.read } in
-    takes_as _ _ _ _ c.write_unset_variable.ensures.takes
+    takes_as _ _ _ _ c.write_unset_variable.ensures
     (ap (flat_map text) (sym (unset_are program (knowledge_of c.args.self.now) c.args.point c.args.kind.now (x
     ∷ []) c.requires.found.sound c.requires.point c.requires.kind are)))
 
-pub returns-in-Two-clause-takes : goal.returns-in-Two-clause-takes
-returns-in-Two-clause-takes g c =
+pub returns-in-Two : goal.returns-in-Two
+returns-in-Two g c =
     let program : Program = c.args.self.now.graph.now in
     let known : Knowledge = knowledge_of c.args.self.now in
     let point : ℕ = c.args.point in
@@ -98,7 +98,7 @@ returns-in-Two-clause-takes g c =
     let x : ℕ = c.in-Two.first in
     let y : ℕ = c.in-Two.second in
     let are : AreRead c.args.kind.now (x ∷ y ∷ []) = record { rising = c.in-Two.ensures.rising; read = c.in-Two.ensures.read } in
-    takes_as _ _ _ _ (takes_then _ _ _ _ _ c.write_unset_variable-in-Two.ensures.takes c.write_unset_variable-in-Two-2.ensures.takes)
+    takes_as _ _ _ _ (takes_then _ _ _ _ _ c.write_unset_variable-in-Two.ensures c.write_unset_variable-in-Two-2.ensures)
     (sym (two_texts text (known.reach.contains point) x y)
     ∙ ap (flat_map text)
     (sym (unset_are program known point c.args.kind.now (x ∷ y ∷ []) c.requires.found.sound c.requires.point c.requires.kind are)))

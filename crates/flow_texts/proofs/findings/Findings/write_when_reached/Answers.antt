@@ -4,10 +4,10 @@ use Rattle.flow_texts.proofs.RemarkLines.{remarks_are}
 use Rattle.text_pieces.proofs.Taking.{takes_as, takes_then}
 use Rattle.flow_texts.proofs.findings.Findings.write_when_reached.Goals as goal
 
-pub returns-clause-takes : goal.returns-clause-takes
-returns-clause-takes g c =
+pub returns : goal.returns
+returns g c =
     let program : Program = c.args.self.now.graph.now in
     takes_as _ _ _ _
-    (takes_then _ _ _ _ _ (takes_then _ _ _ _ _ (takes_then _ _ _ _ _ c.write_unset.ensures.takes c.write_computed.ensures.takes)
-    c.write_busy.ensures.takes) c.write_dead.ensures.takes)
+    (takes_then _ _ _ _ _ (takes_then _ _ _ _ _ (takes_then _ _ _ _ _ c.write_unset.ensures c.write_computed.ensures)
+    c.write_busy.ensures) c.write_dead.ensures)
     (remarks_are program (knowledge_of c.args.self.now) c.args.point (g.F.RemarkForm.text c.args.form.now program c.args.point))

@@ -20,13 +20,13 @@ pieces head before n e t name behind text named last all =
     ∙ regroup head before n e t
     ∙ ap (λ m. head ++ m ++ t) all
 
-pub returns-clause-takes : goal.returns-clause-takes
-returns-clause-takes g c =
+pub returns : goal.returns
+returns g c =
     let program : Program = c.args.found.now.graph.now in
     let remark : Remark = c.args.remark in
     takes_as _ _ _ _
-    (takes_then _ _ _ _ _ (takes_then _ _ _ _ _ (takes_then _ _ _ _ _ c.write.ensures.takes c.write_before_name.ensures.takes)
-    c.write-2.ensures.takes) c.write-3.ensures.takes)
+    (takes_then _ _ _ _ _ (takes_then _ _ _ _ _ (takes_then _ _ _ _ _ c.write.ensures c.write_before_name.ensures)
+    c.write-2.ensures) c.write-3.ensures)
     (pieces c.args.self.now.head.now (words_before remark) (remark_name program remark) (words_behind remark) (codes "\n")
     c.name.result.now c.words_to_end.result.now (remark_text program remark)
     c.name.ensures c.words_to_end.ensures (text_is program remark))

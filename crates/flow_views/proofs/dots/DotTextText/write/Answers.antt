@@ -1,6 +1,6 @@
 use Rattle.text_pieces.proofs.Taking.{takes_as}
 use Rattle.flow_views.proofs.dots.DotTextText.write.Goals as goal
 
-pub returns-clause-takes : goal.returns-clause-takes
-returns-clause-takes g c =
-    takes_as _ _ _ _ c.write_dot.ensures.takes c.self.view_is
+pub returns : goal.returns
+returns g c =
+    takes_as _ _ _ _ c.write_dot.ensures c.self.view_is

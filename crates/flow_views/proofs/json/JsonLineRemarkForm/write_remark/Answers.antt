@@ -1,8 +1,8 @@
 use Rattle.text_pieces.proofs.Taking.{takes_then}
 use Rattle.flow_views.proofs.json.JsonLineRemarkForm.write_remark.Goals as goal
 
-pub returns-clause-takes : goal.returns-clause-takes
-returns-clause-takes g c =
+pub returns : goal.returns
+returns g c =
     takes_then _ _ _ _ _ (takes_then _ _ _ _ _ (takes_then _ _ _ _ _ (takes_then _ _ _ _ _ (takes_then _ _ _ _ _
-    c.write.ensures.takes c.write_number.ensures.takes) c.write_place.ensures.takes) c.write-2.ensures.takes)
-    c.write_kind.ensures.takes) c.write-3.ensures.takes
+    c.write.ensures c.write_number.ensures) c.write_place.ensures) c.write-2.ensures)
+    c.write_kind.ensures) c.write-3.ensures

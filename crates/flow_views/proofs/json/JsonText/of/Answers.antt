@@ -1,8 +1,8 @@
 use Rattle.std.proofs.Common.{List, ℕ, subst}
 use Rattle.tac_program.specs.Programs.{Program}
-use Rattle.flow_views.specs.code.Shown.{AreShown, known_of}
+use Rattle.flow_views.specs.code.ShownProgram.{AreShown, known_of}
 use Rattle.flow_views.specs.Json.{IsJson, json_of}
-use Rattle.flow_views.specs.declared.shown.Shown.{Shown}
+use Rattle.flow_views.specs.declared.shown.ShownProgram.{ShownProgram}
 use Rattle.flow_views.specs.declared.view.View.{View}
 use Rattle.flow_views.proofs.Known.{all_of, all_of_is, known_agrees, told_all}
 use Rattle.flow_views.proofs.SameTexts.{same_json}
@@ -10,7 +10,7 @@ use Rattle.flow_views.proofs.json.JsonText.of.Goals as goal
 
 pub returns : goal.returns
 returns c =
-    let shown : Shown = c.in_ok-shown.shown in
+    let shown : ShownProgram = c.in_ok-shown.shown in
     let are : AreShown shown = c.in_ok-shown.ensures.shown in
     let program : Program = shown.found.graph.now in
     let text : List ℕ = json_of program (known_of shown) shown.view in

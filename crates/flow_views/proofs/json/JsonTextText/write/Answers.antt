@@ -1,6 +1,6 @@
 use Rattle.text_pieces.proofs.Taking.{takes_as}
 use Rattle.flow_views.proofs.json.JsonTextText.write.Goals as goal
 
-pub returns-clause-takes : goal.returns-clause-takes
-returns-clause-takes g c =
-    takes_as _ _ _ _ c.write_json.ensures.takes c.self.view_is
+pub returns : goal.returns
+returns g c =
+    takes_as _ _ _ _ c.write_json.ensures c.self.view_is

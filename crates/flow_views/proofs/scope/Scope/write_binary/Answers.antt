@@ -3,19 +3,19 @@ use Rattle.text_pieces.proofs.Taking.{takes_as}
 use Rattle.tac_program.specs.Listings.{operand_text}
 use Rattle.tac_program.specs.Spelling.{sign_of}
 use Rattle.tac_program.specs.Names.{Names}
-use Rattle.flow_views.specs.Strings.{escaped}
+use Rattle.text_pieces.specs.Strings.{escaped}
 use Rattle.flow_views.specs.Views.{names_in}
-use Rattle.flow_views.proofs.Escapes.{shows_then}
+use Rattle.text_pieces.proofs.Escapes.{shows_then}
 use Rattle.flow_views.proofs.scope.Scope.write_binary.Goals as goal
 
-pub returns-clause-takes : goal.returns-clause-takes
-returns-clause-takes g c =
+pub returns : goal.returns
+returns g c =
     let names : Names = names_in c.args.self.now.program.now c.args.self.now.procedure in
     let left : List ℕ = operand_text names c.args.left in
     let sign : List ℕ = sign_of c.args.op in
     shows_then (left ++ codes " " ++ sign ++ codes " ") (operand_text names c.args.right) _ _ _
     (shows_then (left ++ codes " " ++ sign) (codes " ") _ _ _
-    (shows_then (left ++ codes " ") sign _ _ _ (shows_then left (codes " ") _ _ _ c.write_operand.ensures.takes c.write.ensures.takes)
-    (takes_as _ _ _ _ c.write_escaped.ensures.takes (ap escaped c.sign.ensures)))
-    c.write-2.ensures.takes)
-    c.write_operand-2.ensures.takes
+    (shows_then (left ++ codes " ") sign _ _ _ (shows_then left (codes " ") _ _ _ c.write_operand.ensures c.write.ensures)
+    (takes_as _ _ _ _ c.write_escaped.ensures (ap escaped c.sign.ensures)))
+    c.write-2.ensures)
+    c.write_operand-2.ensures

@@ -1,10 +1,10 @@
-use Rattle.std.proofs.Common.{ℕ, List, [], ◌++◌, take, get_or, nat_lt, codes, unwrap_or, if◌then◌else◌, ap, sym, ◌∙◌}
+use Rattle.std.proofs.Common.{ℕ, List, [], ◌++◌, take, get_or, nat_lt, codes, unwrap_or, if◌then◌else◌, ap, sym}
 use Rattle.text_pieces.proofs.Taking.{takes_as}
 use Rattle.tac_program.specs.Listings.{callees_text, name_at}
 use Rattle.tac_program.specs.Names.{Names}
-use Rattle.flow_views.specs.Strings.{escaped}
+use Rattle.text_pieces.specs.Strings.{escaped}
 use Rattle.flow_views.specs.Views.{names_in}
-use Rattle.flow_views.proofs.Escapes.{escaped_if, shows_then}
+use Rattle.text_pieces.proofs.Escapes.{escaped_if, shows_then}
 use Rattle.flow_views.proofs.Statements.{callees_more}
 use Rattle.flow_views.proofs.scope.Scope.write_callees.Goals as goal
 
@@ -16,12 +16,8 @@ loop-place-preserved g c =
     let before : List ℕ = callees_text names (take i callees) in
     let between : List ℕ = if nat_lt 0 i then codes " | " else [] in
     let name : List ℕ = name_at names.procedures (get_or callees i 0) in
-    record {
-      reference = c.write_escaped.ensures.same_reference ∙ c.write_if.ensures.same_reference ∙ c.loop-place.invariant.reference;
-      takes =
-          takes_as _ _ _ _
-          (shows_then (before ++ between) name _ _ _
-          (shows_then before between _ _ _ c.loop-place.invariant.takes (takes_as _ _ _ _ c.write_if.ensures.takes (escaped_if (nat_lt 0 i))))
-          (takes_as _ _ _ _ c.write_escaped.ensures.takes (ap escaped (sym (ap (λ o. unwrap_or o []) c.procedure.ensures)))))
-          (ap escaped (callees_more names callees i c.loop-place-test.true));
-    }
+    takes_as _ _ _ _
+    (shows_then (before ++ between) name _ _ _
+    (shows_then before between _ _ _ c.loop-place.invariant (takes_as _ _ _ _ c.write_if.ensures (escaped_if (nat_lt 0 i))))
+    (takes_as _ _ _ _ c.write_escaped.ensures (ap escaped (sym (ap (λ o. unwrap_or o []) c.procedure.ensures)))))
+    (ap escaped (callees_more names callees i c.loop-place-test.true))

@@ -2,14 +2,14 @@ use Rattle.std.proofs.Common.{List, ℕ, ◌++◌, codes}
 use Rattle.tac_program.specs.Listings.{goto_text, operand_text}
 use Rattle.tac_program.specs.Names.{Names}
 use Rattle.flow_views.specs.Views.{names_in}
-use Rattle.flow_views.proofs.Escapes.{shows_then}
+use Rattle.text_pieces.proofs.Escapes.{shows_then}
 use Rattle.flow_views.proofs.scope.Scope.write_if_false.Goals as goal
 
-pub returns-clause-takes : goal.returns-clause-takes
-returns-clause-takes g c =
+pub returns : goal.returns
+returns g c =
     let names : Names = names_in c.args.self.now.program.now c.args.self.now.procedure in
     let condition : List ℕ = operand_text names c.args.condition in
     shows_then (codes "ifFalse " ++ condition ++ codes " ") (goto_text names c.args.label) _ _ _
     (shows_then (codes "ifFalse " ++ condition) (codes " ")
-    _ _ _ (shows_then (codes "ifFalse ") condition _ _ _ c.write.ensures.takes c.write_operand.ensures.takes) c.write-2.ensures.takes)
-    c.write_goto.ensures.takes
+    _ _ _ (shows_then (codes "ifFalse ") condition _ _ _ c.write.ensures c.write_operand.ensures) c.write-2.ensures)
+    c.write_goto.ensures

@@ -3,13 +3,13 @@ use Rattle.text_pieces.proofs.Taking.{takes_as}
 use Rattle.tac_program.specs.Listings.{operand_text}
 use Rattle.tac_program.specs.Spelling.{sign_of}
 use Rattle.tac_program.specs.Names.{Names}
-use Rattle.flow_views.specs.Strings.{escaped}
+use Rattle.text_pieces.specs.Strings.{escaped}
 use Rattle.flow_views.specs.Views.{names_in}
-use Rattle.flow_views.proofs.Escapes.{shows_then}
+use Rattle.text_pieces.proofs.Escapes.{shows_then}
 use Rattle.flow_views.proofs.scope.Scope.write_unary.Goals as goal
 
-pub returns-clause-takes : goal.returns-clause-takes
-returns-clause-takes g c =
+pub returns : goal.returns
+returns g c =
     let names : Names = names_in c.args.self.now.program.now c.args.self.now.procedure in
     shows_then (sign_of c.args.op) (operand_text names c.args.operand)
-    _ _ _ (takes_as _ _ _ _ c.write_escaped.ensures.takes (ap escaped c.sign.ensures)) c.write_operand.ensures.takes
+    _ _ _ (takes_as _ _ _ _ c.write_escaped.ensures (ap escaped c.sign.ensures)) c.write_operand.ensures

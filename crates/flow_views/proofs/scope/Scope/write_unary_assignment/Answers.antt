@@ -2,11 +2,11 @@ use Rattle.std.proofs.Common.{◌++◌, codes}
 use Rattle.tac_program.specs.Listings.{name_at, unary_text}
 use Rattle.tac_program.specs.Names.{Names}
 use Rattle.flow_views.specs.Views.{names_in}
-use Rattle.flow_views.proofs.Escapes.{shows_then}
+use Rattle.text_pieces.proofs.Escapes.{shows_then}
 use Rattle.flow_views.proofs.scope.Scope.write_unary_assignment.Goals as goal
 
-pub returns-clause-takes : goal.returns-clause-takes
-returns-clause-takes g c =
+pub returns : goal.returns
+returns g c =
     let names : Names = names_in c.args.self.now.program.now c.args.self.now.procedure in
     shows_then (name_at names.variables c.args.target ++ codes " = ") (unary_text names c.args.op c.args.operand)
-    _ _ _ c.write_target.ensures.takes c.write_unary.ensures.takes
+    _ _ _ c.write_target.ensures c.write_unary.ensures

@@ -14,7 +14,7 @@ use Rattle.gk_solve.proofs.SolvedWords.{solved_by_frame}
 use Rattle.gk_solve.proofs.slice_words.SliceWords.solve_group_from.Goals as goal
 
 pub returns-in-One-clause-solved : goal.returns-in-One-clause-solved
-returns-in-One-clause-solved c =
+returns-in-One-clause-solved g c =
     let form = c.args.problem.now in
     let frame = c.group_frame-frame.result in
     let width : c.count-width.result ≡ 1 = c.count-width.ensures ∙ ap width_of c.in-One.is in
@@ -50,7 +50,7 @@ returns-in-One-clause-solved c =
     (omega (arith, c.min.ensures, width)) (omega (arith, points, c.solve_group.ensures.dirty)) c.solve_group.ensures.solutions
 
 pub returns-in-Four-clause-solved : goal.returns-in-Four-clause-solved
-returns-in-Four-clause-solved c =
+returns-in-Four-clause-solved g c =
     let form = c.args.problem.now in
     let frame = c.group_frame-frame.result in
     let width : c.count-width.result ≡ 4 = c.count-width.ensures ∙ ap width_of c.in-Four.is in
@@ -86,7 +86,7 @@ returns-in-Four-clause-solved c =
     (omega (arith, c.min.ensures, width)) (omega (arith, points, c.solve_group-in-Four.ensures.dirty)) c.solve_group-in-Four.ensures.solutions
 
 pub returns-in-Eight-clause-solved : goal.returns-in-Eight-clause-solved
-returns-in-Eight-clause-solved c =
+returns-in-Eight-clause-solved g c =
     let form = c.args.problem.now in
     let frame = c.group_frame-frame.result in
     let width : c.count-width.result ≡ 8 = c.count-width.ensures ∙ ap width_of c.in-Eight.is in

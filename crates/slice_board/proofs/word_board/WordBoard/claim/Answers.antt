@@ -5,8 +5,8 @@ use Rattle.slice_board.specs.Boards.{BoardState, slice_count}
 use Rattle.slice_board.proofs.Passing.{found_to, found_to-more, found_to-lengths, next_most}
 use Rattle.slice_board.proofs.word_board.WordBoard.claim.Goals as goal
 
-pub returns-then-draw-clause-draws : goal.returns-then-draw-clause-draws
-returns-then-draw-clause-draws g c =
+pub returns-then-draw_slice-clause-draws : goal.returns-then-draw_slice-clause-draws
+returns-then-draw_slice-clause-draws g c =
     let p = c.loop-pass.pass in
     let i = c.loop-pass.invariant in
     let next = ap (λ (q : PassState _). q.next) c.pass.view_is in
@@ -15,8 +15,8 @@ returns-then-draw-clause-draws g c =
     let test = c.loop-pass-test.true in
     omega (
       arith,
-      ap (λ (q : PassState _). length q.claimed) c.if-draw.ensures,
-      ap (λ (q : PassState _). length q.found) c.if-draw.ensures,
+      ap (λ (q : PassState _). length q.claimed) c.if-draw_slice.ensures,
+      ap (λ (q : PassState _). length q.found) c.if-draw_slice.ensures,
       length-append p.claimed (p.next ∷ []),
       found_to-lengths c.args.pass.now p i.from i.found,
     )
@@ -25,15 +25,15 @@ pub loop-pass-preserved : goal.loop-pass-preserved
 loop-pass-preserved g c =
     let p = c.loop-pass.pass in
     let i = c.loop-pass.invariant in
-    let next = ap (λ (q : PassState _). q.next) c.if-draw.ensures in
+    let next = ap (λ (q : PassState _). q.next) c.if-draw_slice.ensures in
     record {
       of = record {
-        table = ap (λ (q : PassState _). q.table) c.if-draw.ensures ∙ i.of.table;
-        about = ap (λ (q : PassState _). q.about) c.if-draw.ensures ∙ i.of.about;
+        table = ap (λ (q : PassState _). q.table) c.if-draw_slice.ensures ∙ i.of.table;
+        about = ap (λ (q : PassState _). q.about) c.if-draw_slice.ensures ∙ i.of.about;
       };
-      free = ap (λ (q : PassState _). q.held) c.if-draw.ensures ∙ i.free;
+      free = ap (λ (q : PassState _). q.held) c.if-draw_slice.ensures ∙ i.free;
       from = omega (arith, i.from);
-      found = c.if-draw.ensures ∙ found_to-more c.args.pass.now p i.from i.found ∙ ap (found_to c.args.pass.now) (sym next);
+      found = c.if-draw_slice.ensures ∙ found_to-more c.args.pass.now p i.from i.found ∙ ap (found_to c.args.pass.now) (sym next);
     }
 
 pub returns-clause-none : goal.returns-clause-none

@@ -46,7 +46,7 @@ invariant_of-result g c =
     ] in
     let both = kept_joined first second (knows laid is c.first.view_is c.requires.first ∙ sym (knows laid is c.second-2.view_is c.requires.second))
     one c.first.invariant.0 c.second-2.invariant.0 in (
-      subst IsKept (λ i. pass_state ((sym (c.load.ensures.0 ∙ c.join_seat.ensures.0)) i) (sym after i).0 (sym c.either-held.ensures i)
+      subst IsKept (λ i. pass_state ((sym (c.load.ensures.0 ∙ c.join_seat.ensures.0)) i) (sym after i).0 (sym c.either_slice-held.ensures i)
           (sym c.max-next.ensures i)) both,
       (λ i. (after i).1) ∙ c.first.invariant.1,
     )

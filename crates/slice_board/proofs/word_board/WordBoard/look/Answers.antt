@@ -1,5 +1,5 @@
 use Rattle.std.proofs.Common.{[], ◌∷◌, ◌++◌, ◌+◌, ◌*◌, ap, sym, subst, ◌∙◌}
-use Rattle.slice_board.specs.Passes.{PassState, mark, IsMarked}
+use Rattle.slice_board.specs.Passes.{PassState, logged_word, IsLogged}
 use Rattle.slice_board.specs.code.Words.{about_key}
 use Rattle.slice_board.specs.code.Fields.{pass_state}
 use Rattle.slice_board.proofs.Keeps.{looks_at}
@@ -29,7 +29,7 @@ invariant_of-pass g c =
     c.args.point c.args.word place.0 place.1 (row_is laid is _ c.args.point c.args.word c.row_place-place.ensures.value) in
     kept_after p.seat.me p.held p.next told.0 after.0 c.pass.invariant.1
     (kept_marks (pass_state p.seat.table_id p.seat.me.0 p.held p.next) p.seat.me.0.posted
-    (p.seat.me.0.seen ++ mark c.args.point c.args.word c.load.result ∷ []) p.seat.me.0.counted c.pass.invariant.0)
+    (p.seat.me.0.seen ++ logged_word c.args.point c.args.word c.load.result ∷ []) p.seat.me.0.counted c.pass.invariant.0)
 
 pub returns-clause-seen : goal.returns-clause-seen
 returns-clause-seen g c =
@@ -41,7 +41,7 @@ returns-clause-seen g c =
     let after = told.2 (about_key c.self.inside.table.shared.key) (knows laid is c.pass.view_is c.requires.of)
     c.args.point c.args.word place.0 place.1 (row_is laid is _ c.args.point c.args.word c.row_place-place.ensures.value) in
     state_after p.seat.me p.held p.next told.0 after.0
-    ∙ ap (λ (q : PassState _). record q { seen = q.seen ++ mark c.args.point c.args.word c.load.result ∷ [] }) c.pass.view_is
+    ∙ ap (λ (q : PassState _). record q { seen = q.seen ++ logged_word c.args.point c.args.word c.load.result ∷ [] }) c.pass.view_is
 
 pub returns-clause-own : goal.returns-clause-own
 returns-clause-own g c i within marked =
@@ -51,7 +51,7 @@ returns-clause-own g c i within marked =
     let after = c.load.ensures.2 (about_key c.self.inside.table.shared.key) (knows laid is c.pass.view_is c.requires.of)
     c.args.point c.args.word place.0 place.1 (row_is laid is _ c.args.point c.args.word c.row_place-place.ensures.value) in
     bit_of_one c.load.result i (after.1 i (at_place _ c.args.point c.args.word i within (subst (λ (q : PassState _).
-    IsMarked q.posted c.args.point (64 * c.args.word + i)) (sym c.pass.view_is) marked)))
+    IsLogged q.posted c.args.point (64 * c.args.word + i)) (sym c.pass.view_is) marked)))
 
 pub returns-clause-again : goal.returns-clause-again
 returns-clause-again g c i within marked =
@@ -61,7 +61,7 @@ returns-clause-again g c i within marked =
     let after = c.load.ensures.2 (about_key c.self.inside.table.shared.key) (knows laid is c.pass.view_is c.requires.of)
     c.args.point c.args.word place.0 place.1 (row_is laid is _ c.args.point c.args.word c.row_place-place.ensures.value) in
     bit_of_one c.load.result i (after.2 i (at_place _ c.args.point c.args.word i within (subst (λ (q : PassState _).
-    IsMarked q.seen c.args.point (64 * c.args.word + i)) (sym c.pass.view_is) marked)))
+    IsLogged q.seen c.args.point (64 * c.args.word + i)) (sym c.pass.view_is) marked)))
 
 pub returns-clause-wanted : goal.returns-clause-wanted
 returns-clause-wanted g c i within set =

@@ -1,5 +1,5 @@
 use Rattle.std.proofs.Common.{[], ◌∷◌, ◌++◌, ap, ◌∙◌}
-use Rattle.slice_board.specs.Passes.{PassState, mark}
+use Rattle.slice_board.specs.Passes.{PassState, logged_word}
 use Rattle.slice_board.specs.code.Words.{about_key}
 use Rattle.slice_board.specs.code.Fields.{pass_state}
 use Rattle.slice_board.proofs.Keeps.{puts_at}
@@ -30,7 +30,7 @@ invariant_of-pass g c =
     let after = told.2 (about_key c.self.inside.table.shared.key) (knows laid is c.pass.view_is c.requires.of) c.args.point c.args.word place.0
     (row_is laid is _ c.args.point c.args.word c.row_place-place.ensures.value) in
     kept_after p.seat.me p.held p.next told.0 after c.pass.invariant.1
-    (kept_marks (pass_state p.seat.table_id p.seat.me.0 p.held p.next) (p.seat.me.0.posted ++ mark c.args.point c.args.word c.args.mask ∷ [])
+    (kept_marks (pass_state p.seat.table_id p.seat.me.0 p.held p.next) (p.seat.me.0.posted ++ logged_word c.args.point c.args.word c.args.mask ∷ [])
     p.seat.me.0.seen p.seat.me.0.counted c.pass.invariant.0)
 
 pub returns : goal.returns
@@ -43,4 +43,4 @@ returns g c =
     let after = told.2 (about_key c.self.inside.table.shared.key) (knows laid is c.pass.view_is c.requires.of) c.args.point c.args.word place.0
     (row_is laid is _ c.args.point c.args.word c.row_place-place.ensures.value) in
     state_after p.seat.me p.held p.next told.0 after
-    ∙ ap (λ (q : PassState _). record q { posted = q.posted ++ mark c.args.point c.args.word c.args.mask ∷ [] }) c.pass.view_is
+    ∙ ap (λ (q : PassState _). record q { posted = q.posted ++ logged_word c.args.point c.args.word c.args.mask ∷ [] }) c.pass.view_is

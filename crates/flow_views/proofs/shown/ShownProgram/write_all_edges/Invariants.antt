@@ -1,0 +1,12 @@
+use Rattle.std.proofs.Common.{◌-◌, flat_map}
+use Rattle.std.specs.List.{range_with_len}
+use Rattle.text_pieces.specs.Pieces.{Writes}
+use Rattle.flow_views.specs.Views.{points_in}
+use Rattle.flow_views.specs.Dots.{edge_lines}
+use Rattle.flow_views.proofs.shown.ShownProgram.write_all_edges.Given as goal
+
+abbrev pub invariant-loop-procedure : goal.invariant-loop-procedure
+invariant-loop-procedure g l =
+    Writes g.K.Sink l.fn.out l.out
+    (flat_map (edge_lines l.fn.self.found.graph.now l.fn.self.view)
+    (flat_map (points_in l.fn.self.found.graph.now) (range_with_len l.fn.procedures.first (l.procedure - l.fn.procedures.first))))

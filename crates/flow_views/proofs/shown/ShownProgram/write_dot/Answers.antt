@@ -1,0 +1,19 @@
+use Rattle.std.proofs.Common.{◌++◌, codes, flat_map, ap}
+use Rattle.text_pieces.proofs.Taking.{takes_as, takes_then}
+use Rattle.tac_program.specs.Programs.{Program}
+use Rattle.flow_views.specs.code.ShownProgram.{known_of}
+use Rattle.flow_texts.specs.Reports.{Knowledge}
+use Rattle.flow_views.specs.Dots.{cluster, edge_lines, head}
+use Rattle.flow_views.specs.Views.{points_in}
+use Rattle.flow_views.specs.declared.view.View.{View}
+use Rattle.flow_views.proofs.shown.ShownProgram.write_dot.Goals as goal
+
+pub returns : goal.returns
+returns g c =
+    let program : Program = c.args.self.now.found.graph.now in
+    let known : Knowledge = known_of c.args.self.now in
+    let view : View = c.args.self.now.view in
+    takes_as _ _ _ _ (takes_then _ _ _ _ _ (takes_then _ _ _ _ _ (takes_then _ _ _ _ _ c.write_head.ensures
+    c.write_clusters.ensures) c.write_all_edges.ensures) c.write.ensures)
+    (ap (λ ps. head ++ flat_map (cluster program known view.facts) ps ++ flat_map (edge_lines program view) (flat_map (points_in program) ps)
+    ++ codes "}\n") c.procedures-procedures.ensures.numbers)

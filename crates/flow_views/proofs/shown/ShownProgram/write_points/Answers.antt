@@ -1,0 +1,19 @@
+use Rattle.std.proofs.Common.{◌≡◌, ◌-◌, flat_map, ap, arith}
+use Rattle.std.specs.List.{range_with_len}
+use Rattle.text_pieces.proofs.Taking.{takes_as, takes_then}
+use Rattle.flow_views.specs.code.ShownProgram.{known_of}
+use Rattle.flow_views.specs.Json.{point_line}
+use Rattle.flow_views.proofs.Walks.{walk_more}
+use Rattle.flow_views.proofs.shown.ShownProgram.write_points.Goals as goal
+
+pub loop-point-preserved : goal.loop-point-preserved
+loop-point-preserved g c = takes_as _ _ _ _ (takes_then _ _ _ _ _ c.loop-point.invariant c.write_point.ensures)
+    (walk_more (point_line c.args.self.now.found.graph.now (known_of c.args.self.now) c.args.self.now.view.facts)
+    c.args.points.first c.loop-point.point c.loop-point.auto.point)
+
+pub returns : goal.returns
+returns g c =
+    let all : c.loop-point.point ≡ c.args.points.end = omega (arith, c.requires.ordered) in
+    takes_as _ _ _ _ c.loop-point.invariant
+    (ap (λ n. flat_map (point_line c.args.self.now.found.graph.now (known_of c.args.self.now) c.args.self.now.view.facts)
+    (range_with_len c.args.points.first (n - c.args.points.first))) all)

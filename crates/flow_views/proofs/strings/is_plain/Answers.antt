@@ -1,7 +1,0 @@
-use Rattle.std.proofs.Common.{◌∙◌, sym}
-use Rattle.flow_views.proofs.Escapes.{plain_more}
-use Rattle.flow_views.proofs.strings.is_plain.Goals as goal
-
-pub loop-byte-preserved : goal.loop-byte-preserved
-loop-byte-preserved c =
-    plain_more c.args.bytes.now c.loop-byte.byte-index c.loop-byte-test.true (sym c.is_special.ensures ∙ c.if-is_special.false) c.loop-byte.invariant

@@ -1,0 +1,18 @@
+use Rattle.std.proofs.Common.{◌+◌, ◌*◌, slice_index}
+use Rattle.bit_rows.specs.Words.{has_bit}
+use Rattle.gk_solve.specs.Tables.Words.{place_gens, place_kills}
+use Rattle.gk_solve.proofs.EffectLemmas.{idle_in_group, unkilled_same, ungenerated_same}
+use Rattle.gk_solve.proofs.effects.across_step.Goals as goal
+
+pub returns-then-frame-point-eq0-clause-kept : goal.returns-then-frame-point-eq0-clause-kept
+returns-then-frame-point-eq0-clause-kept g c w k inside low =
+    let idle = idle_in_group g.row.W c.args.frame.now c.requires.frame c.args.point c.requires.within c.if-frame-point-eq0.true w inside k low in
+    unkilled_same (has_bit (slice_index c.args.before.kept w) k)
+    (place_kills c.args.frame.now.problem.now c.args.point (64 * (c.args.frame.now.first + w) + k)) idle.1
+
+pub returns-then-frame-point-eq0-clause-made : goal.returns-then-frame-point-eq0-clause-made
+returns-then-frame-point-eq0-clause-made g c w k inside low =
+    let idle = idle_in_group g.row.W c.args.frame.now c.requires.frame c.args.point c.requires.within c.if-frame-point-eq0.true w inside k low in
+    ungenerated_same (has_bit (slice_index c.args.before.made w) k)
+    (place_gens c.args.frame.now.problem.now c.args.point (64 * (c.args.frame.now.first + w) + k))
+    (place_kills c.args.frame.now.problem.now c.args.point (64 * (c.args.frame.now.first + w) + k)) idle.0 idle.1

@@ -1,0 +1,10 @@
+pub mod Backward
+pub mod Complete
+pub mod Decided
+pub mod Entries
+pub mod ExampleLemmas
+pub mod Least
+pub mod Meet
+pub mod ProgramTables
+pub mod SolutionTests
+pub mod Sound

@@ -1,0 +1,5 @@
+use Rattle.summary_equations.proofs.Meet.{solution_is_meet}
+use Rattle.summary_equations.proofs.laws.solution_is_meet.Goals as goal
+
+pub returns : goal.returns
+returns c = solution_is_meet

@@ -1,0 +1,5 @@
+use Rattle.text_pieces.proofs.Taking.{takes_then}
+use Rattle.text_pieces.proofs.strings.write_quoted.Goals as goal
+
+pub returns : goal.returns
+returns g c = takes_then _ _ _ _ _ (takes_then _ _ _ _ _ c.write.ensures c.write_escaped.ensures) c.write-2.ensures

@@ -1,0 +1,138 @@
+// How far the work is, told in one line that is written over itself.
+
+use crate::terminal::Terminal;
+use flow_runs::OutOfMemory;
+use flow_team::Gate;
+use slice_board::{Pass, Wanted};
+use std::alloc::Global;
+use std::sync::atomic::{AtomicBool, AtomicU32, AtomicU64, Ordering};
+
+/// For so many milliseconds nothing is told.
+const SILENT: u64 = 2000;
+
+/// So many milliseconds lie between two lines at least.
+const BETWEEN: u64 = 100;
+
+/// What takes the rest of a line on a terminal away.
+const CLEAR: &[u8] = b"\x1b[K";
+
+/// How many slices are finished, of how many, in words. Fails only where memory runs out.
+pub fn progress_words(alloc: Global, finished: u32, slices: u32) -> Result<Vec<u8>, OutOfMemory> {
+    let text = format!(in alloc; "tacview: {finished} of {slices} slices")?;
+    Ok(text.into_bytes())
+}
+
+/// Counts slices, and says when a line is due: from two seconds after the work began on, ten times a second at most. The slices of each
+/// table, and of what a report asks, are counted by themselves. Times are milliseconds of one clock.
+#[derive(Drop)]
+pub struct Count {
+    slices: AtomicU32,
+    finished: AtomicU32,
+    // When the next line may be told; 0 before any work.
+    due: AtomicU64,
+    is_told: AtomicBool,
+}
+
+impl Count {
+    /// No work has begun.
+    pub fn new() -> Self {
+        Count {
+            slices: AtomicU32::new(0),
+            finished: AtomicU32::new(0),
+            due: AtomicU64::new(0),
+            is_told: AtomicBool::new(false),
+        }
+    }
+
+    /// Work on so many slices begins.
+    pub fn begin(&self, slices: u32, time: u64) {
+        self.finished.store(0, Ordering::SeqCst);
+        self.slices.store(slices, Ordering::SeqCst);
+        let first = time.saturating_add(SILENT);
+        let _ = self
+            .due
+            .compare_exchange(0, first, Ordering::SeqCst, Ordering::SeqCst);
+    }
+
+    // Whether a line is due and no other worker tells it.
+    fn takes_turn(&self, time: u64) -> bool {
+        let due = self.due.load(Ordering::SeqCst);
+        if time < due {
+            return false;
+        }
+        let next = time.saturating_add(BETWEEN);
+        self.due
+            .compare_exchange(due, next, Ordering::SeqCst, Ordering::SeqCst)
+            .is_ok()
+    }
+
+    fn line(&self, alloc: Global) -> Result<Vec<u8>, OutOfMemory> {
+        let finished = self.finished.load(Ordering::SeqCst);
+        let slices = self.slices.load(Ordering::SeqCst);
+        let words = progress_words(alloc, finished, slices)?;
+        let mut line = b"\r".to_vec(alloc)?;
+        line.extend_from_slice(&words)?;
+        line.extend_from_slice(CLEAR)?;
+        Ok(line)
+    }
+
+    /// A slice is finished. The line to be told over the one that stands there, where one is due and there is memory for it.
+    pub fn finish(&self, alloc: Global, time: u64) -> Option<Vec<u8>> {
+        self.finished.fetch_add(1, Ordering::SeqCst);
+        if !self.takes_turn(time) {
+            return None;
+        }
+        let line = self.line(alloc).ok()?;
+        self.is_told.store(true, Ordering::SeqCst);
+        Some(line)
+    }
+
+    /// The work has ended. Whether a line stands there.
+    pub fn end(&self) -> bool {
+        self.is_told.swap(false, Ordering::SeqCst)
+    }
+}
+
+/// A gate that tells on a terminal how many slices are finished, as a [`Count`] has it. Elsewhere it tells nothing.
+#[derive(Drop)]
+pub struct Progress {
+    alloc: Global,
+    terminal: Terminal,
+    count: Count,
+}
+
+impl Progress {
+    /// A gate that tells on this terminal.
+    pub fn new(alloc: Global, terminal: Terminal) -> Self {
+        Progress {
+            alloc,
+            terminal,
+            count: Count::new(),
+        }
+    }
+}
+
+impl Gate for Progress {
+    fn begun(&self, slices: u32) {
+        if let Some(time) = self.terminal.time() {
+            self.count.begin(slices, time);
+        }
+    }
+
+    // No worker is left that could tell a line behind this.
+    fn ended(&self) {
+        if self.count.end() {
+            self.terminal.tell(b"\r\x1b[K");
+        }
+    }
+
+    fn claimed(&self, _worker: u32, _slice: u32) {}
+
+    fn finished<W: Wanted>(&self, _worker: u32, _slice: u32, _pass: &Pass<W>) {
+        if let Some(time) = self.terminal.time() {
+            if let Some(line) = self.count.finish(self.alloc, time) {
+                self.terminal.tell(&line);
+            }
+        }
+    }
+}
