@@ -1,6 +1,7 @@
 """Tries tacview on each program of examples/. Each line of JSON is parsed and compared with what tacflow writes of the same program: tables,
-report, listing and source. Each picture goes through Graphviz, where `dot` is there. TACVIEW=/path/to/program and TACFLOW=/path/to/program
-take other programs than ./tacview and ./tacflow. Prints `N passed, M failed`."""
+report, listing and source. Each picture goes through Graphviz, where `dot` is there. Then the facts of one procedure of a larger program have
+to do with the memory of its points. TACVIEW=/path/to/program and TACFLOW=/path/to/program take other programs than ./tacview and ./tacflow.
+Prints `N passed, M failed`."""
 
 import json
 import os
@@ -8,6 +9,7 @@ import re
 import shutil
 import subprocess
 import sys
+import tempfile
 
 HERE = os.path.dirname(os.path.realpath(__file__))
 ROOT = os.path.join(HERE, "..")
@@ -105,10 +107,12 @@ def check_json(source):
     check_spans(source, points)
     check_edges(points)
     for name in program["procedures"]:
-        _, own, told = objects(source, "--procedure", name, "--facts", "live", "--workers", "3", "--cut", "1")
-        kept = [{key: value for key, value in point.items() if key not in ("reach", "avail", "busy")} for point in points if point["procedure"] == name]
+        kept = [point for point in points if point["procedure"] == name]
+        _, own, told = objects(source, "--procedure", name, "--workers", "3", "--cut", "1")
         assert own == kept, name
         assert told == [remark for remark in remarks if points[remark["point"]]["procedure"] == name], name
+        live = [{key: value for key, value in point.items() if key not in ("reach", "avail", "busy")} for point in kept]
+        assert objects(source, "--procedure", name, "--facts", "live")[1] == live, name
 
 
 def check_dot(source):
@@ -121,19 +125,43 @@ def check_dot(source):
         assert done.returncode == 0 and not done.stderr, done.stderr.decode()
 
 
+def check_memory(source):
+    """The facts of one procedure take at most 100 MB, where a table of all points would take 150 by itself."""
+    with tempfile.TemporaryFile() as file:
+        file.write(source)
+        file.seek(0)
+        words = [TACVIEW, "--limits", "large", "--format", "json", "--procedure", "p7"]
+        started = subprocess.Popen(words, stdin=file, stdout=subprocess.PIPE)
+        points = started.stdout.read().count(b'"type":"point"')
+        _, status, used = os.wait4(started.pid, 0)
+        started.returncode = os.waitstatus_to_exitcode(status)
+    assert started.returncode == 0 and points == 101, (started.returncode, points)
+    assert used.ru_maxrss < 100000, used.ru_maxrss
+
+
+def many_procedures():
+    """200 procedures of 100 assignments, each of a variable of its own."""
+    rows = ["proc main", *(f"call p{k}" for k in range(200)), "end"]
+    for k in range(200):
+        rows += [f"proc p{k}", *(f"v{100 * k + j} = {j}" for j in range(100)), "end"]
+    return ("\n".join(rows) + "\n").encode()
+
+
 def main():
-    """Tries all examples."""
-    passed = failed = 0
+    """Tries all examples, and a larger program."""
+    tries = [("many procedures", check_memory, many_procedures())]
     for name in sorted(name for name in os.listdir(EXAMPLES) if name.endswith(".tac")):
         with open(os.path.join(EXAMPLES, name), "rb") as file:
             source = file.read()
-        for check in (check_json, check_dot):
-            try:
-                check(source)
-                passed += 1
-            except (AssertionError, ValueError, KeyError, OSError) as fault:
-                failed += 1
-                print(f"{name}, {check.__name__}: {str(fault)[:500]}")
+        tries += [(name, check_json, source), (name, check_dot, source)]
+    passed = failed = 0
+    for name, check, source in tries:
+        try:
+            check(source)
+            passed += 1
+        except (AssertionError, ValueError, KeyError, OSError) as fault:
+            failed += 1
+            print(f"{name}, {check.__name__}: {str(fault)[:500]}")
     print(f"{passed} passed, {failed} failed")
     return 1 if failed else 0
 

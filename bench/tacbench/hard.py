@@ -2,7 +2,7 @@
 
 import random
 
-from .writing import Procedure, name_of, need, text_of
+from .writing import Procedure, most_procedures, name_of, need, text_of
 
 
 class Definitions:
@@ -165,10 +165,14 @@ def ladder(points=16000, bits=4000):
     return one_procedure([*chain, ("leave", ["goto out"]), *ways[::-1], *rungs, ("back", ["goto c0"])], points, "w0")
 
 
+def points_each(points, procedures):
+    need(procedures <= most_procedures(points), "a program has at most 256 procedures, and one of more than 16,384 points 16,384")
+    return points // procedures
+
+
 def procedures_with(points, bits, procedures, order, calls_of):
     """Procedures in an order, each with its part of the definitions, and the calls that `calls_of` tells, each behind a test."""
-    need(procedures <= 256, "a program has at most 256 procedures")
-    size = points // procedures
+    size = points_each(points, procedures)
     share = max(0, min(size - 12, variables_for(bits) // procedures))
     definitions = Definitions(max(1, share * procedures), max(1, share * procedures))
     made = []
@@ -211,8 +215,8 @@ def neighbours(points=16000, bits=4000, procedures=256, seed=1):
 def web(points=16000, bits=4000, procedures=256, seed=1):
     """each statement of a procedure is a call of eight others, near and far, both ways"""
     draw = random.Random(seed)
-    size = points // procedures
-    need(256 >= procedures >= 9 and size >= 5, "nine procedures and five points for each are needed")
+    size = points_each(points, procedures)
+    need(procedures >= 9 and size >= 5, "nine procedures and five points for each are needed")
     count = min(procedures, variables_for(bits))
     definitions = Definitions(count, count)
     made = []
@@ -226,6 +230,13 @@ def web(points=16000, bits=4000, procedures=256, seed=1):
         procedure.add("skip")
         made.append(procedure)
     return filled(made, points)
+
+
+def rungs_for(points, bits, heads, period):
+    """How many heads there are, and how many rungs of two tests each."""
+    heads = max(1, min(heads, bits // 4))
+    need(2 * heads * period <= points, "so few points are too few for so many heads and such a period")
+    return heads, heads * period
 
 
 def drip_ladder(procedure, heads, period, head, forward):
@@ -244,8 +255,7 @@ def drip_ladder(procedure, heads, period, head, forward):
 def drip(points=16000, bits=4000, heads=256, callees=8, period=6, recursive=0):
     """one bit after the other comes late to the exits of eight callees, which thousands of calls list; recursive=1: they may call `main`"""
     source = Procedure("q0")
-    heads = max(1, min(heads, bits // 4))
-    rungs = heads * period
+    heads, rungs = rungs_for(points, bits, heads, period)
     if recursive:
         source.add("if c goto a0", "call main")
     drip_ladder(source, heads, period, lambda number: ["w%d = 1" % number], True)
@@ -264,8 +274,7 @@ def drip(points=16000, bits=4000, heads=256, callees=8, period=6, recursive=0):
 def drip_back(points=16000, bits=4000, heads=256, callees=8, period=6, recursive=0):
     """`drip` against the flow of control, for the backward analyses"""
     source = Procedure("q0")
-    heads = max(1, min(heads, bits // 4))
-    rungs = heads * period
+    heads, rungs = rungs_for(points, bits, heads, period)
     source.add("goto b0")
     if recursive:
         source.label("again")
@@ -363,7 +372,7 @@ def woven_callees(kind, number, procedures, callees, draw):
 
 def woven(points=16000, bits=4000, procedures=16, order=0, jump=3, stride=7, calls=1, callees=1, guard=1, every=4, late=0, seed=1):
     """a pattern for the search: `order` of the text 0 to 3, `jump` 0 to 4 by `stride`, `calls` 0 to 4 in every `every`th block, `late` 0 to 2"""
-    procedures, every, callees = max(1, min(procedures, 256)), max(1, every), max(1, min(callees, 8))
+    procedures, every, callees = max(1, min(procedures, most_procedures(points))), max(1, every), max(1, min(callees, 8))
     draw = random.Random(seed)
     size = points // procedures
     count = (size - 3) // 4
@@ -397,7 +406,7 @@ def woven(points=16000, bits=4000, procedures=16, order=0, jump=3, stride=7, cal
 
 def waiting(points=16000, bits=4000, early=0, seed=1):
     """each procedure may call the one before it; no way leads to calls of eight each that wait for all; early=1: these stand first"""
-    procedures = 255
+    procedures = max(255, points // 65)
     uses = max(1, min(15, variables_for(bits) // procedures, points // (4 * procedures)))
     count = uses * procedures
     size = (points - count // 2 - 8) // procedures - uses - 6

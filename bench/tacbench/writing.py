@@ -46,6 +46,11 @@ class Fault(Exception):
     """A parameter that no program can be made with."""
 
 
+def most_procedures(points):
+    """A program of more points than the standard limits allow is one for the large limits."""
+    return 256 if points <= 16384 else 16384
+
+
 def need(holds, message):
     if not holds:
         raise Fault(message)

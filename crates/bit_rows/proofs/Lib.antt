@@ -1,10 +1,4 @@
-pub mod WordBits
-pub mod RowSets
-pub mod SetLaws
-pub mod WordLaws
-pub mod Tables
-pub mod Cuts
-mod WordRows
-mod WordLoops
-mod Trim
-mod Gains
+mod rows
+pub mod sets
+pub mod slices
+pub mod words

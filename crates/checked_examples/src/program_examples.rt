@@ -1,13 +1,13 @@
 //! Worked programs: their points, edges, bits, gen, kill and may forms, each checked by computing it.
 
-ghost use Rattle.std.specs.Prelude.{◌≡◌, true, false, Some, None, [], ◌∷◌, length, map};
-ghost use Rattle.flow_graph.specs.Analyses.{main_procedure, shape_of};
+ghost use Rattle.std.specs.Prelude.{◌≡◌, true, false, Some, None, [], ◌∷◌, map};
+ghost use Rattle.flow_graph.specs.Analyses.{main_procedure};
 ghost use Rattle.flow_graph.specs.Problems.{may_shape, may_transfer};
 ghost use Rattle.flow_graph.specs.Edges.{edges_from};
 ghost use Rattle.flow_graph.specs.Examples.{two_calls, earlier_definition, later_definition, recursive_procedure, inner_definition, recursive_main};
 ghost use Rattle.flow_graph.specs.Examples.{only_definition, value_at_entry, endless_callee, sum_expression, two_prints, live_first, endless_loop};
 ghost use Rattle.flow_graph.specs.Examples.{live_in_loop, several_callees, outer_definition, inner_of_first, one_call, uncalled_caller};
-ghost use Rattle.flow_graph.specs.Paths.{root, final};
+ghost use Rattle.flow_graph.specs.Paths.{root};
 ghost use Rattle.flow_graph.specs.Points.{points, point_count, place_of, point_of, entry_point, end_point, kind_at};
 ghost use Rattle.checked_examples.specs.ProgramExamples.{calls_twice, calls_itself, adds_to_itself, calls_endless, may_loop, calls_main};
 ghost use Rattle.checked_examples.specs.ProgramExamples.{computes_twice, prints_between_calls, calls_either, calls_several, calls_once};

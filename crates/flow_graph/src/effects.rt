@@ -1,7 +1,7 @@
 // What each statement of a program does with the bits of an analysis.
 
 ghost use Rattle.std.specs.List.{list_any};
-ghost use Rattle.std.specs.Prelude.{◌≡◌, ◌+◌, ◌*◌, ◌/◌, ◌<◌, ◌≤◌, ◌&&◌, ◌||◌, ℕ, IfOk, IfSome, length, nat_eq, option_copied, option_map, Some};
+ghost use Rattle.std.specs.Prelude.{◌≡◌, ◌+◌, ◌*◌, ◌/◌, ◌<◌, ◌≤◌, ◌&&◌, ◌||◌, ℕ, IfOk, length, nat_eq, option_copied, option_map, Some};
 ghost use Rattle.flow_graph.specs.code.BitTables.{table_has};
 ghost use Rattle.flow_graph.specs.code.Effects.{AreDependentWords, AreEffects, IsNumberedEffect, depends, marks, owns_numbered};
 ghost use Rattle.flow_graph.specs.Points.{kind_at, point_count, statement_at};

@@ -4,9 +4,8 @@ ghost use Rattle.std.specs.Prelude.{◌≡◌, ◌≢◌, ◌+◌, ◌<◌, ◌�
 ghost use Rattle.flow_graph.specs.Limits.{HasFewPoints, HasManyPoints};
 ghost use Rattle.flow_graph.specs.code.PointTables.{AreFirstPoints, AreProcedures};
 ghost use Rattle.flow_graph.specs.Points.{end_place, place_of, point_count, point_of, statement_at};
-ghost use Rattle.tac_program.specs.Limits.{most_points};
 ghost use Rattle.tac_program.specs.Sound.{IsSound};
-ghost use Rattle.tac_program.specs.declared.limits.Limits.TheVariants.{Large, Standard};
+ghost use Rattle.tac_program.specs.declared.limits.Limits.TheVariants.{Large};
 ghost use Rattle.flow_graph.specs.declared.fault.GraphFault.TheVariants.{TooManyPoints, TooManyBits};
 
 use crate::OutOfMemory;

@@ -1,4 +1,2 @@
-pub mod CallLemmas
-pub mod ListLemmas
-pub mod ShapeLemmas
-pub mod Written
+pub mod groups
+pub mod shapes

@@ -1,4 +1,4 @@
-ghost use Rattle.std.specs.Prelude.{◌≡◌, ◌<◌, ◌≤◌, ℕ, IfOk, length, slice_index};
+ghost use Rattle.std.specs.Prelude.{◌≡◌, ◌<◌, ◌≤◌, IfOk, length};
 ghost use Rattle.flow_graph.specs.Analyses.{is_backward};
 ghost use Rattle.flow_graph.specs.Directions.{goes_backward};
 ghost use Rattle.flow_graph.specs.Problems.{may_shape};

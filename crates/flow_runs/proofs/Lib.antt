@@ -1,5 +1,2 @@
-pub mod Cases
-pub mod Deliveries
-pub mod Entries
-pub mod HeldValues
-pub mod Numbers
+pub mod deliveries
+pub mod matches

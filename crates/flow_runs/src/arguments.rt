@@ -1,6 +1,6 @@
 // The options that say how tables are found, and what `clap` found for an option.
 
-ghost use Rattle.std.specs.Prelude.{◌≡◌, ◌≤◌, ◌<◌, ◌^◌, ℕ, List, Some, false, codes};
+ghost use Rattle.std.specs.Prelude.{◌≡◌, ◌≤◌, ◌<◌, ◌^◌, ℕ, Some, false, codes};
 ghost use Rattle.clap.specs.Words.{Text, first_of, found_of, rows_of, rule_of};
 ghost use Rattle.flow_runs.specs.Words.{NamesNumber, number_rule};
 ghost use Rattle.flow_runs.specs.code.Matches.{HoldsNumber};

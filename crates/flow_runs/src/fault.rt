@@ -1,6 +1,6 @@
 // Why a run ended before its text was written, and the line that tells it.
 
-ghost use Rattle.std.specs.Prelude.{◌≡◌, ◌++◌, IfOk, OnOk, codes};
+ghost use Rattle.std.specs.Prelude.{◌≡◌, ◌++◌, IfOk, codes};
 ghost use Rattle.flow_runs.specs.FaultLines.{fault_text, line_of_fault, name_of_kind, refusal_text};
 
 use crate::OutOfMemory;

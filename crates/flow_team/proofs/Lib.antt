@@ -1,10 +1,5 @@
-pub mod Done
-pub mod OneTable
-pub mod Placing
-pub mod Posts
-pub mod Sent
-pub mod TableAnswers
-pub mod Told
-pub mod ComplementedTables
-pub mod ComplementedPlaces
-pub mod Words
+pub mod asks
+pub mod complements
+pub mod facts
+pub mod posts
+pub mod threads

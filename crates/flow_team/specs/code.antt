@@ -1,4 +1,5 @@
 pub mod Boards
 pub mod Directions
+pub mod Excerpts
 pub mod Posting
 pub mod Complements

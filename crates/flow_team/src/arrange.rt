@@ -1,6 +1,6 @@
 // Asks put in an order in which those that are solved together stand side by side.
-ghost use Rattle.std.specs.Prelude.{◌≡◌, ℕ, ◌+◌, ◌*◌, ◌^◌, ◌<◌, ◌≤◌, length, slice_get, slice_index, IfOk};
-ghost use Rattle.flow_team.specs.code.Boards.{Arranges};
+ghost use Rattle.std.specs.Prelude.{◌≡◌, ℕ, ◌+◌, ◌*◌, ◌^◌, ◌<◌, ◌≤◌, length, slice_index, IfOk};
+ghost use Rattle.flow_team.specs.code.Boards.{Arranges, ordered};
 
 use crate::OutOfMemory;
 use crate::ask::Ask;
@@ -21,14 +21,12 @@ pub(crate) fn groups_for(bits: u32) -> u32
     bits.div_ceil(64 * GROUP_WORDS).max(1)
 }
 
-/// The same asks group by group, the number of each, and where each group begins.
+/// The order of asks group by group.
 #[derive(Drop)]
 pub(crate) struct AskOrder {
-    /// The asks in that order.
-    pub(crate) order: Vec<Ask>,
-    /// The number that each of them has among those that were given.
+    /// The numbers of the asks, in that order.
     pub(crate) places: Vec<u32>,
-    /// Where each group begins in that order, as many of each analysis, and at the end how many asks there are.
+    /// Where each group begins in it, as many of each analysis, and at the end how many asks there are.
     pub(crate) starts: Vec<u32>,
 }
 
@@ -73,30 +71,15 @@ fn keys(alloc: Global, asks: &[Ask], groups: u32) -> Result<Vec<u32>, OutOfMemor
     Ok(keys)
 }
 
-// The asks at these places, one after the other.
-fn asks_at(alloc: Global, asks: &[Ask], places: &[u32]) -> Result<Vec<Ask>, OutOfMemory>
-    requires { (j : ℕ) → j < length places.now → slice_index places.now j < length asks.now }
-    ensures count { IfOk result (λ order. length order.items ≡ length places.now) }
-    ensures each { IfOk result (λ order. (j : ℕ) → j < length places.now → slice_get order.items j ≡ slice_get asks.now (slice_index places.now j)) }
-{
-    let mut order = Vec::with_capacity(alloc, places.len())?;
-    for j in 0..places.len() {
-        order.push(asks[places[j] as usize])?;
-    }
-    Ok(order)
-}
-
-/// The asks in an order in which those of one analysis and of one group of words, which are solved together, stand side by side.
+/// An order of the asks in which those of one analysis and of one group of words, which are solved together, stand side by side.
 pub(crate) fn arranged_asks(alloc: Global, asks: &[Ask]) -> Result<AskOrder, OutOfMemory>
     requires { length asks.now < 2 ^ 32 }
-    ensures { IfOk result (λ r. Arranges asks.now r.order.items r.places.items) }
+    ensures { IfOk result (λ r. Arranges asks.now (ordered asks.now r.places.items) r.places.items) }
 {
     let groups = group_count(asks);
     let keys = keys(alloc, asks, groups)?;
     let grouped = group(alloc, keys.as_slice(), 4 * groups)?;
-    let order = asks_at(alloc, asks, grouped.places.as_slice())?;
     Ok(AskOrder {
-        order,
         places: grouped.places,
         starts: grouped.starts,
     })

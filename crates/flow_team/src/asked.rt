@@ -9,18 +9,18 @@ ghost use Rattle.gk_solve.specs.Solved.{HasPathFlags, TellWords, direction_of};
 ghost use Rattle.slice_board.specs.Boards.{IsOf};
 ghost use Rattle.flow_team.specs.Asks.{AreAsksOf, IsAnswerTo};
 ghost use Rattle.flow_team.specs.Sets.{IsInMaySet};
-ghost use Rattle.flow_team.specs.Teams.{PostsMore};
-ghost use Rattle.flow_team.specs.code.Boards.{AreAnswered, AreDone, AreTold, Arranges, IsAmong, IsArranged, IsAskBoard, IsWanted, NoneOf};
+ghost use Rattle.slice_team.specs.Teams.{PostsMore};
+ghost use Rattle.flow_team.specs.code.Boards.{AreDone, AreTold, Arranges, IsAmong, IsArranged, IsAskBoard, IsWanted, NoneOf, ordered};
 ghost use Rattle.flow_team.specs.code.Directions.{form_of};
 
 use crate::OutOfMemory;
 use crate::ask::Ask;
 use crate::complemented_words::complement_mask;
 use crate::direction::DirectionSolvers;
-use crate::solve::Solve;
 use flow_graph::Analysis;
 use gk_solve::{Routes, SliceWords, Solver};
 use slice_board::{Pass, PostedWords, Wanted, WordBoard};
+use slice_team::Solve;
 use std::alloc::Global;
 use std::marker::Model;
 
@@ -29,19 +29,18 @@ pub(crate) struct AskedWords<'g, 'p> {
     forward: DirectionSolvers<'g, 'p>,
     backward: DirectionSolvers<'g, 'p>,
     asks: Vec<Ask>,
-    order: Vec<Ask>,
     places: Vec<u32>,
 }
 
 impl<'g, 'p> Model for AskedWords<'g, 'p> {
-    ghost use Rattle.flow_team.specs.code.Boards.{AreDirections, Asked, IsArranged};
+    ghost use Rattle.flow_team.specs.code.Boards.{AreDirections, Asked, IsArranged, asked_in};
 
     ghost Value = { Asked };
 
-    ghost view = { λ s. record { program = s.forward.program; asks = s.asks.items; order = s.order.items; places = s.places.items } };
+    ghost view = { λ s. asked_in s.forward.program s.asks.items s.places.items };
 
     ghost invariant = { λ s. AreDirections s.forward.program s.forward s.backward
-        × IsArranged (record { program = s.forward.program; asks = s.asks.items; order = s.order.items; places = s.places.items }) };
+        × IsArranged (asked_in s.forward.program s.asks.items s.places.items) };
 }
 
 impl Drop for AskedWords<'_, '_> {
@@ -51,7 +50,6 @@ impl Drop for AskedWords<'_, '_> {
             forward: _,
             backward: _,
             asks: _,
-            order: _,
             places: _,
         } = self;
     }
@@ -59,19 +57,6 @@ impl Drop for AskedWords<'_, '_> {
 
 impl<'g, 'p> Wanted for AskedWords<'g, 'p> {
     ghost wants = { IsWanted };
-}
-
-// Whether one of the asks from one up to another is of an analysis.
-fn asks_some(asks: &[Ask], analysis: Analysis, from: u32, until: u32) -> bool
-    requires { until ≤ length asks.now }
-    ensures { result ≡ false → NoneOf asks.now from until analysis }
-{
-    for q in from..until {
-        if asks[q as usize].analysis == analysis {
-            return true;
-        }
-    }
-    false
 }
 
 // The first of the words that are solved together with a word: eight where there are more than 64, else four.
@@ -109,51 +94,27 @@ fn solve_to<'a, 'g, 'p>(
     (from, until)
 }
 
-// All memory in which an analysis is solved, where one of the asks from one up to another is of it.
-fn memory<'g, 'p>(
-    alloc: Global,
-    solver: &Solver<'g, 'p>,
-    routes: &Routes<'g, 'p>,
-    asks: &[Ask],
-    from: u32,
-    until: u32,
-) -> Result<Option<SliceWords>, OutOfMemory>
-    requires routes { routes.now ≡ direction_of solver.now }
-    requires until { until ≤ length asks.now }
-    ensures some { IfOk result (λ r. IfSome r (AreTold solver.now 0 0)) }
-    ensures none { IfOk result (λ r. IfNone r (NoneOf asks.now from until solver.now.analysis)) }
-{
-    let problem = solver.problem();
-    if !asks_some(asks, problem.analysis(), from, until) {
-        return Ok(None);
-    }
-    let words = solver.slice(alloc, routes, 0, problem.bits())?;
-    Ok(Some(words))
-}
-
 impl<'g, 'p> AskedWords<'g, 'p> {
-    /// What is asked of a graph, with the same asks in the order in which they are solved and the number of each of these.
+    /// What is asked of a graph, with the order in which the asks are solved.
     pub(crate) fn of(
         forward: DirectionSolvers<'g, 'p>,
         backward: DirectionSolvers<'g, 'p>,
         asks: Vec<Ask>,
-        order: Vec<Ask>,
         places: Vec<u32>,
     ) -> Self
         requires forward { forward ≡ record { program = forward.program; some = Reach; every = Avail } }
         requires backward { backward ≡ record { program = forward.program; some = Live; every = Busy } }
         requires asks { AreAsksOf forward.program asks.items }
         requires few { 64 * length asks.items < 2 ^ 32 }
-        requires arranged { Arranges asks.items order.items places.items }
+        requires arranged { Arranges asks.items (ordered asks.items places.items) places.items }
         ensures program { result.program ≡ forward.entry.program }
         ensures asks { result.asks ≡ asks.items }
-        ensures order { result.order ≡ order.items }
+        ensures order { result.order ≡ ordered asks.items places.items }
     {
         AskedWords {
             forward,
             backward,
             asks,
-            order,
             places,
         }
     }
@@ -177,7 +138,43 @@ impl<'g, 'p> AskedWords<'g, 'p> {
         ensures ask { slice_get self.now.order j ≡ Some result }
         ensures asks { AreAsksOf self.now.program self.now.order }
     {
-        self.order[j as usize]
+        let place = self.places[j as usize];
+        self.asks[place as usize]
+    }
+
+    // Whether one of the asks from one up to another in that order is of an analysis.
+    fn asks_some(&self, analysis: Analysis, from: u32, until: u32) -> bool
+        requires { until ≤ length self.now.order }
+        ensures { result ≡ false → NoneOf self.now.order from until analysis }
+    {
+        for j in from..until {
+            if self.ask(j).analysis == analysis {
+                return true;
+            }
+        }
+        false
+    }
+
+    // All memory in which an analysis is solved, where one of the asks from one up to another in that order is of it.
+    fn memory(
+        &self,
+        alloc: Global,
+        solver: &Solver<'g, 'p>,
+        routes: &Routes<'g, 'p>,
+        from: u32,
+        until: u32,
+    ) -> Result<Option<SliceWords>, OutOfMemory>
+        requires routes { routes.now ≡ direction_of solver.now }
+        requires until { until ≤ length self.now.order }
+        ensures some { IfOk result (λ r. IfSome r (AreTold solver.now 0 0)) }
+        ensures none { IfOk result (λ r. IfNone r (NoneOf self.now.order from until solver.now.analysis)) }
+    {
+        let problem = solver.problem();
+        if !self.asks_some(problem.analysis(), from, until) {
+            return Ok(None);
+        }
+        let words = solver.slice(alloc, routes, 0, problem.bits())?;
+        Ok(Some(words))
     }
 
     // The answer to the ask of a number in that order, of what was posted of it: complemented where the analysis is over every path.
@@ -223,7 +220,6 @@ impl<'g, 'p> AskedWords<'g, 'p> {
             forward,
             backward,
             asks,
-            order: _,
             places: _,
         } = self;
         (asks, forward.into_flags(), backward.into_flags())
@@ -356,14 +352,13 @@ impl<'g, 'p> AskedWords<'g, 'p> {
         ensures done { IfOk result (λ _. AreDone self.now (λ j. (from ≤ j) × (j < until)) pass.new.posted) }
         ensures refused { IfErr result (λ _. pass.new ≡ pass.old) }
     {
-        let asks = self.order.as_slice();
         let (forward, backward) = (self.forward.routes(), self.backward.routes());
         let (reach, avail) = (self.forward.some(), self.forward.every());
         let (live, busy) = (self.backward.some(), self.backward.every());
-        let reached = memory(alloc, reach, forward, asks, from, until)?;
-        let lived = memory(alloc, live, backward, asks, from, until)?;
-        let had = memory(alloc, avail, forward, asks, from, until)?;
-        let ahead = memory(alloc, busy, backward, asks, from, until)?;
+        let reached = self.memory(alloc, reach, forward, from, until)?;
+        let lived = self.memory(alloc, live, backward, from, until)?;
+        let had = self.memory(alloc, avail, forward, from, until)?;
+        let ahead = self.memory(alloc, busy, backward, from, until)?;
         self.post_part(board, pass, reach, forward, reached, from, until);
         self.post_part(board, pass, live, backward, lived, from, until);
         self.post_part(board, pass, avail, forward, had, from, until);

@@ -12,10 +12,10 @@ use crate::ask::Ask;
 use crate::asked::AskedWords;
 use crate::direction::DirectionSolvers;
 use crate::halves::{Half, side_by_side};
-use crate::slice_job::SliceJob;
 use bit_rows::{Cut, CutFault};
 use flow_graph::{Analysis, Graph};
 use slice_board::{Pass, WordBoard};
+use slice_team::SliceJob;
 use std::alloc::Global;
 use std::thread::Threads;
 
@@ -160,7 +160,7 @@ pub(crate) fn asked_job<'g, 'p>(
     let count = asks.len() as u32;
     let cut = cut_of(alloc, arranged.starts.as_slice(), slice_groups, count)?;
     let (forward, backward) = directions;
-    let asked = AskedWords::of(forward, backward, asks, arranged.order, arranged.places);
+    let asked = AskedWords::of(forward, backward, asks, arranged.places);
     on_board(alloc, asked, cut)
 }
 

@@ -6,17 +6,15 @@ ghost use Rattle.slice_board.specs.Boards.{IsOf, IsPlace, CountsOnce, fresh_pass
 ghost use Rattle.slice_board.specs.Passes.{IsLogged, joined, logged_word, times};
 ghost use Rattle.flow_team.specs.Sets.{IsInMaySet};
 ghost use Rattle.flow_team.specs.Tables.{IsTableOf};
-ghost use Rattle.flow_team.specs.Teams.{Works, Idles, Holds};
+ghost use Rattle.slice_team.specs.Teams.{Works, Idles, Holds};
 
 use crate::OutOfMemory;
-use crate::gate::Gate;
 use crate::sets::GraphSets;
-use crate::slice_job::SliceJob;
 use crate::table::Table;
-use crate::workers::run_workers;
 use bit_rows::Cut;
 use flow_graph::{Analysis, Graph};
 use slice_board::{Pass, Unfinished, WordBoard};
+use slice_team::{Gate, SliceJob, run_workers};
 use std::alloc::Global;
 use std::marker::Model;
 use std::thread::Threads;

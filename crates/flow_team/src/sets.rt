@@ -1,24 +1,27 @@
 // The sets of a graph's analysis, slice by slice.
-ghost use Rattle.std.specs.Prelude.{◌≡◌, ℕ, ◌+◌, ◌/◌, ◌<◌, ◌↔◌, true, IfOk};
+ghost use Rattle.std.specs.Prelude.{◌≡◌, ℕ, ◌+◌, ◌/◌, ◌<◌, ◌↔◌, true, length, IfErr, IfOk};
 ghost use Rattle.bit_rows.specs.RowSet.{contains};
 ghost use Rattle.bit_rows.specs.RowTable.{set_at};
-ghost use Rattle.flow_graph.specs.Points.{point_count};
 ghost use Rattle.flow_graph.specs.Universes.{bits as bits_of};
-ghost use Rattle.gk_solve.specs.Solved.{HasPathFlags, IsSliceOf};
-ghost use Rattle.slice_board.specs.Boards.{IsOf};
+ghost use Rattle.gk_solve.specs.Solved.{HasPathFlags};
+ghost use Rattle.slice_board.specs.Boards.{InSlice, slice_count};
 ghost use Rattle.slice_board.specs.Passes.{IsLogged};
 ghost use Rattle.flow_team.specs.Sets.{IsInMaySet};
+ghost use Rattle.flow_team.specs.Excerpts.{IsTableAt};
 ghost use Rattle.flow_team.specs.Tables.{IsTableOf};
 ghost use Rattle.flow_team.specs.code.Boards.{IsTableBoard};
+ghost use Rattle.flow_team.specs.code.Excerpts.{HasFlagsFrom};
+ghost use Rattle.flow_team.specs.code.Posting.{CanPost};
+ghost use Rattle.slice_team.specs.Teams.{PostsMore};
 
 use crate::OutOfMemory;
 use crate::complemented_words::ComplementedWords;
 use crate::posting::post_slice_words;
-use crate::solve::Solve;
 use crate::table::Table;
 use flow_graph::{Analysis, Graph, Problem};
-use gk_solve::{Routes, SliceWords, Solver};
+use gk_solve::{Routes, Solver};
 use slice_board::{Pass, PostedWords, Wanted, WordBoard};
+use slice_team::Solve;
 use std::alloc::Global;
 use std::marker::Model;
 
@@ -76,7 +79,57 @@ impl<'g, 'p> GraphSets<'g, 'p> {
         self.solver.flags(alloc, &self.routes)
     }
 
-    /// The analysis's table, of the words of its may form: complemented where the analysis is over every path.
+    /// Solves a slice of the sets, and posts it on a board for so many points, from the first on.
+    pub(crate) fn post_slice_from<W: Wanted>(
+        &self,
+        alloc: Global,
+        board: &WordBoard<W>,
+        pass: &mut Pass<W>,
+        slice: u32,
+        first: u32,
+        count: u32,
+    ) -> Result<(), OutOfMemory>
+        requires ready { CanPost (W.wants board.now.wanted) self.now first count board.now.cut.bits board.now pass.old }
+        requires bits { board.now.cut.bits ≡ bits_of self.now.program self.now.analysis }
+        requires there { slice < slice_count board.now.cut }
+        ensures more { PostsMore pass.old pass.new }
+        ensures whole { IfOk result (λ _. (point bit : ℕ) → W.wants board.now.wanted point bit
+            → InSlice board.now.cut slice bit → IsLogged pass.new.posted point bit) }
+        ensures refused { IfErr result (λ _. pass.new ≡ pass.old) }
+    {
+        let cut = board.cut();
+        // Its contract tells that the slices lie within the bits.
+        let _ = cut.slices();
+        let (lo, hi) = cut.range(slice);
+        let mut words = self.solver.slice(alloc, &self.routes, lo, hi)?;
+        post_slice_words(
+            &self.solver,
+            &self.routes,
+            &mut words,
+            board,
+            pass,
+            first,
+            count,
+        );
+        Ok(())
+    }
+
+    /// The analysis's table at the points from the first on, of the words of its may form there: complemented where the analysis is over
+    /// every path.
+    pub(crate) fn table_from(&self, posted: PostedWords, first: u32) -> Table
+        requires range { (posted.lo ≡ 0) × (posted.hi ≡ bits_of self.now.program self.now.analysis) }
+        requires flags { HasFlagsFrom self.now first posted.flags }
+        requires rows { (point bit : ℕ) → (contains (set_at posted point) bit ≡ true)
+            ↔ ((point < length posted.flags) × IsInMaySet self.now (first + point) bit) }
+        ensures analysis { result.analysis ≡ self.now.analysis }
+        ensures table { IsTableAt self.now.program first (first + length posted.flags) result }
+    {
+        let analysis = self.solver.problem().analysis();
+        let words = ComplementedWords::of(posted, analysis.join());
+        Table::of(analysis, words, first)
+    }
+
+    /// The analysis's table, of the words of its may form.
     pub(crate) fn table(&self, posted: PostedWords) -> Table
         requires range { (posted.lo ≡ 0) × (posted.hi ≡ bits_of self.now.program self.now.analysis) }
         requires flags { HasPathFlags self.now posted.flags }
@@ -84,9 +137,7 @@ impl<'g, 'p> GraphSets<'g, 'p> {
         ensures analysis { result.analysis ≡ self.now.analysis }
         ensures table { IsTableOf self.now.program result }
     {
-        let analysis = self.solver.problem().analysis();
-        let words = ComplementedWords::of(posted, analysis.join());
-        Table::of(analysis, words)
+        self.table_from(posted, 0)
     }
 }
 
@@ -100,12 +151,7 @@ impl<'g, 'p> Solve<GraphSets<'g, 'p>> for GraphSets<'g, 'p> {
         pass: &mut Pass<GraphSets<'g, 'p>>,
         slice: u32,
     ) -> Result<(), OutOfMemory> {
-        let cut = board.cut();
-        // Its contract tells that the slices lie within the bits.
-        let _ = cut.slices();
-        let (lo, hi) = cut.range(slice);
-        let mut words = self.solver.slice(alloc, &self.routes, lo, hi)?;
-        post_slice_words(&self.solver, &self.routes, &mut words, board, pass);
-        Ok(())
+        let points = self.solver.problem().points();
+        self.post_slice_from(alloc, board, pass, slice, 0, points)
     }
 }

@@ -8,11 +8,13 @@ use flow_graph::Analysis;
 use std::marker::Model;
 
 /// The table of an analysis: for each point of a program whether it has a valid path, and the set of the bits that hold
-/// there (Aho, Lam, Sethi, Ullman, 2nd edition, 9.2 and 9.5; over valid paths as in Reps, Horwitz, Sagiv 1995).
+/// there (Aho, Lam, Sethi, Ullman, 2nd edition, 9.2 and 9.5; over valid paths as in Reps, Horwitz, Sagiv 1995). A table of some
+/// points (`table_at`) says of those before them that there is no path and no bit.
 #[derive(Drop)]
 pub struct Table {
     analysis: Analysis,
     words: ComplementedWords,
+    first: u32,
 }
 
 impl Model for Table {
@@ -21,15 +23,19 @@ impl Model for Table {
 
     ghost Value = { TableFacts };
 
-    ghost view = { λ table. table_facts table.analysis table.words };
+    ghost view = { λ table. table_facts table.first table.analysis table.words };
 }
 
 impl Table {
-    /// The table of these sets.
-    pub(crate) fn of(analysis: Analysis, words: ComplementedWords) -> Table
-        ensures { result ≡ table_facts analysis words }
+    /// The table of these sets, which are those of the points from the first on.
+    pub(crate) fn of(analysis: Analysis, words: ComplementedWords, first: u32) -> Table
+        ensures { result ≡ table_facts first analysis words }
     {
-        Table { analysis, words }
+        Table {
+            analysis,
+            words,
+            first,
+        }
     }
 
     /// The analysis.
@@ -44,7 +50,10 @@ impl Table {
         requires { point < length self.now.paths }
         ensures { result ≡ (facts_of self.now).has_path point }
     {
-        self.words.flag(point)
+        if point < self.first {
+            return false;
+        }
+        self.words.flag(point - self.first)
     }
 
     /// Whether the bit is in the set of the point.
@@ -62,6 +71,9 @@ impl Table {
         ensures set { (k : ℕ) → k < 64 → has_bit result k ≡ (facts_of self.now).contains point (64 * word + k) }
         ensures past { (k : ℕ) → k < 64 → self.now.bits ≤ 64 * word + k → has_bit result k ≡ false }
     {
-        self.words.word(point, word)
+        if point < self.first {
+            return 0;
+        }
+        self.words.word(point - self.first, word)
     }
 }

@@ -1,17 +1,29 @@
-ghost use Rattle.std.specs.Prelude.{◌≡◌, IfOk};
+ghost use Rattle.std.specs.Prelude.{◌≡◌, ◌<◌, IfOk};
 ghost use Rattle.flow_team.specs.Tables.{IsTableOf};
 ghost use Rattle.flow_team.specs.Ranges.{AreInRange};
 ghost use Rattle.flow_team.specs.AllTables.{AreTablesOf};
 
 use crate::OutOfMemory;
 use crate::fault::TeamFault;
-use crate::gate::{Gate, OpenGate};
 use crate::table::Table;
 use crate::team::analyse;
 use bit_rows::{Cut, CutFault};
 use flow_graph::{Analysis, Graph};
+use slice_team::{Gate, OpenGate};
 use std::alloc::Global;
 use std::thread::Threads;
+
+/// So many bits in slices of one width. The condition: 1 to 4,096 bits a slice. Fails only where memory runs out.
+pub(crate) fn even_cut(alloc: Global, bits: u32, cut: u32) -> Result<Cut, OutOfMemory>
+    requires { 0 < cut }
+    ensures { IfOk result (λ slices. slices.bits ≡ bits) }
+{
+    match Cut::even(alloc, bits, cut) {
+        Ok(slices) => Ok(slices),
+        Err(CutFault::OutOfMemory) => Err(OutOfMemory),
+        Err(CutFault::ZeroWidth | CutFault::BadPlaces) => unreachable!(),
+    }
+}
 
 /// The table of an analysis, by so many workers, in slices of so many bits, which the gate is told of.
 ///
@@ -29,11 +41,7 @@ pub fn table_of<R: Threads + Sync, G: Gate>(
     ensures analysis { IfOk result (λ table. table.analysis ≡ analysis) }
     ensures table { IfOk result (IsTableOf graph.now) }
 {
-    let slices = match Cut::even(alloc, graph.bits(analysis), cut) {
-        Ok(slices) => slices,
-        Err(CutFault::OutOfMemory) => return Err(OutOfMemory),
-        Err(CutFault::ZeroWidth | CutFault::BadPlaces) => unreachable!(),
-    };
+    let slices = even_cut(alloc, graph.bits(analysis), cut)?;
     match analyse(rt, alloc, graph, analysis, slices, workers, gate) {
         Ok(table) => Ok(table),
         Err(TeamFault::OutOfMemory) => Err(OutOfMemory),

@@ -8,16 +8,13 @@ use crate::OutOfMemory;
 use crate::answers::Answers;
 use crate::arrange::groups_for;
 use crate::ask::Ask;
-use crate::asked::AskedWords;
 use crate::asked_job::{answers_of, asked_job, directions, directions_here};
 use crate::fault::TeamFault;
-use crate::gate::Gate;
 use crate::job::Job;
-use crate::sets::GraphSets;
 use crate::table::Table;
-use crate::workers::{run_here, run_workers};
 use bit_rows::Cut;
 use flow_graph::{Analysis, Graph};
+use slice_team::{Gate, run_here, run_workers};
 use std::alloc::Global;
 use std::thread::Threads;
 

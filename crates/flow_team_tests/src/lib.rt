@@ -5,6 +5,8 @@
 #[cfg(test)]
 mod ask_tests;
 #[cfg(test)]
+mod excerpt_tests;
+#[cfg(test)]
 mod gates;
 #[cfg(test)]
 mod job_tests;

@@ -8,6 +8,7 @@ use crate::ask_tests::{
     Asked, CALLEE_LOOPS_ASKING, CALLEE_LOOPS_ASKS, Order, lines_here, lines_of_tables,
     lines_of_team, wanted_lines,
 };
+use crate::excerpt_tests::{Excerpt, RECURSIVE_REACH_BEHIND, lines_of_excerpt};
 use crate::gates::Recorder;
 use crate::job_tests::{closed, opened};
 use crate::texts::{Question, RECURSIVE_REACH, check, lines, slices};
@@ -242,6 +243,7 @@ enum Call {
     Answer(u32),
     AnswerHere,
     AnswersOfTables,
+    TableAt,
 }
 
 fn lines_of_opened<R: Abort>(
@@ -294,6 +296,7 @@ fn lines_of_call<R: Threads + Sync>(
         Call::Answer(workers) => lines_of_answer(rt, alloc, graph, workers),
         Call::AnswerHere => lines_here(alloc, graph, ASKED),
         Call::AnswersOfTables => lines_of_tables(rt, alloc, graph, ASKED),
+        Call::TableAt => Ok(lines_of_excerpt(rt, alloc, graph, BEHIND)?),
     }
 }
 
@@ -303,6 +306,7 @@ fn name_of(call: Call) -> &'static str {
         Call::Answer(_) => "answer",
         Call::AnswerHere => "answer_here",
         Call::AnswersOfTables => "Answers::of_tables",
+        Call::TableAt => "table_at",
     }
 }
 
@@ -414,6 +418,24 @@ fn answers_by_two_are_refused(rt: HostRuntime) -> Result<(), Fail> {
 #[test]
 fn answers_here_are_refused(rt: HostRuntime) -> Result<(), Fail> {
     check_answers(&rt, Call::AnswerHere)
+}
+
+// The points of the second procedure of `recursion`.
+const BEHIND: Excerpt = Excerpt {
+    analysis: Analysis::Reach,
+    from: 4,
+    until: 8,
+    workers: 1,
+};
+
+#[test]
+fn tables_at_some_points_are_refused(rt: HostRuntime) -> Result<(), Fail> {
+    let want = RECURSIVE_REACH_BEHIND;
+    let twice = Twice {
+        call: Call::TableAt,
+        want,
+    };
+    check(&rt, recursion::TEXT, &twice, want, (0, 0))
 }
 
 #[test]

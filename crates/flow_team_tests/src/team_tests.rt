@@ -1,7 +1,6 @@
 // Teams: how many workers there may be, and what their gate is told.
 
-ghost use Rattle.std.specs.Prelude.{◌≡◌, IfOk};
-ghost use Rattle.flow_team.specs.Tables.{IsTableOf};
+ghost use Rattle.std.specs.Prelude.{◌≡◌};
 
 use crate::gates::{Crowd, Ledger, Recorder};
 use crate::table_tests::{Cutting, WORKERS, table_by};

@@ -1,6 +1,6 @@
 // Tables as text: a line for each point with the numbers of its bits.
 
-ghost use Rattle.std.specs.Prelude.{◌≡◌, IfOk};
+ghost use Rattle.std.specs.Prelude.{◌≡◌, length, IfOk};
 ghost use Rattle.std.specs.Thread.{IsSync};
 ghost use Rattle.flow_graph.specs.Universes.{bits as bits_of};
 ghost use Rattle.flow_team.specs.Tables.{IsTableOf};
@@ -110,8 +110,21 @@ pub fn check<R: Threads + Sync + Abort + AllocGlobal, Q: Question>(
 pub fn lines(alloc: Global, graph: &Graph<'_>, table: &Table) -> Result<String, OutOfMemory>
     requires { IsTableOf graph.now table.now }
 {
+    lines_before(alloc, graph, table, graph.points())
+}
+
+/// The lines of the points before one.
+pub fn lines_before(
+    alloc: Global,
+    graph: &Graph<'_>,
+    table: &Table,
+    until: u32,
+) -> Result<String, OutOfMemory>
+    requires points { length table.now.paths ≡ until }
+    requires bits { table.now.bits ≡ bits_of graph.now table.now.analysis }
+{
     let mut text = String::new(alloc);
-    for point in 0..graph.points() {
+    for point in 0..until {
         write!(text, "{point}")?;
         if !table.has_path(point) {
             text.push_str(" (no path)")?;

@@ -1,10 +1,3 @@
-pub mod Asking
-pub mod BitRuns
-pub mod Doubts
-pub mod KnownReports
-pub mod ListTexts
-pub mod RangeLines
-pub mod RemarkLines
-pub mod Rising
-pub mod SafeReports
-pub mod Told
+pub mod asks
+pub mod knowledge
+pub mod sets

@@ -1,6 +1,6 @@
 // What is found of a program before a text of it is written.
 
-ghost use Rattle.std.specs.Prelude.{◌≡◌, ℕ, ◌+◌, ◌*◌, ◌<◌, Some, length, slice_get, IfOk};
+ghost use Rattle.std.specs.Prelude.{◌≡◌, ℕ, ◌+◌, ◌*◌, ◌<◌, Some, slice_get, IfOk};
 ghost use Rattle.bit_rows.specs.Words.{has_bit};
 ghost use Rattle.flow_texts.specs.code.Findings.{AreFindings, TellDoubtful};
 ghost use Rattle.flow_texts.specs.code.Reported.{TellReport};

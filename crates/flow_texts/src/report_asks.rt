@@ -1,11 +1,10 @@
 // What a report asks of the four analyses.
 
-ghost use Rattle.std.specs.Prelude.{◌≡◌, ℕ, ◌+◌, ◌*◌, ◌/◌, ◌^◌, ◌<◌, ◌≤◌, [], ◌∷◌, ◌++◌, Some, length, IfOk};
+ghost use Rattle.std.specs.Prelude.{◌≡◌, ◌+◌, ◌*◌, ◌/◌, ◌^◌, ◌<◌, ◌≤◌, [], ◌∷◌, ◌++◌, Some, length, IfOk};
 ghost use Rattle.flow_graph.specs.Points.{kind_at, point_count};
-ghost use Rattle.tac_program.specs.Programs.{Program};
 ghost use Rattle.tac_program.specs.Sound.{IsSound};
 ghost use Rattle.tac_program.specs.declared.program.StmtKind.{StmtKind as KindValue};
-ghost use Rattle.flow_team.specs.Asks.{AreAsksOf, IsAskOf};
+ghost use Rattle.flow_team.specs.Asks.{AreAsksOf};
 ghost use Rattle.flow_texts.specs.code.Asking.{Asks, AsksAssigned, AsksBusy, AsksEvaluated, AsksReads};
 ghost use Rattle.flow_texts.specs.code.Reported.{AreAsked, AreAskedAt};
 

@@ -1,6 +1,2 @@
-pub mod Rows
-pub mod SameTexts
-pub mod Walks
-pub mod Statements
-pub mod Tables
-pub mod Known
+pub mod facts
+pub mod texts

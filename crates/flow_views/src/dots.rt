@@ -3,14 +3,15 @@
 ghost use Rattle.std.specs.Prelude.{◌≡◌, ◌++◌, ◌<◌, ◌≤◌, All, Some, flat_map, length, if◌then◌else◌, IfOk, IfSome, codes, decimal};
 ghost use Rattle.flow_graph.specs.Paths.{target_of};
 ghost use Rattle.flow_graph.specs.Points.{point_count, procedure_at, statement_at};
-ghost use Rattle.flow_team.specs.Tables.{IsTableOf, facts_of};
+ghost use Rattle.flow_team.specs.Tables.{facts_of};
 ghost use Rattle.text_pieces.specs.Pieces.{CanWrite, Writes};
 ghost use Rattle.flow_texts.specs.Reports.{dead_at, remark_text, unset_at};
 ghost use Rattle.flow_texts.specs.code.Reported.{TellReport};
 ghost use Rattle.flow_texts.specs.Tables.{line_at};
 ghost use Rattle.tac_program.specs.Listings.{statement_text};
-ghost use Rattle.flow_views.specs.ShownTables.{AreShownTables};
-ghost use Rattle.flow_views.specs.code.ShownProgram.{AreShown, IsSiteIn, is_chosen, known_of, numbers_of};
+ghost use Rattle.flow_views.specs.ShownTables.{AreShownTables, end_shown, first_shown};
+ghost use Rattle.flow_views.specs.code.ShownProgram.{AreShown, AreShownProcedures, IsShownPoint, IsShownProcedure, IsSiteIn, TellSame, is_chosen};
+ghost use Rattle.flow_views.specs.code.ShownProgram.{known_of, numbers_of};
 ghost use Rattle.flow_views.specs.declared.names.NameForm.TheVariants.{Escaped};
 ghost use Rattle.flow_views.specs.Dots.{IsDot, arrow, calls_at, cluster, dot_of, edge_line, edge_lines, fact_line, head, is_call, is_edge_shown};
 ghost use Rattle.flow_views.specs.Dots.{label_line, label_lines, marks, node, passed_call, path_marks, shown_edge, text_if_some, title};
@@ -159,9 +160,9 @@ impl ShownProgram<'_> {
         requires ready { CanWrite K.Sink out.old }
         requires shown { AreShown self.now }
         requires form { self.now.names.form ≡ Escaped }
-        requires table { IsTableOf self.now.found.graph.now table.now }
-        requires facts { facts_of table.now ≡ told_by (known_of self.now) analysis }
+        requires facts { TellSame (facts_of table.now) (told_by (known_of self.now) analysis) point }
         requires point { point < point_count self.now.found.graph.now }
+        requires there { point < length table.now.paths }
         ensures { Writes K.Sink out.old out.new (label_line (fact_line self.now.found.graph.now (known_of self.now) point analysis)) }
     {
         write_escaped(out, name_of(analysis));
@@ -177,6 +178,7 @@ impl ShownProgram<'_> {
         requires shown { AreShown self.now }
         requires form { self.now.names.form ≡ Escaped }
         requires point { point < point_count self.now.found.graph.now }
+        requires shows { IsShownPoint self.now point }
         ensures { Writes K.Sink out.old out.new
             (flat_map (λ a. label_line (fact_line self.now.found.graph.now (known_of self.now) point a))
             (analysis_if (is_chosen self.now.view.facts analysis) analysis)) }
@@ -193,6 +195,7 @@ impl ShownProgram<'_> {
         requires shown { AreShown self.now }
         requires form { self.now.names.form ≡ Escaped }
         requires point { point < point_count self.now.found.graph.now }
+        requires shows { IsShownPoint self.now point }
         ensures { Writes K.Sink out.old out.new
             (flat_map (λ a. label_line (fact_line self.now.found.graph.now (known_of self.now) point a)) (chosen_analyses self.now.view.facts)) }
     {
@@ -208,6 +211,7 @@ impl ShownProgram<'_> {
         requires shown { AreShown self.now }
         requires form { self.now.names.form ≡ Escaped }
         requires point { point < point_count self.now.found.graph.now }
+        requires shows { IsShownPoint self.now point }
         ensures { Writes K.Sink out.old out.new
             (flat_map label_line (label_lines self.now.found.graph.now (known_of self.now) self.now.view.facts point)) }
     {
@@ -276,6 +280,7 @@ impl ShownProgram<'_> {
         requires shown { AreShown self.now }
         requires form { self.now.names.form ≡ Escaped }
         requires point { point < point_count self.now.found.graph.now }
+        requires shows { IsShownPoint self.now point }
         ensures { Writes K.Sink out.old out.new (node self.now.found.graph.now (known_of self.now) self.now.view.facts point) }
     {
         if out.has_failed() {
@@ -297,6 +302,8 @@ impl ShownProgram<'_> {
         requires form { self.now.names.form ≡ Escaped }
         requires ordered { points.first ≤ points.end }
         requires points { points.end ≤ point_count self.now.found.graph.now }
+        requires from { first_shown self.now.found.graph.now self.now.view.procedure ≤ points.first }
+        requires until { points.end ≤ end_shown self.now.found.graph.now self.now.view.procedure }
         ensures { Writes K.Sink out.old out.new
             (flat_map (node self.now.found.graph.now (known_of self.now) self.now.view.facts) (numbers_of points)) }
     {
@@ -311,6 +318,7 @@ impl ShownProgram<'_> {
         requires shown { AreShown self.now }
         requires form { self.now.names.form ≡ Escaped }
         requires procedure { procedure < length self.now.found.graph.now.procedures }
+        requires shows { IsShownProcedure self.now.view.procedure procedure }
         ensures { Writes K.Sink out.old out.new (cluster self.now.found.graph.now (known_of self.now) self.now.view.facts procedure) }
     {
         out.write(b"  subgraph \"cluster_");
@@ -330,6 +338,7 @@ impl ShownProgram<'_> {
         requires form { self.now.names.form ≡ Escaped }
         requires ordered { procedures.first ≤ procedures.end }
         requires procedures { procedures.end ≤ length self.now.found.graph.now.procedures }
+        requires shows { AreShownProcedures self.now.view.procedure procedures }
         ensures { Writes K.Sink out.old out.new
             (flat_map (cluster self.now.found.graph.now (known_of self.now) self.now.view.facts) (numbers_of procedures)) }
     {
@@ -542,7 +551,7 @@ impl<'a> DotText<'a> {
         answers: &'a ReportAnswers,
         view: View,
     ) -> Result<DotText<'a>, OutOfMemory>
-        requires tables { AreShownTables graph.now view.facts tables.now }
+        requires tables { AreShownTables graph.now view tables.now }
         requires answers { TellReport graph.now answers.now }
         requires procedure { IfSome view.procedure (λ procedure. procedure < length graph.now.procedure_names) }
         ensures { IfOk result (IsDot graph.now view) }

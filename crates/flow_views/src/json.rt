@@ -1,6 +1,6 @@
 // The text of lines of JSON.
 
-ghost use Rattle.flow_team.specs.Tables.{IsTableOf, facts_of};
+ghost use Rattle.flow_team.specs.Tables.{facts_of};
 ghost use Rattle.std.specs.Prelude.{◌≡◌, ◌+◌, ◌++◌, ◌<◌, ◌≤◌, Some, codes, decimal, filter, flat_map, length, map, IfOk, IfSome};
 ghost use Rattle.std.specs.List.{range_with_len};
 ghost use Rattle.flow_graph.specs.Points.{place_of, point_count, procedure_at, statement_at};
@@ -9,8 +9,8 @@ ghost use Rattle.text_pieces.specs.code.Lists.{text_at};
 ghost use Rattle.text_pieces.specs.Pieces.{CanWrite, Writes};
 ghost use Rattle.flow_texts.specs.code.Reported.{TellReport};
 ghost use Rattle.tac_program.specs.Listings.{statement_text};
-ghost use Rattle.flow_views.specs.ShownTables.{AreShownTables};
-ghost use Rattle.flow_views.specs.code.ShownProgram.{AreShown, is_chosen, known_of, numbers_of};
+ghost use Rattle.flow_views.specs.ShownTables.{AreShownTables, end_shown, first_shown};
+ghost use Rattle.flow_views.specs.code.ShownProgram.{AreShown, AreShownProcedures, IsShownPoint, TellSame, is_chosen, known_of, numbers_of};
 ghost use Rattle.flow_views.specs.declared.names.NameForm.TheVariants.{Quoted};
 ghost use Rattle.flow_views.specs.Json.{IsJson, array, boolean, edge_object, facts_field, json_of, point_line, program_line, remark_fields};
 ghost use Rattle.flow_views.specs.Json.{remark_lines, remark_object, span_fields, statement_field};
@@ -280,9 +280,9 @@ impl ShownProgram<'_> {
         requires ready { CanWrite K.Sink out.old }
         requires shown { AreShown self.now }
         requires form { self.now.names.form ≡ Quoted }
-        requires table { IsTableOf self.now.found.graph.now table.now }
-        requires facts { facts_of table.now ≡ told_by (known_of self.now) analysis }
+        requires facts { TellSame (facts_of table.now) (told_by (known_of self.now) analysis) point }
         requires point { point < point_count self.now.found.graph.now }
+        requires there { point < length table.now.paths }
         ensures { Writes K.Sink out.old out.new (facts_field self.now.found.graph.now (known_of self.now) point analysis) }
     {
         let bits = self.found.graph.bits(analysis);
@@ -303,6 +303,7 @@ impl ShownProgram<'_> {
         requires shown { AreShown self.now }
         requires form { self.now.names.form ≡ Quoted }
         requires point { point < point_count self.now.found.graph.now }
+        requires shows { IsShownPoint self.now point }
         ensures { Writes K.Sink out.old out.new
             (flat_map (facts_field self.now.found.graph.now (known_of self.now) point)
             (analysis_if (is_chosen self.now.view.facts analysis) analysis)) }
@@ -319,6 +320,7 @@ impl ShownProgram<'_> {
         requires shown { AreShown self.now }
         requires form { self.now.names.form ≡ Quoted }
         requires point { point < point_count self.now.found.graph.now }
+        requires shows { IsShownPoint self.now point }
         ensures { Writes K.Sink out.old out.new
             (flat_map (facts_field self.now.found.graph.now (known_of self.now) point) (chosen_analyses self.now.view.facts)) }
     {
@@ -353,6 +355,7 @@ impl ShownProgram<'_> {
         requires shown { AreShown self.now }
         requires form { self.now.names.form ≡ Quoted }
         requires point { point < point_count self.now.found.graph.now }
+        requires shows { IsShownPoint self.now point }
         ensures { Writes K.Sink out.old out.new (point_line self.now.found.graph.now (known_of self.now) self.now.view.facts point) }
     {
         if out.has_failed() {
@@ -375,6 +378,8 @@ impl ShownProgram<'_> {
         requires form { self.now.names.form ≡ Quoted }
         requires ordered { points.first ≤ points.end }
         requires points { points.end ≤ point_count self.now.found.graph.now }
+        requires from { first_shown self.now.found.graph.now self.now.view.procedure ≤ points.first }
+        requires until { points.end ≤ end_shown self.now.found.graph.now self.now.view.procedure }
         ensures { Writes K.Sink out.old out.new
             (flat_map (point_line self.now.found.graph.now (known_of self.now) self.now.view.facts) (numbers_of points)) }
     {
@@ -390,6 +395,7 @@ impl ShownProgram<'_> {
         requires form { self.now.names.form ≡ Quoted }
         requires ordered { procedures.first ≤ procedures.end }
         requires procedures { procedures.end ≤ length self.now.found.graph.now.procedures }
+        requires shows { AreShownProcedures self.now.view.procedure procedures }
         ensures { Writes K.Sink out.old out.new
             (flat_map (point_line self.now.found.graph.now (known_of self.now) self.now.view.facts)
             (flat_map (points_in self.now.found.graph.now) (numbers_of procedures))) }
@@ -490,7 +496,7 @@ impl<'a> JsonText<'a> {
         answers: &'a ReportAnswers,
         view: View,
     ) -> Result<JsonText<'a>, OutOfMemory>
-        requires tables { AreShownTables graph.now view.facts tables.now }
+        requires tables { AreShownTables graph.now view tables.now }
         requires answers { TellReport graph.now answers.now }
         requires procedure { IfSome view.procedure (λ procedure. procedure < length graph.now.procedure_names) }
         ensures { IfOk result (IsJson graph.now view) }

@@ -1,17 +1,17 @@
 // What both texts are made of.
 
-ghost use Rattle.std.specs.Prelude.{◌≡◌, ◌+◌, ◌<◌, ◌≤◌, suc, None, Some, false, true, flat_map, length, map, IfOk, IfSome};
+ghost use Rattle.std.specs.Prelude.{◌≡◌, ℕ, ◌+◌, ◌<◌, ◌≤◌, suc, None, Some, false, true, flat_map, length, map, IfOk, IfSome};
 ghost use Rattle.flow_graph.specs.Edges.{edges_from};
 ghost use Rattle.flow_graph.specs.Points.{end_place, entry_point, kind_at, point_count, points, procedure_at, statement_at};
-ghost use Rattle.flow_team.specs.Tables.{IsTableOf, facts_of};
+ghost use Rattle.flow_team.specs.Tables.{facts_of};
 ghost use Rattle.text_pieces.specs.Pieces.{CanWrite, Writes};
-ghost use Rattle.flow_views.specs.ShownTables.{AreShownTables};
+ghost use Rattle.flow_views.specs.ShownTables.{AreShownTables, end_shown};
 ghost use Rattle.flow_texts.specs.Reports.{dead_at, remarks_at, unset_at};
 ghost use Rattle.flow_texts.specs.code.Reported.{TellReport};
 ghost use Rattle.text_pieces.specs.code.Lists.{some_stand};
 ghost use Rattle.tac_program.specs.Listings.{statement_text};
 ghost use Rattle.flow_views.specs.code.Names.{AreNamesOf};
-ghost use Rattle.flow_views.specs.code.ShownProgram.{AreShown, contents, is_chosen, known_of, numbers_of};
+ghost use Rattle.flow_views.specs.code.ShownProgram.{AreShown, AreShownProcedures, IsShownPoint, TellSame, contents, is_chosen, known_of, numbers_of};
 ghost use Rattle.text_pieces.specs.Strings.{escaped};
 ghost use Rattle.flow_views.specs.Views.{analysis_name, names_at, points_in, procedure_name as name_of_procedure, shown_procedures, told_by};
 
@@ -48,6 +48,27 @@ pub(crate) struct ShownProgram<'a> {
     pub(crate) successors: Vec<SmallVec<Edge, 2, Global>>,
     /// What is shown.
     pub(crate) view: View,
+}
+
+/// The points of a procedure.
+pub(crate) fn points_of(graph: &Graph<'_>, procedure: u32) -> Numbers
+    requires { procedure < length graph.now.procedures }
+    ensures numbers { numbers_of result ≡ points_in graph.now procedure }
+    ensures first { result.first ≡ entry_point graph.now procedure }
+    ensures end { result.end ≡ entry_point graph.now procedure + suc (end_place graph.now procedure) }
+    ensures ordered { result.first ≤ result.end }
+    ensures there { result.end ≤ point_count graph.now }
+{
+    // Its contract tells that there are few points.
+    let _ = graph.points();
+    let procs = graph.program().procs();
+    let places = procs[procedure as usize].stmts().len() as u32;
+    let first = graph.point(procedure, 0);
+    let last = graph.point(procedure, places);
+    Numbers {
+        first,
+        end: last + 1,
+    }
 }
 
 // The edges out of each point.
@@ -89,7 +110,7 @@ impl<'a> ShownProgram<'a> {
         view: View,
         form: NameForm,
     ) -> Result<ShownProgram<'a>, OutOfMemory>
-        requires tables { AreShownTables graph.now view.facts tables.now }
+        requires tables { AreShownTables graph.now view tables.now }
         requires answers { TellReport graph.now answers.now }
         requires procedure { IfSome view.procedure (λ procedure. procedure < length graph.now.procedure_names) }
         ensures program { IfOk result (λ shown. shown.found.graph.now ≡ graph.now) }
@@ -129,9 +150,10 @@ impl ShownProgram<'_> {
         requires { AreShown self.now }
         ensures none { result ≡ None → is_chosen self.now.view.facts analysis ≡ false }
         ensures some { IfSome result (λ table. is_chosen self.now.view.facts analysis ≡ true) }
-        ensures table { IfSome result (λ table. IsTableOf self.now.found.graph.now table.now) }
-        ensures analysis { IfSome result (λ table. table.now.analysis ≡ analysis) }
-        ensures facts { IfSome result (λ table. facts_of table.now ≡ told_by (known_of self.now) analysis) }
+        ensures points { IfSome result
+            (λ table. length table.now.paths ≡ end_shown self.now.found.graph.now self.now.view.procedure) }
+        ensures facts { IfSome result (λ table. (point : ℕ) → IsShownPoint self.now point
+            → TellSame (facts_of table.now) (told_by (known_of self.now) analysis) point) }
     {
         self.tables.table(analysis)
     }
@@ -187,6 +209,7 @@ impl ShownProgram<'_> {
         ensures numbers { numbers_of result ≡ shown_procedures self.now.found.graph.now self.now.view }
         ensures ordered { result.first ≤ result.end }
         ensures there { result.end ≤ length self.now.found.graph.now.procedures }
+        ensures shown { AreShownProcedures self.now.view.procedure result }
     {
         let procs = self.found.graph.program().procs();
         match self.view.procedure {
@@ -210,15 +233,7 @@ impl ShownProgram<'_> {
         ensures end { result.end ≡ entry_point self.now.found.graph.now procedure + suc (end_place self.now.found.graph.now procedure) }
         ensures there { result.end ≤ point_count self.now.found.graph.now }
     {
-        let graph = self.found.graph;
-        let procs = graph.program().procs();
-        let places = procs[procedure as usize].stmts().len() as u32;
-        let first = graph.point(procedure, 0);
-        let last = graph.point(procedure, places);
-        Numbers {
-            first,
-            end: last + 1,
-        }
+        points_of(self.found.graph, procedure)
     }
 
     /// The name of a procedure.

@@ -1,19 +1,20 @@
 // The tables of what is shown.
 
-ghost use Rattle.std.specs.Prelude.{◌≡◌, None, Some, IfOk, MatchOption};
+ghost use Rattle.std.specs.Prelude.{◌≡◌, ◌<◌, ◌≤◌, None, Some, length, IfOk, IfSome, MatchOption};
+ghost use Rattle.flow_graph.specs.Points.{point_count};
 ghost use Rattle.flow_team.specs.Ranges.{AreInRange};
-ghost use Rattle.flow_views.specs.ShownTables.{AreShownTables, IsShownTable};
+ghost use Rattle.flow_views.specs.ShownTables.{AreShownTables, IsShownTable, end_shown, first_shown};
 ghost use Rattle.flow_views.specs.code.ShownProgram.{is_chosen, shown_table};
 
 use crate::OutOfMemory;
-use crate::view::Chosen;
+use crate::shown::{Numbers, points_of};
+use crate::view::{Chosen, View};
 use flow_graph::{Analysis, Graph};
-use flow_team::{Gate, Table};
-use flow_texts::table_of;
+use flow_team::{Gate, Table, table_at};
 use std::alloc::Global;
 use std::thread::Threads;
 
-/// The tables of the analyses whose facts are shown; of the others none is made.
+/// The tables of the analyses whose facts are shown, at the points that are shown; of the others none is made.
 pub struct ShownTables {
     /// Reaching definitions.
     pub reach: Option<Table>,
@@ -48,47 +49,114 @@ fn is_chosen(facts: Chosen, analysis: Analysis) -> bool
     }
 }
 
-// The table of an analysis, where its facts are chosen.
+// The points that are shown: of one procedure, or of all.
+fn shown_points(graph: &Graph<'_>, procedure: Option<u32>) -> Numbers
+    requires { IfSome procedure (λ number. number < length graph.now.procedures) }
+    ensures first { result.first ≡ first_shown graph.now procedure }
+    ensures end { result.end ≡ end_shown graph.now procedure }
+    ensures ordered { result.first ≤ result.end }
+    ensures there { result.end ≤ point_count graph.now }
+{
+    match procedure {
+        Some(number) => points_of(graph, number),
+        None => Numbers {
+            first: 0,
+            end: graph.points(),
+        },
+    }
+}
+
+// The table of an analysis at some points, where its facts are chosen.
 fn table_if<R: Threads + Sync, G: Gate>(
     rt: &R,
     alloc: Global,
     graph: &Graph<'_>,
     facts: Chosen,
+    points: Numbers,
     analysis: Analysis,
     workers: u32,
     cut: u32,
     gate: &G,
 ) -> Result<Option<Table>, OutOfMemory>
-    requires { AreInRange workers cut }
-    ensures { IfOk result (IsShownTable graph.now analysis (is_chosen facts analysis)) }
+    requires ordered { points.first ≤ points.end }
+    requires there { points.end ≤ point_count graph.now }
+    requires range { AreInRange workers cut }
+    ensures { IfOk result (IsShownTable graph.now analysis points.first points.end (is_chosen facts analysis)) }
 {
     if !is_chosen(facts, analysis) {
         return Ok(None);
     }
-    let table = table_of(rt, alloc, graph, analysis, workers, cut, gate)?;
+    let (from, until) = (points.first, points.end);
+    let table = table_at(rt, alloc, graph, analysis, from, until, workers, cut, gate)?;
     Ok(Some(table))
 }
 
 impl ShownTables {
-    /// The tables of the analyses of these facts of a graph, by so many workers, in slices of so many bits, which the gate is told of.
+    /// The tables of what is shown of a graph, by so many workers, in slices of so many bits, which the gate is told of. They take memory
+    /// for the words of the points that are shown alone.
     ///
-    /// The condition: 1 to 64 workers, and 1 to 4,096 bits. Fails only where memory runs out.
+    /// The conditions: 1 to 64 workers, 1 to 4,096 bits, and the procedure that is shown is there. Fails only where memory runs out.
     pub fn of<R: Threads + Sync, G: Gate>(
         rt: &R,
         alloc: Global,
         graph: &Graph<'_>,
-        facts: Chosen,
+        view: View,
         workers: u32,
         cut: u32,
         gate: &G,
     ) -> Result<ShownTables, OutOfMemory>
-        requires { AreInRange workers cut }
-        ensures { IfOk result (AreShownTables graph.now facts) }
+        requires range { AreInRange workers cut }
+        requires procedure { IfSome view.procedure (λ procedure. procedure < length graph.now.procedure_names) }
+        ensures { IfOk result (AreShownTables graph.now view) }
     {
-        let reach = table_if(rt, alloc, graph, facts, Analysis::Reach, workers, cut, gate)?;
-        let live = table_if(rt, alloc, graph, facts, Analysis::Live, workers, cut, gate)?;
-        let avail = table_if(rt, alloc, graph, facts, Analysis::Avail, workers, cut, gate)?;
-        let busy = table_if(rt, alloc, graph, facts, Analysis::Busy, workers, cut, gate)?;
+        // Its contract tells that each procedure has a name.
+        let _ = graph.points();
+        let facts = view.facts;
+        let points = shown_points(graph, view.procedure);
+        let reach = table_if(
+            rt,
+            alloc,
+            graph,
+            facts,
+            points,
+            Analysis::Reach,
+            workers,
+            cut,
+            gate,
+        )?;
+        let live = table_if(
+            rt,
+            alloc,
+            graph,
+            facts,
+            points,
+            Analysis::Live,
+            workers,
+            cut,
+            gate,
+        )?;
+        let avail = table_if(
+            rt,
+            alloc,
+            graph,
+            facts,
+            points,
+            Analysis::Avail,
+            workers,
+            cut,
+            gate,
+        )?;
+        let busy = table_if(
+            rt,
+            alloc,
+            graph,
+            facts,
+            points,
+            Analysis::Busy,
+            workers,
+            cut,
+            gate,
+        )?;
         Ok(ShownTables {
             reach,
             live,

@@ -34,7 +34,7 @@ fn write_view(
     view: View,
     page: &mut Page,
 ) -> Result<bool, Fail>
-    requires tables { AreShownTables graph.now view.facts tables.now }
+    requires tables { AreShownTables graph.now view tables.now }
     requires answers { TellReport graph.now answers.now }
     requires procedure { IfSome view.procedure (λ procedure. procedure < length graph.now.procedure_names) }
 {
@@ -59,20 +59,17 @@ fn write_graph<R: Threads + Sync>(
     procedure: u32,
     page: &mut Page,
 ) -> Result<bool, Fail> {
-    let tables = ShownTables::of(rt, alloc, graph, facts, 1, 64, &OpenGate)?;
     let answers = ReportAnswers::of(rt, alloc, graph, 1, 64, &OpenGate)?;
     let count = graph.program().procs().len();
-    if procedure as usize >= count {
-        let view = View {
-            facts,
-            procedure: None,
-        };
-        return write_view(alloc, graph, &tables, &answers, format, view, page);
-    }
     let view = View {
         facts,
-        procedure: Some(procedure),
+        procedure: if (procedure as usize) < count {
+            Some(procedure)
+        } else {
+            None
+        },
     };
+    let tables = ShownTables::of(rt, alloc, graph, view, 1, 64, &OpenGate)?;
     write_view(alloc, graph, &tables, &answers, format, view, page)
 }
 

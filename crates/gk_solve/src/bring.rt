@@ -1,10 +1,9 @@
 // What is brought to procedures, for a group of words, by visits of the procedures that are changed.
-ghost use Rattle.std.specs.Prelude.{◌≡◌, ◌<◌, ◌||◌, ◌&&◌, ◌↔◌, ◌⊎◌, ℕ, false, true, length, slice_index};
+ghost use Rattle.std.specs.Prelude.{◌≡◌, ◌<◌, ◌||◌, ◌&&◌, ◌↔◌, ◌⊎◌, ℕ, true, length, slice_index};
 ghost use Rattle.bit_rows.specs.Words.{has_bit};
 ghost use Rattle.flow_graph.specs.declared.edge.Edge.{Edge};
 ghost use Rattle.flow_graph.specs.Paths.{IsEdge};
 ghost use Rattle.flow_graph.specs.Points.{point_count};
-ghost use Rattle.summary_equations.specs.Equations.{IsInSolution};
 ghost use Rattle.flow_links.specs.Shapes.{directed_shape};
 ghost use Rattle.flow_links.specs.LinkLists.{IsSiteLink};
 ghost use Rattle.work_list.specs.Marks.{IsMarked};

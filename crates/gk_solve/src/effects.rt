@@ -1,10 +1,9 @@
 // What statements do with the bits of words.
-ghost use Rattle.std.specs.Prelude.{◌≡◌, ◌+◌, ◌*◌, ◌<◌, ◌/◌, ◌%◌, ◌&&◌, ◌||◌, not, ℕ, false, true, IfOk, length, slice_index, if◌then◌else◌};
+ghost use Rattle.std.specs.Prelude.{◌≡◌, ◌+◌, ◌*◌, ◌<◌, ◌/◌, ◌%◌, ◌&&◌, ◌||◌, not, ℕ, false, true, IfOk, slice_index, if◌then◌else◌};
 ghost use Rattle.bit_rows.specs.Words.{has_bit};
-ghost use Rattle.flow_graph.specs.Paths.{Shape};
 ghost use Rattle.flow_graph.specs.Points.{point_count};
-ghost use Rattle.gk_solve.specs.Tables.Groups.{AreEffectWords, IsGroupFrame, IsIdle, IsKeptAcross, IsMadeAcross, group_of};
-ghost use Rattle.gk_solve.specs.Tables.Words.{place_gens, place_kills, step_statement};
+ghost use Rattle.gk_solve.specs.Tables.Groups.{AreEffectWords, IsGroupFrame, IsIdle};
+ghost use Rattle.gk_solve.specs.Tables.Words.{place_gens, place_kills};
 
 use crate::OutOfMemory;
 use crate::group_frame::GroupFrame;

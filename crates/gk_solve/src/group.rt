@@ -6,7 +6,6 @@ ghost use Rattle.flow_graph.specs.declared.edge.Edge.TheVariants.{Step, Call};
 ghost use Rattle.flow_graph.specs.Directions.{goes_backward};
 ghost use Rattle.flow_graph.specs.Paths.{IsEdge};
 ghost use Rattle.flow_graph.specs.Points.{point_count};
-ghost use Rattle.summary_equations.specs.Equations.{HasFlag};
 ghost use Rattle.flow_links.specs.Shapes.{directed_shape};
 ghost use Rattle.flow_links.specs.LinkLists.{IsCallLink};
 ghost use Rattle.gk_solve.specs.Tables.Flags.{IsFlagged};

@@ -6,7 +6,7 @@ ghost use Rattle.flow_graph.specs.Points.{point_count};
 ghost use Rattle.summary_equations.specs.Equations.{Reached};
 ghost use Rattle.flow_links.specs.Shapes.{directed_shape};
 ghost use Rattle.flow_links.specs.LinkLists.{IsCallLink};
-ghost use Rattle.work_list.specs.Marks.{IsMarked, AreClear};
+ghost use Rattle.work_list.specs.Marks.{AreClear};
 ghost use Rattle.gk_solve.specs.Tables.Flags.{IsFlagged, AreSound, AreExactly, IsCallSettled, IsReachClosedAt, ReachSpreads};
 ghost use Rattle.gk_solve.specs.Tables.Visits.{IsSettled};
 

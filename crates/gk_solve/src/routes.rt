@@ -2,7 +2,7 @@
 ghost use Rattle.std.specs.Prelude.{◌≡◌, ◌<◌, ◌↔◌, true, IfOk, length};
 ghost use Rattle.flow_graph.specs.Analyses.{is_backward};
 ghost use Rattle.flow_graph.specs.Points.{point_count};
-ghost use Rattle.flow_links.specs.Shapes.{IsNumbered, directed_shape};
+ghost use Rattle.flow_links.specs.Shapes.{directed_shape};
 ghost use Rattle.summary_equations.specs.Equations.{Entered, Reached, HasFlag};
 ghost use Rattle.gk_solve.specs.Tables.Flags.{AreExactly, ArePathFlags};
 

@@ -2,10 +2,9 @@
 ghost use Rattle.std.specs.Prelude.{◌≡◌, ◌+◌, ◌-◌, ◌*◌, ◌/◌, ◌%◌, ◌^◌, ◌<◌, ◌≤◌, ◌↔◌, ℕ, true, IfOk, length, slice_index};
 ghost use Rattle.bit_rows.specs.Words.{has_bit};
 ghost use Rattle.flow_graph.specs.Points.{point_count};
-ghost use Rattle.flow_graph.specs.Problems.{MayForm};
 ghost use Rattle.flow_graph.specs.Universes.{bits as bits_of};
 ghost use Rattle.flow_graph.specs.code.Effects.{IsDependence};
-ghost use Rattle.flow_links.specs.Shapes.{LinkedProgram, directed_shape};
+ghost use Rattle.flow_links.specs.Shapes.{directed_shape};
 ghost use Rattle.gk_solve.specs.Solved.{AreSolved, IsSliceOf, direction_of, word_at};
 ghost use Rattle.gk_solve.specs.Tables.Groups.{AreEffectWords, IsGroupFrame};
 ghost use Rattle.gk_solve.specs.Tables.Widths.{width_of};

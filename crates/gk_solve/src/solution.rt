@@ -1,10 +1,10 @@
 // The solution's words at each point, of a group.
-ghost use Rattle.std.specs.Prelude.{◌≡◌, ◌+◌, ◌*◌, ◌<◌, ◌≤◌, ◌↔◌, ℕ, true, length, nat_lt, slice_index};
+ghost use Rattle.std.specs.Prelude.{◌≡◌, ◌+◌, ◌*◌, ◌<◌, ◌≤◌, ◌↔◌, ℕ, true, length, nat_lt};
 ghost use Rattle.bit_rows.specs.Words.{has_bit};
 ghost use Rattle.flow_graph.specs.Points.{point_count};
 ghost use Rattle.flow_links.specs.Shapes.{directed_shape};
-ghost use Rattle.gk_solve.specs.Tables.Brought.{AreExactBrought, brought_word};
-ghost use Rattle.gk_solve.specs.Tables.Groups.{AreCompleteSummaries, AreSoundSummaries, IsGroupFrame, group_of, kept_word, made_word, summary_at};
+ghost use Rattle.gk_solve.specs.Tables.Brought.{AreExactBrought};
+ghost use Rattle.gk_solve.specs.Tables.Groups.{AreCompleteSummaries, AreSoundSummaries, IsGroupFrame, group_of};
 ghost use Rattle.gk_solve.specs.Tables.Solutions.{AreInSlice, AreSliceSolutions, IsSolutionAt};
 
 use crate::bring::brought;

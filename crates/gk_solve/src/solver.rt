@@ -1,13 +1,7 @@
 // The solver: a problem, and what is found of it once.
-ghost use Rattle.std.specs.Prelude.{◌≡◌, ◌+◌, ◌*◌, ◌/◌, ◌<◌, ◌≤◌, ◌↔◌, ◌⊎◌, true, IfOk, length};
-ghost use Rattle.bit_rows.specs.RowTable.{RowTable};
-ghost use Rattle.flow_graph.specs.Problems.{may_shape, MayForm};
-ghost use Rattle.flow_graph.specs.Paths.{HasPath};
-ghost use Rattle.flow_graph.specs.WellFormed.{IsWellFormed};
-ghost use Rattle.flow_graph.specs.Points.{point_count};
+ghost use Rattle.std.specs.Prelude.{◌≡◌, ◌+◌, ◌*◌, ◌/◌, ◌<◌, ◌≤◌, ◌↔◌, ◌⊎◌, true, IfOk};
+ghost use Rattle.flow_graph.specs.Problems.{MayForm};
 ghost use Rattle.flow_graph.specs.Universes.{bits as bits_of};
-ghost use Rattle.flow_links.specs.Shapes.{directed_shape};
-ghost use Rattle.summary_equations.specs.Equations.{HasFlag};
 ghost use Rattle.gk_solve.specs.Solved.{AreMeetWords, AreSolved, HasPathFlags, IsLeastSolution, IsMeetOverPaths, IsSliceOf, direction_of};
 ghost use Rattle.gk_solve.specs.Tables.Groups.{AreEffectWords};
 ghost use Rattle.gk_solve.specs.Tables.Rows.{TellsBelow};

@@ -1,8 +1,3 @@
-pub mod Sums
-mod Keeps
-mod Passing
-pub mod Calls
-mod Counting
-mod Putting
-pub mod Worded
-mod Endings
+mod passes
+mod rows
+pub mod words

@@ -1,1 +1,1 @@
-mod Benching
+mod sets

@@ -4,7 +4,7 @@ ghost use Rattle.std.specs.Prelude.{◌≡◌, ℕ, ◌+◌, ◌*◌, ◌/◌, �
 ghost use Rattle.bit_rows.specs.RowSet.{contains};
 ghost use Rattle.bit_rows.specs.RowTable.{set_at};
 ghost use Rattle.bit_rows.specs.Words.{has_bit};
-ghost use Rattle.slice_board.specs.Boards.{IsOf, IsPlace, fresh_pass};
+ghost use Rattle.slice_board.specs.Boards.{IsOf, fresh_pass};
 ghost use Rattle.slice_board_tests.specs.Benches.{IsFor, AreNoted, Covers};
 
 use bit_rows::{Cut, Row, Rows};

@@ -1,5 +1,5 @@
-ghost use Rattle.std.specs.Prelude.{◌≡◌, ℕ, ◌^◌, ◌<◌, IfOk, IfSome, All};
-ghost use Rattle.slice_board.specs.Boards.{IsOf, fresh_pass};
+ghost use Rattle.std.specs.Prelude.{◌≡◌, ◌^◌, ◌<◌, IfOk, IfSome, All};
+ghost use Rattle.slice_board.specs.Boards.{IsOf};
 
 use bit_rows::{Cut, CutFault, Rows};
 use slice_board::{Board, OutOfMemory, Pass, PostedWords, Wanted, WordBoard};

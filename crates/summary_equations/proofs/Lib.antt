@@ -1,10 +1,3 @@
-pub mod Backward
-pub mod Complete
-pub mod Decided
-pub mod Entries
-pub mod ExampleLemmas
-pub mod Least
-pub mod Meet
-pub mod ProgramTables
-pub mod SolutionTests
-pub mod Sound
+pub mod paths
+pub mod solutions
+pub mod tables

@@ -1,8 +1,8 @@
 // The forms of lines: what stands in each place of them.
 
-ghost use Rattle.std.specs.Prelude.{◌≡◌, ℕ, List, [], ◌∷◌, map, option_map, slice_get, length};
+ghost use Rattle.std.specs.Prelude.{◌≡◌, ℕ, List, [], ◌∷◌, option_map, slice_get, length};
 ghost use Rattle.tac_lines.specs.Forms.{fills, first_wrong, has_form, comparison, unary, statement_forms};
-ghost use Rattle.tac_lines.specs.code.Views.{GoesAsFar, token_view, tokens_view, word_at, slot_view, slots_view, form_slots, fills_at, of_key};
+ghost use Rattle.tac_lines.specs.code.Views.{GoesAsFar, tokens_view, word_at, slot_view, slots_view, form_slots, fills_at, of_key};
 ghost use Rattle.tac_lines.specs.code.Views.{wrong_of, is_whole};
 
 use crate::token::{Keyword, Token, TokenKind};

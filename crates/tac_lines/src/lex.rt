@@ -1,7 +1,7 @@
 // The lines of a text by their tokens, or its first fault of a line.
 
-ghost use Rattle.std.specs.Prelude.{◌≡◌, ◌+◌, ◌<◌, ◌≤◌, ◌++◌, ℕ, List, Option, [], ◌∷◌, false, true, Some, None, length, drop, slice_range, IfOk};
-ghost use Rattle.std.specs.Prelude.{IfErr, OnOk, vec_len, map, IsTrue};
+ghost use Rattle.std.specs.Prelude.{◌≡◌, ◌+◌, ◌<◌, ◌≤◌, ◌++◌, ℕ, List, Option, [], ◌∷◌, false, Some, None, length, drop, slice_range, IfOk};
+ghost use Rattle.std.specs.Prelude.{IfErr, OnOk};
 ghost use Rattle.tac_lines.specs.LineFaults.{first_by_place, line_faults, inside_after as inside_behind};
 ghost use Rattle.tac_program.specs.Limits.{longest_text};
 ghost use Rattle.tac_program.specs.declared.limits.Limits.TheVariants.{Large};

@@ -1,7 +1,7 @@
 // Names by number: a table in which each name stands once, in the order in which they came.
 
-ghost use Rattle.std.specs.Prelude.{◌≡◌, ◌≢◌, ◌+◌, ◌<◌, ◌≤◌, ◌^◌, ◌↔◌, [], length, slice_get, Some, None, OnOk, OnErr, IfOk, IfSome, IfNone, not};
-ghost use Rattle.std.specs.Prelude.{position, bytes_eq, option_map};
+ghost use Rattle.std.specs.Prelude.{◌≡◌, ◌≢◌, ◌+◌, ◌<◌, ◌≤◌, ◌^◌, ◌↔◌, [], length, slice_get, Some, None, OnOk, IfOk, IfSome, not};
+ghost use Rattle.std.specs.Prelude.{position, bytes_eq};
 ghost use Rattle.tac_program.specs.Names.{is_one_of, noted};
 ghost use Rattle.tac_program.specs.Listings.{name_at};
 

@@ -1,13 +1,11 @@
 // Statements by number: what a statement's tokens say, over tables of names.
 
-ghost use Rattle.std.specs.Prelude.{◌≡◌, ◌+◌, ◌*◌, ◌<◌, ◌≤◌, ◌^◌, ℕ, List, length, map, slice_get, slice_range, Some, IfOk, IfSome, take, count_by};
+ghost use Rattle.std.specs.Prelude.{◌≡◌, ◌+◌, ◌*◌, ◌<◌, ◌≤◌, ◌^◌, ℕ, List, map, Some, IfOk};
 ghost use Rattle.tac_reader.specs.code.Built.{names_view, word_nth, call_numbers};
 ghost use Rattle.tac_program.specs.Programs.{number_of};
-ghost use Rattle.tac_reader.specs.Parses.{operand_of, operator_of, kind_of, form_of as form_in, statement_of, start_of};
-ghost use Rattle.tac_lines.specs.Tokens.{stop_of as end_of, bytes_of};
-ghost use Rattle.tac_lines.specs.Forms.{callees_of};
-ghost use Rattle.tac_lines.specs.Text.{line_after};
-ghost use Rattle.tac_lines.specs.code.Views.{token_view, tokens_view};
+ghost use Rattle.tac_reader.specs.Parses.{operand_of, operator_of, kind_of, form_of as form_in};
+ghost use Rattle.tac_lines.specs.Tokens.{bytes_of};
+ghost use Rattle.tac_lines.specs.code.Views.{tokens_view};
 ghost use Rattle.tac_program.specs.declared.program.StmtKind.TheVariants.{Binary, Copy, IfCompare, Unary};
 
 use crate::OutOfMemory;

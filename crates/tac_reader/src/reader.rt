@@ -1,6 +1,6 @@
 // A text to its program, or to its refusal.
 
-ghost use Rattle.std.specs.Prelude.{◌≡◌, ◌+◌, ◌<◌, ◌≤◌, ◌^◌, Some, None, length, map, take, IfOk, IfErr, OnOk};
+ghost use Rattle.std.specs.Prelude.{◌≡◌, ◌+◌, ◌<◌, ◌≤◌, ◌^◌, Some, None, length, map, IfOk, IfErr, OnOk};
 ghost use Rattle.tac_reader.specs.Faults.{fault_within, head_of, name_faults, refusal_of, refusal_at, refusal_within};
 ghost use Rattle.tac_program.specs.Limits.{longest_text};
 ghost use Rattle.tac_lines.specs.code.Lexed.{IfFault};

@@ -1,6 +1,3 @@
-pub mod Answered
-pub mod FactWords
-pub mod Filling
-pub mod Graphs
-pub mod JoinedNames
-pub mod Told
+pub mod answers
+pub mod buffers
+pub mod facts

@@ -40,7 +40,7 @@ use texts::{listing_of_text, report_of_text};
 
 /// How large a text's program is.
 #[unsafe(no_mangle)]
-#[tactic(auto, using(crate::proofs::Answered::no_limits))]
+#[tactic(auto, using(crate::proofs::answers::Answered::no_limits))]
 pub extern "C" fn tacflow_c_sizes(
     alloc: Global,
     text: &[u8],
@@ -59,7 +59,7 @@ pub extern "C" fn tacflow_c_sizes(
 
 /// What each point of a text's program is. There is room for as many as it has.
 #[unsafe(no_mangle)]
-#[tactic(auto, using(crate::proofs::Answered::no_limits))]
+#[tactic(auto, using(crate::proofs::answers::Answered::no_limits))]
 pub extern "C" fn tacflow_c_points(
     alloc: Global,
     text: &[u8],
@@ -79,7 +79,7 @@ pub extern "C" fn tacflow_c_points(
 
 /// What each definition of a text's program is: the bits of reaching definitions. There is room for as many as it has.
 #[unsafe(no_mangle)]
-#[tactic(auto, using(crate::proofs::Answered::no_limits))]
+#[tactic(auto, using(crate::proofs::answers::Answered::no_limits))]
 pub extern "C" fn tacflow_c_definitions(
     alloc: Global,
     text: &[u8],
@@ -100,7 +100,7 @@ pub extern "C" fn tacflow_c_definitions(
 
 /// What each expression of a text's program is: the bits of available and of very busy expressions. There is room for as many as it has.
 #[unsafe(no_mangle)]
-#[tactic(auto, using(crate::proofs::Answered::no_limits))]
+#[tactic(auto, using(crate::proofs::answers::Answered::no_limits))]
 pub extern "C" fn tacflow_c_expressions(
     alloc: Global,
     text: &[u8],
@@ -122,7 +122,7 @@ pub extern "C" fn tacflow_c_expressions(
 /// The names of a text's procedures, one after the other, and where each ends. There is an end for each; what is left of the bytes
 /// stays as it is. A name has at most 64 bytes.
 #[unsafe(no_mangle)]
-#[tactic(auto, using(crate::proofs::Answered::no_limits))]
+#[tactic(auto, using(crate::proofs::answers::Answered::no_limits))]
 pub extern "C" fn tacflow_c_procedures(
     alloc: Global,
     text: &[u8],
@@ -146,7 +146,7 @@ pub extern "C" fn tacflow_c_procedures(
 
 /// The names of a text's variables, as [`tacflow_c_procedures`] has those of its procedures. They are the bits of live variables.
 #[unsafe(no_mangle)]
-#[tactic(auto, using(crate::proofs::Answered::no_limits))]
+#[tactic(auto, using(crate::proofs::answers::Answered::no_limits))]
 pub extern "C" fn tacflow_c_variables(
     alloc: Global,
     text: &[u8],
@@ -173,7 +173,7 @@ pub extern "C" fn tacflow_c_variables(
 /// analyses are 0 for reaching definitions, 1 for live variables, 2 for available and 3 for very busy expressions (Aho, Lam, Sethi,
 /// Ullman, 2nd edition, 9.2 and 9.5; over valid paths as in Reps, Horwitz, Sagiv 1995).
 #[unsafe(no_mangle)]
-#[tactic(auto, using(crate::proofs::Answered::no_limits))]
+#[tactic(auto, using(crate::proofs::answers::Answered::no_limits))]
 pub extern "C" fn tacflow_c_facts(
     alloc: Global,
     text: &[u8],
@@ -211,7 +211,7 @@ pub extern "C" fn tacflow_c_facts(
 
 /// The listing of a text's program, and how long it is. Where there is too little room its length alone is told.
 #[unsafe(no_mangle)]
-#[tactic(auto, using(crate::proofs::Answered::no_limits))]
+#[tactic(auto, using(crate::proofs::answers::Answered::no_limits))]
 pub extern "C" fn tacflow_c_listing(
     alloc: Global,
     text: &[u8],
@@ -232,7 +232,7 @@ pub extern "C" fn tacflow_c_listing(
 
 /// The report on a text's program, and how long it is. Where there is too little room its length alone is told.
 #[unsafe(no_mangle)]
-#[tactic(auto, using(crate::proofs::Answered::no_limits))]
+#[tactic(auto, using(crate::proofs::answers::Answered::no_limits))]
 pub extern "C" fn tacflow_c_report(
     alloc: Global,
     text: &[u8],

@@ -1,11 +1,11 @@
 // The facts of an analysis in a caller's memory.
 
-ghost use Rattle.std.specs.Prelude.{◌≡◌, ℕ, ◌+◌, ◌-◌, ◌*◌, ◌/◌, ◌<◌, ◌≤◌, ◌&&◌, not, List, length, slice_index, IfErr, OnOk, OnErr, if◌then◌else◌};
+ghost use Rattle.std.specs.Prelude.{◌≡◌, ℕ, ◌+◌, ◌-◌, ◌*◌, ◌/◌, ◌<◌, ◌≤◌, ◌&&◌, not, length, OnOk, OnErr, if◌then◌else◌};
 ghost use Rattle.bit_rows.specs.RowSet.{contains, full_set};
 ghost use Rattle.bit_rows.specs.Words.{has_bit};
 ghost use Rattle.flow_graph.specs.Analyses.{is_must};
 ghost use Rattle.flow_graph.specs.Directions.{is_intersection};
-ghost use Rattle.gk_solve.specs.Solved.{AreMeetWords, HasPathFlags, IsSliceOf, direction_of};
+ghost use Rattle.gk_solve.specs.Solved.{AreMeetWords, IsSliceOf, direction_of};
 ghost use Rattle.tacflow_c.specs.Facts.{AreFactsOf, IsRowWord};
 ghost use Rattle.tacflow_c.specs.code.Filled.{AreFilled, CanFill, IsRowFilled};
 ghost use Rattle.tacflow_c.specs.Statuses.{AreInRange, HasRoom};

@@ -1,4 +1,2 @@
-pub mod Blocks
-pub mod Buffers
-pub mod Escapes
-pub mod Taking
+pub mod buffers
+pub mod sinks

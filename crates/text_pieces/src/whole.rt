@@ -6,6 +6,7 @@ use crate::OutOfMemory;
 use crate::delivery::deliver;
 use crate::device::{DeviceFault, Sink};
 use crate::text::Text;
+use crate::transfer::TransferFault;
 use std::alloc::Global;
 
 // A sink that keeps what is pushed. A push for which memory is refused is its fault.
@@ -51,6 +52,7 @@ pub fn whole_text<T: Text>(alloc: Global, text: &T) -> Result<Vec<u8>, OutOfMemo
     };
     match deliver(alloc, text, &mut sink) {
         Ok(()) => Ok(sink.text),
-        Err(_) => Err(OutOfMemory),
+        // This sink has no other fault than want of memory.
+        Err(TransferFault::OutOfMemory | TransferFault::Device) => Err(OutOfMemory),
     }
 }

@@ -67,7 +67,7 @@ fn push_dot<K: Sink>(
     view: View,
     sink: &mut K,
 ) -> Result<(), Fault>
-    requires tables { AreShownTables graph.now view.facts tables.now }
+    requires tables { AreShownTables graph.now view tables.now }
     requires answers { TellReport graph.now answers.now }
     requires below { K.faults sink.old < 2 ^ 32 - 1 }
     requires there { IfSome view.procedure (λ number. number < length graph.now.procedure_names) }
@@ -89,7 +89,7 @@ fn push_json<K: Sink>(
     view: View,
     sink: &mut K,
 ) -> Result<(), Fault>
-    requires tables { AreShownTables graph.now view.facts tables.now }
+    requires tables { AreShownTables graph.now view tables.now }
     requires answers { TellReport graph.now answers.now }
     requires below { K.faults sink.old < 2 ^ 32 - 1 }
     requires there { IfSome view.procedure (λ number. number < length graph.now.procedure_names) }
@@ -121,7 +121,7 @@ fn dot_of_graph<R: Threads + Sync, K: Sink>(
     ensures faults { K.faults sink.new ≡ K.faults sink.old + write_faults_in result }
 {
     let (workers, cut) = (options.workers, options.cut);
-    let tables = ShownTables::of(rt, alloc, graph, view.facts, workers, cut, gate)?;
+    let tables = ShownTables::of(rt, alloc, graph, view, workers, cut, gate)?;
     let answers = ReportAnswers::of(rt, alloc, graph, workers, cut, gate)?;
     push_dot(alloc, graph, &tables, &answers, view, sink)
 }
@@ -145,7 +145,7 @@ fn json_of_graph<R: Threads + Sync, K: Sink>(
     ensures faults { K.faults sink.new ≡ K.faults sink.old + write_faults_in result }
 {
     let (workers, cut) = (options.workers, options.cut);
-    let tables = ShownTables::of(rt, alloc, graph, view.facts, workers, cut, gate)?;
+    let tables = ShownTables::of(rt, alloc, graph, view, workers, cut, gate)?;
     let answers = ReportAnswers::of(rt, alloc, graph, workers, cut, gate)?;
     push_json(alloc, graph, &tables, &answers, view, sink)
 }

@@ -1,3 +1,2 @@
-pub mod GroupLemmas
-pub mod MarkCounts
-pub mod MarkLemmas
+pub mod counts
+pub mod words

@@ -1,8 +1,10 @@
 -- In which words a statement generates or kills bits
 use Rattle.std.proofs.Common.{◌≡◌, ◌∙◌, ◌⊎◌, ℕ, ◌+◌, ◌*◌, ◌/◌, ◌%◌, ◌<◌, Bool, true, false, ◌||◌, option_map, unwrap_or, List, length, inl, inr, refl}
 use Rattle.std.proofs.Common.{sym, ap, bit_or, arith}
+use Rattle.std.proofs.Math.Bool.{or-true}
+use Rattle.std.proofs.lemmas.Bool.{or_cases}
 use Rattle.bit_rows.specs.Words.{has_bit}
-use Rattle.bit_rows.proofs.WordBits.{has_bit-or}
+use Rattle.bit_rows.proofs.words.WordBits.{has_bit-or}
 use Rattle.tac_program.specs.Programs.{Program}
 use Rattle.flow_graph.specs.code.BitTables.{table_has}
 use Rattle.flow_graph.specs.code.Effects.{AreDependentWords, IsEffect, depends, gen_from, kill_from, marks, owns, touches}
@@ -36,16 +38,8 @@ affected_from program analysis point bit (inr is) = killed_from analysis _ _ (sy
 set_left : (a b k : ℕ) → has_bit a k ≡ true → has_bit (bit_or a b) k ≡ true
 set_left a b k is = has_bit-or a b k ∙ ap (λ t. t || has_bit b k) is
 
-or_true : (t : Bool) → (t || true) ≡ true
-or_true true = refl
-or_true false = refl
-
 set_right : (a b k : ℕ) → has_bit b k ≡ true → has_bit (bit_or a b) k ≡ true
-set_right a b k is = has_bit-or a b k ∙ ap (λ t. has_bit a k || t) is ∙ or_true (has_bit a k)
-
-one_of : (a b : Bool) → (a || b) ≡ true → (a ≡ true) ⊎ (b ≡ true)
-one_of true b is = inl refl
-one_of false b is = inr is
+set_right a b k is = has_bit-or a b k ∙ ap (λ t. has_bit a k || t) is ∙ or-true (has_bit a k)
 
 -- the word of a bit that depends on a variable is marked
 pub dependent_word : (program : Program) (analysis : Analysis) (words : List ℕ) (width variable bit result : ℕ)
@@ -68,7 +62,7 @@ pub affected_word : (program : Program) (analysis : Analysis) (point bit : ℕ) 
     → has_bit (bit_or (bit_or first second) touched) (bit / 64 % 64) ≡ true
 affected_word program analysis point bit e first second touched effect firsts seconds touches_it affected =
     elim (affected_from program analysis point bit affected) [
-      | inl own ↦ elim (one_of (marks e.first bit) (marks e.second bit) (effect.own bit ∙ own)) [
+      | inl own ↦ elim (or_cases (marks e.first bit) (marks e.second bit) (effect.own bit ∙ own)) [
         | inl is ↦ set_left (bit_or first second) touched (bit / 64 % 64) (set_left first second (bit / 64 % 64) (firsts bit is))
         | inr is ↦ set_left (bit_or first second) touched (bit / 64 % 64) (set_right first second (bit / 64 % 64) (seconds bit is))
       ]

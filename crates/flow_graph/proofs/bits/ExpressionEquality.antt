@@ -3,6 +3,7 @@ use Rattle.std.proofs.Common.{◌≡◌, Bool, true, false, ◌&&◌, nat_eq, re
 use Rattle.std.specs.Prelude.{ℕ, List, find, unwrap_or, bytes_eq}
 use denote.Enum.Bare.{sameb, same_true, same_false}
 use Rattle.std.proofs.lemmas.Slice.Eq.{bytes_eq-Decides}
+use Rattle.std.proofs.lemmas.Bool.{and_parts}
 use Rattle.tac_program.specs.Spelling.{operators, sign_of}
 use Rattle.tac_program.specs.contracts.program.Op.{the_type}
 use Rattle.tac_program.specs.declared.program.Op.{Op}
@@ -92,18 +93,14 @@ same_operands (Number m) (Number n) same = ap Number (let e : m ≡ n = grind ar
 same_operands (Variable x) (Number n) same = absurd (cc same)
 same_operands (Number m) (Variable y) same = absurd (cc same)
 
-both : (s t : Bool) → (s && t) ≡ true → (s ≡ true) × (t ≡ true)
-both true t is = (refl, is)
-both false t is = absurd (cc is)
-
 -- two that are the same expression are equal
 pub same_is_equal : (x y : Expr) → same_expression x y ≡ true → x ≡ y
 same_is_equal (Unary o a) (Unary p b) same =
-    let (first, second) = both (same_operator o p) (same_operand a b) same in
+    let (first, second) = and_parts (same_operator o p) (same_operand a b) same in
     ap₂ Unary (same_operators o p first) (same_operands a b second)
 same_is_equal (Binary a o u) (Binary b p v) same =
-    let (first, rest) = both (same_operand a b) (same_operator o p && same_operand u v) same in
-    let (second, third) = both (same_operator o p) (same_operand u v) rest in
+    let (first, rest) = and_parts (same_operand a b) (same_operator o p && same_operand u v) same in
+    let (second, third) = and_parts (same_operator o p) (same_operand u v) rest in
     ap₂ (λ c q. Binary c q u) (same_operands a b first) (same_operators o p second) ∙ ap (Binary b p) (same_operands u v third)
 same_is_equal (Unary o a) (Binary b p v) same = absurd (cc same)
 same_is_equal (Binary a o u) (Unary p b) same = absurd (cc same)

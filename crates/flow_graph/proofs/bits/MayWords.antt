@@ -4,7 +4,7 @@ use Rattle.std.proofs.Common.{unwrap_or, eqb, nat_eq, nat_lt, bit_and, inl, inr,
 use Rattle.std.proofs.lemmas.Bool.{cases_lt, and_right}
 use Rattle.std.proofs.lemmas.Nat.Bits.{shr_and_one}
 use Rattle.bit_rows.specs.Words.{has_bit}
-use Rattle.bit_rows.proofs.WordBits.{has_bit-and, same_words}
+use Rattle.bit_rows.proofs.words.WordBits.{has_bit-and, same_words}
 use Rattle.tac_program.specs.Programs.{Program}
 use Rattle.flow_graph.specs.code.Effects.{IsEffect, depends, effect_owns, gen_from, kill_from, owns, touches}
 use Rattle.flow_graph.specs.ProgramLaws.{WordsTellBits, WordsAreTheirBits}

@@ -3,7 +3,7 @@ use Rattle.std.proofs.Common.{◌≡◌, ℕ, zero, suc, ◌+◌, ◌-◌, ◌<�
 use Rattle.std.proofs.Common.{Option, Some, None, cond, option_map, option_and_then, slice_get, unwrap_or, nat_eq, nat_lt, position, fold}
 use Rattle.std.proofs.Common.{if◌then◌else◌, inl, inr, refl, sym, ap, ◌∙◌, subst, append_assoc, length-append, arith}
 use Rattle.std.specs.List.{list_any, prefix_len, range_with_len}
-use Rattle.std.proofs.lemmas.Bool.{cases_lt, cases_eq, both_ways}
+use Rattle.std.proofs.lemmas.Bool.{cases_lt, cases_eq, both_ways, eq-eqb, ne_eqb, or_parts}
 use Rattle.std.proofs.lemmas.List.{length-map}
 use Rattle.std.proofs.lemmas.List.FromFn.{length-range_with_len}
 use Rattle.std.proofs.lemmas.Option.{slice_get_past}
@@ -16,7 +16,6 @@ use Rattle.flow_graph.specs.Universes.{same_expression, some_expression, target_
 use Rattle.flow_graph.proofs.bits.ExpressionEquality.{same_is_equal}
 use Rattle.flow_graph.proofs.bits.Noted.{is_itself}
 use Rattle.flow_graph.proofs.lists.Ranges.{flat_map-range_more}
-use Rattle.flow_graph.proofs.bits.SetWords.{nat_eq-same, nat_eq-other}
 
 module _ {A : Type 0} where
   -- whether a list has an element at a place that passes a test
@@ -67,9 +66,9 @@ module _ {A : Type 0} where
       first = prefix_len (λ x. not (p x)) xs
 
       at_first : is_at p xs (prefix_len (λ x. not (p x)) xs) ≡ true → (t : Bool) → is_at p xs n ≡ t → t ≡ nat_eq n (prefix_len (λ x. not (p x)) xs)
-      at_first passes true is = sym (nat_eq-same n (prefix_len (λ x. not (p x)) xs) (alone n (prefix_len (λ x. not (p x)) xs) is passes))
+      at_first passes true is = sym (eq-eqb n (prefix_len (λ x. not (p x)) xs) (alone n (prefix_len (λ x. not (p x)) xs) is passes))
       at_first passes false is =
-          sym (nat_eq-other n (prefix_len (λ x. not (p x)) xs) (λ same. both_ways (is_at p xs n) is (ap (is_at p xs) same ∙ passes)))
+          sym (ne_eqb n (prefix_len (λ x. not (p x)) xs) (λ same. both_ways (is_at p xs n) is (ap (is_at p xs) same ∙ passes)))
 
       by_test : (t : Bool) → nat_lt (prefix_len (λ x. not (p x)) xs) (length xs) ≡ t
           → is_at p xs n ≡ marks (cond t (let o : Option ℕ = Some (prefix_len (λ x. not (p x)) xs) in o) None) n
@@ -87,11 +86,7 @@ module _ {A : Type 0} where
       first : (s t : Bool) → (s || t) ≡ false → s ≡ p x → p x ≡ false
       first true t e same = absurd (cc e)
       first false t e same = sym same
-  none-is_at p (y ∷ ys) (suc i) x none at = none-is_at p ys i x (rest (p y) (list_any p ys) none) at
-    where
-      rest : (s t : Bool) → (s || t) ≡ false → t ≡ false
-      rest true t e = absurd (cc e)
-      rest false t e = e
+  none-is_at p (y ∷ ys) (suc i) x none at = none-is_at p ys i x (or_parts (p y) (list_any p ys) none).1 at
 
 -- ---- definitions
 
@@ -115,7 +110,7 @@ added point target = elim target [ Some x ↦ (x, Some point) ∷ [] | None ↦ 
 
 added-other : (point other : ℕ) (target : Option ℕ) (k : ℕ) → (point ≡ other → ⊥) → is_at (is_made_at point) (added other target) k ≡ false
 added-other point other None k apart = refl
-added-other point other (Some x) zero apart = nat_eq-other point other apart
+added-other point other (Some x) zero apart = ne_eqb point other apart
 added-other point other (Some x) (suc k) apart = refl
 
 -- a definition of a later point is not there yet
@@ -144,12 +139,12 @@ added-here point None before bit past = refl
 added-here point (Some x) before bit past = by_place (bit - before) refl
   where
     by_place : (k : ℕ) → bit - before ≡ k → is_at (is_made_at point) ((x, Some point) ∷ []) k ≡ nat_eq bit before
-    by_place zero is = nat_eq-same point point refl ∙ sym (nat_eq-same bit before (omega arith))
-    by_place (suc k) is = sym (nat_eq-other bit before (λ e. absurd (omega arith)))
+    by_place zero is = eq-eqb point point refl ∙ sym (eq-eqb bit before (omega arith))
+    by_place (suc k) is = sym (ne_eqb bit before (λ e. absurd (omega arith)))
 
 marked-below : (target : Option ℕ) (before bit : ℕ) → bit < before → false ≡ marks (option_map (λ x. before) target) bit
 marked-below None before bit below = refl
-marked-below (Some x) before bit below = sym (nat_eq-other bit before (λ e. absurd (omega arith)))
+marked-below (Some x) before bit below = sym (ne_eqb bit before (λ e. absurd (omega arith)))
 
 made_by : (program : Program) (n point bit : ℕ) → point < n
     → is_at (is_made_at point) (so_far program n) bit ≡ marks (numbered program (length (so_far program point)) point) bit

@@ -1,36 +1,17 @@
 -- Words of sets of bits
 use Rattle.std.proofs.Common.{◌≡◌, ℕ, ◌+◌, ◌-◌, ◌*◌, ◌/◌, ◌%◌, ◌^◌, ◌<◌, ◌≤◌, ◌⊎◌, Bool, true, false, ◌&&◌, ◌||◌, eqb, nat_eq, nat_lt, List, length}
 use Rattle.std.proofs.Common.{get_or, set, bit_or, inl, inr, refl, sym, ap, ap₂, ◌∙◌, arith}
-use Rattle.std.proofs.lemmas.Bool.{cases_eq, cases_lt, and_right}
+use Rattle.std.proofs.lemmas.Bool.{cases_eq, cases_lt, and_right, eq-eqb, ne_eqb, lt-ltb, le-ltb}
 use Rattle.std.proofs.lemmas.List.{get_or_read, get_or-set_same, get_or-set_other}
 use Rattle.std.proofs.lemmas.Nat.{one_shl, same_from_place}
 use Rattle.std.proofs.lemmas.Nat.Bits.{bit_at_ones, bit_at_ones_above}
+use Rattle.std.proofs.Math.Bool.{or-false}
 use Rattle.bit_rows.specs.Words.{has_bit}
-use Rattle.bit_rows.proofs.WordBits.{has_bit-or, has_bit-zero, has_bit-shifted_same, has_bit-shifted_other}
+use Rattle.bit_rows.proofs.words.WordBits.{has_bit-or, has_bit-zero, has_bit-shifted_same, has_bit-shifted_other}
 use Rattle.flow_graph.specs.code.BitTables.{HasRow, table_has}
-
-pub nat_eq-same : (a b : ℕ) → a ≡ b → nat_eq a b ≡ true
-nat_eq-same a b same = grind arith
-
-pub nat_eq-other : (a b : ℕ) → (a ≡ b → ⊥) → nat_eq a b ≡ false
-nat_eq-other a b other = grind arith
 
 pub nat_eq-sym : (a b : ℕ) → nat_eq a b ≡ nat_eq b a
 nat_eq-sym a b = grind arith
-
-nat_lt-below : (a b : ℕ) → a < b → nat_lt a b ≡ true
-nat_lt-below a b below = grind arith
-
-nat_lt-above : (a b : ℕ) → b ≤ a → nat_lt a b ≡ false
-nat_lt-above a b above = grind arith
-
-or_same : (x : Bool) → x ≡ (x || false)
-or_same true = refl
-or_same false = refl
-
-or_true : (x : Bool) → true ≡ (x || true)
-or_true true = refl
-or_true false = refl
 
 -- a word of a single bit, and one without it
 pub word_of_bit : (n word k : ℕ) → k < 64 → n / 64 ≡ word → has_bit (1 * 2 ^ (n % 64) % 2 ^ 64) k ≡ nat_eq (64 * word + k) n
@@ -39,13 +20,13 @@ word_of_bit n word k within same = by_case (cases_eq k (n % 64))
     by_case : (k ≡ n % 64) ⊎ (k ≡ n % 64 → ⊥) → has_bit (1 * 2 ^ (n % 64) % 2 ^ 64) k ≡ nat_eq (64 * word + k) n
     by_case (inl here) =
         let below : n % 64 < 64 = omega arith in
-        ap (has_bit (1 * 2 ^ (n % 64) % 2 ^ 64)) here ∙ has_bit-shifted_same (n % 64) below ∙ sym (nat_eq-same (64 * word + k) n (omega arith))
+        ap (has_bit (1 * 2 ^ (n % 64) % 2 ^ 64)) here ∙ has_bit-shifted_same (n % 64) below ∙ sym (eq-eqb (64 * word + k) n (omega arith))
     by_case (inr other) =
         let below : n % 64 < 64 = omega arith in
-        has_bit-shifted_other (n % 64) k below other ∙ sym (nat_eq-other (64 * word + k) n (λ e. other (omega arith)))
+        has_bit-shifted_other (n % 64) k below other ∙ sym (ne_eqb (64 * word + k) n (λ e. other (omega arith)))
 
 pub word_of_another : (n word k : ℕ) → k < 64 → (n / 64 ≡ word → ⊥) → has_bit 0 k ≡ nat_eq (64 * word + k) n
-word_of_another n word k within other = has_bit-zero k ∙ sym (nat_eq-other (64 * word + k) n (λ e. other (omega arith)))
+word_of_another n word k within other = has_bit-zero k ∙ sym (ne_eqb (64 * word + k) n (λ e. other (omega arith)))
 
 -- the word of all bits below a number
 pub low_word : (bits word count k : ℕ) → k < 64 → count ≡ bits - 64 * word → count < 64
@@ -54,12 +35,12 @@ unfolding has_bit
 low_word bits word count k within is few = ap (λ m. has_bit (m - 1) k) (one_shl count 64 few) ∙ by_case (cases_lt k count)
   where
     by_case : (k < count) ⊎ (count ≤ k) → has_bit (2 ^ count - 1) k ≡ nat_lt (64 * word + k) bits
-    by_case (inl below) = ap (λ x. eqb x 1) (bit_at_ones count k below) ∙ sym (nat_lt-below (64 * word + k) bits (omega arith))
-    by_case (inr above) = ap (λ x. eqb x 1) (bit_at_ones_above count k above) ∙ sym (nat_lt-above (64 * word + k) bits (omega arith))
+    by_case (inl below) = ap (λ x. eqb x 1) (bit_at_ones count k below) ∙ sym (lt-ltb (64 * word + k) bits (omega arith))
+    by_case (inr above) = ap (λ x. eqb x 1) (bit_at_ones_above count k above) ∙ sym (le-ltb (64 * word + k) bits (omega arith))
 
 pub whole_word : (bits word k : ℕ) → k < 64 → 64 ≤ bits - 64 * word → has_bit (2 ^ 64 - 1) k ≡ nat_lt (64 * word + k) bits
 unfolding has_bit
-whole_word bits word k within many = ap (λ x. eqb x 1) (bit_at_ones 64 k within) ∙ sym (nat_lt-below (64 * word + k) bits (omega arith))
+whole_word bits word k within many = ap (λ x. eqb x 1) (bit_at_ones 64 k within) ∙ sym (lt-ltb (64 * word + k) bits (omega arith))
 
 -- a bit that is set in a block of words
 module _ (words : List ℕ) (width row bit word : ℕ) (there : HasRow words width row) (inside : bit / 64 < width)
@@ -82,11 +63,11 @@ module _ (words : List ℕ) (width row bit word : ℕ) (there : HasRow words wid
       by_bit same_row same_word (inl same) =
           let fits : bit % 64 < 64 = omega arith in
           ap (has_bit (1 * 2 ^ (bit % 64) % 2 ^ 64)) same ∙ has_bit-shifted_same (bit % 64) fits
-          ∙ ap₂ ◌&&◌ (sym (nat_eq-same r row same_row)) (sym (nat_eq-same b bit (omega arith)))
+          ∙ ap₂ ◌&&◌ (sym (eq-eqb r row same_row)) (sym (eq-eqb b bit (omega arith)))
       by_bit same_row same_word (inr other) =
           let fits : bit % 64 < 64 = omega arith in
           has_bit-shifted_other (bit % 64) (b % 64) fits other
-          ∙ sym (and_right (nat_eq r row) (nat_eq b bit) (nat_eq-other b bit (λ e. other (ap (λ n. n % 64) e))))
+          ∙ sym (and_right (nat_eq r row) (nat_eq b bit) (ne_eqb b bit (λ e. other (ap (λ n. n % 64) e))))
 
       apart : (r * width + b / 64 ≡ row * width + bit / 64 → ⊥) → (t u : Bool) → nat_eq r row ≡ t → nat_eq b bit ≡ u → false ≡ (t && u)
       apart other false u is_t is_u = refl
@@ -109,5 +90,5 @@ module _ (words : List ℕ) (width row bit word : ℕ) (there : HasRow words wid
       by_word (inr other) =
           ap (λ v. has_bit v (b % 64))
           (get_or-set_other words (row * width + bit / 64) (r * width + b / 64) (bit_or word (1 * 2 ^ (bit % 64) % 2 ^ 64)) 0 other)
-          ∙ or_same (table_has words width r b)
+          ∙ sym (or-false (table_has words width r b))
           ∙ ap (λ t. table_has words width r b || t) (apart other (nat_eq r row) (nat_eq b bit) refl refl)

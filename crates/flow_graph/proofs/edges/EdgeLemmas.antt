@@ -11,7 +11,7 @@ use Rattle.tac_program.specs.declared.program.Stmt.{Stmt}
 use Rattle.tac_program.specs.declared.program.StmtKind.{StmtKind}
 use Rattle.tac_program.specs.declared.program.StmtKind.TheVariants as kind
 use Rattle.flow_graph.specs.Edges.{label_point, two_steps, edges_of, callees_named, callees_at, calls, return_to, returns_of, edges_from, edges}
-use Rattle.flow_graph.specs.Paths.{Edge, Step, Call, Ret}
+use Rattle.flow_graph.specs.Paths.{Edge, Step, Call, Ret, source_of}
 use Rattle.flow_graph.specs.Points.{Place, points, place_of, procedure_at, statements_of, statement_at, kind_at, end_place, end_point, entry_point}
 use Rattle.flow_graph.specs.Points.{point_of, point_count}
 use Rattle.flow_graph.specs.ProgramLaws.{IsPlaceOf}
@@ -61,6 +61,11 @@ pub data IsFrom (program : Program) (point : ℕ) : Edge → Type 0 where
       → IsFrom program point (Call point point (entry_point program callee))
   a_return : (site : ℕ) → site < point_count program → calls program site (procedure_at program point) ≡ true
       → kind_at program point ≡ None → point ≡ end_point program (procedure_at program point) → IsFrom program point (Ret site point (suc site))
+
+pub source_is : (program : Program) (point : ℕ) (edge : Edge) → IsFrom program point edge → source_of edge ≡ point
+source_is program point edge (a_step target inside) = refl
+source_is program point edge (a_call callee there calling) = refl
+source_is program point edge (a_return site below calling none ends) = refl
 
 step_is : (program : Program) (point target : ℕ) (edge : Edge) → IsIn program (procedure_at program point) target
     → Contains (Step point target ∷ []) edge → IsFrom program point edge

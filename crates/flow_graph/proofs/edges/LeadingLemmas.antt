@@ -4,7 +4,7 @@ use Rattle.std.proofs.Common.{sum_by, All, Contains, nat_eq, if◌then◌else◌
 use Rattle.std.proofs.Common.{get_or-set_same, get_or-set_other}
 use Rattle.std.specs.List.{filter, range_with_len}
 use Rattle.std.proofs.lemmas.Bool.{cases_lt}
-use Rattle.std.proofs.lemmas.List.{get_or_past, get_or-map, length-map}
+use Rattle.std.proofs.lemmas.List.{get_or_past, get_or-map, length-map, get_or_default}
 use Rattle.std.proofs.lemmas.List.Elements.{Contains-append_left, Contains-append_right, Contains-append_cases}
 use Rattle.std.proofs.lemmas.List.Sums.{sum_by-set}
 use Rattle.smallvec.specs.SmallVec.{SmallVec}
@@ -17,8 +17,8 @@ use Rattle.flow_graph.specs.code.NumberLists.{contents}
 use Rattle.flow_graph.specs.Paths.{Edge, IsPath, target_of}
 use Rattle.flow_graph.specs.Points.{point_count}
 use Rattle.flow_graph.proofs.lists.Membership.{Contains-first, Contains-later, Contains-nil, Contains-cons, Contains-one, Contains-in_range}
-use Rattle.flow_graph.proofs.lists.Membership.{Contains-range}
-use Rattle.flow_graph.proofs.edges.SourceLemmas.{HasEdge, get_or_any, sources_have_edges, edges_have_sources}
+use Rattle.flow_graph.proofs.lists.Membership.{Contains-range, Contains-in_filter, Contains-filter}
+use Rattle.flow_graph.proofs.edges.SourceLemmas.{HasEdge, sources_have_edges, edges_have_sources}
 
 -- whether a point is known
 abbrev pub Knows : List Bool → ℕ → Type 0
@@ -223,7 +223,8 @@ reads_sources program lists point list sources are below read is =
 
 pub sources_are_points : (program : Program) → IsSound program → (point : ℕ) → All (λ x. x < point_count program) (sources_of program point)
 sources_are_points program sound point k d inside =
-    (sources_have_edges program sound (get_or (sources_of program point) k d) point (k, inside, get_or_any (sources_of program point) k _ d inside)).0
+    (sources_have_edges program sound (get_or (sources_of program point) k d) point
+    (k, inside, get_or_default (sources_of program point) k _ d inside)).0
 
 -- the point that is looked at
 pub looked_at_inside : (program : Program) (marked known : List Bool) (work rest : List ℕ) (point : ℕ)
@@ -255,30 +256,6 @@ step_taken program marked known work rest point sources new sound searches work_
       searches = one_looked_at program marked known rest point new sound before become_new;
       smaller = omega (arith, become_new.remains, ap length work_is, length-append rest (point ∷ []));
     }
-
-Contains-in_filter : (p : ℕ → Bool) (xs : List ℕ) (x : ℕ) → Contains (filter p xs) x → Contains xs x × (p x ≡ true)
-Contains-in_filter p [] x at = absurd (Contains-nil x at)
-Contains-in_filter p (y ∷ ys) x at = by_test (p y) refl at (λ later. Contains-in_filter p ys x later)
-  where
-    by_test : (b : Bool) → p y ≡ b → Contains (if b then y ∷ filter p ys else filter p ys) x
-        → (Contains (filter p ys) x → Contains ys x × (p x ≡ true)) → Contains (y ∷ ys) x × (p x ≡ true)
-    by_test true test at rest =
-        elim (Contains-cons y (filter p ys) x at) [
-          | inl same ↦ (subst (Contains (y ∷ ys)) (sym same) (Contains-first y ys), ap p same ∙ test)
-          | inr later ↦ (let both = rest later in (Contains-later y ys x both.0, both.1))
-        ]
-    by_test false test at rest = let both = rest at in (Contains-later y ys x both.0, both.1)
-
-Contains-filter : (p : ℕ → Bool) (xs : List ℕ) (x : ℕ) → Contains xs x → p x ≡ true → Contains (filter p xs) x
-Contains-filter p [] x at passes = absurd (Contains-nil x at)
-Contains-filter p (y ∷ ys) x at passes = by_test (p y) refl (Contains-cons y ys x at) (λ later. Contains-filter p ys x later passes)
-  where
-    by_test : (b : Bool) → p y ≡ b → (x ≡ y) ⊎ Contains ys x → (Contains ys x → Contains (filter p ys) x)
-        → Contains (if b then y ∷ filter p ys else filter p ys) x
-    by_test true test (inl same) rest = subst (Contains (y ∷ filter p ys)) (sym same) (Contains-first y (filter p ys))
-    by_test true test (inr later) rest = Contains-later y (filter p ys) x (rest later)
-    by_test false test (inl same) rest = absurd (cc (sym test ∙ ap p (sym same) ∙ passes))
-    by_test false test (inr later) rest = rest later
 
 -- the search begins at the marked points
 pub search_begins : (program : Program) (marked : List Bool) → length marked ≡ point_count program

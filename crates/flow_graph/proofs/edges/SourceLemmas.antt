@@ -1,7 +1,8 @@
 -- The points from which an edge leads to a point
-use Rattle.std.proofs.Common.{◌≡◌, ℕ, zero, suc, ◌+◌, ◌<◌, Bool, true, false, List, [], ◌∷◌, ◌++◌, length, flat_map, get_or, fold, All, Contains}
+use Rattle.std.proofs.Common.{◌≡◌, ℕ, suc, ◌+◌, ◌<◌, Bool, true, false, List, [], ◌∷◌, ◌++◌, length, flat_map, get_or, fold, All, Contains}
 use Rattle.std.proofs.Common.{nat_eq, if◌then◌else◌, refl, sym, ap, ◌∙◌, subst, append_assoc, append-nil, arith, length-set}
 use Rattle.std.specs.List.{range_with_len}
+use Rattle.std.proofs.lemmas.List.{get_or_default}
 use Rattle.tac_program.specs.Programs.{Program}
 use Rattle.tac_program.specs.Sound.{IsSound}
 use Rattle.flow_graph.specs.Edges.{edges, edges_from}
@@ -9,7 +10,7 @@ use Rattle.flow_graph.specs.code.Searching.{sources_among, sources_of}
 use Rattle.flow_graph.specs.code.NumberLists.{with_last, AreLists}
 use Rattle.flow_graph.specs.Paths.{Edge, source_of, target_of}
 use Rattle.flow_graph.specs.Points.{points, point_count}
-use Rattle.flow_graph.proofs.edges.EdgeLemmas.{IsFrom, a_step, a_call, a_return, edges_from_are, edges_are, leaves}
+use Rattle.flow_graph.proofs.edges.EdgeLemmas.{edges_from_are, edges_are, leaves, source_is}
 use Rattle.flow_graph.proofs.graphs.GraphLaws.{edges_join_points}
 use Rattle.flow_graph.proofs.lists.Membership.{Contains-first, Contains-nil, Contains-one, Contains-in_flat_map, Contains-flat_map, Contains-in_range}
 use Rattle.flow_graph.proofs.lists.Membership.{Contains-range}
@@ -46,23 +47,12 @@ sources_before program point target = flat_map (λ source. sources_among (edges_
 abbrev pub HasEdge : Program → ℕ → ℕ → Type 0
 HasEdge program x y = (edge : Edge) × Contains (edges program) edge × (source_of edge ≡ x) × (target_of edge ≡ y)
 
-source_is : (program : Program) (point : ℕ) (edge : Edge) → IsFrom program point edge → source_of edge ≡ point
-source_is program point edge (a_step target inside) = refl
-source_is program point edge (a_call callee there calling) = refl
-source_is program point edge (a_return site below calling none ends) = refl
-
--- what stands in a list, by whatever default
-pub get_or_any : {A : Type 0} (xs : List A) (i : ℕ) (d e : A) → i < length xs → get_or xs i d ≡ get_or xs i e
-get_or_any [] i d e below = absurd (omega arith)
-get_or_any (x ∷ xs) zero d e below = refl
-get_or_any (x ∷ xs) (suc i) d e below = get_or_any xs i d e (omega arith)
-
 -- the edges out of a point lead to points
 pub targets_are_points : (program : Program) → IsSound program → (point : ℕ) → point < point_count program
     → All (λ edge. target_of edge < point_count program) (edges_from program point)
 targets_are_points program sound point below k d inside =
     let among : Contains (edges_from program point) (get_or (edges_from program point) k d) =
-    (k, inside, get_or_any (edges_from program point) k _ d inside) in
+    (k, inside, get_or_default (edges_from program point) k _ d inside) in
     (edges_join_points program sound (get_or (edges_from program point) k d)
     (leaves program point (get_or (edges_from program point) k d) below among)).target
 

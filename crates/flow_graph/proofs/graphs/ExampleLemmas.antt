@@ -4,18 +4,12 @@ use Rattle.std.specs.List.{list_any, list_all}
 use Rattle.std.proofs.lemmas.Map.Views.{Contains-from_any}
 use Rattle.std.proofs.lemmas.List.Sums.{AllPass-from_list_all}
 use Rattle.std.proofs.lemmas.List.Elements.{All-contains}
+use Rattle.std.proofs.lemmas.Bool.{eqb-true, and_parts, ltb-true, not-true}
 use Rattle.flow_graph.specs.Paths.{Edge, Step, Call, Ret, source_of, target_of, Shape, Transfer, IsEdge, final, IsPath, value_across, value_before}
 use Rattle.flow_graph.specs.Paths.{HasBackwardPath, SomeBackwardPathHas}
 use Rattle.flow_graph.specs.WellFormed.{IsWellFormed}
 use Rattle.flow_graph.specs.Runs.{IsDoubtful, CallsReturn}
 use Rattle.flow_graph.proofs.paths.PathLemmas.{nat_eq_same}
-
-nat_eq_is : (m n : ℕ) → nat_eq m n ≡ true → m ≡ n
-nat_eq_is m n same = grind arith
-
-and_true : (a b : Bool) → (a && b) ≡ true → (a ≡ true) × (b ≡ true)
-and_true true b both = (refl, both)
-and_true false b both = absurd (cc both)
 
 abbrev edge_eq : Edge → Edge → Bool
 edge_eq (Step x y) (Step u v) = nat_eq x u && nat_eq y v
@@ -25,16 +19,16 @@ edge_eq e f = false
 
 edge_eq_is : (e f : Edge) → edge_eq e f ≡ true → e ≡ f
 edge_eq_is (Step x y) (Step u v) same =
-    let (first, second) = and_true (nat_eq x u) (nat_eq y v) same in
-    rw (nat_eq_is x u first, nat_eq_is y v second)
+    let (first, second) = and_parts (nat_eq x u) (nat_eq y v) same in
+    rw (eqb-true x u first, eqb-true y v second)
 edge_eq_is (Call c x y) (Call d u v) same =
-    let (sites, ends) = and_true (nat_eq c d) _ same in
-    let (first, second) = and_true (nat_eq x u) (nat_eq y v) ends in
-    rw (nat_eq_is c d sites, nat_eq_is x u first, nat_eq_is y v second)
+    let (sites, ends) = and_parts (nat_eq c d) _ same in
+    let (first, second) = and_parts (nat_eq x u) (nat_eq y v) ends in
+    rw (eqb-true c d sites, eqb-true x u first, eqb-true y v second)
 edge_eq_is (Ret c x y) (Ret d u v) same =
-    let (sites, ends) = and_true (nat_eq c d) _ same in
-    let (first, second) = and_true (nat_eq x u) (nat_eq y v) ends in
-    rw (nat_eq_is c d sites, nat_eq_is x u first, nat_eq_is y v second)
+    let (sites, ends) = and_parts (nat_eq c d) _ same in
+    let (first, second) = and_parts (nat_eq x u) (nat_eq y v) ends in
+    rw (eqb-true c d sites, eqb-true x u first, eqb-true y v second)
 edge_eq_is (Step x y) (Call d u v) same = absurd (cc same)
 edge_eq_is (Step x y) (Ret d u v) same = absurd (cc same)
 edge_eq_is (Call c x y) (Step u v) same = absurd (cc same)
@@ -53,11 +47,11 @@ passes_path shape x [] y = nat_eq x y
 passes_path shape x (edge ∷ path) y = is_edge shape edge && (nat_eq (source_of edge) x && passes_path shape (target_of edge) path y)
 
 pub path_is : (shape : Shape) (x : ℕ) (path : List Edge) (y : ℕ) → passes_path shape x path y ≡ true → IsPath shape x path y
-path_is shape x [] y same = nat_eq_is x y same
+path_is shape x [] y same = eqb-true x y same
 path_is shape x (edge ∷ path) y passes =
-    let (found, rest) = and_true (is_edge shape edge) _ passes in
-    let (from, along) = and_true (nat_eq (source_of edge) x) _ rest in
-    (edge_is shape edge found, nat_eq_is _ _ from, path_is shape (target_of edge) path y along)
+    let (found, rest) = and_parts (is_edge shape edge) _ passes in
+    let (from, along) = and_parts (nat_eq (source_of edge) x) _ rest in
+    (edge_is shape edge found, eqb-true _ _ from, path_is shape (target_of edge) path y along)
 
 pub edges_pass : (shape : Shape) (test : Edge → Bool) → list_all test shape.edges ≡ true → (edge : Edge) → IsEdge shape edge → test edge ≡ true
 edges_pass shape test all edge is_edge = All-contains (λ e. test e ≡ true) shape.edges edge (AllPass-from_list_all test shape.edges all) is_edge
@@ -69,18 +63,18 @@ is_one_of points x = list_any (nat_eq x) points
 abbrev pub stays_inside : List ℕ → Edge → Bool
 stays_inside points edge = not (is_one_of points (source_of edge)) || is_one_of points (target_of edge)
 
+if_passes : (a b : Bool) → a ≡ true → (not a || b) ≡ true → b ≡ true
+if_passes true b is_same passes = passes
+if_passes false b is_same passes = absurd (cc is_same)
+
 pub path_inside : (shape : Shape) (points : List ℕ) → list_all (stays_inside points) shape.edges ≡ true → (path : List Edge) (x y : ℕ)
     → IsPath shape x path y
     → is_one_of points x ≡ true → is_one_of points y ≡ true
 path_inside shape points all [] x y is_path inside = rw is_path at inside
 path_inside shape points all (edge ∷ path) x y is_path inside =
     path_inside shape points all path (target_of edge) y is_path.2
-    (go (is_one_of points (source_of edge)) (is_one_of points (target_of edge)) (rw is_path.1 inside)
+    (if_passes (is_one_of points (source_of edge)) (is_one_of points (target_of edge)) (rw is_path.1 inside)
     (edges_pass shape (stays_inside points) all edge is_path.0))
-  where
-    go : (a b : Bool) → a ≡ true → (not a || b) ≡ true → b ≡ true
-    go true b a_true stays = stays
-    go false b a_true stays = absurd (cc a_true)
 
 pub no_backward_path : (shape : Shape) (points : List ℕ) → list_all (stays_inside points) shape.edges ≡ true → is_one_of points (final shape) ≡ false
     → (x : ℕ) → is_one_of points x ≡ true → ¬ (HasBackwardPath shape x)
@@ -101,11 +95,7 @@ never_live shape transfer points ends all stuck outside none x inside some =
     cc (lacks, some.2)
   where
     across : (edge : Edge) (value : Bool) → value ≡ false → not (value_across transfer edge false) ≡ true → value_across transfer edge value ≡ false
-    across edge value lacks makes_none = rw lacks (go (value_across transfer edge false) makes_none)
-      where
-        go : (made : Bool) → not made ≡ true → made ≡ false
-        go true is_not = absurd (cc is_not)
-        go false is_not = refl
+    across edge value lacks makes_none = rw lacks (not-true (value_across transfer edge false) makes_none)
 
     dead : (path : List Edge) (x : ℕ) → IsPath shape x path (final shape) → is_one_of points x ≡ true
         → value_before transfer path transfer.boundary ≡ false
@@ -119,11 +109,11 @@ never_live shape transfer points ends all stuck outside none x inside some =
             → (is_one_of points (target_of edge) ≡ true → value_before transfer path transfer.boundary ≡ false)
             → value_across transfer edge (value_before transfer path transfer.boundary) ≡ false
         go false into stops is_from is_into is_stop passes ahead = absurd (cc is_from)
-        go true true stops is_from is_into is_stop passes ahead = across edge _ (ahead is_into) (and_true _ _ passes).0
+        go true true stops is_from is_into is_stop passes ahead = across edge _ (ahead is_into) (and_parts _ _ passes).0
         go true false true is_from is_into is_stop passes ahead =
             let at_end : is_one_of ends (final shape) ≡ true = path_inside shape ends stuck path (target_of edge) (final shape) is_path.2 is_stop in
             absurd (cc (at_end, outside))
-        go true false false is_from is_into is_stop passes ahead = absurd (cc ((and_true (not (value_across transfer edge false)) false passes).1))
+        go true false false is_from is_into is_stop passes ahead = absurd (cc ((and_parts (not (value_across transfer edge false)) false passes).1))
 
 abbrev pub Each : (ℕ → Type 0) → List ℕ → Type 0
 Each P [] = Unit {0}
@@ -134,7 +124,7 @@ each P [] all y inside = absurd (cc inside)
 each P (x ∷ points) all y inside = go (nat_eq y x) refl inside (λ later. each P points all.1 y later)
   where
     go : (same : Bool) → nat_eq y x ≡ same → (same || is_one_of points y) ≡ true → (is_one_of points y ≡ true → P y) → P y
-    go true same passes others = rw (nat_eq_is y x same) all.0
+    go true same passes others = rw (eqb-true y x same) all.0
     go false same passes others = others passes
 
 pub not_doubtful : (shape : Shape) (points : List ℕ) → list_all (stays_inside points) shape.edges ≡ true → Each (HasBackwardPath shape) points
@@ -158,10 +148,10 @@ all_below (suc n) test = test n && all_below n test
 
 pub below : (n : ℕ) (test : ℕ → Bool) → all_below n test ≡ true → (k : ℕ) → k < n → test k ≡ true
 below zero test all k in_range = absurd (omega arith)
-below (suc n) test all k in_range = go (nat_eq k n) refl (λ later. below n test (and_true (test n) _ all).1 k later)
+below (suc n) test all k in_range = go (nat_eq k n) refl (λ later. below n test (and_parts (test n) _ all).1 k later)
   where
     go : (same : Bool) → nat_eq k n ≡ same → (k < n → test k ≡ true) → test k ≡ true
-    go true same others = rw (nat_eq_is k n same) (and_true (test n) _ all).0
+    go true same others = rw (eqb-true k n same) (and_parts (test n) _ all).0
     go false same others = others (grind arith)
 
 -- whether a return of a site ends in the procedure of its call
@@ -184,33 +174,26 @@ passes_well_formed shape =
     && (all_below shape.procedures (λ p. nat_eq (shape.procedure_of (shape.exit p)) p)
     && list_all (fits shape) shape.edges))
 
-nat_lt_is : (m n : ℕ) → nat_lt m n ≡ true → m < n
-nat_lt_is m n less = grind arith
-
-same_of : (same in_one : Bool) → same ≡ true → (not same || in_one) ≡ true → in_one ≡ true
-same_of true in_one is_same passes = passes
-same_of false in_one is_same passes = absurd (cc is_same)
-
 pub well_formed_is : (shape : Shape) → passes_well_formed shape ≡ true → IsWellFormed shape
 well_formed_is shape passes =
-    let (root, rest) = and_true (nat_lt shape.root_procedure shape.procedures) _ passes in
-    let (entries, rest) = and_true (all_below shape.procedures (λ p. nat_eq (shape.procedure_of (shape.entry p)) p)) _ rest in
-    let (exits, edges) = and_true (all_below shape.procedures (λ p. nat_eq (shape.procedure_of (shape.exit p)) p)) _ rest in
+    let (root, rest) = and_parts (nat_lt shape.root_procedure shape.procedures) _ passes in
+    let (entries, rest) = and_parts (all_below shape.procedures (λ p. nat_eq (shape.procedure_of (shape.entry p)) p)) _ rest in
+    let (exits, edges) = and_parts (all_below shape.procedures (λ p. nat_eq (shape.procedure_of (shape.exit p)) p)) _ rest in
     let at = edges_pass shape (fits shape) edges in
     record {
-      root_in_range = nat_lt_is _ _ root;
-      entry_inside = λ p in_range. nat_eq_is _ _ (below shape.procedures (λ q. nat_eq (shape.procedure_of (shape.entry q)) q) entries p in_range);
-      exit_inside = λ p in_range. nat_eq_is _ _ (below shape.procedures (λ q. nat_eq (shape.procedure_of (shape.exit q)) q) exits p in_range);
-      step_inside = λ x y edge. nat_eq_is _ _ (at (Step x y) edge);
+      root_in_range = ltb-true _ _ root;
+      entry_inside = λ p in_range. eqb-true _ _ (below shape.procedures (λ q. nat_eq (shape.procedure_of (shape.entry q)) q) entries p in_range);
+      exit_inside = λ p in_range. eqb-true _ _ (below shape.procedures (λ q. nat_eq (shape.procedure_of (shape.exit q)) q) exits p in_range);
+      step_inside = λ x y edge. eqb-true _ _ (at (Step x y) edge);
       call_to_entry = λ site x y edge.
-          let (in_range, rest) = and_true (nat_lt (shape.procedure_of y) shape.procedures) _ (at (Call site x y) edge) in
-          (nat_lt_is _ _ in_range, nat_eq_is _ _ (and_true (nat_eq y (shape.entry (shape.procedure_of y))) _ rest).0);
+          let (in_range, rest) = and_parts (nat_lt (shape.procedure_of y) shape.procedures) _ (at (Call site x y) edge) in
+          (ltb-true _ _ in_range, eqb-true _ _ (and_parts (nat_eq y (shape.entry (shape.procedure_of y))) _ rest).0);
       return_from_exit = λ site x y edge.
-          let (in_range, rest) = and_true (nat_lt (shape.procedure_of x) shape.procedures) _ (at (Ret site x y) edge) in
-          (nat_lt_is _ _ in_range, nat_eq_is _ _ rest);
+          let (in_range, rest) = and_parts (nat_lt (shape.procedure_of x) shape.procedures) _ (at (Ret site x y) edge) in
+          (ltb-true _ _ in_range, eqb-true _ _ rest);
       site_inside = λ site x y u z call return.
-          let (in_range, rest) = and_true (nat_lt (shape.procedure_of y) shape.procedures) _ (at (Call site x y) call) in
-          let returns = (and_true (nat_eq y (shape.entry (shape.procedure_of y))) _ rest).1 in
-          nat_eq_is _ _ (same_of (nat_eq site site) (nat_eq (shape.procedure_of x) (shape.procedure_of z)) (nat_eq_same site)
+          let (in_range, rest) = and_parts (nat_lt (shape.procedure_of y) shape.procedures) _ (at (Call site x y) call) in
+          let returns = (and_parts (nat_eq y (shape.entry (shape.procedure_of y))) _ rest).1 in
+          eqb-true _ _ (if_passes (nat_eq site site) (nat_eq (shape.procedure_of x) (shape.procedure_of z)) (nat_eq_same site)
           (edges_pass shape (fits_call shape site x) returns (Ret site u z) return));
     }

@@ -19,7 +19,7 @@ use Rattle.flow_graph.specs.ProgramLaws.{EdgesJoinPoints, GraphsAreWellFormed, M
 use Rattle.flow_graph.specs.ProgramLaws.{ReturnsHaveCallsAtSites, LiveIsLiveness, DeadVariablesAreSafe}
 use Rattle.flow_graph.specs.Transfers.{reads, operands_of, names_variable}
 use Rattle.flow_graph.specs.Universes.{Reach, Live, Avail, Busy}
-use Rattle.flow_graph.proofs.edges.EdgeLemmas.{IsIn, IsFrom, a_step, a_call, a_return, in_procedure, next_in, edges_are, leaves}
+use Rattle.flow_graph.proofs.edges.EdgeLemmas.{IsIn, IsFrom, a_step, a_call, a_return, in_procedure, next_in, edges_are, leaves, source_is}
 use Rattle.flow_graph.proofs.lists.Membership.{Contains-flat_map, Contains-range, Contains-first}
 use Rattle.flow_graph.proofs.places.PointLemmas.{places_have_points, points_have_places}
 use Rattle.flow_graph.proofs.paths.Reversal.{reversed_is_well_formed, Contains-map}
@@ -234,11 +234,6 @@ reader_steps_of program point variable edge (a_call callee there calling) readin
     absurd (cc (reading, reads_of program point variable (Some (kind.Call callees)) is))
 reader_steps_of program point variable edge (a_return site below calling none ends) reading =
     absurd (cc (reading, reads_of program point variable None none))
-
-source_is : (program : Program) (point : ℕ) (edge : Edge) → IsFrom program point edge → source_of edge ≡ point
-source_is program point edge (a_step target is_in) = refl
-source_is program point edge (a_call callee there calling) = refl
-source_is program point edge (a_return site below calling none ends) = refl
 
 pub live_is_liveness : LiveIsLiveness
 live_is_liveness program variable sound = record {

@@ -1,6 +1,6 @@
 -- Elements of lists that are joined, mapped, or are ranges
 use Rattle.std.proofs.Common.{◌≡◌, ◌⊎◌, ℕ, zero, suc, ◌+◌, ◌<◌, ◌≤◌, List, [], ◌∷◌, map, flat_map, Contains, inl, inr, refl, sym, subst}
-use Rattle.std.proofs.Common.{eq-or-lt_of_le, arith}
+use Rattle.std.proofs.Common.{eq-or-lt_of_le, arith, filter, Bool, true, false, if◌then◌else◌, ap, ◌∙◌}
 use Rattle.std.specs.List.{range_with_len}
 use Rattle.std.proofs.lemmas.List.Elements.{Contains-append_left, Contains-append_right, Contains-append_cases}
 
@@ -60,3 +60,28 @@ Contains-range a (suc n) x low high =
       | inl same ↦ subst (λ w. Contains (range_with_len a (suc n)) w) same (Contains-first a (range_with_len (a + 1) n))
       | inr above ↦ Contains-later a (range_with_len (a + 1) n) x (Contains-range (a + 1) n x (omega arith) (omega arith))
     ]
+
+-- what a filter leaves is of the list and passes the test, and all that passes is left
+pub Contains-in_filter : {A : Type 0} (p : A → Bool) (xs : List A) (x : A) → Contains (filter p xs) x → Contains xs x × (p x ≡ true)
+Contains-in_filter p [] x at = absurd (Contains-nil x at)
+Contains-in_filter p (y ∷ ys) x at = by_test (p y) refl at (λ later. Contains-in_filter p ys x later)
+  where
+    by_test : (b : Bool) → p y ≡ b → Contains (if b then y ∷ filter p ys else filter p ys) x
+        → (Contains (filter p ys) x → Contains ys x × (p x ≡ true)) → Contains (y ∷ ys) x × (p x ≡ true)
+    by_test true test at rest =
+        elim (Contains-cons y (filter p ys) x at) [
+          | inl same ↦ (subst (Contains (y ∷ ys)) (sym same) (Contains-first y ys), ap p same ∙ test)
+          | inr later ↦ (let both = rest later in (Contains-later y ys x both.0, both.1))
+        ]
+    by_test false test at rest = let both = rest at in (Contains-later y ys x both.0, both.1)
+
+pub Contains-filter : {A : Type 0} (p : A → Bool) (xs : List A) (x : A) → Contains xs x → p x ≡ true → Contains (filter p xs) x
+Contains-filter p [] x at passes = absurd (Contains-nil x at)
+Contains-filter p (y ∷ ys) x at passes = by_test (p y) refl (Contains-cons y ys x at) (λ later. Contains-filter p ys x later passes)
+  where
+    by_test : (b : Bool) → p y ≡ b → (x ≡ y) ⊎ Contains ys x → (Contains ys x → Contains (filter p ys) x)
+        → Contains (if b then y ∷ filter p ys else filter p ys) x
+    by_test true test (inl same) rest = subst (Contains (y ∷ filter p ys)) (sym same) (Contains-first y (filter p ys))
+    by_test true test (inr later) rest = Contains-later y (filter p ys) x (rest later)
+    by_test false test (inl same) rest = absurd (cc (sym test ∙ ap p (sym same) ∙ passes))
+    by_test false test (inr later) rest = rest later

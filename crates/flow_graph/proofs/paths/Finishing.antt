@@ -1,13 +1,14 @@
 -- Which points have a path is decided, since a shape has finitely many edges; so a point that is not doubtful can finish
 use Rattle.std.proofs.Common.{◌≡◌, ℕ, Bool, true, false, ◌&&◌, ◌||◌, nat_eq, List, [], ◌∷◌, ◌++◌, map, Some, ◌⊎◌, inl, inr, refl, sym, ap, ◌∙◌, subst}
 use Rattle.std.specs.List.{list_any}
+use Rattle.std.proofs.lemmas.Bool.{eqb-true, or_left, or_right, or_cases, and_parts, and_from}
 use Rattle.flow_graph.specs.Paths.{Edge, Step, Call, Ret, target_of, Shape, root, IsEdge, IsPath, open_sites_after, HasPath, HasBackwardPath}
 use Rattle.flow_graph.specs.Reversals.{reversed_shape, reversed_path}
 use Rattle.flow_graph.specs.WellFormed.{IsWellFormed}
 use Rattle.flow_graph.specs.MatchedPaths.{IsPathFromEntry, IsEnteringPath}
 use Rattle.flow_graph.specs.RunLaws.{UndoubtedFinishes, UndoubtedRunsExtend}
-use Rattle.flow_graph.proofs.FiniteSearch.{nat_eq_is, or_left, or_right, or_either, and_parts, and_both, contains_any, any_contains, decided}
-use Rattle.flow_graph.proofs.FiniteSearch.{least_test}
+use Rattle.flow_graph.proofs.searches.FiniteSearch.{contains_any, any_contains, decided}
+use Rattle.flow_graph.proofs.searches.FiniteSearch.{least_test}
 use Rattle.flow_graph.proofs.graphs.ExampleLemmas.{is_one_of}
 use Rattle.flow_graph.proofs.paths.PathLemmas.{open_sites_after-none, some_sites, nat_eq_same, same_site}
 use Rattle.flow_graph.proofs.paths.Reversal.{Contains-map, valid_reversed, valid_back, reversed_is_well_formed}
@@ -69,20 +70,20 @@ module _ (shape : Shape) (well : IsWellFormed shape) where
       )
 
   next_sound : (found : ℕ → Bool) → ((y : ℕ) → found y ≡ true → HasPath shape y) → (z : ℕ) → is_next shape found z ≡ true → HasPath shape z
-  next_sound found known z next = go (or_either (nat_eq (root shape) z) _ next)
+  next_sound found known z next = go (or_cases (nat_eq (root shape) z) _ next)
     where
       by_edge : (edge : Edge) → IsEdge shape edge → leads_on shape found z edge ≡ true → HasPath shape z
       by_edge (Step x y) at passes =
           let (same, has) = and_parts (nat_eq y z) (found x) passes in
-          subst (HasPath shape) (nat_eq_is y z same) (path_by_step x y at (known x has))
+          subst (HasPath shape) (eqb-true y z same) (path_by_step x y at (known x has))
       by_edge (Call site x y) at passes =
           let (same, has) = and_parts (nat_eq y z) (found x) passes in
-          subst (HasPath shape) (nat_eq_is y z same) (path_by_call site x y at (known x has))
+          subst (HasPath shape) (eqb-true y z same) (path_by_call site x y at (known x has))
       by_edge (Ret site u y) at passes =
           let (same, rest) = and_parts (nat_eq y z) _ passes in
           let (has, called) = and_parts (found u) _ rest in
           let (call, at_call, is_call) = any_contains (calls_found shape found site (shape.procedure_of u)) shape.edges called in
-          subst (HasPath shape) (nat_eq_is y z same) (returned call at_call is_call has)
+          subst (HasPath shape) (eqb-true y z same) (returned call at_call is_call has)
         where
           returned : (call : Edge) → IsEdge shape call → calls_found shape found site (shape.procedure_of u) call ≡ true → found u ≡ true
               → HasPath shape y
@@ -91,11 +92,11 @@ module _ (shape : Shape) (well : IsWellFormed shape) where
           returned (Call other i j) at_call is_call has =
               let (which, has_i) = and_parts (nat_eq other site && nat_eq (shape.procedure_of j) (shape.procedure_of u)) (found i) is_call in
               let (same_site, same_procedure) = and_parts (nat_eq other site) (nat_eq (shape.procedure_of j) (shape.procedure_of u)) which in
-              path_by_return site u y i j at (subst (λ n. IsEdge shape (Call n i j)) (nat_eq_is other site same_site) at_call)
-              (nat_eq_is (shape.procedure_of j) (shape.procedure_of u) same_procedure) (known u has) (known i has_i)
+              path_by_return site u y i j at (subst (λ n. IsEdge shape (Call n i j)) (eqb-true other site same_site) at_call)
+              (eqb-true (shape.procedure_of j) (shape.procedure_of u) same_procedure) (known u has) (known i has_i)
 
       go : (nat_eq (root shape) z ≡ true) ⊎ (list_any (leads_on shape found z) shape.edges ≡ true) → HasPath shape z
-      go (inl same) = subst (HasPath shape) (nat_eq_is (root shape) z same) ([], (refl, refl))
+      go (inl same) = subst (HasPath shape) (eqb-true (root shape) z same) ([], (refl, refl))
       go (inr any) =
           let (edge, at, passes) = any_contains (leads_on shape found z) shape.edges any in
           by_edge edge at passes
@@ -109,11 +110,11 @@ module _ (shape : Shape) (well : IsWellFormed shape) where
     found_after [] x y sites after is_path opens has came = subst (λ n. found n ≡ true) is_path has
     found_after (Step i j ∷ path) x y sites after is_path opens has came =
         let has_i : found i ≡ true = subst (λ n. found n ≡ true) (sym is_path.1) has in
-        found_after path j y sites after is_path.2 opens (next_by (Step i j) j is_path.0 (and_both _ _ (nat_eq_same j) has_i))
+        found_after path j y sites after is_path.2 opens (next_by (Step i j) j is_path.0 (and_from _ _ (nat_eq_same j) has_i))
         (subst (λ p. Came shape found p sites) (sym (ap shape.procedure_of is_path.1) ∙ well.step_inside i j is_path.0) came)
     found_after (Call site i j ∷ path) x y sites after is_path opens has came =
         let has_i : found i ≡ true = subst (λ n. found n ≡ true) (sym is_path.1) has in
-        found_after path j y (site ∷ sites) after is_path.2 opens (next_by (Call site i j) j is_path.0 (and_both _ _ (nat_eq_same j) has_i))
+        found_after path j y (site ∷ sites) after is_path.2 opens (next_by (Call site i j) j is_path.0 (and_from _ _ (nat_eq_same j) has_i))
         (i, j, is_path.0, refl, has_i, subst (λ p. Came shape found p sites) (sym (ap shape.procedure_of is_path.1)) came)
     found_after (Ret site i j ∷ path) x y [] after is_path opens has came = absurd (cc (opens, open_sites_after-none path))
     found_after (Ret site i j ∷ path) x y (latest ∷ sites) after is_path opens has came =
@@ -123,10 +124,10 @@ module _ (shape : Shape) (well : IsWellFormed shape) where
         let call : IsEdge shape (Call site u v) = subst (λ n. IsEdge shape (Call n u v)) (sym same) at_latest in
         let callee : shape.procedure_of v ≡ shape.procedure_of i = inside ∙ sym (ap shape.procedure_of is_path.1) in
         let called = contains_any (calls_found shape found site (shape.procedure_of i)) shape.edges (Call site u v) call
-        (and_both _ _ (and_both _ _ (nat_eq_same site) (ap (λ n. nat_eq n (shape.procedure_of i)) callee ∙ nat_eq_same (shape.procedure_of i)))
+        (and_from _ _ (and_from _ _ (nat_eq_same site) (ap (λ n. nat_eq n (shape.procedure_of i)) callee ∙ nat_eq_same (shape.procedure_of i)))
         has_u) in
         found_after path j y sites after is_path.2 rest
-        (next_by (Ret site i j) j is_path.0 (and_both _ _ (nat_eq_same j) (and_both _ _ has_i called)))
+        (next_by (Ret site i j) j is_path.0 (and_from _ _ (nat_eq_same j) (and_from _ _ has_i called)))
         (subst (λ p. Came shape found p sites) (well.site_inside site u v i j call is_path.0) outer)
 
     all_found : (x : ℕ) → HasPath shape x → found x ≡ true
@@ -138,15 +139,15 @@ module _ (shape : Shape) (well : IsWellFormed shape) where
   candidates = root shape ∷ map target_of shape.edges
 
   next_within : (found : ℕ → Bool) (z : ℕ) → is_next shape found z ≡ true → is_one_of candidates z ≡ true
-  next_within found z next = go (or_either (nat_eq (root shape) z) _ next)
+  next_within found z next = go (or_cases (nat_eq (root shape) z) _ next)
     where
       ends_at : (edge : Edge) → leads_on shape found z edge ≡ true → target_of edge ≡ z
-      ends_at (Step x y) passes = nat_eq_is y z (and_parts (nat_eq y z) _ passes).0
-      ends_at (Call site x y) passes = nat_eq_is y z (and_parts (nat_eq y z) _ passes).0
-      ends_at (Ret site x y) passes = nat_eq_is y z (and_parts (nat_eq y z) _ passes).0
+      ends_at (Step x y) passes = eqb-true y z (and_parts (nat_eq y z) _ passes).0
+      ends_at (Call site x y) passes = eqb-true y z (and_parts (nat_eq y z) _ passes).0
+      ends_at (Ret site x y) passes = eqb-true y z (and_parts (nat_eq y z) _ passes).0
 
       go : (nat_eq (root shape) z ≡ true) ⊎ (list_any (leads_on shape found z) shape.edges ≡ true) → is_one_of candidates z ≡ true
-      go (inl same) = subst (λ n. is_one_of candidates n ≡ true) (nat_eq_is (root shape) z same) (or_left _ _ (nat_eq_same (root shape)))
+      go (inl same) = subst (λ n. is_one_of candidates n ≡ true) (eqb-true (root shape) z same) (or_left _ _ (nat_eq_same (root shape)))
       go (inr any) =
           let (edge, at, passes) = any_contains (leads_on shape found z) shape.edges any in
           subst (λ n. is_one_of candidates n ≡ true) (ends_at edge passes)

@@ -1,6 +1,7 @@
 -- A run is extended to a backward valid path
-use Rattle.std.proofs.Common.{◌≡◌, ℕ, Bool, true, false, not, ◌&&◌, ◌||◌, List, [], ◌∷◌, ◌++◌, Option, Some, None, option_and_then, nat_eq}
+use Rattle.std.proofs.Common.{◌≡◌, ℕ, Bool, true, false, not, ◌&&◌, List, [], ◌∷◌, ◌++◌, Option, Some, None, option_and_then, nat_eq}
 use Rattle.std.proofs.Common.{if◌then◌else◌, IsSome, refl, sym, ap, ◌∙◌, arith}
+use Rattle.std.proofs.Math.Bool.{or-true}
 use Rattle.flow_graph.specs.Paths.{Edge, Step, Call, Ret, source_of, Shape, Transfer, IsEdge, final, IsPath, open_sites_after, value_across}
 use Rattle.flow_graph.specs.Paths.{HasBackwardPath, IsBackwardValidPath, sites_before_edge, open_sites_before, value_before}
 use Rattle.flow_graph.specs.Reversals.{reversed_path, reversed_shape}
@@ -178,13 +179,9 @@ module _ (shape : Shape) (well : IsWellFormed shape) (returns : CallsReturn shap
       let back = run_before run [] sites r.2 opens in
       done r.0 r.1 (IsPath-append shape run r.0 start finish _ is_run.0 r.1, rw (open_sites_before-append run r.0 (Some []), r.3, back.1) refl))
 
-or_true : (a : Bool) → (a || true) ≡ true
-or_true true = refl
-or_true false = refl
-
-both : (a b : Bool) → (not a && b) ≡ true → (a ≡ false) × (b ≡ true)
-both false b p = (refl, p)
-both true b p = absurd (cc p)
+pub not_and_parts : (a b : Bool) → (not a && b) ≡ true → (a ≡ false) × (b ≡ true)
+not_and_parts false b p = (refl, p)
+not_and_parts true b p = absurd (cc p)
 
 pub runs_extend : RunsExtend
 runs_extend shape start finish run well returns can is_run =
@@ -197,12 +194,12 @@ module _ (shape : Shape) (transfer : Transfer) (accesses : Accesses) (live : IsL
       → value_before transfer path true ≡ true
   unwritten_live [] x y is_path unwritten = refl
   unwritten_live (Step i j ∷ path) x y is_path unwritten =
-      let (here, ahead) = both (accesses.writes i) (is_unwritten_along accesses path) unwritten in
-      rw (unwritten_live path j y is_path.2 ahead, live.kill_writes i j is_path.0, here) (or_true (transfer.gen i j))
+      let (here, ahead) = not_and_parts (accesses.writes i) (is_unwritten_along accesses path) unwritten in
+      rw (unwritten_live path j y is_path.2 ahead, live.kill_writes i j is_path.0, here) (or-true (transfer.gen i j))
   unwritten_live (Call site i j ∷ path) x y is_path unwritten =
-      unwritten_live path j y is_path.2 (both (accesses.writes i) (is_unwritten_along accesses path) unwritten).1
+      unwritten_live path j y is_path.2 (not_and_parts (accesses.writes i) (is_unwritten_along accesses path) unwritten).1
   unwritten_live (Ret site i j ∷ path) x y is_path unwritten =
-      unwritten_live path j y is_path.2 (both (accesses.writes i) (is_unwritten_along accesses path) unwritten).1
+      unwritten_live path j y is_path.2 (not_and_parts (accesses.writes i) (is_unwritten_along accesses path) unwritten).1
 
   -- a path that begins where the variable is read makes it live there
   live_at : (path : List Edge) (x : ℕ) → accesses.reads x ≡ true → IsPath shape x path (final shape)

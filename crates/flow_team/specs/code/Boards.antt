@@ -1,5 +1,5 @@
 -- How asks stand to their board, and how far they are posted.
-use Rattle.std.specs.Prelude.{◌≡◌, ◌≢◌, ℕ, ◌+◌, ◌*◌, ◌/◌, ◌%◌, ◌^◌, ◌<◌, ◌≤◌, List, Some, length, slice_get, slice_index}
+use Rattle.std.specs.Prelude.{◌≡◌, ◌≢◌, ℕ, ◌+◌, ◌*◌, ◌/◌, ◌%◌, ◌^◌, ◌<◌, ◌≤◌, List, Some, length, map, slice_get, slice_index, slice_index_or}
 use Rattle.flow_graph.specs.Points.{point_count}
 use Rattle.flow_graph.specs.Problems.{MayForm}
 use Rattle.flow_graph.specs.Universes.{bits}
@@ -22,6 +22,14 @@ pub record Asked : Type 0 where
   pub order : List Ask
   pub places : List ℕ
 
+-- the ask that is read where there is none
+abbrev pub no_ask : Ask
+no_ask = record { analysis = Reach; point = 0; word = 0 }
+
+-- asks in the order of these numbers
+abbrev pub ordered : List Ask → List ℕ → List Ask
+ordered asks places = map (λ place. slice_index_or asks place no_ask) places
+
 -- Each ask stands somewhere in the order, and each of the order is the ask of its number.
 pub record Arranges (asks order : List Ask) (places : List ℕ) : Type 0 where
   pub count : length order ≡ length asks
@@ -29,6 +37,10 @@ pub record Arranges (asks order : List Ask) (places : List ℕ) : Type 0 where
   pub within : (j : ℕ) → j < length asks → slice_index places j < length asks
   pub each : (j : ℕ) → j < length asks → slice_get order j ≡ slice_get asks (slice_index places j)
   pub all : (q : ℕ) → q < length asks → (j : ℕ) × (j < length asks) × (slice_index places j ≡ q)
+
+-- what is asked of a program, in the order of these numbers
+abbrev pub asked_in : Program → List Ask → List ℕ → Asked
+asked_in program asks places = record { program = program; asks = asks; order = ordered asks places; places = places }
 
 -- What is asked is of the program, also in that order, and its words have numbers.
 pub record IsArranged (asked : Asked) : Type 0 where

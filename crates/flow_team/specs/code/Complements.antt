@@ -1,5 +1,5 @@
 -- Sets that are complemented: what is in them is taken out, and the rest put in.
-use Rattle.std.specs.Prelude.{ℕ, Bool, true, false, not, List, length, map}
+use Rattle.std.specs.Prelude.{ℕ, Bool, true, false, not, List, [], ◌++◌, length, map, replicate}
 use Rattle.std.specs.List.{range_with_len}
 use Rattle.bit_rows.specs.RowSet.{RowSet, contains, set_of}
 use Rattle.bit_rows.specs.RowTable.{RowTable, set_at, table}
@@ -23,6 +23,11 @@ complemented_table complements rows = table 0 rows.hi rows.flags (map (complemen
 abbrev pub members_of : RowTable → List (List Bool)
 members_of rows = map (λ (s : RowSet). s.members) rows.sets
 
--- the table of an analysis with these flags and sets
-abbrev pub table_facts : Analysis → RowTable → TableFacts
-table_facts analysis rows = record { analysis = analysis; bits = rows.hi; paths = rows.flags; sets = members_of rows }
+-- the table of an analysis with these flags and sets from the first point on, and none before it
+abbrev pub table_facts : ℕ → Analysis → RowTable → TableFacts
+table_facts first analysis rows = record {
+  analysis = analysis;
+  bits = rows.hi;
+  paths = replicate first false ++ rows.flags;
+  sets = replicate first [] ++ members_of rows;
+}

@@ -1,9 +1,11 @@
 -- How far a slice's words are posted.
-use Rattle.std.specs.Prelude.{◌≡◌, ◌↔◌, ℕ, ◌/◌, ◌<◌, ◌≤◌, List}
+use Rattle.std.specs.Prelude.{◌≡◌, ◌↔◌, ℕ, ◌+◌, ◌*◌, ◌/◌, ◌<◌, ◌≤◌, true, List}
+use Rattle.bit_rows.specs.Words.{has_bit}
 use Rattle.flow_graph.specs.Points.{point_count}
 use Rattle.flow_graph.specs.Problems.{MayForm}
 use Rattle.flow_team.specs.Sets.{IsInMaySet}
-use Rattle.flow_team.specs.Teams.{PostsMore}
+use Rattle.gk_solve.specs.Solved.{SliceTable, word_at}
+use Rattle.slice_team.specs.Teams.{PostsMore}
 use Rattle.slice_board.specs.Boards.{BoardState, IsOf, board_points}
 use Rattle.slice_board.specs.declared.view.LoggedWord.{LoggedWord}
 use Rattle.slice_board.specs.Passes.{PassState, IsLogged}
@@ -13,10 +15,18 @@ abbrev pub IsPosted : (ℕ → ℕ → Type 0) → ℕ → ℕ → (ℕ → ℕ 
 IsPosted wanted lo hi done posted =
     (point bit : ℕ) → wanted point bit → lo ≤ bit → bit < hi → done point (bit / 64) → IsLogged posted point bit
 
--- What is wanted are the may form's sets, the board has its points and the bits before one, and the pass is one of the board's.
-pub record CanPost {T : Type 0} (wanted : ℕ → ℕ → Type 0) (form : MayForm) (hi : ℕ) (board : BoardState T) (pass : PassState T) : Type 0 where
-  pub wants : (point bit : ℕ) → wanted point bit ↔ IsInMaySet form point bit
-  pub points : board_points board ≡ point_count form.program
+-- The words that were solved tell, at a point of theirs, of the slice's bits exactly what is wanted at a point of a board.
+abbrev pub TellPoint : (ℕ → ℕ → Type 0) → SliceTable → ℕ → ℕ → Type 0
+TellPoint wanted slice point at = (word k : ℕ) → slice.from ≤ word → word < slice.until → k < 64
+    → (has_bit (word_at slice at word) k ≡ true) ↔ ((slice.lo ≤ 64 * word + k) × (64 * word + k < slice.hi) × wanted point (64 * word + k))
+
+-- What is wanted are the may form's sets at the board's points, which are so many of the program, from the first on. The board has the bits
+-- before one, and the pass is one of the board's.
+pub record CanPost {T : Type 0} (wanted : ℕ → ℕ → Type 0) (form : MayForm) (first count hi : ℕ) (board : BoardState T) (pass : PassState T)
+    : Type 0 where
+  pub wants : (point bit : ℕ) → wanted point bit ↔ ((point < count) × IsInMaySet form (first + point) bit)
+  pub points : board_points board ≡ count
+  pub there : first + count ≤ point_count form.program
   pub within : hi ≤ board.cut.bits
   pub of : IsOf board pass
 

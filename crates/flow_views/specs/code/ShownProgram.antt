@@ -1,5 +1,6 @@
 -- How the code's tables stand for what is shown.
-use Rattle.std.specs.Prelude.{◌≡◌, ℕ, ◌-◌, ◌<◌, Bool, false, List, Option, Some, None, get_or, map, length, IfSome}
+use Rattle.std.specs.Prelude.{◌≡◌, ℕ, ◌-◌, ◌<◌, ◌≤◌, Bool, false, ◌&&◌, if◌then◌else◌, nat_le, nat_lt, List, Option, Some, None, get_or, map}
+use Rattle.std.specs.Prelude.{length, IfSome}
 use Rattle.std.specs.List.{range_with_len}
 use Rattle.smallvec.specs.SmallVec.{SmallVec}
 use Rattle.flow_graph.specs.Edges.{edges_from}
@@ -15,7 +16,7 @@ use Rattle.flow_texts.specs.code.Told.{facts_in}
 use Rattle.tac_program.specs.Programs.{Program}
 use Rattle.flow_views.specs.code.Names.{AreNames}
 use Rattle.flow_views.specs.declared.shown.Numbers.{Numbers}
-use Rattle.flow_views.specs.ShownTables.{AreShownTables}
+use Rattle.flow_views.specs.ShownTables.{AreShownTables, end_shown, first_shown}
 use Rattle.flow_views.specs.declared.shown.ShownProgram.{ShownProgram}
 use Rattle.flow_views.specs.declared.shown_tables.ShownTables.{ShownTables}
 use Rattle.flow_views.specs.declared.view.Chosen.{Chosen}
@@ -41,18 +42,34 @@ is_chosen chosen Live = chosen.live
 is_chosen chosen Avail = chosen.avail
 is_chosen chosen Busy = chosen.busy
 
--- the facts of a table, and where there is none these
-abbrev pub facts_or : Facts → Option TableFacts → Facts
-facts_or facts None = facts
-facts_or facts (Some table) = facts_of table
+-- whether a point is one from the first on and before another
+abbrev pub is_between : ℕ → ℕ → ℕ → Bool
+is_between from until point = nat_le from point && nat_lt point until
+
+-- the facts of a table at these points, and others at all others
+abbrev pub facts_between : ℕ → ℕ → Facts → Facts → Facts
+facts_between from until these others = record {
+  has_path = λ point. if is_between from until point then these.has_path point else others.has_path point;
+  contains = λ point bit. if is_between from until point then these.contains point bit else others.contains point bit;
+}
+
+-- the facts of a table at these points, and where there is none others
+abbrev pub facts_or : ℕ → ℕ → Facts → Option TableFacts → Facts
+facts_or from until facts None = facts
+facts_or from until facts (Some table) = facts_between from until (facts_of table) facts
+
+-- facts of which a table is known, at the points that are shown
+abbrev pub known_by : ShownProgram → Facts → Option TableFacts → Facts
+known_by shown facts table =
+    facts_or (first_shown shown.found.graph.now shown.view.procedure) (end_shown shown.found.graph.now shown.view.procedure) facts table
 
 -- what is known of a program by its tables, by what a report asks where there is none, and by its doubtful points
 abbrev pub known_of : ShownProgram → Knowledge
 known_of shown = record {
-  reach = facts_or (facts_in shown.found.answers.now.replies Reach) shown.tables.now.reach;
-  live = facts_or (facts_in shown.found.answers.now.replies Live) shown.tables.now.live;
-  avail = facts_or (facts_in shown.found.answers.now.replies Avail) shown.tables.now.avail;
-  busy = facts_or (facts_in shown.found.answers.now.replies Busy) shown.tables.now.busy;
+  reach = known_by shown (facts_in shown.found.answers.now.replies Reach) shown.tables.now.reach;
+  live = known_by shown (facts_in shown.found.answers.now.replies Live) shown.tables.now.live;
+  avail = known_by shown (facts_in shown.found.answers.now.replies Avail) shown.tables.now.avail;
+  busy = known_by shown (facts_in shown.found.answers.now.replies Busy) shown.tables.now.busy;
   doubtful = λ point. get_or shown.found.doubtful.items point false;
 }
 
@@ -61,10 +78,29 @@ known_of shown = record {
 pub record AreShown (shown : ShownProgram) : Type 0 where
   pub found : AreFindings shown.found
   pub doubts : TellDoubtful shown.found.graph.now shown.found.doubtful.items
-  pub tables : AreShownTables shown.found.graph.now shown.view.facts shown.tables.now
+  pub tables : AreShownTables shown.found.graph.now shown.view shown.tables.now
   pub names : AreNames shown.found.graph.now shown.names
   pub successors : contents shown.successors.items ≡ map (edges_from shown.found.graph.now) (points shown.found.graph.now)
   pub procedure : IfSome shown.view.procedure (λ procedure. procedure < length shown.found.graph.now.procedures)
+
+-- The point is one of those that are shown.
+abbrev pub IsShownPoint : ShownProgram → ℕ → Type 0
+IsShownPoint shown point =
+    (first_shown shown.found.graph.now shown.view.procedure ≤ point) × (point < end_shown shown.found.graph.now shown.view.procedure)
+
+-- The procedure is one of those that are shown.
+abbrev pub IsShownProcedure : Option ℕ → ℕ → Type 0
+IsShownProcedure (Some procedure) number = number ≡ procedure
+IsShownProcedure None number = Unit {0}
+
+-- Procedures from one on and before another are among them.
+abbrev pub AreShownProcedures : Option ℕ → Numbers → Type 0
+AreShownProcedures procedure numbers = (number : ℕ) → numbers.first ≤ number → number < numbers.end → IsShownProcedure procedure number
+
+-- The facts tell the same at a point.
+pub record TellSame (one other : Facts) (point : ℕ) : Type 0 where
+  pub path : one.has_path point ≡ other.has_path point
+  pub set : one.contains point ≡ other.contains point
 
 -- the call of an edge is a point
 abbrev pub IsSiteIn : Program → Edge → Type 0

@@ -1,7 +1,7 @@
 // How a board begins.
 ghost use Rattle.std.specs.Prelude.{◌≡◌, ℕ, ◌+◌, ◌*◌, ◌^◌, ◌<◌, length, vec_len, IfOk};
 ghost use Rattle.bit_rows.specs.RowTable.{blank_table};
-ghost use Rattle.slice_board.specs.Boards.{fresh_pass, board_points, words_for};
+ghost use Rattle.slice_board.specs.Boards.{fresh_pass, words_for};
 
 use super::WordBoard;
 use crate::OutOfMemory;

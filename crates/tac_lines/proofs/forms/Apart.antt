@@ -4,6 +4,8 @@ use Rattle.std.specs.List.{list_all}
 use Rattle.std.proofs.lemmas.List.Elements.{All-cons, All-nil}
 use Rattle.std.proofs.lemmas.List.Kept.{AllPairs-cons}
 use Rattle.std.proofs.lemmas.Slice.Eq.{bytes_eq-Decides}
+use Rattle.std.proofs.lemmas.Bool.{and_parts}
+use Rattle.std.proofs.Math.Bool.{or-false}
 use Rattle.tac_lines.specs.Tokens.{Word, name, number, fixed, Token}
 use Rattle.tac_lines.specs.Forms.{Slot, exactly, variable, fills, has_form, statements}
 use Rattle.tac_lines.specs.LineLaws.{StatementsAreApart, NoWordsInBoth}
@@ -16,14 +18,6 @@ clash (exactly a) variable = true
 clash variable (exactly b) = true
 clash _ _ = false
 
-and_parts : (a b : Bool) → (a && b) ≡ true → (a ≡ true) × (b ≡ true)
-and_parts true b h = (refl, h)
-and_parts false b h = absurd (true≢false (sym h))
-
-or_false : (a : Bool) → (a || false) ≡ true → a ≡ true
-or_false true h = refl
-or_false false h = h
-
 differs : (a b : List ℕ) → a ≡ b → not (bytes_eq a b) ≡ true → ⊥
 differs a b e h = by_test (bytes_eq a b) refl h where
   by_test : (t : Bool) → bytes_eq a b ≡ t → not t ≡ true → ⊥
@@ -31,7 +25,7 @@ differs a b e h = by_test (bytes_eq a b) refl h where
   by_test false same n = absurd (true≢false (sym ((bytes_eq-Decides a b).1 e) ∙ same))
 
 same : (s a : List ℕ) → (bytes_eq s a || false) ≡ true → s ≡ a
-same s a h = (bytes_eq-Decides s a).0 (or_false (bytes_eq s a) h)
+same s a h = (bytes_eq-Decides s a).0 (sym (or-false (bytes_eq s a)) ∙ h)
 
 clashing : (s u : Slot) (w : Word) → clash s u ≡ true → fills s w ≡ true → fills u w ≡ true → ⊥
 clashing (exactly a) (exactly b) (fixed s) h l r = differs a b (sym (same s a l) ∙ same s b r) h

@@ -1,6 +1,7 @@
 -- No statement lists more than eight procedures.
 use Rattle.std.proofs.Common.{◌≡◌, ℕ, ◌+◌, ◌≤◌, Bool, true, false, cond, ◌&&◌, List, [], ◌∷◌, length, refl, arith, if◌then◌else◌, Option, Some, None}
 use Rattle.std.proofs.Common.{find, nat_le}
+use Rattle.std.proofs.lemmas.Bool.{and_parts, leb-true}
 use Rattle.tac_lines.specs.Tokens.{Token}
 use Rattle.tac_lines.specs.Forms.{Slot, statements, has_form, paired, in_slot, is_callee, callees_of}
 use Rattle.tac_lines.specs.declared.form.Form.{Form}
@@ -25,16 +26,8 @@ few_callees : ℕ → List (Form × List Slot) → Bool
 few_callees n [] = true
 few_callees n (row ∷ rows) = nat_le (callee_places row.1) n && few_callees n rows
 
-abbrev row_cells : List Token → Option (Form × List Slot) → List (Slot × Token)
+abbrev pub row_cells : List Token → Option (Form × List Slot) → List (Slot × Token)
 row_cells ts found = elim found [ None ↦ [] | Some row ↦ paired row.1 ts ]
-
-both : (a b : Bool) → (a && b) ≡ true → (a ≡ true) × (b ≡ true)
-both true true h = (refl, refl)
-both true false h = (refl, h)
-both false b h = absurd (let e : false ≡ true = h in cc)
-
-at_most : (a n : ℕ) → nat_le a n ≡ true → a ≤ n
-at_most a n h = grind (arith, h)
 
 picked : (b : Bool) (ts : List Token) (row : Form × List Slot) (others : Option (Form × List Slot)) (n : ℕ)
     → length (in_slot is_callee (paired row.1 ts)) ≤ n → length (in_slot is_callee (row_cells ts others)) ≤ n
@@ -47,9 +40,9 @@ found_few : (rows : List (Form × List Slot)) (ts : List Token) (n : ℕ) → fe
 unfolding few_callees
 found_few [] ts n h = omega arith
 found_few (row ∷ rows) ts n h =
-    let parts = both (nat_le (callee_places row.1) n) (few_callees n rows) h in
+    let parts = and_parts (nat_le (callee_places row.1) n) (few_callees n rows) h in
     let places : length (in_slot is_callee (paired row.1 ts)) ≤ callee_places row.1 = places_filled row.1 ts in
-    let bound : callee_places row.1 ≤ n = at_most (callee_places row.1) n parts.0 in
+    let bound : callee_places row.1 ≤ n = leb-true (callee_places row.1) n parts.0 in
     picked (has_form row.1 ts) ts row (find (λ row. has_form row.1 ts) rows) n (omega arith) (found_few rows ts n parts.1)
 
 table_few : few_callees 8 statements ≡ true

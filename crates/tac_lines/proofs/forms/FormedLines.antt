@@ -15,10 +15,9 @@ use Rattle.tac_lines.specs.declared.form.Form.TheVariants as form
 use Rattle.tac_lines.specs.declared.lexed.LineRange.{LineRange}
 use Rattle.tac_lines.specs.declared.statement.Role.{Role}
 use Rattle.tac_lines.specs.declared.statement.Role.TheVariants as role
-use Rattle.std.proofs.lemmas.List.{length-map, drop-map}
+use Rattle.std.proofs.lemmas.List.{length-map, drop-map, take_rest}
 use Rattle.tac_lines.specs.code.Views.{token_view, tokens_view}
 use Rattle.tac_lines.specs.declared.token.Token.{Token as Lexed}
-use Rattle.tac_lines.proofs.forms.LineForms.{all-left}
 use Rattle.tac_lines.proofs.forms.Rows.{row_some}
 use Rattle.tac_lines.proofs.forms.RowLengths.{found_row}
 
@@ -132,7 +131,7 @@ module _ (text : List ℕ) (tokens : List Lexed) (labels : ℕ) (counted : label
 
   pub left_is : tokens_view text (take (length tokens - 2 * labels) (drop (2 * labels) tokens)) ≡ behind_labels (tokens_view text tokens)
   left_is =
-      ap (tokens_view text) (all-left (2 * labels) tokens)
+      ap (tokens_view text) (take_rest tokens (2 * labels))
       ∙ sym (drop-map (token_view text) (2 * labels) tokens)
       ∙ ap (λ n. drop (2 * n) (tokens_view text tokens)) counted
       ∙ sym (behind_is (tokens_view text tokens))
@@ -142,7 +141,7 @@ module _ (text : List ℕ) (tokens : List Lexed) (labels : ℕ) (counted : label
       (tokens_view text (take (length tokens - 2 * labels) (drop (2 * labels) tokens))) ≡ true
   left_formed f h =
       let size : length (take (length tokens - 2 * labels) (drop (2 * labels) tokens)) ≡ length tokens - 2 * labels =
-      ap length (all-left (2 * labels) tokens) ∙ length-drop (2 * labels) tokens in
+      ap length (take_rest tokens (2 * labels)) ∙ length-drop (2 * labels) tokens in
       (λ i. is_formed f (size i) (left_is i)) ∙ h
 
 -- A line whose form lacks a role, or that has no form, has no token of it.

@@ -5,12 +5,12 @@ use Rattle.tac_lines.specs.Forms.{labels_of, label, fills, key}
 use Rattle.tac_lines.specs.code.Views.{token_view, tokens_view, starts_label}
 use Rattle.tac_lines.specs.declared.token.Token.{Token as Lexed}
 
-and_true : (a b : Bool) → (a && b) ≡ true → (a && (b && true)) ≡ true
+pub and_true : (a b : Bool) → (a && b) ≡ true → (a && (b && true)) ≡ true
 and_true true true h = refl
 and_true true false h = h
 and_true false b h = h
 
-not_single : (a : Bool) → (a && false) ≡ true → ⊥
+pub not_single : (a : Bool) → (a && false) ≡ true → ⊥
 not_single true h = true≢false (sym h)
 not_single false h = true≢false (sym h)
 

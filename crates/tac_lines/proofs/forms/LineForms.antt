@@ -1,8 +1,10 @@
 -- Which form of a line goes as far with its tokens as any.
 use Rattle.std.proofs.Common.{◌≡◌, ℕ, zero, suc, ◌+◌, ◌<◌, ◌≤◌, Bool, true, false, ◌&&◌, List, [], ◌∷◌, length, drop, refl, sym, ap, ◌∙◌, arith}
-use Rattle.std.proofs.Common.{Option, Some, None, codes, true≢false, if◌then◌else◌, slice_get, slice_range, nat_lt, take, take_all, ◌-◌, length-drop}
+use Rattle.std.proofs.Common.{Option, Some, None, codes, true≢false, if◌then◌else◌, slice_get, slice_range, nat_lt, ◌-◌, length-drop}
 use Rattle.std.proofs.Common.{◌||◌, option_map, is_some, flat_map, ◌++◌}
 use Rattle.std.proofs.lemmas.Bool.{lt-ltb, le-ltb}
+use Rattle.std.proofs.Math.Bool.{or-false}
+use Rattle.std.proofs.lemmas.Option.{same_Some}
 use Rattle.tac_lines.specs.Tokens.{Token, stop_of}
 use Rattle.tac_lines.specs.Forms.{Slot, fills, key, label, label_form, proc_form, end_form, statement_forms, some_form, first_wrong, has_form}
 use Rattle.tac_lines.specs.Forms.{labels_of, behind_labels, forms_for}
@@ -21,6 +23,7 @@ use Rattle.tac_lines.specs.declared.token.TokenKind.{TokenKind}
 use Rattle.tac_lines.specs.declared.token.TokenKind.TheVariants as kind
 use Rattle.tac_lines.specs.declared.token.Token.{Token as Lexed}
 use Rattle.tac_lines.proofs.forms.Table.{behind, same_behind}
+use Rattle.tac_lines.proofs.forms.LabelCounts.{and_true, not_single}
 
 pub far_trans : (fs gs hs : List (List Slot)) (ts : List Token) → GoesAsFar fs gs ts → GoesAsFar gs hs ts → GoesAsFar fs hs ts
 far_trans fs gs hs ts a b = record { wrong = a.wrong ∙ b.wrong; whole = a.whole ∙ b.whole }
@@ -99,19 +102,10 @@ module _ (text : List ℕ) where
 
 -- Labels at the front, two tokens each.
 module _ (text : List ℕ) where
-  and_true : (a b : Bool) → (a && b) ≡ true → (a && (b && true)) ≡ true
-  and_true true true h = refl
-  and_true true false h = h
-  and_true false b h = h
-
   and_false : (a b : Bool) → (a && b) ≡ false → (a && (b && true)) ≡ false
   and_false true true h = h
   and_false true false h = refl
   and_false false b h = refl
-
-  not_single : (a : Bool) → (a && false) ≡ true → ⊥
-  not_single true h = true≢false (sym h)
-  not_single false h = true≢false (sym h)
 
   pub label_step : (ts : List Lexed) → starts_label text ts ≡ true → (behind_labels (tokens_view text ts)
       ≡ behind_labels (tokens_view text (drop 2 ts))) × (forms_for true (labels_of (tokens_view text ts)) ≡ line_forms true true) × (2 ≤ length ts)
@@ -141,10 +135,6 @@ get-drop zero k ts = ap (slice_get ts) (let e : k ≡ 0 + k = omega arith in e)
 get-drop (suc n) k [] = sym (ap (slice_get (let r : List Lexed = [] in r)) (let e : suc n + k ≡ suc (n + k) = omega arith in e)) ∙ refl
 get-drop (suc n) k (t ∷ ts) = get-drop n k ts ∙ sym (ap (slice_get (t ∷ ts)) (let e : suc n + k ≡ suc (n + k) = omega arith in e))
 
--- The tokens that are left, as a range to the end.
-pub all-left : (n : ℕ) (ts : List Lexed) → take (length ts - n) (drop n ts) ≡ drop n ts
-all-left n ts = take_all (length ts - n) (drop n ts) (let e : length (drop n ts) ≡ length ts - n = length-drop n ts in omega (arith, e))
-
 pub label_end : (text : List ℕ) (n : ℕ) (ts : List Lexed) → n ≤ length ts
     → (0 < n → forms_for true (labels_of (tokens_view text ts)) ≡ line_forms true true) → labels_of (tokens_view text (drop n ts)) ≡ []
     → forms_for true (labels_of (tokens_view text ts)) ≡ line_forms true (nat_lt (length (drop n ts)) (length ts))
@@ -162,9 +152,6 @@ pub labelled_on : (text : List ℕ) (n : ℕ) (ts : List Lexed) → (0 < n → f
 labelled_on text zero ts before here = here
 labelled_on text (suc n) ts before here = before (omega arith)
 
-some_same : (x y : ℕ) → ◌≡◌ {A = Option ℕ} (Some x) (Some y) → x ≡ y
-some_same x y e = cc
-
 -- What the walk along the one form that can win tells of all.
 abbrev pub judge : List (List Slot) → List Token → Bool → ℕ → List Fault
 judge fs ts cut stop =
@@ -174,18 +161,14 @@ pub judged : (fs : List (List Slot)) (slots : List Slot) (ts : List Token) (w : 
     → option_map (λ t. t.start) (first_wrong (slots ∷ []) [] ts) ≡ wrong_of w → has_form slots ts ≡ is_whole w
     → judge fs ts cut stop ≡ verdict w cut stop
 judged fs slots ts w cut stop far wrong whole =
-    go (first_wrong (slots ∷ []) [] ts) (some_form (slots ∷ []) ts) w far.wrong far.whole wrong (or_false (has_form slots ts) ∙ whole)
+    go (first_wrong (slots ∷ []) [] ts) (some_form (slots ∷ []) ts) w far.wrong far.whole wrong (or-false (has_form slots ts) ∙ whole)
   where
-    or_false : (a : Bool) → (a || false) ≡ a
-    or_false true = refl
-    or_false false = refl
-
     go : (o : Option Token) (a : Bool) (v : Walk) → first_wrong fs [] ts ≡ o → some_form fs ts ≡ a → option_map (λ t. t.start) o ≡ wrong_of v
         → a ≡ is_whole v → (elim (first_wrong fs [] ts) as (λ _.
         List Fault) [ Some t ↦ at Syntax t.start | None ↦ (if some_form fs ts || cut then [] else at Syntax stop) ]) ≡ verdict v cut stop
     go (Some t) a (Wrong p) e f h k =
         ap (λ o. elim o as (λ _. List Fault) [ Some u ↦ at Syntax u.start | None ↦ (if some_form fs ts || cut then [] else at Syntax stop) ]) e
-        ∙ ap (at Syntax) (some_same t.start p h)
+        ∙ ap (at Syntax) (same_Some t.start p h)
     go (Some t) a Unfinished e f h k = absurd (cc h)
     go (Some t) a Whole e f h k = absurd (cc h)
     go None a (Wrong p) e f h k = absurd (cc h)
@@ -210,9 +193,7 @@ form_fault_is inside labelled ts others bad e f = λ i. judge (f i) (sym e i) (i
 -- The end of the last token.
 pub last_stop : (text : List ℕ) (ts : List Lexed) (t : Lexed) → Some t ≡ slice_get ts (length ts - 1) → stop_of (tokens_view text ts) ≡ t.stop
 last_stop text [] t e = absurd (cc e)
-last_stop text (u ∷ []) t e = sym (ap (λ x. x.stop) (same t u e)) where
-  same : (x y : Lexed) → ◌≡◌ {A = Option Lexed} (Some x) (Some y) → x ≡ y
-  same x y h = cc
+last_stop text (u ∷ []) t e = sym (ap (λ x. x.stop) (same_Some t u e))
 last_stop text (u ∷ v ∷ vs) t e =
     last_stop text (v ∷ vs) t (e ∙ ap (slice_get (u ∷ v ∷ vs)) (let n : suc (suc (length vs)) - 1 ≡ suc (suc (length vs) - 1) = omega arith in n))
 
@@ -230,7 +211,7 @@ pub row_some : (inside : Bool) (text : List ℕ) (ts : List Lexed) (bad : Option
     → found ≡ first_by_place (row_faults inside (record { tokens = tokens_view text ts; bad = bad }))
 row_some inside text ts None zero place first found h e g f = absurd (cc e)
 row_some inside text ts (Some b) zero place first found h e g f =
-    g ∙ ap (λ p. merged (Some (record { kind = BadByte; place = p })) first) (some_same place b (sym e))
+    g ∙ ap (λ p. merged (Some (record { kind = BadByte; place = p })) first) (same_Some place b (sym e))
     ∙ ap (merged (Some (record { kind = BadByte; place = b }))) f
 row_some inside text ts bad (suc n) place first found h e g f = absurd (let never : ⊥ = omega (arith, h) in never)
 

@@ -1,9 +1,10 @@
 -- How many tokens a row of the table has.
 use Rattle.std.proofs.Common.{◌≡◌, suc, Bool, true, false, List, [], ◌∷◌, length, refl, sym, ap, ◌∙◌, Option, Some, true≢false, find, cond}
+use Rattle.std.proofs.lemmas.Bool.{and_parts}
+use Rattle.std.proofs.lemmas.Option.{same_Some}
 use Rattle.tac_lines.specs.Tokens.{Token}
 use Rattle.tac_lines.specs.Forms.{Slot, fills, has_form, statements, statement_row}
 use Rattle.tac_lines.specs.declared.form.Form.{Form}
-use Rattle.tac_lines.proofs.tokens.Longest.{and_parts}
 
 pub form_length : (slots : List Slot) (ts : List Token) → has_form slots ts ≡ true → length ts ≡ length slots
 form_length [] [] h = refl
@@ -16,13 +17,10 @@ pub found_row : (ts : List Token) (rows : List (Form × List Slot)) (row : Form 
     → has_form row.1 ts ≡ true
 found_row ts [] row e = absurd (cc e)
 found_row ts (r ∷ rs) row e = go (has_form r.1 ts) refl e (λ k. found_row ts rs row k) where
-  same : (x y : Form × List Slot) → ◌≡◌ {A = Option (Form × List Slot)} (Some x) (Some y) → x ≡ y
-  same x y k = cc
-
   go : (b : Bool) → has_form r.1 ts ≡ b → cond (has_form r.1 ts) (let o : Option (Form × List Slot) = Some r in o) (find (λ q. has_form q.1 ts) rs)
       ≡ Some row → (find (λ q. has_form q.1 ts) rs ≡ Some row → has_form row.1 ts ≡ true) → has_form row.1 ts ≡ true
   go true f k later = ap (λ q. has_form q.1 ts)
-      (sym (same r row (sym (ap (λ b. cond b (let o : Option (Form × List Slot) = Some r in o) (find (λ q. has_form q.1 ts) rs)) f) ∙ k))) ∙ f
+      (sym (same_Some r row (sym (ap (λ b. cond b (let o : Option (Form × List Slot) = Some r in o) (find (λ q. has_form q.1 ts) rs)) f) ∙ k))) ∙ f
   go false f k later = later (sym (ap (λ b. cond b (let o : Option (Form × List Slot) = Some r in o) (find (λ q. has_form q.1 ts) rs)) f) ∙ k)
 
 pub row_length : (ts : List Token) (row : Form × List Slot) → statement_row ts ≡ Some row → length ts ≡ length row.1

@@ -2,6 +2,7 @@
 use Rattle.std.proofs.Common.{◌≡◌, ◌≢◌, ℕ, suc, ◌<◌, ◌≤◌, Bool, true, false, ◌&&◌, List, [], ◌∷◌, length, refl, sym, ap, ◌∙◌, subst, arith, Option}
 use Rattle.std.proofs.Common.{Some, None, codes, true≢false, if◌then◌else◌, slice_get, slice_range, ◌-◌}
 use Rattle.std.proofs.lemmas.List.{length-map}
+use Rattle.std.proofs.lemmas.Option.{same_Some}
 use Rattle.tac_lines.specs.Tokens.{Token}
 use Rattle.tac_lines.specs.Forms.{Slot, fills, key, label, operand, binary, unary, comparison, variable, callee, further_callees, statement_forms}
 use Rattle.tac_lines.specs.Forms.{some_begins}
@@ -45,16 +46,13 @@ module _ (text : List ℕ) where
   number_behind : (a b : ℕ) → behind (at kind.Number a b) statement_forms ≡ []
   number_behind a b = refl
 
-  some_same : {A : Type 0} (x y : A) → ◌≡◌ {A = Option A} (Some x) (Some y) → x ≡ y
-  some_same x y e = cc
-
   no_token : {A : Type 0} (x : A) → ◌≡◌ {A = Option A} (Some x) None → ⊥
   no_token x e = cc
 
   -- A token is its kind at its place.
   moved : (t u : Lexed) (k : TokenKind) (P : Token → Type 0) → ◌≡◌ {A = Option Lexed} (Some t) (Some u) → t.kind ≡ k → P (at k u.start u.stop)
       → P (view u)
-  moved t u k P e h p = subst (λ j. P (at j u.start u.stop)) (sym h ∙ ap (λ x. x.kind) (some_same t u e)) p
+  moved t u k P e h p = subst (λ j. P (at j u.start u.stop)) (sym h ∙ ap (λ x. x.kind) (same_Some t u e)) p
 
   pub key_far : (n : ℕ) (ts : List Lexed) (t : Lexed) (k : Keyword) → Some t ≡ slice_get ts 0 → t.kind ≡ kind.Keyword k → has_more k ≡ false
       → GoesAsFar statement_forms (form_slots (of_key k) n ∷ []) (views ts)

@@ -1,7 +1,7 @@
 -- A walk along a form, one token after another.
-use Rattle.std.proofs.Common.{◌≡◌, ℕ, zero, suc, ◌+◌, ◌<◌, ◌≤◌, Bool, true, false, ◌&&◌, List, [], ◌∷◌, length, drop, refl, sym, ap, ◌∙◌, arith}
+use Rattle.std.proofs.Common.{◌≡◌, ℕ, ◌+◌, ◌<◌, ◌≤◌, Bool, true, false, ◌&&◌, List, [], ◌∷◌, length, drop, sym, ap, ◌∙◌}
 use Rattle.std.proofs.Common.{Option, Some, option_map, slice_index_or}
-use Rattle.std.proofs.lemmas.List.{at_drop_more}
+use Rattle.std.proofs.lemmas.List.{at_drop_more, drop_all}
 use Rattle.tac_lines.specs.Forms.{fills, has_form, first_wrong}
 use Rattle.tac_lines.specs.code.Views.{slot_view, slots_view, token_view, tokens_view}
 use Rattle.tac_lines.specs.declared.form.Slot.{Slot as Wanted}
@@ -16,12 +16,6 @@ wrong_at text slots tokens = option_map (λ t. t.start) (first_wrong (slots_view
 
 abbrev pub whole_at : List ℕ → List Wanted → List Lexed → Bool
 whole_at text slots tokens = has_form (slots_view slots) (tokens_view text tokens)
-
-none_left : {A : Type 0} (n : ℕ) (xs : List A) → length xs ≤ n → drop n xs ≡ []
-none_left zero [] h = refl
-none_left (suc n) [] h = refl
-none_left zero (x ∷ xs) h = absurd (let never : ⊥ = omega (arith, h) in never)
-none_left (suc n) (x ∷ xs) h = none_left n xs (omega (arith, h))
 
 module _ (text : List ℕ) (slots : List Wanted) (tokens : List Lexed) (at : ℕ) where
   module _ (d : Wanted) (e : Lexed) (below : at < length slots) (within : at < length tokens) where
@@ -50,9 +44,9 @@ module _ (text : List ℕ) (slots : List Wanted) (tokens : List Lexed) (at : ℕ
 
   pub no_slots : length slots ≤ at → at < length tokens → whole_at text (drop at slots) (drop at tokens) ≡ false
   no_slots short within =
-      ap (λ ss. whole_at text ss (drop at tokens)) (none_left at slots short)
+      ap (λ ss. whole_at text ss (drop at tokens)) (drop_all at slots short)
       ∙ at_drop_more (λ ts. whole_at text [] ts) tokens at (record { kind = kind.Name; start = 0; stop = 0 }) within
 
   pub no_tokens : length tokens ≤ at → at < length slots → whole_at text (drop at slots) (drop at tokens) ≡ false
   no_tokens short below =
-      ap (λ ts. whole_at text (drop at slots) ts) (none_left at tokens short) ∙ at_drop_more (λ ss. whole_at text ss []) slots at wanted.Colon below
+      ap (λ ts. whole_at text (drop at slots) ts) (drop_all at tokens short) ∙ at_drop_more (λ ss. whole_at text ss []) slots at wanted.Colon below

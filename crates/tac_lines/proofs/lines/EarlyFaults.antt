@@ -1,6 +1,9 @@
 -- The first fault of a line by its first tokens, where the rest cannot change it.
 use Rattle.std.proofs.Common.{◌≡◌, ℕ, zero, ◌+◌, ◌<◌, ◌≤◌, ◌⊎◌, inl, inr, Bool, true, false, ◌||◌, List, [], ◌∷◌, ◌++◌, length, refl, sym, ap, ◌∙◌}
 use Rattle.std.proofs.Common.{subst, arith, Option, Some, None, if◌then◌else◌, flat_map, is_some, append_assoc, append-nil}
+use Rattle.std.proofs.Math.Bool.{or-true}
+use Rattle.std.proofs.lemmas.Option.{same_Some}
+use Rattle.std.specs.List.{AllByRecursion as Each}
 use Rattle.tac_lines.specs.Tokens.{Token, row_from, stop_of}
 use Rattle.tac_lines.specs.Forms.{Slot, label_form, has_form, labels_of, behind_labels, forms_for, some_begins, some_form, first_wrong}
 use Rattle.tac_lines.specs.LineFaults.{at, word_fault, bad_fault, form_fault, row_faults, first_by_place, precedes, earlier}
@@ -8,16 +11,14 @@ use Rattle.tac_lines.specs.code.Views.{merged}
 use Rattle.tac_lines.specs.declared.fault.Fault.{Fault}
 use Rattle.tac_lines.specs.declared.refusal.RefusalKind.TheVariants as kind
 use Rattle.tac_lines.proofs.forms.LineForms.{judge}
-use Rattle.tac_lines.proofs.lines.FirstFault.{Before, Tells, tells, precedes_of, Each, first-append}
-use Rattle.tac_lines.proofs.lines.FaultPlaces.{FaultIn, weaken, words_in, bad_in, wrong_in, others_in}
+use Rattle.tac_lines.proofs.lines.FirstFault.{Before, Tells, tells, precedes_of, first-append}
+use Rattle.tac_lines.proofs.lines.FaultPlaces.{FaultIn, words_in, bad_in, wrong_in, others_in}
 use Rattle.tac_lines.proofs.tokens.Places.{ends_line, StandsIn, EachToken, row_in}
+use Rattle.tac_program.proofs.lists.Elements.{each-weaker}
 
 -- A fault behind another.
 abbrev pub Later : Fault → Fault → Type 0
 Later f g = f.place < g.place
-
-some_is : (x y : Fault) → ◌≡◌ {A = Option Fault} (Some x) (Some y) → x ≡ y
-some_is x y e = cc
 
 not_before : (m f : Fault) → Later f m → precedes m f ≡ false
 unfolding Tells
@@ -38,18 +39,18 @@ insert_one : (a : Option Fault) (m : Fault) (b : Option Fault) (f : Fault) → L
 unfolding pick under Tells
 insert_one None m None f later e = absurd (cc e)
 insert_one None m (Some g) f later e =
-    ap (λ t. pick t m g) (subst (λ x. precedes m x ≡ false) (sym (some_is g f e)) (not_before m f later)) ∙ e
+    ap (λ t. pick t m g) (subst (λ x. precedes m x ≡ false) (sym (same_Some g f e)) (not_before m f later)) ∙ e
 insert_one (Some x) m None f later e =
-    ap (λ t. pick t x m) (subst (λ y. precedes y m ≡ true) (sym (some_is x f e)) (precedes_of f m (inl later))) ∙ e
+    ap (λ t. pick t x m) (subst (λ y. precedes y m ≡ true) (sym (same_Some x f e)) (precedes_of f m (inl later))) ∙ e
 insert_one (Some x) m (Some g) f later e = go (tells m g) (tells x g) where
   go : Tells m g → Tells x g → ◌≡◌ {A = Option Fault} (Some (earlier x (Some (earlier m (Some g))))) (Some f)
   go (inr (t, h)) _ = ap (under x m g) t ∙ e
   go (inl (t, h)) (inl (u, k)) =
-      let same : x ≡ f = some_is x f (sym (ap (λ v. pick v x g) u) ∙ e) in
+      let same : x ≡ f = same_Some x f (sym (ap (λ v. pick v x g) u) ∙ e) in
       ap (under x m g) t ∙ ap (λ v. pick v x m) (subst (λ y. precedes y m ≡ true) (sym same) (precedes_of f m (inl later)))
       ∙ ap (λ y. let r : Option Fault = Some y in r) same
   go (inl (t, h)) (inr (u, k)) =
-      let same : g ≡ f = some_is g f (sym (ap (λ v. pick v x g) u) ∙ e) in
+      let same : g ≡ f = same_Some g f (sym (ap (λ v. pick v x g) u) ∙ e) in
       absurd (behind h (ap (λ y. y.place) same))
     where
       behind : Before m g → g.place ≡ f.place → ⊥
@@ -66,10 +67,10 @@ insert_later xs (m ∷ ms) ys f h e =
 drop_front : (b : Fault) (o : Option Fault) (f : Fault) → Later f b → ◌≡◌ {A = Option Fault} (Some (earlier b o)) (Some f) → o ≡ Some f
 unfolding Tells pick
 drop_front b None f later e =
-    absurd (let p : b.place ≡ f.place = ap (λ y. y.place) (some_is b f e) in let never : ⊥ = omega (arith, p, later) in never)
+    absurd (let p : b.place ≡ f.place = ap (λ y. y.place) (same_Some b f e) in let never : ⊥ = omega (arith, p, later) in never)
 drop_front b (Some g) f later e = go (tells b g) where
   go : Tells b g → ◌≡◌ {A = Option Fault} (Some g) (Some f)
-  go (inl (t, h)) = absurd (let p : b.place ≡ f.place = ap (λ y. y.place) (some_is b f (sym (ap (λ v. pick v b g) t) ∙ e)) in
+  go (inl (t, h)) = absurd (let p : b.place ≡ f.place = ap (λ y. y.place) (same_Some b f (sym (ap (λ v. pick v b g) t) ∙ e)) in
       let never : ⊥ = omega (arith, p, later) in never)
   go (inr (t, h)) = sym (ap (λ v. pick v b g) t) ∙ e
 
@@ -95,21 +96,17 @@ none_goes_on fs before (x ∷ xs) ys e = go (some_begins fs (before ++ x ∷ [])
   go true k later = later k ∙ ap (λ r. first_wrong fs r ys) (append_assoc before (x ∷ []) xs)
   go false k later = absurd (cc k)
 
-or_true : (b : Bool) → (b || true) ≡ true
-or_true true = refl
-or_true false = refl
-
 none_cut : (fs : List (List Slot)) (xs : List Token) (stop : ℕ) → first_wrong fs [] xs ≡ None → judge fs xs true stop ≡ []
 none_cut fs xs stop e =
     ap (λ o. elim o as (λ _. List Fault) [ Some t ↦ at kind.Syntax t.start | None ↦ (if some_form fs xs || true then [] else at kind.Syntax stop) ]) e
-    ∙ ap (λ b. if b then [] else at kind.Syntax stop) (or_true (some_form fs xs))
+    ∙ ap (λ b. if b then [] else at kind.Syntax stop) (or-true (some_form fs xs))
 
 told : Bool → Bool → ℕ → Option Token → List Fault
 told whole cut stop o = elim o as (λ _. List Fault) [ Some t ↦ at kind.Syntax t.start | None ↦ (if whole || cut then [] else at kind.Syntax stop) ]
 
 module _ (low high : ℕ) (ended : Bool) (f : Fault) (before : f.place < low) where
   pub all_later : (fs : List Fault) → Each (FaultIn low high ended) fs → Each (Later f) fs
-  all_later fs h = weaken (FaultIn low high ended) (Later f) fs (λ g k. omega (arith, k.from, before)) h
+  all_later fs h = each-weaker (FaultIn low high ended) (Later f) (λ g k. omega (arith, k.from, before)) fs h
 
   judge_later : (fs : List (List Slot)) (xs ys : List Token) (cut : Bool) (stop : ℕ) → first_wrong fs [] xs ≡ None
       → EachToken (StandsIn low high ended) ys → low ≤ stop → Each (Later f) (judge fs (xs ++ ys) cut stop)

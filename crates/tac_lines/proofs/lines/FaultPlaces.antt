@@ -2,19 +2,21 @@
 use Rattle.std.proofs.Common.{◌≡◌, ℕ, zero, ◌+◌, ◌-◌, ◌<◌, ◌≤◌, ◌⊎◌, inl, inr, Bool, true, false, ◌||◌, List, [], ◌∷◌, ◌++◌, length, drop, refl, sym}
 use Rattle.std.proofs.Common.{ap, ◌∙◌, subst, arith, Option, Some, None, if◌then◌else◌, true≢false, flat_map, nat_lt, is_some, length-append}
 use Rattle.std.proofs.Common.{length-drop, slice_range, eq-or-lt_of_le}
-use Rattle.std.specs.List.{onto_first}
+use Rattle.std.specs.List.{onto_first, AllByRecursion as Each}
+use Rattle.std.proofs.lemmas.Option.{same_Some}
 use Rattle.tac_lines.specs.Text.{lines, is_line_end}
 use Rattle.tac_lines.specs.Tokens.{Word, name, number, fixed, Token, Row, row_from, rows_from, stop_of}
 use Rattle.tac_lines.specs.Forms.{Slot, label_form, has_form, labels_of, behind_labels, forms_for, some_begins, some_form, first_wrong}
 use Rattle.tac_lines.specs.LineFaults.{number_of_kind, at, word_fault, bad_fault, form_fault, row_faults, line_faults, inside_after, first_by_place}
 use Rattle.tac_program.specs.Limits.{longest_name, largest_number}
+use Rattle.tac_program.proofs.lists.Elements.{each-append, each-weaker}
 use Rattle.tac_lines.specs.code.Lexed.{IfFault}
 use Rattle.tac_lines.specs.declared.fault.Fault.{Fault}
 use Rattle.tac_lines.specs.declared.fault.Stop.{Stop}
 use Rattle.tac_lines.specs.declared.fault.Stop.TheVariants as stop
 use Rattle.tac_lines.specs.declared.refusal.RefusalKind.{RefusalKind}
 use Rattle.tac_lines.specs.declared.refusal.RefusalKind.TheVariants as kind
-use Rattle.tac_lines.proofs.lines.FirstFault.{Before, Each, each-append, first_each, first_front}
+use Rattle.tac_lines.proofs.lines.FirstFault.{Before, first_each, first_front}
 use Rattle.tac_lines.proofs.tokens.Places.{ends_line, StandsIn, EachToken, BadIn, RowIn, row_in}
 use Rattle.tac_lines.proofs.lines.Lines.{lines_join}
 use Rattle.tac_lines.proofs.tokens.RowSteps.{length-range}
@@ -57,13 +59,10 @@ module _ (low high : ℕ) (ended : Bool) where
       → first_wrong forms before ts ≡ Some t → StandsIn low high ended t
   wrong_in forms before [] t h e = absurd (cc e)
   wrong_in forms before (u ∷ us) t h e = go (some_begins forms (before ++ u ∷ [])) e (λ k. wrong_in forms (before ++ u ∷ []) us t h.1 k) where
-    same : (x y : Token) → ◌≡◌ {A = Option Token} (Some x) (Some y) → x ≡ y
-    same x y k = cc
-
     go : (b : Bool) → (elim b as (λ _. Option Token) [ true ↦ first_wrong forms (before ++ u ∷ []) us | false ↦ Some u ]) ≡ Some t
         → (first_wrong forms (before ++ u ∷ []) us ≡ Some t → StandsIn low high ended t) → StandsIn low high ended t
     go true k later = later k
-    go false k later = subst (StandsIn low high ended) (same u t k) h.0
+    go false k later = subst (StandsIn low high ended) (same_Some u t k) h.0
 
   pub others_in : (ts : List Token) → EachToken (StandsIn low high ended) ts → EachToken (StandsIn low high ended) (behind_labels ts)
   others_in [] h = tt
@@ -111,10 +110,6 @@ module _ (low high : ℕ) (ended : Bool) where
       (form_in inside row h.tokens)
 
 -- Faults from a place on.
-pub weaken : (P Q : Fault → Type 0) (fs : List Fault) → ((f : Fault) → P f → Q f) → Each P fs → Each Q fs
-weaken P Q [] g h = tt
-weaken P Q (f ∷ fs) g h = (g f h.0, weaken P Q fs g h.1)
-
 rest_from : (inside : Bool) (place end : ℕ) (ls : List (List ℕ)) → place + length (flat_map (λ l. l) ls) ≤ end
     → Each (λ f. place ≤ f.place) (line_faults inside end (rows_from place ls))
 rest_from true place end [] h = (omega (arith, h), tt)
@@ -123,10 +118,11 @@ rest_from inside place end (l ∷ ls) h =
     let size : length (l ++ flat_map (λ x. x) ls) ≡ length l + length (flat_map (λ x. x) ls) = length-append l (flat_map (λ x. x) ls) in
     let row : Row = row_from place zero l in
     each-append (λ f. place ≤ f.place) (row_faults inside row) (line_faults (inside_after inside row) end (rows_from (place + length l) ls))
-    (weaken (FaultIn place (place + length l) (ends_line l)) (λ f. place ≤ f.place) (row_faults inside row) (λ f k. k.from)
+    (each-weaker (FaultIn place (place + length l) (ends_line l)) (λ f. place ≤ f.place) (λ f k. k.from) (row_faults inside row)
     (faults_in place (place + length l) (ends_line l) inside row (row_in place zero (place + length l) l refl)))
-    (weaken (λ f. place + length l ≤ f.place) (λ f. place ≤ f.place) (line_faults (inside_after inside row) end (rows_from (place + length l) ls))
-    (λ f k. omega (arith, k)) (rest_from (inside_after inside row) (place + length l) end ls (omega (arith, h, size))))
+    (each-weaker (λ f. place + length l ≤ f.place) (λ f. place ≤ f.place) (λ f k. omega (arith, k))
+    (line_faults (inside_after inside row) end (rows_from (place + length l) ls))
+    (rest_from (inside_after inside row) (place + length l) end ls (omega (arith, h, size))))
 
 -- Each line but the last ends with its line feed.
 earlier_ends : (bs l : List ℕ) (m : List ℕ) (ls : List (List ℕ)) → lines bs ≡ l ∷ m ∷ ls → ends_line l ≡ true
@@ -179,8 +175,8 @@ rest_behind text start stop inside inside2 f cut after within e =
         let ended : ends_line l ≡ true = earlier_ends (drop start text) l m ms (cut ∙ ap (λ r. l ∷ r) k) in
         let size : length (flat_map (λ x. x) (m ∷ ms)) ≡ length text - stop =
         ap (λ r. length (flat_map (λ x. x) r)) (sym k) ∙ ap length (lines_join (drop stop text)) ∙ length-drop stop text in
-        weaken (λ g. stop ≤ g.place) (Before f) (line_faults inside2 (length text) (rows_from stop (m ∷ ms)))
-        (λ g n. inl (omega (arith, n, h.before ended)))
+        each-weaker (λ g. stop ≤ g.place) (Before f) (λ g n. inl (omega (arith, n, h.before ended)))
+        (line_faults inside2 (length text) (rows_from stop (m ∷ ms)))
         (rest_from inside2 stop (length text) (m ∷ ms) (omega (arith, size, within)))
 
 -- One line, and the lines behind it.

@@ -1,7 +1,7 @@
 -- Statements without faults of form.
 use Rattle.std.proofs.Common.{◌≡◌, ℕ, Bool, true, false, ◌&&◌, ◌||◌, List, [], ◌∷◌, ◌++◌, map, flat_map, refl, sym, ap, ◌∙◌, Option, Some, None}
 use Rattle.std.proofs.Common.{is_some, find, append_assoc, true≢false, if◌then◌else◌}
-use Rattle.std.proofs.lemmas.Bool.{or_right}
+use Rattle.std.proofs.lemmas.Bool.{or_right, and_parts}
 use Rattle.tac_lines.specs.Tokens.{Token, stop_of}
 use Rattle.tac_lines.specs.Forms.{Slot, statements, statement_forms, statement_row, fills, begins, has_form, end_form, labels_of, behind_labels}
 use Rattle.tac_lines.specs.Forms.{forms_for, some_begins, some_form, first_wrong}
@@ -9,7 +9,6 @@ use Rattle.tac_lines.specs.LineFaults.{at, word_fault, row_faults, first_by_plac
 use Rattle.tac_lines.specs.declared.fault.Fault.{Fault}
 use Rattle.tac_lines.specs.declared.form.Form.{Form}
 use Rattle.tac_lines.specs.declared.refusal.RefusalKind.TheVariants as kind
-use Rattle.tac_lines.proofs.tokens.Longest.{and_parts}
 use Rattle.tac_lines.proofs.forms.LineForms.{judge}
 
 -- Where all the tokens are a form, each front of them begins one.

@@ -3,6 +3,8 @@ use Rattle.std.proofs.Common.{◌≡◌, ◌≢◌, ℕ, ◌<◌, ◌≤◌, ◌
 use Rattle.std.proofs.Common.{arith, Option, Some, None, nat_le, ◌==◌, eq-eqb, if◌then◌else◌}
 use Rattle.std.proofs.lemmas.Bool.{lt-ltb, le-ltb, eqb-true, cases_order}
 use Rattle.std.proofs.lemmas.Bool.Decides.{leb_tells}
+use Rattle.std.proofs.lemmas.Option.{same_Some}
+use Rattle.std.specs.List.{AllByRecursion as Each}
 use Rattle.tac_lines.specs.LineFaults.{number_of_kind, precedes, earlier, first_by_place}
 use Rattle.tac_lines.specs.code.Views.{merged}
 use Rattle.tac_lines.specs.declared.fault.Fault.{Fault}
@@ -100,22 +102,10 @@ first-append [] ys = refl
 first-append (x ∷ xs) ys = ap (λ o. let r : Option Fault = Some (earlier x o) in r) (first-append xs ys)
     ∙ ap (λ f. let r : Option Fault = Some f in r) (earlier_merged x (first_by_place xs) (first_by_place ys))
 
--- A fact of each fault of a list.
-abbrev pub Each : (Fault → Type 0) → List Fault → Type 0
-Each P [] = Unit {0}
-Each P (f ∷ fs) = P f × Each P fs
-
-pub each-append : (P : Fault → Type 0) (xs ys : List Fault) → Each P xs → Each P ys → Each P (xs ++ ys)
-each-append P [] ys h k = k
-each-append P (x ∷ xs) ys h k = (h.0, each-append P xs ys h.1 k)
-
-some_fault : (f g : Fault) → ◌≡◌ {A = Option Fault} (Some f) (Some g) → f ≡ g
-some_fault f g e = cc
-
 -- The first fault is one of them.
 pub first_each : (P : Fault → Type 0) (fs : List Fault) (f : Fault) → Each P fs → first_by_place fs ≡ Some f → P f
 first_each P [] f h e = absurd (cc e)
-first_each P (x ∷ xs) f h e = go (first_by_place xs) refl (λ g k. first_each P xs g h.1 k) (some_fault _ f e) where
+first_each P (x ∷ xs) f h e = go (first_by_place xs) refl (λ g k. first_each P xs g h.1 k) (same_Some _ f e) where
   one : (g : Fault) → (first_by_place xs ≡ Some g → P g) → first_by_place xs ≡ Some g → (t : Bool) → precedes x g ≡ t
       → (if precedes x g then x else g) ≡ f → P f
   one g rest k true t s = subst P (ap (λ u. if u then x else g) (sym t) ∙ s) h.0

@@ -1,7 +1,8 @@
 -- A text's lines, one after another.
-use Rattle.std.proofs.Common.{◌≡◌, ℕ, zero, suc, ◌+◌, ◌-◌, ◌<◌, ◌≤◌, Bool, true, false, not, cond, List, [], ◌∷◌, length, take, drop, refl, sym, ap}
+use Rattle.std.proofs.Common.{◌≡◌, ℕ, suc, ◌+◌, ◌-◌, ◌<◌, ◌≤◌, Bool, true, false, not, cond, List, [], ◌∷◌, length, take, drop, refl, sym, ap}
 use Rattle.std.proofs.Common.{◌∙◌, arith, slice_range, length-drop, drop-drop, take_all, one-add, if◌then◌else◌}
 use Rattle.std.specs.List.{prefix_len, onto_first}
+use Rattle.std.proofs.lemmas.List.{take_rest, drop_all}
 use Rattle.tac_lines.specs.Text.{lines, is_line_end, no_line_end}
 
 run_line : (bs : List ℕ) → prefix_len no_line_end bs < length bs
@@ -32,12 +33,9 @@ all_line (b ∷ bs) some h = by_test (is_line_end b) refl h (λ below. rest bs (
   rest [] later l = refl
   rest (c ∷ cs) later l = ap (onto_first b) (later (omega arith) l)
 
-bytes-left : (n : ℕ) (bs : List ℕ) → take (length bs - n) (drop n bs) ≡ drop n bs
-bytes-left n bs = take_all (length bs - n) (drop n bs) (let e : length (drop n bs) ≡ length bs - n = length-drop n bs in omega (arith, e))
-
 module _ (text : List ℕ) (start n : ℕ) (run : n ≡ prefix_len no_line_end (take (length text - start) (drop start text))) where
   run_is : n ≡ prefix_len no_line_end (drop start text)
-  run_is = run ∙ ap (prefix_len no_line_end) (bytes-left start text)
+  run_is = run ∙ ap (prefix_len no_line_end) (take_rest text start)
 
   pub line_ended : start < length text → start + n < length text
       → lines (drop start text) ≡ slice_range text start (start + n + 1) ∷ lines (drop (start + n + 1) text)
@@ -55,10 +53,4 @@ module _ (text : List ℕ) (start n : ℕ) (run : n ≡ prefix_len no_line_end (
       let size : length (drop start text) ≡ length text - start = length-drop start text in
       all_line (drop start text) (omega (arith, size, some)) (omega (arith, size, h, run_is))
       ∙ (λ i. sym (take_all ((start + n) - start) (drop start text) (omega (arith, size, h))) i ∷ [])
-      ∙ ap (λ r. slice_range text start (start + n) ∷ r) (sym (ap lines (none (start + n) text h)))
-    where
-      none : (k : ℕ) (bs : List ℕ) → length bs ≤ k → drop k bs ≡ []
-      none zero [] l = refl
-      none zero (b ∷ bs) l = absurd (let never : ⊥ = omega (arith, l) in never)
-      none (suc k) [] l = refl
-      none (suc k) (b ∷ bs) l = none k bs (omega (arith, l))
+      ∙ ap (λ r. slice_range text start (start + n) ∷ r) (sym (ap lines (drop_all (start + n) text h)))

@@ -1,8 +1,9 @@
 -- Lines by the places of their tokens, as tokens and lines are put last.
-use Rattle.std.proofs.Common.{◌≡◌, ℕ, zero, suc, ◌+◌, ◌-◌, ◌*◌, ◌<◌, ◌≤◌, List, [], ◌∷◌, ◌++◌, length, take, drop, map, refl, sym, ap, subst, ◌∙◌}
+use Rattle.std.proofs.Common.{◌≡◌, ℕ, zero, suc, ◌+◌, ◌-◌, ◌*◌, ◌<◌, ◌≤◌, List, [], ◌∷◌, ◌++◌, length, take, drop, refl, sym, ap, subst, ◌∙◌}
 use Rattle.std.proofs.Common.{arith, slice_range, slice_index_or, ◌==◌, false, true≢false, IsTrue, length-append, None}
-use Rattle.std.proofs.lemmas.List.{take-append-le}
+use Rattle.std.proofs.lemmas.List.{take-append-le, map_push}
 use Rattle.std.proofs.lemmas.List.Elements.{All-push}
+use Rattle.std.proofs.Math.Seq.{take-length}
 use Rattle.tac_lines.specs.Forms.{behind_labels, labels_of}
 use Rattle.tac_lines.specs.code.Formed.{AreLines, IsCountedIn, IsFormedIn, is_formed}
 use Rattle.tac_lines.specs.code.Views.{tokens_view}
@@ -36,23 +37,16 @@ views_stay ts row (l ∷ ls) h =
 last_views : (ts row : List Token) → slice_range (ts ++ row) (length ts) (length (ts ++ row)) ≡ row
 last_views [] row = take_whole row where
   take_whole : (xs : List Token) → take (length xs - 0) xs ≡ xs
-  take_whole xs = ap (λ n. take n xs) (let e : length xs - 0 ≡ length xs = omega arith in e) ∙ whole xs where
-    whole : (ys : List Token) → take (length ys) ys ≡ ys
-    whole [] = refl
-    whole (y ∷ ys) = ap (λ r. y ∷ r) (whole ys)
+  take_whole xs = ap (λ n. take n xs) (let e : length xs - 0 ≡ length xs = omega arith in e) ∙ take-length xs
 last_views (t ∷ ts) row = ap (λ n. take n (drop (length ts) (ts ++ row)))
     (let e : suc (length (ts ++ row)) - suc (length ts) ≡ length (ts ++ row) - length ts = omega arith in e) ∙ last_views ts row
-
-map-push : (f : LineRange → List Token) (xs : List LineRange) (x : LineRange) → map f (xs ++ x ∷ []) ≡ map f xs ++ f x ∷ []
-map-push f [] x = refl
-map-push f (y ∷ ys) x = ap (λ r. f y ∷ r) (map-push f ys x)
 
 pub views_push : (ts row all : List Token) (lines more : List LineRange) (line : LineRange) → EndsWithin (length ts) lines → all ≡ ts ++ row
     → more ≡ lines ++ line ∷ [] → line.first ≡ length ts → line.end ≡ length all → 0 < length row
     → range_views all more ≡ range_views ts lines ++ some_of row
 views_push ts row all lines more line h e f a b some =
     (λ i. range_views (e i) (f i))
-    ∙ map-push (λ line. slice_range (ts ++ row) line.first line.end) lines line
+    ∙ map_push (λ line. slice_range (ts ++ row) line.first line.end) lines line
     ∙ (λ i. views_stay ts row lines h i ++ ((λ j. slice_range (ts ++ row) (a j) ((b ∙ ap length e) j)) ∙ last_views ts row) i ∷ [])
     ∙ ap (λ r. range_views ts lines ++ r) (line_of row some)
   where

@@ -1,19 +1,17 @@
 -- A line cut off behind its last token has the same tokens, and no bad byte.
 use Rattle.std.proofs.Common.{◌≡◌, ℕ, zero, suc, ◌+◌, ◌-◌, ◌<◌, ◌≤◌, ◌⊎◌, inl, inr, Bool, List, [], ◌∷◌, length, take, drop, min, refl, sym, ap, ◌∙◌}
-use Rattle.std.proofs.Common.{subst, arith, Option, Some, None, eq-or-lt_of_le}
+use Rattle.std.proofs.Common.{subst, arith, Option, Some, None, eq-or-lt_of_le, take-take}
 use Rattle.std.proofs.lemmas.List.{length-take, length-drop}
+use Rattle.std.proofs.lemmas.Option.{same_Some}
 use Rattle.tac_lines.specs.Tokens.{Piece, word, gap, Token, Row, piece_of, longest, longest_of, before_row, row_from}
 use Rattle.tac_lines.proofs.tokens.Longest.{longest_is}
 use Rattle.tac_lines.proofs.tokens.Places.{longest_front, ends_line, StandsIn, EachToken, row_in}
-use Rattle.tac_lines.proofs.tokens.RowSteps.{row_some, row_none, take-take, drop-take}
+use Rattle.tac_lines.proofs.tokens.RowSteps.{row_some, row_none, drop-take}
 
 -- No longer front is a piece.
 longest_past : (n : ℕ) (s : List ℕ) (found : ℕ × Piece) → longest_of n s ≡ Some found → (k : ℕ) → found.0 < k → k ≤ n → piece_of (take k s) ≡ None
 longest_past zero s found e k low high = absurd (cc e)
 longest_past (suc n) s found e k low high = go (piece_of (take (suc n) s)) refl (λ h below. longest_past n s found h k low below) where
-  same : (x y : ℕ × Piece) → ◌≡◌ {A = Option (ℕ × Piece)} (Some x) (Some y) → x ≡ y
-  same x y h = cc
-
   go : (o : Option Piece) → piece_of (take (suc n) s) ≡ o → (longest_of n s ≡ Some found → k ≤ n → piece_of (take k s) ≡ None)
       → piece_of (take k s) ≡ None
   go None h later = at (eq-or-lt_of_le high) where
@@ -25,7 +23,7 @@ longest_past (suc n) s found e k low high = go (piece_of (take (suc n) s)) refl 
     at (inr less) = later rest (omega (arith, less))
   go (Some p) h later =
       let r : ◌≡◌ {A = ℕ × Piece} (suc n, p) found =
-      same (suc n, p) found (sym (ap (λ o. elim o as (λ _. Option (ℕ × Piece)) [ Some q ↦ Some (suc n, q) | None ↦ longest_of n s ]) h) ∙ e) in
+      same_Some (suc n, p) found (sym (ap (λ o. elim o as (λ _. Option (ℕ × Piece)) [ Some q ↦ Some (suc n, q) | None ↦ longest_of n s ]) h) ∙ e) in
       let size : suc n ≡ found.0 = ap (λ x. x.0) r in
       absurd (let never : ⊥ = omega (arith, size, low, high) in never)
 

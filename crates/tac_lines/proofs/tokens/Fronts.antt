@@ -1,19 +1,14 @@
 -- The last arms of the search for a piece: two bytes, one, or none.
-use Rattle.std.proofs.Common.{◌≡◌, ◌≢◌, ℕ, ◌<◌, ◌≤◌, Bool, true, false, List, [], ◌∷◌, take, length, refl, sym, ◌∙◌, subst, arith, Option, Some, None}
-use Rattle.std.proofs.Common.{eqb, get_or, slice_get, option_map}
-use Rattle.std.proofs.lemmas.Bool.{eqb-true}
+use Rattle.std.proofs.Common.{◌≡◌, ◌≢◌, ℕ, ◌<◌, ◌≤◌, false, List, [], ◌∷◌, take, length, refl, sym, ◌∙◌, subst, arith, Option, Some, None}
+use Rattle.std.proofs.Common.{get_or, slice_get, option_map}
+use Rattle.std.proofs.lemmas.Bool.{ne_eqb}
+use Rattle.std.proofs.lemmas.Option.{same_Some}
 use Rattle.tac_lines.specs.Tokens.{Piece, gap, picked, longest, signs, is_blank}
 use Rattle.tac_program.specs.Spelling.{is_letter, is_digit}
 use Rattle.tac_program.specs.Names.{is_one_of}
 use Rattle.tac_lines.specs.code.Views.{piece_at}
 use Rattle.tac_lines.specs.declared.token.TokenKind.{TokenKind}
 use Rattle.tac_lines.proofs.tokens.Pieces.{piece_of-other, two_longest, one_longest, none_longest}
-
-ne_eqb : (b c : ℕ) → b ≢ c → eqb b c ≡ false
-ne_eqb b c h = by_test (eqb b c) refl where
-  by_test : (e : Bool) → eqb b c ≡ e → e ≡ false
-  by_test true same = absurd (h (eqb-true b c same))
-  by_test false same = refl
 
 -- what the tests have ruled out
 pub record BeginsNoRun (b : ℕ) : Type 0 where
@@ -24,9 +19,6 @@ pub record BeginsNoRun (b : ℕ) : Type 0 where
 abbrev pub short : List ℕ → Option Piece
 short s = picked false false (is_one_of s signs) (is_blank s) s
 
-same_first : (x y : ℕ) → ◌≡◌ {A = Option ℕ} (Some x) (Some y) → x ≡ y
-same_first x y e = cc
-
 no_first : (x : ℕ) → ◌≡◌ {A = Option ℕ} (Some x) None → ⊥
 no_first x e = cc
 
@@ -36,7 +28,7 @@ two_at [] b k e long out piece = absurd (no_first b e)
 two_at (x ∷ []) b k e long out piece = absurd (let never : ⊥ = omega (arith, long) in never)
 two_at (x ∷ y ∷ s) b k e long out piece =
     let at : (c : ℕ) → Type 0 = λ c. longest (c ∷ y ∷ s) ≡ Some (2, piece_at (c ∷ y ∷ []) k) in
-    subst at (same_first b x e) (two_longest b out.letter out.digit (ne_eqb b 35 out.hash) y s (piece_at (b ∷ y ∷ []) k)
+    subst at (same_Some b x e) (two_longest b out.letter out.digit (ne_eqb b 35 out.hash) y s (piece_at (b ∷ y ∷ []) k)
     (piece_of-other b out.letter out.digit (ne_eqb b 35 out.hash) (y ∷ []) ∙ sym piece))
 
 -- no two bytes are a piece
@@ -48,7 +40,7 @@ pub one_at : (s : List ℕ) (b : ℕ) (k : Option TokenKind) → Some b ≡ slic
 one_at [] b k e out pair piece = absurd (no_first b e)
 one_at (x ∷ s) b k e out pair piece =
     let at : (c : ℕ) → Type 0 = λ c. longest (c ∷ s) ≡ Some (1, piece_at (c ∷ []) k) in
-    subst at (same_first b x e) (one_longest b out.letter out.digit (ne_eqb b 35 out.hash) s (piece_at (b ∷ []) k) (λ c h.
+    subst at (same_Some b x e) (one_longest b out.letter out.digit (ne_eqb b 35 out.hash) s (piece_at (b ∷ []) k) (λ c h.
     piece_of-other b out.letter out.digit (ne_eqb b 35 out.hash) (c ∷ [])
     ∙ pair c h) (piece_of-other b out.letter out.digit (ne_eqb b 35 out.hash) [] ∙ sym piece))
 
@@ -56,14 +48,14 @@ pub none_at : (s : List ℕ) (b : ℕ) → Some b ≡ slice_get s 0 → BeginsNo
 none_at [] b e out pair piece = absurd (no_first b e)
 none_at (x ∷ s) b e out pair piece =
     let at : (c : ℕ) → Type 0 = λ c. longest (c ∷ s) ≡ None in
-    subst at (same_first b x e)
+    subst at (same_Some b x e)
     (none_longest b out.letter out.digit (ne_eqb b 35 out.hash) s (λ c h. piece_of-other b out.letter out.digit (ne_eqb b 35 out.hash) (c ∷ [])
     ∙ pair c h) (piece_of-other b out.letter out.digit (ne_eqb b 35 out.hash) [] ∙ piece))
 
 get_second : (s : List ℕ) (c : ℕ) → slice_get s 1 ≡ Some c → get_or s 1 0 ≡ c
 get_second [] c h = absurd (no_first c (sym h))
 get_second (x ∷ []) c h = absurd (no_first c (sym h))
-get_second (x ∷ y ∷ s) c h = same_first y c h
+get_second (x ∷ y ∷ s) c h = same_Some y c h
 
 pub no_pair : (s : List ℕ) (b : ℕ) (r : Option (Option TokenKind)) → ((k : Option TokenKind) → r ≡ Some k → ⊥)
     → option_map (piece_at (b ∷ get_or s 1 0 ∷ [])) r ≡ short (b ∷ get_or s 1 0 ∷ []) → NoPair b s

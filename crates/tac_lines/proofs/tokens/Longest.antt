@@ -2,7 +2,7 @@
 use Rattle.std.proofs.Common.{◌≡◌, ℕ, zero, suc, ◌+◌, ◌<◌, ◌≤◌, ◌⊎◌, inl, inr, Bool, true, false, cond, not, ◌&&◌, ◌||◌, List, [], ◌∷◌, take, length}
 use Rattle.std.proofs.Common.{refl, sym, ap, ◌∙◌, subst, arith, Option, Some, None, codes, eqb, bytes_eq, get_or, true≢false, eq-or-lt_of_le, ◌==◌}
 use Rattle.std.proofs.Common.{one-add, drop, ◌-◌, take_all}
-use Rattle.std.proofs.lemmas.Bool.{eqb-true}
+use Rattle.std.proofs.lemmas.Bool.{eqb-true, and_parts, not-true}
 use Rattle.std.proofs.lemmas.List.Sums.{prefix_len-le-length}
 use Rattle.std.specs.List.{list_all, list_any, prefix_len}
 use Rattle.tac_lines.specs.Tokens.{Piece, piece_of, picked, name_or_keyword, longest_of, longest, is_number, signs, is_blank, is_comment}
@@ -39,14 +39,6 @@ abbrev pub first_fails : (ℕ → Bool) → List ℕ → Bool
 first_fails test [] = true
 first_fails test (c ∷ cs) = not (test c)
 
-pub and_parts : (a b : Bool) → (a && b) ≡ true → (a ≡ true) × (b ≡ true)
-and_parts true b h = (refl, h)
-and_parts false b h = absurd (true≢false (sym h))
-
-pub not_true : (a : Bool) → not a ≡ true → a ≡ false
-not_true true h = absurd (true≢false (sym h))
-not_true false h = refl
-
 pub differs : (test : ℕ → Bool) (b c : ℕ) → test b ≡ true → test c ≡ false → eqb b c ≡ false
 differs test b c holds fails = differs_at (eqb b c) refl where
   differs_at : (e : Bool) → eqb b c ≡ e → e ≡ false
@@ -59,7 +51,7 @@ not_in test b t [] h holds = refl
 not_in test b t ([] ∷ ts) h holds = not_in test b t ts h holds
 not_in test b t ((c ∷ cs) ∷ ts) h holds =
     let parts = and_parts (not (test c)) (list_all (first_fails test) ts) h in
-    rw (differs test b c holds (not_true (test c) parts.0)) (not_in test b t ts parts.1 holds)
+    rw (differs test b c holds (not-true (test c) parts.0)) (not_in test b t ts parts.1 holds)
 
 pub piece_of-picked : (s : List ℕ) (a b c d : Bool) → is_name s ≡ a → is_number s ≡ b → is_one_of s signs ≡ c → (is_blank s || is_comment s) ≡ d
     → piece_of s ≡ picked a b c d s

@@ -3,13 +3,14 @@ use Rattle.std.proofs.Common.{◌≡◌, ℕ, zero, suc, ◌+◌, ◌-◌, ◌<�
 use Rattle.std.proofs.Common.{refl, sym, ap, ◌∙◌, arith, Option, Some, None, codes, eqb, nat_lt, bytes_eq, get_or, ◌==◌, slice_get, length-take-le}
 use Rattle.std.proofs.Common.{take_all, one-add}
 use Rattle.std.specs.Cmp.Lexicographic.{same_text}
-use Rattle.std.proofs.lemmas.Bool.{ltb-true}
+use Rattle.std.proofs.lemmas.Bool.{ltb-true, and_parts}
 use Rattle.std.specs.List.{list_all, list_any, prefix_len}
+use Rattle.std.proofs.Math.Bool.{or-false}
 use Rattle.tac_lines.specs.Text.{no_line_end}
 use Rattle.tac_lines.specs.Tokens.{Piece, gap, piece_of, picked, number_piece, longest, signs, is_blank, is_comment}
 use Rattle.tac_program.specs.Spelling.{is_letter, is_digit, is_name_byte}
 use Rattle.tac_program.specs.Names.{is_one_of}
-use Rattle.tac_lines.proofs.tokens.Longest.{longest_is, longest_none, run_longest, piece_of-picked, not_in, and_parts, differs}
+use Rattle.tac_lines.proofs.tokens.Longest.{longest_is, longest_none, run_longest, piece_of-picked, not_in, differs}
 
 digit_no_letter : (b : ℕ) → is_digit b ≡ true → is_letter b ≡ false
 digit_no_letter b h = grind (arith, h)
@@ -35,10 +36,6 @@ pub comment_longest : (bs : List ℕ) → longest (35 ∷ bs) ≡ Some (suc (pre
 comment_longest bs = run_longest no_line_end (λ s. gap) 35 bs piece_of-comment
 
 -- Any other byte: at most two bytes.
-false_or : (x : Bool) → (x || false) ≡ x
-false_or true = refl
-false_or false = refl
-
 not_long : (n : ℕ) (s : List ℕ) (ts : List (List ℕ)) → list_all (λ t. nat_lt (length t) n) ts ≡ true → n ≤ length s → list_any (bytes_eq s) ts ≡ false
 not_long n s [] short long = refl
 not_long n s (t ∷ ts) short long =
@@ -56,7 +53,7 @@ module _ (b : ℕ) (letter : is_letter b ≡ false) (digit : is_digit b ≡ fals
       (ap (λ x. x && list_all is_name_byte t) letter)
       (ap (λ x. x && list_all is_digit t) digit)
       refl
-      (ap (λ x. is_blank (b ∷ t) || (x && list_all (λ c. not (c == 10)) t)) hash ∙ false_or (is_blank (b ∷ t)))
+      (ap (λ x. is_blank (b ∷ t) || (x && list_all (λ c. not (c == 10)) t)) hash ∙ or-false (is_blank (b ∷ t)))
 
   long_none : (t : List ℕ) → 2 ≤ length t → piece_of (b ∷ t) ≡ None
   long_none t long = piece_of-other t ∙ (λ i. picked false false (not_long 3 (b ∷ t) signs refl (omega (arith, long)) i)

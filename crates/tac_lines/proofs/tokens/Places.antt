@@ -3,12 +3,14 @@ use Rattle.std.proofs.Common.{◌≡◌, ℕ, zero, suc, ◌+◌, ◌-◌, ◌<�
 use Rattle.std.proofs.Common.{refl, sym, ap, ◌∙◌, subst, arith, Option, Some, None, bytes_eq, true≢false, eq-or-lt_of_le, take_all}
 use Rattle.std.specs.List.{list_all}
 use Rattle.std.specs.Cmp.Lexicographic.{same_text}
+use Rattle.std.proofs.lemmas.Bool.{and_parts}
+use Rattle.std.proofs.lemmas.Option.{same_Some}
 use Rattle.tac_lines.specs.Text.{is_line_end, no_line_end}
 use Rattle.tac_lines.specs.Tokens.{Word, Piece, word, gap, Token, Row, is_number, is_blank, is_comment, signs, piece_of, longest, longest_of}
 use Rattle.tac_lines.specs.Tokens.{before_row, row_from}
 use Rattle.tac_program.specs.Spelling.{is_digit, is_letter, is_name_byte, is_name}
 use Rattle.tac_program.specs.Names.{is_one_of}
-use Rattle.tac_lines.proofs.tokens.Longest.{and_parts, piece_of-picked}
+use Rattle.tac_lines.proofs.tokens.Longest.{piece_of-picked}
 
 -- Whether the last byte is a line feed.
 abbrev pub ends_line : List ℕ → Bool
@@ -21,9 +23,6 @@ pub longest_front : (n : ℕ) (s : List ℕ) (found : ℕ × Piece) → longest_
     → (0 < found.0) × (found.0 ≤ n) × (piece_of (take found.0 s) ≡ Some found.1)
 longest_front zero s found e = absurd (cc e)
 longest_front (suc n) s found e = go (piece_of (take (suc n) s)) refl (λ k. longest_front n s found k) where
-  same : {A : Type 0} (x y : A) → ◌≡◌ {A = Option A} (Some x) (Some y) → x ≡ y
-  same x y h = cc
-
   choice : Option Piece → Option (ℕ × Piece)
   choice o = elim o as (λ _. Option (ℕ × Piece)) [ Some p ↦ Some (suc n, p) | None ↦ longest_of n s ]
 
@@ -34,7 +33,7 @@ longest_front (suc n) s found e = go (piece_of (take (suc n) s)) refl (λ k. lon
       (r.0, omega (arith, r.1), r.2)
   go (Some p) h later =
       let r : ◌≡◌ {A = ℕ × Piece} (suc n, p) found =
-      same (suc n, p) found (sym (ap (λ o. elim o as (λ _. Option (ℕ × Piece)) [ Some q ↦ Some (suc n, q) | None ↦ longest_of n s ]) h) ∙ e) in
+      same_Some (suc n, p) found (sym (ap (λ o. elim o as (λ _. Option (ℕ × Piece)) [ Some q ↦ Some (suc n, q) | None ↦ longest_of n s ]) h) ∙ e) in
       subst (λ f. (0 < f.0) × (f.0 ≤ suc n) × (piece_of (take f.0 s) ≡ Some f.1)) r (omega arith, omega arith, h)
 
 -- No word has a line feed.

@@ -1,6 +1,8 @@
 -- The tokens of a line, one piece after another.
 use Rattle.std.proofs.Common.{◌≡◌, ℕ, zero, suc, ◌+◌, ◌-◌, ◌<◌, ◌≤◌, List, [], ◌∷◌, ◌++◌, length, take, drop, refl, sym, ap, ◌∙◌, arith, Option, Some}
 use Rattle.std.proofs.Common.{None, sub-one, slice_range, length-drop, drop-drop, map, append_assoc, length-take-le, append-nil, length-append}
+use Rattle.std.proofs.Common.{take-take}
+use Rattle.std.proofs.lemmas.List.{map_push}
 use Rattle.tac_lines.specs.code.Views.{piece_at, token_view, tokens_view}
 use Rattle.tac_lines.specs.declared.token.TokenKind.{TokenKind}
 use Rattle.tac_lines.specs.declared.token.Token.{Token as Lexed}
@@ -14,7 +16,8 @@ passed place (suc n) [] h = absurd (let never : ⊥ = omega (arith, h) in never)
 passed place (suc n) (b ∷ bs) h =
     passed (suc place) n bs (omega (arith, h)) ∙ ap (λ p. row_from p zero (drop n bs)) (let e : suc place + n ≡ place + suc n = omega arith in e)
 
-row_choice : ℕ → List ℕ → Option (ℕ × Piece) → Row
+-- What a line holds from a byte on that begins a piece, or none.
+abbrev pub row_choice : ℕ → List ℕ → Option (ℕ × Piece) → Row
 row_choice place bs o = elim o as (λ _. Row) [
   | None ↦ record { tokens = []; bad = Some place }
   | Some found ↦ before_row found.1 place (place + found.0) (row_from (suc place) (found.0 - 1) bs)
@@ -22,7 +25,6 @@ row_choice place bs o = elim o as (λ _. Row) [
 
 pub row_some : (place n : ℕ) (p : Piece) (rest : List ℕ) → longest rest ≡ Some (n, p) → 0 < n → n ≤ length rest
     → row_from place zero rest ≡ before_row p place (place + n) (row_from (place + n) zero (drop n rest))
-unfolding row_choice
 row_some place n p [] e low high = absurd (let never : ⊥ = omega (arith, low, high) in never)
 row_some place zero p (b ∷ bs) e low high = absurd (let never : ⊥ = omega (arith, low) in never)
 row_some place (suc n) p (b ∷ bs) e low high =
@@ -31,7 +33,6 @@ row_some place (suc n) p (b ∷ bs) e low high =
 
 pub row_none : (place : ℕ) (rest : List ℕ) → 0 < length rest → longest rest ≡ None
     → row_from place zero rest ≡ record { tokens = []; bad = Some place }
-unfolding row_choice
 row_none place [] some e = absurd (let never : ⊥ = omega (arith, some) in never)
 row_none place (b ∷ bs) some e = ap (row_choice place bs) e
 
@@ -39,12 +40,6 @@ row_none place (b ∷ bs) some e = ap (row_choice place bs) e
 pub length-range : (text : List ℕ) (a b : ℕ) → b ≤ length text → length (slice_range text a b) ≡ b - a
 length-range text a b h =
     length-take-le (b - a) (drop a text) (let e : length (drop a text) ≡ length text - a = length-drop a text in omega (arith, e, h))
-
-pub take-take : (n m : ℕ) (xs : List ℕ) → n ≤ m → take n (take m xs) ≡ take n xs
-take-take zero m xs h = refl
-take-take (suc n) zero xs h = absurd (let never : ⊥ = omega (arith, h) in never)
-take-take (suc n) (suc m) [] h = refl
-take-take (suc n) (suc m) (x ∷ xs) h = ap (λ r. x ∷ r) (take-take n m xs (omega (arith, h)))
 
 take-nil : (k : ℕ) → take k [] ≡ (let r : List ℕ = [] in r)
 take-nil zero = refl
@@ -80,10 +75,6 @@ row_step text at stop len k below inside e low high =
       omega (arith, fits, below),
     )
 
-map-push : (f : Lexed → Token) (xs : List Lexed) (x : Lexed) → map f (xs ++ x ∷ []) ≡ map f xs ++ f x ∷ []
-map-push f [] x = refl
-map-push f (y ∷ ys) x = ap (λ r. f y ∷ r) (map-push f ys x)
-
 pub step_some : (text : List ℕ) (at len stop : ℕ) (whole : Row) (k : Option TokenKind) (t : TokenKind) (ts items : List Lexed)
     → items ≡ ts ++ record { kind = t; start = at; stop = at + len } ∷ [] → k ≡ Some t → row_from at zero (slice_range text at stop)
     ≡ before_row (piece_at (slice_range text at (at + len)) k) at (at + len) (row_from (at + len) zero (slice_range text (at + len) stop))
@@ -93,7 +84,7 @@ step_some text at len stop whole k t ts items pushed is_some step before =
     let tail : Row = row_from (at + len) zero (slice_range text (at + len) stop) in
     let token : Token = token_view text (record { kind = t; start = at; stop = at + len }) in
     let one : tokens_view text items ≡ tokens_view text ts ++ token ∷ [] =
-    ap (map (token_view text)) pushed ∙ map-push (token_view text) ts (record { kind = t; start = at; stop = at + len }) in
+    ap (map (token_view text)) pushed ∙ map_push (token_view text) ts (record { kind = t; start = at; stop = at + len }) in
     ap (λ xs. joined xs tail) one
     ∙ ap (λ xs. let r : Row = record { tokens = xs; bad = tail.bad } in r) (append_assoc (tokens_view text ts) (token ∷ []) tail.tokens)
     ∙ ap (λ o. joined (tokens_view text ts) (before_row (piece_at (slice_range text at (at + len)) o) at (at + len) tail)) (sym is_some)

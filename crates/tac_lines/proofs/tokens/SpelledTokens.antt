@@ -9,13 +9,7 @@ use Rattle.tac_lines.specs.Tokens.{Piece, word, gap, Row, piece_of, longest, bef
 use Rattle.tac_lines.specs.LineLaws.{IsSpelled, TokensAreSpelled}
 use Rattle.tac_lines.proofs.tokens.Places.{longest_front}
 use Rattle.tac_lines.proofs.lines.Lines.{lines_join}
-
--- What a line holds from a byte on that begins a piece, or none.
-abbrev pub row_choice : ℕ → List ℕ → Option (ℕ × Piece) → Row
-row_choice place bs o = elim o as (λ _. Row) [
-  | None ↦ record { tokens = []; bad = Some place }
-  | Some found ↦ before_row found.1 place (place + found.0) (row_from (suc place) (found.0 - 1) bs)
-]
+use Rattle.tac_lines.proofs.tokens.RowSteps.{row_choice}
 
 pub drop_next : (n : ℕ) (xs ys : List ℕ) (b : ℕ) → drop n xs ≡ b ∷ ys → drop (suc n) xs ≡ ys
 drop_next zero [] ys b e = absurd (cc e)

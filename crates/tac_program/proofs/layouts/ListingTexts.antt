@@ -10,7 +10,7 @@ use Rattle.tac_program.specs.declared.program.Label.{Label}
 use Rattle.tac_program.specs.declared.program.Stmt.{Stmt}
 use Rattle.tac_program.proofs.programs.LabelPlaces.{from, StandBehind, not_at}
 
-nothing_at : (place p : ℕ) (xs : List ℕ) → p ≢ place → (if p == place then xs else []) ≡ []
+pub nothing_at : (place p : ℕ) (xs : List ℕ) → p ≢ place → (if p == place then xs else []) ≡ []
 nothing_at place p xs h = grind (arith, nat_tests)
 
 -- what a label gives at a place

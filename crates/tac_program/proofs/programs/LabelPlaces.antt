@@ -7,6 +7,7 @@ use Rattle.std.proofs.lemmas.List.Elements.{All-nil, All-cons, All-head, All-tai
 use Rattle.std.proofs.lemmas.List.Kept.{IsNonDecreasingBy-filter}
 use Rattle.std.proofs.Math.ListN.{get_or-map}
 use Rattle.std.specs.List.Sorted.{IsNonDecreasingBy}
+use Rattle.std.proofs.lemmas.Bool.{leb-true}
 use Rattle.tac_program.specs.Programs.{LabelsRise}
 use Rattle.tac_program.specs.declared.program.Label.{Label}
 
@@ -26,9 +27,6 @@ StandBehind place ls = All (λ l. place < l.place) ls
 -- what a test on places says and leaves
 pub not_at : (place p : ℕ) → nat_le place p ≡ false → p ≢ place
 not_at place p h = λ e. grind (arith, nat_tests)
-
-reached : (place p : ℕ) → nat_le place p ≡ true → place ≤ p
-reached place p h = grind (arith, nat_tests)
 
 kept : (place p : ℕ) (x : Label) (ls ms : List Label) → ls ≡ ms → cond (nat_lt place p) (x ∷ ls) ls ≡ cond (nat_le (place + 1) p) (x ∷ ms) ms
 kept place p x ls ms e = grind (arith, nat_tests)
@@ -65,7 +63,7 @@ All-from place [] = All-nil (λ (l : Label). place ≤ l.place)
 All-from place (l ∷ ls) = by_test (nat_le place l.place) refl (All-from place ls) where
   by_test : (t : Bool) → nat_le place l.place ≡ t → All (λ l. place ≤ l.place) (from place ls)
       → All (λ l. place ≤ l.place) (cond t (l ∷ from place ls) (from place ls))
-  by_test true e before = All-cons (λ (l : Label). place ≤ l.place) l _ (reached place l.place e) before
+  by_test true e before = All-cons (λ (l : Label). place ≤ l.place) l _ (leb-true place l.place e) before
   by_test false e before = before
 
 -- places that do not fall, said of the labels

@@ -1,7 +1,8 @@
 -- Forms in which all names are variables: their variables are their names.
-use Rattle.std.proofs.Common.{◌≡◌, ℕ, Bool, true, false, ◌&&◌, ◌||◌, List, [], ◌∷◌, ◌++◌, refl, sym, ap, ◌∙◌, Some, None, true≢false, flat_map}
+use Rattle.std.proofs.Common.{◌≡◌, ℕ, Bool, true, false, ◌||◌, List, [], ◌∷◌, ◌++◌, refl, sym, ap, ◌∙◌, Some, None, true≢false, flat_map}
 use Rattle.std.proofs.Common.{if◌then◌else◌}
 use Rattle.std.specs.List.{list_any}
+use Rattle.std.proofs.lemmas.Bool.{and_parts, or_parts}
 use Rattle.tac_lines.specs.Tokens.{Word, name, number, fixed, Token}
 use Rattle.tac_program.specs.Spelling.{binary_signs, unary_signs, comparison_signs}
 use Rattle.tac_lines.specs.Forms.{Slot, exactly, procedure, variable, operand, label, callee, binary, unary, comparison, fills, has_form, is_fixed_in}
@@ -46,26 +47,14 @@ module _ (t : Token) (these all : List Token) (same : these ≡ all) where
   taken : only_name t ++ these ≡ only_name t ++ all
   taken = ap (λ ts. only_name t ++ ts) same
 
-first_holds : (a b : Bool) → (a && b) ≡ true → a ≡ true
-first_holds true b h = refl
-first_holds false b h = h
-
-second_holds : (a b : Bool) → (a && b) ≡ true → b ≡ true
-second_holds true b h = h
-second_holds false b h = absurd (true≢false (sym h))
-
-neither : (a b : Bool) → (a || b) ≡ false → b ≡ false
-neither true b h = absurd (true≢false h)
-neither false b h = h
-
 names_are : (slots : List Slot) (ts : List Token) → list_any is_other slots ≡ false → has_form slots ts ≡ true
     → flat_map only_name (in_slot is_variable (paired slots ts)) ≡ flat_map only_name ts
 names_are [] [] a h = refl
 names_are [] (t ∷ ts) a h = absurd (true≢false (sym h))
 names_are (s ∷ slots) [] a h = absurd (true≢false (sym h))
 names_are (s ∷ slots) (t ∷ ts) a h =
-    one s a (first_holds (fills s t.word) (has_form slots ts) h)
-    (names_are slots ts (neither (is_other s) (list_any is_other slots) a) (second_holds (fills s t.word) (has_form slots ts) h))
+    let parts = and_parts (fills s t.word) (has_form slots ts) h in
+    one s a parts.0 (names_are slots ts (or_parts (is_other s) (list_any is_other slots) a).1 parts.1)
   where
     one : (r : Slot) → (is_other r || list_any is_other slots) ≡ false → fills r t.word ≡ true
         → flat_map only_name (in_slot is_variable (paired slots ts)) ≡ flat_map only_name ts → flat_map only_name (if is_variable r then t

@@ -1,10 +1,12 @@
 -- Names among others: their numbers, and that none stands twice.
-use Rattle.std.proofs.Common.{◌≡◌, ◌≢◌, ℕ, zero, suc, ◌+◌, ◌<◌, Bool, true, false, not, cond, ◌||◌, List, [], ◌∷◌, ◌++◌, map, fold, length, refl, sym}
+use Rattle.std.proofs.Common.{◌≡◌, ◌≢◌, ℕ, suc, ◌+◌, ◌<◌, Bool, true, false, not, cond, ◌||◌, List, [], ◌∷◌, ◌++◌, map, fold, length, refl, sym}
 use Rattle.std.proofs.Common.{ap, ◌∙◌, subst, arith, Some, None, unwrap_or, bytes_eq, get_or, true≢false, one-add, if◌then◌else◌, Contains}
 use Rattle.std.proofs.lemmas.Bool.{lt-ltb, or_parts}
 use Rattle.std.proofs.lemmas.Slice.Eq.{bytes_eq-Decides}
 use Rattle.std.proofs.lemmas.Option.{unwrap_or-slice_get}
 use Rattle.std.specs.List.{AllByRecursion as Each, position_or_len}
+use Rattle.std.proofs.Math.Bool.{or-false, or-true, or_assoc}
+use Rattle.std.proofs.lemmas.List.{get_or_default}
 use Rattle.tac_lines.specs.Tokens.{Token, spelling_of}
 use Rattle.tac_program.specs.Names.{is_one_of, noted}
 use Rattle.tac_program.specs.Programs.{number_of}
@@ -50,24 +52,19 @@ stands (x ∷ xs) s h = by_test (bytes_eq s x) refl h (stands xs s) where
 pub known_contained : (names : List (List ℕ)) (s : List ℕ) → Known names s → Contains names s
 known_contained names s h = (place names s, place_below names s h, stands names s h)
 
-default : (names : List (List ℕ)) (n : ℕ) (a b : List ℕ) → n < length names → get_or names n a ≡ get_or names n b
-default [] n a b h = absurd (let never : ⊥ = omega (arith, h) in never)
-default (x ∷ xs) zero a b h = refl
-default (x ∷ xs) (suc n) a b h = default xs n a b (omega (arith, h))
-
 -- The name of the number of a known name is the name.
 pub name_of_number : (names : List (List ℕ)) (s : List ℕ) → Known names s → name_at names (number_of names s) ≡ s
 name_of_number names s h =
     unwrap_or-slice_get names (number_of names s) []
     ∙ ap (λ n. get_or names n []) (number_is names s h)
-    ∙ default names (place names s) [] s (place_below names s h)
+    ∙ get_or_default names (place names s) [] s (place_below names s h)
     ∙ stands names s h
 
 -- Known names of one number are one name.
 pub same_number : (names : List (List ℕ)) (a b : List ℕ) → Known names a → Known names b → number_of names a ≡ number_of names b → a ≡ b
 same_number names a b h k e =
     sym (stands names a h)
-    ∙ default names (place names a) a b (place_below names a h)
+    ∙ get_or_default names (place names a) a b (place_below names a h)
     ∙ ap (λ n. get_or names n b) (sym (number_is names a h) ∙ e ∙ number_is names b k)
     ∙ stands names b k
 
@@ -83,14 +80,8 @@ numbers_differ names (x ∷ xs) k d = (numbers_apart names x xs k.0 k.1 d.0, num
 
 -- One name more.
 known-push : (names : List (List ℕ)) (x s : List ℕ) → is_one_of s (names ++ x ∷ []) ≡ (is_one_of s names || bytes_eq s x)
-known-push [] x s = or_false (bytes_eq s x) where
-  or_false : (b : Bool) → (b || false) ≡ b
-  or_false true = refl
-  or_false false = refl
-known-push (y ∷ ys) x s = ap (λ b. bytes_eq s y || b) (known-push ys x s) ∙ regroup (bytes_eq s y) (is_one_of s ys) (bytes_eq s x) where
-  regroup : (a b c : Bool) → (a || (b || c)) ≡ ((a || b) || c)
-  regroup true b c = refl
-  regroup false b c = refl
+known-push [] x s = or-false (bytes_eq s x)
+known-push (y ∷ ys) x s = ap (λ b. bytes_eq s y || b) (known-push ys x s) ∙ sym (or_assoc (bytes_eq s y) (is_one_of s ys) (bytes_eq s x))
 
 unlike : (s x : List ℕ) → bytes_eq s x ≡ false → s ≢ x
 unlike s x h e = true≢false (sym ((bytes_eq-Decides s x).1 e) ∙ h)
@@ -145,13 +136,9 @@ kept_one known x s h = by_test (is_one_of x known) where
 
 noted_known : (known : List (List ℕ)) (x : List ℕ) → Known (noted known x) x
 noted_known known x = by_test (is_one_of x known) refl where
-  or_true : (b : Bool) → (b || true) ≡ true
-  or_true true = refl
-  or_true false = refl
-
   by_test : (b : Bool) → is_one_of x known ≡ b → Known (if b then known else known ++ x ∷ []) x
   by_test true e = e
-  by_test false e = known-push known x x ∙ ap (λ b. is_one_of x known || b) (itself x) ∙ or_true (is_one_of x known)
+  by_test false e = known-push known x x ∙ ap (λ b. is_one_of x known || b) (itself x) ∙ or-true (is_one_of x known)
 
 kept : (known names : List (List ℕ)) (s : List ℕ) → Known known s → Known (fold noted known names) s
 kept known [] s h = h

@@ -10,7 +10,7 @@ use Rattle.tac_program.specs.declared.limits.Limits.{Limits}
 use Rattle.tac_lines.specs.declared.fault.Fault.{Fault}
 use Rattle.tac_lines.specs.declared.refusal.RefusalKind.TheVariants as kind
 
-head-front : (xs ys : List Fault) (f : Fault) → head_of xs ≡ Some f → head_of (xs ++ ys) ≡ Some f
+pub head-front : (xs ys : List Fault) (f : Fault) → head_of xs ≡ Some f → head_of (xs ++ ys) ≡ Some f
 head-front [] ys f h = absurd (cc h)
 head-front (x ∷ xs) ys f h = h
 
@@ -42,7 +42,7 @@ module _ (a b c d e g h : List Fault) (f : Fault) where
 pub first_6 : (a b c d e g h : List Fault) → a ≡ [] → b ≡ [] → c ≡ [] → d ≡ [] → e ≡ [] → head_of (seven a b c d e g h) ≡ head_of (g ++ h)
 first_6 a b c d e g h ea eb ec ed ee = λ i. head_of (ea i ++ eb i ++ ec i ++ ed i ++ ee i ++ g ++ h)
 
-none_head : (xs : List Fault) → head_of xs ≡ None → xs ≡ []
+pub none_head : (xs : List Fault) → head_of xs ≡ None → xs ≡ []
 none_head [] k = refl
 none_head (x ∷ xs) k = absurd (cc k)
 
@@ -51,9 +51,6 @@ both_none g h k l = (λ i. head_of (none_head g k i ++ h)) ∙ l
 
 pub last_some : (g h : List Fault) (f : Fault) → head_of g ≡ None → head_of h ≡ Some f → head_of (g ++ h) ≡ Some f
 last_some g h f k l = (λ i. head_of (none_head g k i ++ h)) ∙ l
-
-pub main_some : (g h : List Fault) (f : Fault) → head_of g ≡ Some f → head_of (g ++ h) ≡ Some f
-main_some g h f k = head-front g h f k
 
 -- The fault of a text by what its length, its lines and its names show.
 told : Bool → Option Fault → Option Fault → Option Fault

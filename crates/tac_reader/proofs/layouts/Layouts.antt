@@ -1,11 +1,10 @@
 -- The words of a line in the layout of a listing, and that they read back.
 use Rattle.std.proofs.Common.{◌≡◌, ℕ, Bool, true, false, not, ◌&&◌, ◌||◌, List, [], ◌∷◌, ◌++◌, decimal, append-nil, refl, sym, ap, ◌∙◌, true≢false}
 use Rattle.std.specs.List.{AllByRecursion as Each, list_all}
-use Rattle.std.proofs.lemmas.Bool.{or_right}
+use Rattle.std.proofs.lemmas.Bool.{or_right, and_parts}
 use Rattle.tac_lines.specs.Tokens.{Word, name, number, fixed, Token, is_number}
 use Rattle.tac_program.specs.Spelling.{is_letter, is_digit, is_name_byte, is_name}
 use Rattle.tac_lines.specs.Forms.{Slot, operand, unary, fills, has_form, statements}
-use Rattle.tac_lines.proofs.tokens.Longest.{and_parts}
 use Rattle.tac_reader.proofs.tokens.Bare.{words_of}
 use Rattle.tac_reader.proofs.lines.FaultlessLines.{IsSoundWord}
 use Rattle.tac_lines.proofs.tokens.Decimals.{is_number_decimal}

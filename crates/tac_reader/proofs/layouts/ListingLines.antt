@@ -4,6 +4,7 @@ use Rattle.std.proofs.Common.{arith, None, codes, append_assoc, true≢false, if
 use Rattle.std.specs.List.{AllByRecursion as Each, list_all, onto_first}
 use Rattle.std.proofs.lemmas.List.{map-append}
 use Rattle.std.proofs.lemmas.Bool.Decides.{nat_tests}
+use Rattle.std.proofs.lemmas.Bool.{and_parts, not-true}
 use Rattle.tac_lines.specs.Text.{is_line_end, no_line_end, lines}
 use Rattle.tac_lines.specs.Tokens.{Word, name, number, fixed, Token, Row, rows_from, bytes_of, spelling_of, unless_empty}
 use Rattle.tac_lines.specs.Forms.{labels_of, behind_labels, is_name_word}
@@ -13,7 +14,7 @@ use Rattle.tac_program.specs.Names.{Names}
 use Rattle.tac_program.specs.Listings.{name_at, statement_text, labels_text, places_text, procedure_text}
 use Rattle.tac_program.specs.declared.program.Label.{Label}
 use Rattle.tac_program.specs.declared.program.Stmt.{Stmt}
-use Rattle.tac_lines.proofs.tokens.Longest.{and_parts, not_true}
+use Rattle.tac_program.proofs.layouts.ListingTexts.{nothing_at}
 use Rattle.tac_reader.proofs.tokens.Bare.{words_of}
 use Rattle.tac_reader.proofs.sections.Cores.{kind_in}
 use Rattle.tac_reader.proofs.tokens.ReadWords.{spelled, ReadsLine, line_word, line_blank, line_more, line_label}
@@ -34,7 +35,7 @@ lines_first : (l rest : List ℕ) → list_all no_line_end l ≡ true → lines 
 lines_first [] rest h = refl
 lines_first (b ∷ l) rest h =
     let parts = and_parts (no_line_end b) (list_all no_line_end l) h in
-    ap (λ t. if t then (b ∷ []) ∷ lines (l ++ 10 ∷ rest) else onto_first b (lines (l ++ 10 ∷ rest))) (not_true (is_line_end b) parts.0)
+    ap (λ t. if t then (b ∷ []) ∷ lines (l ++ 10 ∷ rest) else onto_first b (lines (l ++ 10 ∷ rest))) (not-true (is_line_end b) parts.0)
     ∙ ap (onto_first b) (lines_first l rest parts.1)
 
 first_line : (l rest : List ℕ) (ws : List Word) (wss : List (List Word)) → ReadsLine l ws → ReadsLines rest wss
@@ -62,9 +63,6 @@ section_lines [] = []
 section_lines (s ∷ ss) = (fixed (codes "proc") ∷ s.title.word ∷ []) ∷ (normal s.body ++ ((fixed (codes "end") ∷ []) ∷ section_lines ss))
 
 -- The labels of a place, one at a time.
-nothing_at : (place p : ℕ) (xs : List ℕ) → p ≢ place → (if p == place then xs else []) ≡ []
-nothing_at place p xs h = grind (arith, nat_tests)
-
 all_at : (p : ℕ) (xs : List ℕ) → (if p == p then xs else []) ≡ xs
 all_at p xs = grind (arith, nat_tests)
 

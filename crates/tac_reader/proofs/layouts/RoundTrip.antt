@@ -16,9 +16,9 @@ use Rattle.tac_program.proofs.lists.Elements.{each-append}
 use Rattle.tac_reader.proofs.tokens.Bare.{bare, all_erased, words_of, erased_words}
 use Rattle.tac_reader.proofs.sections.Cores.{core, cores-erased, core_titles, core_variables, title_names, variable_names, outlines, outlines_are}
 use Rattle.tac_reader.proofs.sections.CoreFaults.{no_faults_by_core}
-use Rattle.tac_reader.proofs.known_names.NameFaults.{name_fault}
+use Rattle.tac_reader.proofs.known_names.NameFaults.{name_fault, none_head}
 use Rattle.tac_reader.proofs.lines.FineRows.{LinesFine, no_line_faults}
-use Rattle.tac_reader.proofs.programs.SoundPrograms.{no_faults, none_head, none_refused}
+use Rattle.tac_reader.proofs.programs.SoundPrograms.{no_faults, none_refused}
 use Rattle.tac_reader.proofs.sections.GoodSections.{SectionGood, sections_good}
 use Rattle.tac_reader.proofs.layouts.ListingLines.{ReadsLines, label_line, normal, section_lines, listing_reads}
 use Rattle.tac_reader.proofs.layouts.ListingSections.{bare_lines, sections_lines_fine, cores_listed}

@@ -3,6 +3,7 @@ use Rattle.std.proofs.Common.{◌≡◌, ℕ, Bool, true, false, ◌&&◌, List,
 use Rattle.std.proofs.Common.{true≢false, if◌then◌else◌}
 use Rattle.std.specs.List.{AllByRecursion as Each, list_all}
 use Rattle.std.specs.Cmp.Lexicographic.{same_text}
+use Rattle.std.proofs.lemmas.Bool.{and_parts}
 use Rattle.tac_lines.specs.Tokens.{Word, Token, bytes_of, spelling_of}
 use Rattle.tac_lines.specs.Forms.{Slot, exactly, procedure, variable, operand, label, callee, binary, unary, comparison, key, statements}
 use Rattle.tac_lines.specs.Forms.{plain_statements, further_callees, paired, in_slot, is_callee}
@@ -13,7 +14,6 @@ use Rattle.tac_program.specs.Names.{Names}
 use Rattle.tac_program.specs.Listings.{name_at, operand_text, binary_text, goto_text, callees_text, statement_text}
 use Rattle.tac_lines.specs.declared.form.Form.{Form}
 use Rattle.tac_lines.specs.declared.form.Form.TheVariants as form
-use Rattle.tac_lines.proofs.tokens.Longest.{and_parts}
 use Rattle.tac_program.proofs.lists.Elements.{each-append}
 use Rattle.tac_reader.proofs.tokens.Bare.{words_of}
 use Rattle.tac_reader.proofs.tokens.ReadWords.{spelled}

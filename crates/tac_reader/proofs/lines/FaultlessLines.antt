@@ -3,6 +3,7 @@ use Rattle.std.proofs.Common.{◌≡◌, ℕ, zero, suc, ◌+◌, ◌-◌, Bool,
 use Rattle.std.proofs.Common.{refl, sym, subst, Option, Some, None, is_some, true≢false, one-add, if◌then◌else◌, nat_lt, ◌≤◌, ◌⊎◌, inl, inr, codes}
 use Rattle.std.proofs.lemmas.Bool.{and_parts, ltb-false}
 use Rattle.std.specs.List.{AllByRecursion as Each, prefix_len, take_while}
+use Rattle.std.proofs.lemmas.Option.{same_Some}
 use Rattle.tac_lines.specs.Tokens.{Word, name, number, fixed, Token, Piece, word, gap, Row, is_number, is_blank, is_comment, signs, piece_of, picked}
 use Rattle.tac_lines.specs.Tokens.{name_or_keyword, number_piece, longest, longest_of, before_row, row_from, rows_from, stop_of, bytes_of}
 use Rattle.tac_lines.specs.Tokens.{spelling_of, unless_empty, token_lines}
@@ -40,12 +41,6 @@ Sound t = IsSoundWord t.word
 abbrev Spelled : Token → Type 0
 Spelled t = IsSpelledWord t.word
 
-same_piece : (a b : Piece) → ◌≡◌ {A = Option Piece} (Some a) (Some b) → a ≡ b
-same_piece a b e = cc
-
-same_found : (a b : ℕ × Piece) → ◌≡◌ {A = Option (ℕ × Piece)} (Some a) (Some b) → a ≡ b
-same_found a b e = cc
-
 named_spelled : (s : List ℕ) → is_name s ≡ true → IsSpelledPiece (name_or_keyword s)
 named_spelled s h = by_test (is_one_of s keywords) refl where
   by_test : (b : Bool) → is_one_of s keywords ≡ b → IsSpelledWord (if b then fixed s else name s)
@@ -55,10 +50,10 @@ named_spelled s h = by_test (is_one_of s keywords) refl where
 piece_spelled : (s : List ℕ) (p : Piece) → piece_of s ≡ Some p → IsSpelledPiece p
 piece_spelled s p e = go (is_name s) (is_number s) (is_one_of s signs) (is_blank s || is_comment s) refl refl e where
   go : (a b c d : Bool) → is_name s ≡ a → is_one_of s signs ≡ c → picked a b c d s ≡ Some p → IsSpelledPiece p
-  go true b c d h l k = subst IsSpelledPiece (same_piece (name_or_keyword s) p k) (named_spelled s h)
-  go false true c d h l k = subst IsSpelledPiece (same_piece (number_piece s) p k) tt
-  go false false true d h l k = subst IsSpelledPiece (same_piece (word (fixed s)) p k) (inr l)
-  go false false false true h l k = subst IsSpelledPiece (same_piece gap p k) tt
+  go true b c d h l k = subst IsSpelledPiece (same_Some (name_or_keyword s) p k) (named_spelled s h)
+  go false true c d h l k = subst IsSpelledPiece (same_Some (number_piece s) p k) tt
+  go false false true d h l k = subst IsSpelledPiece (same_Some (word (fixed s)) p k) (inr l)
+  go false false false true h l k = subst IsSpelledPiece (same_Some gap p k) tt
   go false false false false h l k = absurd (cc k)
 
 longest_spelled : (n : ℕ) (bytes : List ℕ) (found : ℕ × Piece) → longest_of n bytes ≡ Some found → IsSpelledPiece found.1
@@ -67,7 +62,7 @@ longest_spelled (suc n) bytes found e = go (piece_of (take (suc n) bytes)) refl 
   go : (o : Option Piece) → piece_of (take (suc n) bytes) ≡ o
       → (elim o as (λ _. Option (ℕ × Piece)) [ Some p ↦ Some (suc n, p) | None ↦ longest_of n bytes ]) ≡ Some found
       → (longest_of n bytes ≡ Some found → IsSpelledPiece found.1) → IsSpelledPiece found.1
-  go (Some p) h k later = subst (λ f. IsSpelledPiece f.1) (same_found (suc n, p) found k) (piece_spelled (take (suc n) bytes) p h)
+  go (Some p) h k later = subst (λ f. IsSpelledPiece f.1) (same_Some (suc n, p) found k) (piece_spelled (take (suc n) bytes) p h)
   go None h k later = later k
 
 before_spelled : (p : Piece) (start stop : ℕ) (row : Row) → IsSpelledPiece p → Each Spelled row.tokens

@@ -1,6 +1,6 @@
 -- The first fault of a list of parts, one part after another.
 use Rattle.std.proofs.Common.{◌≡◌, ℕ, zero, suc, ◌+◌, ◌<◌, true, false, List, [], ◌∷◌, ◌++◌, length, map, flat_map, drop, refl, sym, ap, ◌∙◌, arith}
-use Rattle.std.proofs.Common.{Option, Some, None, is_some, position, bytes_eq, if◌then◌else◌, slice_index_or, slice_get, append-nil}
+use Rattle.std.proofs.Common.{Option, Some, None, is_some, position, bytes_eq, if◌then◌else◌, slice_index_or, slice_get}
 use Rattle.std.proofs.lemmas.Grind.{flat_map-append}
 use Rattle.tac_lines.specs.Tokens.{Token, spelling_of, unless_empty}
 use Rattle.tac_program.specs.Names.{is_one_of}
@@ -19,15 +19,8 @@ use Rattle.tac_lines.specs.declared.refusal.RefusalKind.{RefusalKind}
 use Rattle.tac_reader.specs.declared.section.Section.{Section as Read}
 use Rattle.tac_lines.specs.declared.token.Token.{Token as Lexed}
 use Rattle.tac_program.proofs.known_names.NameTexts.{numbered}
-use Rattle.tac_reader.proofs.sections.SectionSteps.{rest_at}
-
-none_is : (fs : List Fault) → None ≡ head_of fs → fs ≡ []
-none_is [] e = refl
-none_is (f ∷ fs) e = absurd (cc e)
-
-first_is : (f : Fault) (fs gs : List Fault) → Some f ≡ head_of fs → head_of (fs ++ gs) ≡ Some f
-first_is f [] gs e = absurd (cc e)
-first_is f (g ∷ fs) gs e = sym e
+use Rattle.tac_reader.proofs.sections.SectionSteps.{rest_at, of_line}
+use Rattle.tac_reader.proofs.known_names.NameFaults.{none_head, head-front}
 
 module _ {L V : Type 0} (faults : V → List Fault) (view : L → V) where
   -- A part without faults.
@@ -35,7 +28,7 @@ module _ {L V : Type 0} (faults : V → List Fault) (view : L → V) where
       → flat_map faults (map view (drop i xs)) ≡ whole → flat_map faults (map view (drop (i + 1) xs)) ≡ whole
   fault_past xs i d whole below none before =
       sym (ap (λ r. flat_map faults (map view r)) (rest_at xs i d below)
-      ∙ ap (λ r. r ++ flat_map faults (map view (drop (i + 1) xs))) (none_is (faults (view (slice_index_or xs i d))) none))
+      ∙ ap (λ r. r ++ flat_map faults (map view (drop (i + 1) xs))) (none_head (faults (view (slice_index_or xs i d))) (sym none)))
       ∙ before
 
   -- The first part with one.
@@ -43,7 +36,7 @@ module _ {L V : Type 0} (faults : V → List Fault) (view : L → V) where
       → Some f ≡ head_of (faults (view (slice_index_or xs i d))) → flat_map faults (map view (drop i xs)) ≡ whole → head_of whole ≡ Some f
   fault_here xs i d whole f below found before =
       ap head_of (sym before ∙ ap (λ r. flat_map faults (map view r)) (rest_at xs i d below))
-      ∙ first_is f (faults (view (slice_index_or xs i d))) (flat_map faults (map view (drop (i + 1) xs))) found
+      ∙ head-front (faults (view (slice_index_or xs i d))) (flat_map faults (map view (drop (i + 1) xs))) f (sym found)
 
 -- The fault of one name, by what its look-up in the table told.
 abbrev pub one_unknown : RefusalKind → List Token → Token → List Fault
@@ -74,15 +67,11 @@ module _ (kind : RefusalKind) (known : List Token) (text : List ℕ) where
 
 -- Faults of statements, line by line: a line without a statement has none.
 module _ (faults : List Token → List Fault) (none : faults [] ≡ []) where
-  of_line : (ts : List Token) → flat_map faults (unless_empty ts) ≡ faults ts
-  of_line [] = sym none
-  of_line (t ∷ ts) = append-nil (faults (t ∷ ts))
-
   pub by_lines : (lines : List (List Token)) → flat_map (λ line. faults (behind_labels line)) lines ≡ flat_map faults (statements_of lines)
   by_lines [] = refl
   by_lines (line ∷ lines) =
       ap (λ r. faults (behind_labels line) ++ r) (by_lines lines)
-      ∙ ap (λ r. r ++ flat_map faults (statements_of lines)) (sym (of_line (behind_labels line)))
+      ∙ ap (λ r. r ++ flat_map faults (statements_of lines)) (sym (of_line faults none (behind_labels line)))
       ∙ sym (flat_map-append faults (unless_empty (behind_labels line)) (statements_of lines))
 
 -- The callees of a line's call, in the emptied list.

@@ -1,7 +1,8 @@
 -- The words at places of a statement.
 use Rattle.std.proofs.Common.{◌≡◌, ℕ, zero, suc, List, [], ◌∷◌, refl, sym, ap, ◌∙◌, Option, Some, None, slice_get, option_map, true, false, nat_lt}
-use Rattle.std.proofs.Common.{length, get_or, ◌<◌, ◌≤◌, arith}
+use Rattle.std.proofs.Common.{length, get_or}
 use Rattle.std.proofs.lemmas.Bool.{ltb-true, ltb-false}
+use Rattle.std.proofs.lemmas.Option.{slice_get-get_or, slice_get_past}
 use Rattle.tac_lines.specs.Tokens.{fixed}
 use Rattle.tac_reader.specs.Parses.{operator_of}
 use Rattle.tac_program.specs.Spelling.{sign_of}
@@ -46,15 +47,8 @@ no_operator s (kind.Keyword k) h = keyword_operator k
 no_operator s (kind.Operator o) h = absurd (h o refl)
 
 pub get_some : (ts : List Lexed) (at : ℕ) (t : Lexed) → true ≡ nat_lt at (length ts) → t ≡ get_or ts at t → slice_get ts at ≡ Some t
-get_some ts at t h e = go ts at (ltb-true at (length ts) (sym h)) e where
-  go : (us : List Lexed) (n : ℕ) → n < length us → t ≡ get_or us n t → slice_get us n ≡ Some t
-  go [] n l f = absurd (let never : ⊥ = omega (arith, l) in never)
-  go (u ∷ us) zero l f = ap (λ x. let o : Option Lexed = Some x in o) (sym f)
-  go (u ∷ us) (suc n) l f = go us n (omega (arith, l)) f
+get_some ts at t h e =
+    slice_get-get_or ts at t (ltb-true at (length ts) (sym h)) ∙ ap (λ x. let o : Option Lexed = Some x in o) (sym e)
 
 pub get_none : (ts : List Lexed) (at : ℕ) → false ≡ nat_lt at (length ts) → slice_get ts at ≡ None
-get_none ts at h = go ts at (ltb-false at (length ts) (sym h)) where
-  go : (us : List Lexed) (n : ℕ) → length us ≤ n → slice_get us n ≡ None
-  go [] n l = refl
-  go (u ∷ us) zero l = absurd (let never : ⊥ = omega (arith, l) in never)
-  go (u ∷ us) (suc n) l = go us n (omega (arith, l))
+get_none ts at h = slice_get_past ts at (ltb-false at (length ts) (sym h))

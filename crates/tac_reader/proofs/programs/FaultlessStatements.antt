@@ -1,7 +1,7 @@
 -- Statements without faults: their words fill the places of one form, and what they say is sound.
-use Rattle.std.proofs.Common.{◌≡◌, ℕ, ◌<◌, Bool, true, false, not, ◌||◌, List, [], ◌∷◌, ◌++◌, flat_map, length, refl, sym, ap, ◌∙◌, subst, true≢false}
+use Rattle.std.proofs.Common.{◌≡◌, ℕ, ◌<◌, Bool, true, false, ◌||◌, List, [], ◌∷◌, ◌++◌, flat_map, length, refl, sym, ap, ◌∙◌, subst, true≢false}
 use Rattle.std.proofs.Common.{bytes_eq, codes, if◌then◌else◌}
-use Rattle.std.proofs.lemmas.Bool.{and_parts}
+use Rattle.std.proofs.lemmas.Bool.{and_parts, or_parts, not-true}
 use Rattle.std.proofs.lemmas.Slice.Eq.{bytes_eq-Decides}
 use Rattle.std.specs.List.{AllByRecursion as Each, list_all}
 use Rattle.tac_lines.specs.Tokens.{Word, name, number, fixed, Token, bytes_of, spelling_of, unless_empty}
@@ -49,11 +49,9 @@ no_labels (t ∷ u ∷ ts) e = by_test (has_form label_form (t ∷ u ∷ [])) e 
   by_test false k = refl
 
 no_end : (line : List Token) → is_inner line ≡ true → has_form end_form line ≡ false
-no_end line h = go (has_form (key (codes "proc") ∷ procedure ∷ []) line) (has_form end_form line) h where
-  go : (a b : Bool) → not (a || b) ≡ true → b ≡ false
-  go true b k = absurd (true≢false (sym k))
-  go false true k = absurd (true≢false (sym k))
-  go false false k = refl
+no_end line h =
+    let proc : Bool = has_form (key (codes "proc") ∷ procedure ∷ []) line in
+    (or_parts proc (has_form end_form line) (not-true (proc || has_form end_form line) h)).1
 
 -- What stands behind the labels of a procedure's line, where there is something, has the form of a statement.
 statement_form : (line : List Token) (t : Token) (ts : List Token) → Inner line → behind_labels line ≡ t ∷ ts

@@ -3,6 +3,9 @@ use Rattle.std.proofs.Common.{◌≡◌, ℕ, Bool, true, false, cond, ◌||◌,
 use Rattle.std.proofs.Common.{Some, bytes_eq, true≢false, if◌then◌else◌, unwrap_or}
 use Rattle.std.specs.List.{AllByRecursion as Each, list_all}
 use Rattle.std.specs.Cmp.Lexicographic.{same_text}
+use Rattle.std.proofs.lemmas.Bool.{and_parts}
+use Rattle.std.proofs.lemmas.Option.{same_Some}
+use Rattle.std.proofs.Math.Bool.{or-false}
 use Rattle.tac_lines.specs.Tokens.{Word, name, number, fixed, Token, bytes_of, spelling_of}
 use Rattle.tac_program.specs.Spelling.{binary_signs, unary_signs, comparison_signs, sign_of}
 use Rattle.tac_program.specs.Names.{is_one_of, Names}
@@ -14,9 +17,9 @@ use Rattle.tac_reader.specs.Parses.{operator_of, kind_of}
 use Rattle.tac_program.specs.Spelling.{operators}
 use Rattle.tac_program.specs.Listings.{statement_text}
 use Rattle.tac_lines.specs.declared.form.Form.{Form}
+use Rattle.tac_lines.proofs.forms.RowLengths.{found_row}
 use Rattle.tac_program.specs.declared.program.Op.{Op}
 use Rattle.tac_program.specs.declared.program.Op.TheVariants as op
-use Rattle.tac_lines.proofs.tokens.Longest.{and_parts}
 use Rattle.tac_reader.proofs.tokens.Bare.{words_of}
 use Rattle.tac_reader.proofs.sections.Cores.{kind_in}
 use Rattle.tac_reader.proofs.known_names.KnownNames.{Known, name_of_number}
@@ -26,9 +29,6 @@ use Rattle.tac_reader.proofs.layouts.Layouts.{layout}
 use Rattle.tac_reader.proofs.layouts.StatementTexts.{Resolves, Resolved, callee_numbers, numbers_are, IsWritten, all_written}
 use Rattle.tac_reader.proofs.programs.StatementWords.{row_form}
 
-same : {X : Type 0} (a b : X) → ◌≡◌ {A = Option X} (Some a) (Some b) → a ≡ b
-same a b k = cc
-
 -- What is found has what each has, and passes the test.
 each_found : {X : Type 0} (P : X → Type 0) (test : X → Bool) (xs : List X) (x : X) → Each P xs → find test xs ≡ Some x → P x × (test x ≡ true)
 each_found P test [] x h e = absurd (cc e)
@@ -36,7 +36,7 @@ each_found P test (y ∷ ys) x h e = go (test y) refl e (λ k. each_found P test
   go : (b : Bool) → test y ≡ b → cond (test y) (Some y) (find test ys) ≡ Some x → (find test ys ≡ Some x → P x × (test x ≡ true))
       → P x × (test x ≡ true)
   go true t k later =
-      let e : y ≡ x = same y x (sym (ap (λ c. cond c (Some y) (find test ys)) t) ∙ k) in
+      let e : y ≡ x = same_Some y x (sym (ap (λ c. cond c (Some y) (find test ys)) t) ∙ k) in
       subst (λ z. P z × (test z ≡ true)) e (h.0, t)
   go false t k later = later (sym (ap (λ c. cond c (Some y) (find test ys)) t) ∙ k)
 
@@ -63,12 +63,7 @@ form_row ts (r ∷ rs) h = go (has_form r.1 ts) refl (form_row ts rs) where
       (rest.0, ap (λ b. cond b (let o : Option (Form × List Slot) = Some r in o) (find (λ q. has_form q.1 ts) rs)) e ∙ rest.1)
 
 pub row_has_form : (ts : List Token) (row : Form × List Slot) → statement_row ts ≡ Some row → has_form row.1 ts ≡ true
-row_has_form ts row e = found (λ r. has_form r.1 ts) statements row e where
-  found : (test : Form × List Slot → Bool) (rows : List (Form × List Slot)) (r : Form × List Slot) → find test rows ≡ Some r → test r ≡ true
-  found test rows r k = (each_found (λ (x : Form × List Slot). Unit {0}) test rows r (all rows) k).1 where
-    all : (xs : List (Form × List Slot)) → Each (λ x. Unit {0}) xs
-    all [] = tt
-    all (x ∷ xs) = (tt, all xs)
+row_has_form ts row e = found_row ts statements row e
 
 pub row_passes : (test : Form × List Slot → Bool) (ts : List Token) (row : Form × List Slot) → list_all test statements ≡ true
     → statement_row ts ≡ Some row → test row ≡ true
@@ -103,12 +98,8 @@ KnownIn names label w = Known names.labels (bytes_of w)
 KnownIn names callee w = Known names.procedures (bytes_of w)
 KnownIn names _ w = Unit {0}
 
-or_false : (a : Bool) → (a || false) ≡ true → a ≡ true
-or_false true h = refl
-or_false false h = h
-
 resolves : (names : Names) (s : Slot) (w : Word) → fills s w ≡ true → KnownIn names s w → Resolves names s w
-resolves names (exactly k) (fixed u) f h = same_text u k (sym (or_false (bytes_eq u k) f))
+resolves names (exactly k) (fixed u) f h = same_text u k (sym f ∙ or-false (bytes_eq u k))
 resolves names (exactly k) (name x) f h = absurd (true≢false (sym f))
 resolves names (exactly k) (number n) f h = absurd (true≢false (sym f))
 resolves names procedure w f h = tt

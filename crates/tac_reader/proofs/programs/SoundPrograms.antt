@@ -37,6 +37,7 @@ use Rattle.tac_reader.proofs.programs.ProgramSizes.{AreFew, sections_few, total,
 use Rattle.tac_reader.proofs.programs.SoundStatements.{NamesAreKnown, statement_sound}
 use Rattle.tac_reader.proofs.programs.LargeLimits.{procedures_within_large, text_within_large}
 use Rattle.tac_reader.proofs.programs.ReadSteps.{program_is}
+use Rattle.tac_reader.proofs.known_names.NameFaults.{none_head}
 
 -- Labels and procedures are numbered on from a number.
 labels_numbered : (n : ℕ) (places : List ℕ) (k : ℕ) (l : Label) → slice_get (labels_from n places) k ≡ Some l → l.name ≡ n + k
@@ -359,10 +360,6 @@ no_faults limits text e = by_length (nat_lt (longest_text limits) (length text))
   by_length true t h = absurd (cc h)
   by_length false t h =
       by_line (first_by_place (line_faults false (length text) (rows text))) (ltb-false (longest_text limits) (length text) t) refl h
-
-pub none_head : (fs : List Fault) → head_of fs ≡ None → fs ≡ []
-none_head [] e = refl
-none_head (f ∷ fs) e = absurd (cc e)
 
 -- Its sections.
 text_faultless : (limits : Limits) (text : List ℕ) → HasNoFaults limits text → Each IsFaultlessSection (sections text)

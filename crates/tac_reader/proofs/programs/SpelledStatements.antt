@@ -13,8 +13,9 @@ use Rattle.tac_reader.specs.Laws.{StatementsAreSpelled}
 use Rattle.tac_lines.proofs.tokens.Places.{EachToken, StandsIn, row_in, ends_line}
 use Rattle.tac_lines.proofs.lines.Lines.{lines_join}
 use Rattle.tac_program.proofs.lists.Elements.{each-append, each-take, each-weaker, each-flat_map}
-use Rattle.tac_lines.proofs.tokens.SpelledTokens.{row_choice, drop_next, drop_past}
+use Rattle.tac_lines.proofs.tokens.SpelledTokens.{drop_next, drop_past}
 use Rattle.tac_lines.proofs.tokens.CutRows.{end_of, IsCut, row_cut}
+use Rattle.tac_lines.proofs.tokens.RowSteps.{row_choice}
 
 -- A fact of each end of a list of tokens that has some.
 abbrev EachTail : (List Token → Type 0) → List Token → Type 0

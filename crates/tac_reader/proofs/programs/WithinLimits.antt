@@ -12,9 +12,9 @@ use Rattle.tac_reader.specs.Sections.{Section, sections, titles}
 use Rattle.tac_reader.specs.Parses.{names_in, variables_in}
 use Rattle.tac_reader.specs.Faults.{head_of, name_faults, refusal_at}
 use Rattle.tac_reader.specs.Laws.{LargeLimitsAcceptMore, ProgramsAreWithin}
-use Rattle.tac_reader.proofs.known_names.NameFaults.{name_fault}
+use Rattle.tac_reader.proofs.known_names.NameFaults.{name_fault, none_head}
 use Rattle.tac_reader.proofs.programs.LargeLimits.{text_within_large}
-use Rattle.tac_reader.proofs.programs.SoundPrograms.{none_head, none_refused, no_faults, text_few, length-procedures_from}
+use Rattle.tac_reader.proofs.programs.SoundPrograms.{none_refused, no_faults, text_few, length-procedures_from}
 
 none_over : (n : ℕ) (ts : List Token) → length ts ≤ n → flat_map (λ t. at kind.TooManyProcedures t.start) (drop n ts) ≡ []
 none_over n ts h = ap (flat_map (λ t. at kind.TooManyProcedures t.start)) (drop_all n ts h)

@@ -1,6 +1,7 @@
 -- What the listing of a text without faults goes by: words that read back, and names that are known.
 use Rattle.std.proofs.Common.{◌≡◌, ℕ, ◌⊎◌, inl, inr, Bool, true, false, ◌&&◌, List, [], ◌∷◌, flat_map, refl, subst, None, Some, if◌then◌else◌, codes}
 use Rattle.std.specs.List.{AllByRecursion as Each}
+use Rattle.std.proofs.lemmas.Bool.{and_parts}
 use Rattle.tac_lines.specs.Tokens.{Token, unless_empty}
 use Rattle.tac_lines.specs.Forms.{Slot, fills, label, key, has_form, label_form, statements, statement_row, labels_of, behind_labels, in_slot}
 use Rattle.tac_lines.specs.Forms.{is_name_word, is_label, is_callee, is_variable}
@@ -10,7 +11,6 @@ use Rattle.tac_program.specs.Names.{Names}
 use Rattle.tac_reader.specs.Faults.{refusal_within}
 use Rattle.tac_program.specs.declared.limits.Limits.{Limits}
 use Rattle.tac_lines.specs.declared.form.Form.{Form}
-use Rattle.tac_lines.proofs.tokens.Longest.{and_parts}
 use Rattle.tac_program.proofs.lists.Elements.{each-weaker, each-from_flat_map}
 use Rattle.tac_reader.proofs.tokens.Bare.{words_of}
 use Rattle.tac_reader.proofs.layouts.StatementTexts.{Resolved}

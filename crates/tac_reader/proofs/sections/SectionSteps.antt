@@ -1,6 +1,6 @@
 -- Procedures and labels, one line after another.
-use Rattle.std.proofs.Common.{◌≡◌, ℕ, zero, suc, ◌+◌, ◌-◌, ◌<◌, ◌≤◌, Bool, true, false, cond, ◌&&◌, List, [], ◌∷◌, ◌++◌, length, map, take, drop}
-use Rattle.std.proofs.Common.{refl, sym, ap, ◌∙◌, arith, true≢false, if◌then◌else◌, slice_index_or, take_while, take_all, length-drop, drop-drop}
+use Rattle.std.proofs.Common.{◌≡◌, ℕ, suc, ◌+◌, ◌-◌, ◌<◌, ◌≤◌, Bool, true, false, cond, List, [], ◌∷◌, ◌++◌, length, map, take, drop}
+use Rattle.std.proofs.Common.{refl, sym, ap, ◌∙◌, arith, true≢false, if◌then◌else◌, slice_index_or, take_while, drop-drop}
 use Rattle.std.proofs.Common.{slice_range, append_assoc, append-nil, flat_map}
 use Rattle.std.specs.List.{prefix_len}
 use Rattle.std.proofs.Math.Seq.{drop-cons}
@@ -16,20 +16,11 @@ use Rattle.tac_lines.specs.declared.formed.Lines.{Lines}
 use Rattle.tac_lines.specs.declared.lexed.LineRange.{LineRange}
 use Rattle.tac_reader.specs.declared.section.Section.{Section as Read}
 use Rattle.tac_lines.specs.declared.token.Token.{Token as Lexed}
+use Rattle.tac_lines.proofs.forms.LabelCounts.{and_true, not_single}
 
 module _ {L : Type 0} where
   pub rest_at : (xs : List L) (i : ℕ) (d : L) → i < length xs → drop i xs ≡ slice_index_or xs i d ∷ drop (i + 1) xs
   rest_at xs i d h = drop-cons xs i d h ∙ ap (λ k. slice_index_or xs i d ∷ drop k xs) (let e : suc i ≡ i + 1 = omega arith in e)
-
-  pub rest_none : (xs : List L) (i : ℕ) → length xs ≤ i → drop i xs ≡ []
-  rest_none [] zero h = refl
-  rest_none [] (suc i) h = refl
-  rest_none (x ∷ xs) zero h = absurd (let never : ⊥ = omega (arith, h) in never)
-  rest_none (x ∷ xs) (suc i) h = rest_none xs i (omega (arith, h))
-
-  -- What is left of a list, as a range to its end.
-  pub rest_all : (xs : List L) (n : ℕ) → take (length xs - n) (drop n xs) ≡ drop n xs
-  rest_all xs n = take_all (length xs - n) (drop n xs) (let e : length (drop n xs) ≡ length xs - n = length-drop n xs in omega (arith, e))
 
 -- A run of elements from the front on.
 module _ {L T : Type 0} (p : T → Bool) (f : L → T) where
@@ -52,15 +43,6 @@ module _ {L T : Type 0} (p : T → Bool) (f : L → T) where
       ∙ ap (λ n. take n (map f (drop first xs))) (let e : i - first ≡ prefix_len p (map f (drop first xs)) = omega (arith, order, before, none) in e)
 
 module _ (text : List ℕ) where
-  and_true : (a b : Bool) → (a && b) ≡ true → (a && (b && true)) ≡ true
-  and_true true true h = refl
-  and_true true false h = h
-  and_true false b h = h
-
-  not_single : (a : Bool) → (a && false) ≡ true → ⊥
-  not_single true h = true≢false (sym h)
-  not_single false h = true≢false (sym h)
-
   labels_step : (ts : List Lexed) (d : Lexed) → starts_label text ts ≡ true
       → labels_of (tokens_view text ts) ≡ token_view text (slice_index_or ts 0 d) ∷ labels_of (tokens_view text (drop 2 ts))
   labels_step [] d h = absurd (true≢false (sym h))
@@ -132,12 +114,13 @@ module _ (text : List ℕ) where
       ∙ ap (λ ss. sections_view text found ++ ss) (sym step)
       ∙ before
 
--- What is read of each statement, line by line: a line without one has nothing.
-module _ (text : List ℕ) (all : List Lexed) (part : List Token → List Token) (none : part [] ≡ []) where
-  of_line : (ts : List Token) → flat_map part (unless_empty ts) ≡ part ts
-  of_line [] = sym none
-  of_line (t ∷ ts) = append-nil (part (t ∷ ts))
+-- A line without a statement has nothing.
+pub of_line : {A : Type 0} (part : List Token → List A) → part [] ≡ [] → (ts : List Token) → flat_map part (unless_empty ts) ≡ part ts
+of_line part none [] = sym none
+of_line part none (t ∷ ts) = append-nil (part (t ∷ ts))
 
+-- What is read of each statement, line by line.
+module _ (text : List ℕ) (all : List Lexed) (part : List Token → List Token) (none : part [] ≡ []) where
   pub parts_on : (lines : List LineRange) (at : ℕ) (d : LineRange) (found items whole : List Token) → at < length lines
       → items ≡ found ++ part (behind_labels (range_view text all (slice_index_or lines at d)))
       → found ++ flat_map part (statements_of (map (range_view text all) (drop at lines))) ≡ whole
@@ -147,7 +130,7 @@ module _ (text : List ℕ) (all : List Lexed) (part : List Token → List Token)
       let others = statements_of (map (range_view text all) (drop (at + 1) lines)) in
       let step : flat_map part (statements_of (map (range_view text all) (drop at lines))) ≡ part statement ++ flat_map part others =
       ap (λ ls. flat_map part (statements_of (map (range_view text all) ls))) (rest_at lines at d below)
-      ∙ flat_map-append part (unless_empty statement) others ∙ ap (λ r. r ++ flat_map part others) (of_line statement) in
+      ∙ flat_map-append part (unless_empty statement) others ∙ ap (λ r. r ++ flat_map part others) (of_line part none statement) in
       ap (λ r. r ++ flat_map part others) more ∙ append_assoc found (part statement) (flat_map part others) ∙ ap (λ r. found ++ r) (sym step) ∙ before
 
 -- What is read of each line.

@@ -10,6 +10,7 @@ use Rattle.tac_reader.specs.Sections.{Section, opened_by, sections_in, statement
 use Rattle.tac_reader.specs.Parses.{form_of, label_places, names_in}
 use Rattle.tac_lines.specs.declared.form.Form.{Form}
 use Rattle.tac_lines.specs.declared.form.Form.TheVariants as form
+use Rattle.tac_lines.proofs.forms.CalleeCounts.{row_cells}
 
 -- A token without its places.
 abbrev pub bare : Word → Token
@@ -80,16 +81,13 @@ paired-erased (s ∷ slots) (t ∷ ts) test = by_test (test s) (paired-erased sl
   by_test true e = ap (λ r. erased t ∷ r) e
   by_test false e = e
 
-abbrev cells : List Token → Option (Form × List Slot) → List (Slot × Token)
-cells ts o = elim o as (λ _. List (Slot × Token)) [ None ↦ [] | Some row ↦ paired row.1 ts ]
-
 cells-erased : (ts : List Token) (test : Slot → Bool) (o : Option (Form × List Slot))
-    → in_slot test (cells (all_erased ts) o) ≡ all_erased (in_slot test (cells ts o))
+    → in_slot test (row_cells (all_erased ts) o) ≡ all_erased (in_slot test (row_cells ts o))
 cells-erased ts test None = refl
 cells-erased ts test (Some row) = paired-erased row.1 ts test
 
 in_slot-erased : (ts : List Token) (test : Slot → Bool) → in_slot test (cells_of (all_erased ts)) ≡ all_erased (in_slot test (cells_of ts))
-in_slot-erased ts test = ap (λ o. in_slot test (cells (all_erased ts) o)) (statement_row-erased ts) ∙ cells-erased ts test (statement_row ts)
+in_slot-erased ts test = ap (λ o. in_slot test (row_cells (all_erased ts) o)) (statement_row-erased ts) ∙ cells-erased ts test (statement_row ts)
 
 pub callees-erased : (ts : List Token) → callees_of (all_erased ts) ≡ all_erased (callees_of ts)
 callees-erased ts = in_slot-erased ts is_callee

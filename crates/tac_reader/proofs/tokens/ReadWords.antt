@@ -1,22 +1,25 @@
 -- The words that the bytes of a line are read as.
-use Rattle.std.proofs.Common.{◌≡◌, ℕ, zero, suc, ◌+◌, inl, inr, Bool, true, false, cond, not, ◌&&◌, ◌||◌, List, [], ◌∷◌, ◌++◌, length, take, map}
+use Rattle.std.proofs.Common.{◌≡◌, ℕ, zero, suc, ◌+◌, inl, inr, Bool, true, false, cond, not, ◌&&◌, List, [], ◌∷◌, ◌++◌, length, take, map}
 use Rattle.std.proofs.Common.{decimal, refl, sym, ap, ◌∙◌, subst, Option, Some, None, eqb, true≢false, one-add, append_assoc, if◌then◌else◌}
 use Rattle.std.specs.List.{list_all, prefix_len}
 use Rattle.std.proofs.Math.Seq.{drop-append_seam, take-append_seam}
 use Rattle.std.proofs.lemmas.List.Folds.{list_all-append}
+use Rattle.std.proofs.lemmas.Bool.{and_parts, not-true, or_parts}
+use Rattle.std.proofs.lemmas.Option.{same_Some}
 use Rattle.tac_lines.specs.Text.{no_line_end}
 use Rattle.tac_lines.specs.Tokens.{Word, name, number, fixed, Piece, word, gap, Row, piece_of, picked, longest, before_row, row_from, is_number}
 use Rattle.tac_lines.specs.Tokens.{is_blank, signs, name_or_keyword, number_piece}
 use Rattle.tac_program.specs.Spelling.{is_letter, is_digit, is_name_byte, is_name, keywords, unary_signs}
 use Rattle.tac_program.specs.Names.{is_one_of}
 use Rattle.tac_program.specs.Sound.{IsLawfulName}
-use Rattle.tac_lines.proofs.tokens.Longest.{first_fails, and_parts, not_true, differs, letter_longest}
+use Rattle.tac_lines.proofs.tokens.Longest.{first_fails, differs, letter_longest}
 use Rattle.tac_lines.proofs.tokens.Pieces.{digit_longest, piece_of-other, one_longest, two_longest}
 use Rattle.tac_lines.proofs.tokens.Places.{longest_front, word_no_end}
 use Rattle.tac_lines.proofs.tokens.RowSteps.{row_some}
 use Rattle.tac_reader.proofs.lines.FaultlessLines.{IsSoundWord}
 use Rattle.tac_reader.proofs.programs.FaultlessStatements.{each_tested}
 use Rattle.tac_lines.proofs.tokens.Decimals.{is_number_decimal, value_of_decimal}
+use Rattle.tac_lines.proofs.tokens.Fronts.{space_at}
 
 -- What the bytes from a line's beginning on are read as, wherever the line stands.
 pub record ReadsAs (bytes : List ℕ) (ws : List Word) : Type 0 where
@@ -50,7 +53,7 @@ reads_piece s rest p ws e h = go p row where
 -- A run of bytes that pass a test, before one that does not.
 run_stops : (p : ℕ → Bool) (t rest : List ℕ) → list_all p t ≡ true → first_fails p rest ≡ true → prefix_len p (t ++ rest) ≡ length t
 run_stops p [] [] all fails = refl
-run_stops p [] (c ∷ cs) all fails = ap (λ x. cond x (1 + prefix_len p cs) 0) (not_true (p c) fails)
+run_stops p [] (c ∷ cs) all fails = ap (λ x. cond x (1 + prefix_len p cs) 0) (not-true (p c) fails)
 run_stops p (b ∷ bs) rest all fails =
     let parts = and_parts (p b) (list_all p bs) all in
     ap (λ x. cond x (1 + prefix_len p (bs ++ rest)) 0) parts.0 ∙ ap (λ n. 1 + n) (run_stops p bs rest parts.1 fails) ∙ one-add (length bs)
@@ -88,24 +91,21 @@ sign_longest c (b ∷ []) rest a h =
     let first = and_parts (not (is_letter b)) (not (is_digit b) && not (eqb b 35)) outer.0 in
     let second = and_parts (not (is_digit b)) (not (eqb b 35)) first.1 in
     let pair = and_parts (not (is_one_of (b ∷ c ∷ []) signs)) (not (is_blank (b ∷ c ∷ []))) outer.1 in
-    let letter = not_true (is_letter b) first.0 in
-    let digit = not_true (is_digit b) second.0 in
-    let hash = not_true (eqb b 35) second.1 in
+    let letter = not-true (is_letter b) first.0 in
+    let digit = not-true (is_digit b) second.0 in
+    let hash = not-true (eqb b 35) second.1 in
     let none : piece_of (b ∷ c ∷ []) ≡ None =
     piece_of-other b letter digit hash (c ∷ [])
-    ∙ (λ i. picked false false (not_true (is_one_of (b ∷ c ∷ []) signs) pair.0 i) (not_true (is_blank (b ∷ c ∷ [])) pair.1 i) (b ∷ c ∷ [])) in
+    ∙ (λ i. picked false false (not-true (is_one_of (b ∷ c ∷ []) signs) pair.0 i) (not-true (is_blank (b ∷ c ∷ [])) pair.1 i) (b ∷ c ∷ [])) in
     one_longest b letter digit hash (c ∷ rest) (word (fixed (b ∷ [])))
-    (λ d k. subst (λ x. piece_of (b ∷ x ∷ []) ≡ None) (same c d k) none)
+    (λ d k. subst (λ x. piece_of (b ∷ x ∷ []) ≡ None) (same_Some c d k) none)
     (piece_of-other b letter digit hash [] ∙ ap (λ t. picked false false t (is_blank (b ∷ [])) (b ∷ [])) h)
-  where
-    same : (x y : ℕ) → ◌≡◌ {A = Option ℕ} (Some x) (Some y) → x ≡ y
-    same x y k = cc
 sign_longest c (b ∷ d ∷ []) rest a h =
     let first = and_parts (not (is_letter b)) (not (is_digit b) && not (eqb b 35)) a in
     let second = and_parts (not (is_digit b)) (not (eqb b 35)) first.1 in
-    let letter = not_true (is_letter b) first.0 in
-    let digit = not_true (is_digit b) second.0 in
-    let hash = not_true (eqb b 35) second.1 in
+    let letter = not-true (is_letter b) first.0 in
+    let digit = not-true (is_digit b) second.0 in
+    let hash = not-true (eqb b 35) second.1 in
     two_longest b letter digit hash d (c ∷ rest) (word (fixed (b ∷ d ∷ [])))
     (piece_of-other b letter digit hash (d ∷ []) ∙ ap (λ t. picked false false t (is_blank (b ∷ d ∷ [])) (b ∷ d ∷ [])) h)
 sign_longest c (b ∷ d ∷ e ∷ es) rest a h = absurd (true≢false (sym a))
@@ -122,10 +122,7 @@ parts_end : Parts 10
 parts_end = record { no_name = refl; no_sign = refl }
 
 no_digit : (c : ℕ) → is_name_byte c ≡ false → is_digit c ≡ false
-no_digit c h = go (is_letter c) (is_digit c) h where
-  go : (a b : Bool) → (a || b) ≡ false → b ≡ false
-  go true b k = absurd (true≢false k)
-  go false b k = k
+no_digit c h = (or_parts (is_letter c) (is_digit c) h).1
 
 -- The bytes of a word, and that they read back as it.
 abbrev pub spelled : Word → List ℕ
@@ -180,11 +177,8 @@ line_word w h = record {
   reads = reads_piece (spelled w) (10 ∷ []) (word w) [] (word_before w [] 10 parts_end h) line_end;
 }
 
-blank_longest : (rest : List ℕ) → longest (32 ∷ rest) ≡ Some (1, gap)
-blank_longest rest = one_longest 32 refl refl refl rest gap (λ c h. piece_of-other 32 refl refl refl (c ∷ [])) refl
-
 pub line_blank : (line : List ℕ) (ws : List Word) → ReadsLine line ws → ReadsLine (32 ∷ line) ws
-line_blank line ws h = record { no_end = h.no_end; reads = reads_piece (32 ∷ []) (line ++ 10 ∷ []) gap ws (blank_longest (line ++ 10 ∷ [])) h.reads }
+line_blank line ws h = record { no_end = h.no_end; reads = reads_piece (32 ∷ []) (line ++ 10 ∷ []) gap ws (space_at (line ++ 10 ∷ [])) h.reads }
 
 pub line_more : (w : Word) (line : List ℕ) (ws : List Word) → IsSoundWord w → ReadsLine line ws → ReadsLine (spelled w ++ 32 ∷ line) (w ∷ ws)
 line_more w line ws good h =

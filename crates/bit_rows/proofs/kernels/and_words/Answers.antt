@@ -1,7 +1,7 @@
 use Rattle.std.proofs.Common.{◌+◌, ◌≤◌, length, bit_and, refl, arith}
 use lib.Lanes.{chunk, zip2}
 use Rattle.std.proofs.lemmas.Simd.{length-put_chunk}
-use Rattle.bit_rows.proofs.WordLoops.{IsDoneTo-lanes, IsDoneTo-more, and_acts, zip_lane, length_zip_lanes}
+use Rattle.bit_rows.proofs.rows.WordLoops.{IsDoneTo-lanes, IsDoneTo-more, and_acts, zip_lane, length_zip_lanes}
 use Rattle.bit_rows.proofs.kernels.and_words.Goals as goal
 
 pub lanes-preserved : goal.lanes-preserved

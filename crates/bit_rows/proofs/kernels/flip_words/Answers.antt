@@ -2,7 +2,7 @@ use Rattle.std.proofs.Common.{◌+◌, ◌≤◌, length, map, w64, refl, arith}
 use Rattle.std.specs.Int.{bit_not}
 use lib.Lanes.{chunk}
 use Rattle.std.proofs.lemmas.Simd.{length-put_chunk}
-use Rattle.bit_rows.proofs.WordLoops.{IsDoneTo-lanes, IsDoneTo-more, flip_acts, map_lane, length_map_lanes}
+use Rattle.bit_rows.proofs.rows.WordLoops.{IsDoneTo-lanes, IsDoneTo-more, flip_acts, map_lane, length_map_lanes}
 use Rattle.bit_rows.proofs.kernels.flip_words.Goals as goal
 
 pub lanes-preserved : goal.lanes-preserved

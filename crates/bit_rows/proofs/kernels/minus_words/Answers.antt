@@ -2,7 +2,7 @@ use Rattle.std.proofs.Common.{◌+◌, ◌≤◌, length, map, bit_and, w64, ref
 use Rattle.std.specs.Int.{bit_not}
 use lib.Lanes.{chunk, zip2}
 use Rattle.std.proofs.lemmas.Simd.{length-put_chunk, length-chunk, length-zip2, get_or-zip2, get_or-chunk}
-use Rattle.bit_rows.proofs.WordLoops.{IsDoneTo-lanes, IsDoneTo-more, minus_acts, map_lane, length_map_lanes}
+use Rattle.bit_rows.proofs.rows.WordLoops.{IsDoneTo-lanes, IsDoneTo-more, minus_acts, map_lane, length_map_lanes}
 use Rattle.bit_rows.proofs.kernels.minus_words.Goals as goal
 
 pub lanes-preserved : goal.lanes-preserved

@@ -1,5 +1,5 @@
 use Rattle.std.proofs.Common.{◌-◌, ◌≤◌, ◌&&◌, not, length}
-use Rattle.bit_rows.proofs.WordLoops.{IsDoneTo}
+use Rattle.bit_rows.proofs.rows.WordLoops.{IsDoneTo}
 use Rattle.bit_rows.proofs.kernels.minus_words.Given as goal
 
 abbrev pub invariant-lanes : goal.invariant-lanes

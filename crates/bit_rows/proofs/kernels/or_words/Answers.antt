@@ -3,8 +3,8 @@ use Rattle.std.specs.Int.{bit_not}
 use lib.Lanes.{chunk, zip2}
 use Rattle.std.proofs.lemmas.Simd.{length-put_chunk, length-chunk, length-zip2, get_or-zip2, get_or-chunk}
 use Rattle.bit_rows.specs.Words.{CombinesPlaces}
-use Rattle.bit_rows.proofs.WordLoops.{IsDoneTo-lanes, IsDoneTo-more, or_acts, zip_lane, length_zip_lanes, map_lane, length_map_lanes}
-use Rattle.bit_rows.proofs.Gains.{LanesTell-more, Tells-lanes, Tells-more, changed_from_gain}
+use Rattle.bit_rows.proofs.rows.WordLoops.{IsDoneTo-lanes, IsDoneTo-more, or_acts, zip_lane, length_zip_lanes, map_lane, length_map_lanes}
+use Rattle.bit_rows.proofs.rows.Gains.{LanesTell-more, Tells-lanes, Tells-more, changed_from_gain}
 use Rattle.bit_rows.proofs.kernels.or_words.Goals as goal
 
 pub lanes-preserved : goal.lanes-preserved

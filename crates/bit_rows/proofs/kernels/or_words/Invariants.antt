@@ -1,6 +1,6 @@
 use Rattle.std.proofs.Common.{◌≡◌, ℕ, ◌-◌, ◌<◌, ◌≤◌, ◌^◌, ◌||◌, length, get_or}
-use Rattle.bit_rows.proofs.WordLoops.{IsDoneTo}
-use Rattle.bit_rows.proofs.Gains.{LanesTell, Tells}
+use Rattle.bit_rows.proofs.rows.WordLoops.{IsDoneTo}
+use Rattle.bit_rows.proofs.rows.Gains.{LanesTell, Tells}
 use Rattle.bit_rows.proofs.kernels.or_words.Given as goal
 
 abbrev pub invariant-lanes : goal.invariant-lanes

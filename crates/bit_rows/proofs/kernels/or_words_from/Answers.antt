@@ -1,5 +1,5 @@
 use Rattle.std.proofs.Common.{refl, rules}
-use Rattle.bit_rows.proofs.WordLoops.{IsAddedTo-none, IsAddedTo-more, IsAddedTo-all}
+use Rattle.bit_rows.proofs.rows.WordLoops.{IsAddedTo-none, IsAddedTo-more, IsAddedTo-all}
 use Rattle.bit_rows.proofs.kernels.or_words_from.Goals as goal
 
 pub words-init : goal.words-init

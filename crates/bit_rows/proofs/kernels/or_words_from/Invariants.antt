@@ -1,4 +1,4 @@
-use Rattle.bit_rows.proofs.WordLoops.{IsAddedTo}
+use Rattle.bit_rows.proofs.rows.WordLoops.{IsAddedTo}
 use Rattle.bit_rows.proofs.kernels.or_words_from.Given as goal
 
 abbrev pub invariant-words : goal.invariant-words

@@ -1,5 +1,5 @@
 use Rattle.std.proofs.Common.{arith}
-use Rattle.bit_rows.proofs.Trim.{trim_both, trim_one}
+use Rattle.bit_rows.proofs.rows.Trim.{trim_both, trim_one}
 use Rattle.bit_rows.proofs.kernels.trim.Goals as goal
 
 pub returns-then-last-gt0 : goal.returns-then-last-gt0

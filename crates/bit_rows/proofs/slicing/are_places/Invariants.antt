@@ -1,4 +1,4 @@
-use Rattle.bit_rows.proofs.Cuts.{PlacesTo}
+use Rattle.bit_rows.proofs.slices.Cuts.{PlacesTo}
 use Rattle.bit_rows.proofs.slicing.are_places.Given as goal
 
 abbrev pub invariant-loop-place : goal.invariant-loop-place

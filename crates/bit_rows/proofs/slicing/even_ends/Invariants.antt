@@ -1,5 +1,5 @@
 use Rattle.std.proofs.Common.{◌-◌}
-use Rattle.bit_rows.proofs.Cuts.{EvenTo}
+use Rattle.bit_rows.proofs.slices.Cuts.{EvenTo}
 use Rattle.bit_rows.proofs.slicing.even_ends.Given as goal
 
 abbrev pub invariant-loop-end : goal.invariant-loop-end

@@ -1,6 +1,6 @@
 use Rattle.std.proofs.Common.{List, ℕ, sym, subst}
 use Rattle.flow_texts.specs.Tables.{IsTableText}
-use Rattle.flow_runs.proofs.Deliveries.{delivers_as}
+use Rattle.flow_runs.proofs.deliveries.Deliveries.{delivers_as}
 use Rattle.flow_commands.proofs.shows.push_table.Goals as goal
 
 pub returns-clause-delivers : goal.returns-clause-delivers

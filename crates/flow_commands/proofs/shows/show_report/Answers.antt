@@ -3,7 +3,7 @@ use Rattle.flow_texts.specs.Reports.{IsReport, ListsSafely}
 use Rattle.tac_program.specs.Programs.{Program}
 use Rattle.flow_runs.specs.Runs.{IsOverLimit}
 use Rattle.tac_program.specs.declared.limits.Limits.TheVariants.{Standard}
-use Rattle.flow_runs.proofs.Deliveries.{delivers_as, no_graph_fault}
+use Rattle.flow_runs.proofs.deliveries.Deliveries.{delivers_as, no_graph_fault}
 use Rattle.flow_commands.proofs.shows.show_report.Goals as goal
 
 pub returns-clause-delivers : goal.returns-clause-delivers

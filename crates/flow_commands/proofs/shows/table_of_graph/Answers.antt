@@ -1,7 +1,7 @@
 use Rattle.std.proofs.Common.{subst}
 use Rattle.flow_graph.specs.declared.analysis.Analysis.{Analysis}
 use Rattle.flow_texts.specs.Tables.{IsTableText}
-use Rattle.flow_runs.proofs.Deliveries.{delivers_as}
+use Rattle.flow_runs.proofs.deliveries.Deliveries.{delivers_as}
 use Rattle.flow_commands.proofs.shows.table_of_graph.Goals as goal
 
 pub returns-clause-delivers : goal.returns-clause-delivers

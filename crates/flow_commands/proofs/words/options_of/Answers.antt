@@ -1,6 +1,6 @@
 use Rattle.std.proofs.Common.{arith}
 use Rattle.clap.specs.Words.{found_of, rows_of}
-use Rattle.flow_runs.proofs.Numbers.{named_within}
+use Rattle.flow_runs.proofs.matches.Numbers.{named_within}
 use Rattle.flow_commands.proofs.words.options_of.Goals as goal
 
 pub unwrap-requires : goal.unwrap-requires

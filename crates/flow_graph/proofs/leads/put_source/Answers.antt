@@ -1,7 +1,8 @@
 use Rattle.std.proofs.Common.{◌<◌, ℕ, length, take, ap, ◌∙◌, arith}
+use Rattle.std.proofs.lemmas.List.{get_or_default}
 use Rattle.flow_graph.specs.code.NumberLists.{contents}
 use Rattle.flow_graph.specs.Paths.{Step, target_of}
-use Rattle.flow_graph.proofs.edges.SourceLemmas.{length-put_sources, get_or_any}
+use Rattle.flow_graph.proofs.edges.SourceLemmas.{length-put_sources}
 use Rattle.flow_graph.proofs.leads.put_source.Goals as goal
 
 pub put_last-requires : goal.put_last-requires
@@ -9,4 +10,4 @@ put_last-requires c =
     let i : ℕ = c.loop-edge.edge-index in
     let inside : i < length c.args.edges.now = omega arith in
     let as_many = ap length c.loop-edge.invariant ∙ length-put_sources (contents c.args.lists.now.items) c.args.source (take i c.args.edges.now) in
-    omega (arith, c.target.ensures ∙ ap target_of (get_or_any c.args.edges.now i _ (Step 0 0) inside), c.requires i (Step 0 0) inside, as_many)
+    omega (arith, c.target.ensures ∙ ap target_of (get_or_default c.args.edges.now i _ (Step 0 0) inside), c.requires i (Step 0 0) inside, as_many)

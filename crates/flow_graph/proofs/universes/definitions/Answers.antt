@@ -1,13 +1,10 @@
-use Rattle.std.proofs.Common.{◌≡◌, ◌+◌, ◌∷◌, [], ◌++◌, ℕ, List, Option, Some, None, flat_map, append_assoc, append-nil, ap, ◌∙◌, sym}
+use Rattle.std.proofs.Common.{◌≡◌, ◌+◌, ◌∷◌, [], ◌++◌, ℕ, Some, flat_map, append_assoc, append-nil, ap, ◌∙◌, sym}
 use Rattle.std.specs.List.{range_with_len}
-use Rattle.flow_graph.specs.Universes.{Definition, definition_at, dummies}
+use Rattle.flow_graph.specs.Universes.{definition_at, dummies}
 use Rattle.flow_graph.proofs.lists.Ranges.{flat_map-range_more}
+use Rattle.flow_graph.proofs.bits.OwnBits.{added}
 use Rattle.flow_graph.proofs.universes.definitions.Goals as goal
 use Rattle.flow_graph.proofs.universes.definitions.Goals.{in-Some+in_ok-push-in-Some, in-None}
-
--- what one point adds
-abbrev added : (point : ℕ) (target : Option ℕ) → List Definition
-added point target = elim target [ Some x ↦ (x, Some point) ∷ [] | None ↦ [] ]
 
 pub loop-point-preserved : goal.loop-point-preserved
 loop-point-preserved c =

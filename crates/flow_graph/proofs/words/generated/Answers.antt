@@ -1,7 +1,7 @@
 use Rattle.std.proofs.Common.{◌&&◌, w64, sym, ap, ◌∙◌}
 use Rattle.std.specs.Int.{bit_not}
 use Rattle.bit_rows.specs.Words.{has_bit}
-use Rattle.bit_rows.proofs.WordBits.{has_bit-and, has_bit-not}
+use Rattle.bit_rows.proofs.words.WordBits.{has_bit-and, has_bit-not}
 use Rattle.flow_graph.specs.code.Effects.{gen_from}
 use Rattle.flow_graph.proofs.words.generated.Goals as goal
 

@@ -1,5 +1,5 @@
 use Rattle.std.proofs.Common.{◌+◌, ◌*◌, sym, ap, ◌∙◌}
-use Rattle.bit_rows.proofs.WordBits.{has_bit-zero}
+use Rattle.bit_rows.proofs.words.WordBits.{has_bit-zero}
 use Rattle.flow_graph.specs.code.Effects.{marks}
 use Rattle.flow_graph.proofs.bits.SetWords.{word_of_bit, word_of_another}
 use Rattle.flow_graph.proofs.words.mark_word.Goals as goal

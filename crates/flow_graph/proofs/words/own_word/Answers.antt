@@ -1,5 +1,5 @@
 use Rattle.std.proofs.Common.{◌||◌, ap₂, ◌∙◌}
-use Rattle.bit_rows.proofs.WordBits.{has_bit-or}
+use Rattle.bit_rows.proofs.words.WordBits.{has_bit-or}
 use Rattle.flow_graph.proofs.words.own_word.Goals as goal
 
 pub returns : goal.returns

@@ -3,9 +3,9 @@ use Rattle.flow_graph.specs.Problems.{may_shape}
 use Rattle.flow_graph.specs.Points.{point_count}
 use Rattle.flow_links.specs.Tables.EdgeLists.{edge_at, key_of, call_source}
 use Rattle.flow_links.specs.declared.list_kind.ListKind.TheVariants.{Callers}
-use Rattle.flow_links.proofs.CallLemmas.{calls_are_edges, calls_listed, in_callers}
-use Rattle.flow_links.proofs.ListLemmas.{values_are_listed, read_at, same_values}
-use Rattle.flow_links.proofs.Written.{places_low}
+use Rattle.flow_links.proofs.groups.CallLemmas.{calls_are_edges, calls_listed, in_callers}
+use Rattle.flow_links.proofs.groups.ListLemmas.{values_are_listed, read_at, same_values}
+use Rattle.flow_links.proofs.groups.Written.{places_low}
 use Rattle.flow_links.proofs.lists.caller_lists.Goals as goal
 
 pub returns : goal.returns

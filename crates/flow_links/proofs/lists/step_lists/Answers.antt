@@ -4,9 +4,9 @@ use Rattle.flow_graph.specs.Points.{point_count}
 use Rattle.flow_graph.specs.declared.edge.Edge.{Edge}
 use Rattle.flow_links.specs.Tables.EdgeLists.{AreListed, edge_at, key_of, step_target}
 use Rattle.flow_links.specs.declared.list_kind.ListKind.TheVariants.{Steps}
-use Rattle.flow_links.proofs.CallLemmas.{all_edges}
-use Rattle.flow_links.proofs.ListLemmas.{values_are_listed, read_at, same_values}
-use Rattle.flow_links.proofs.Written.{places_low}
+use Rattle.flow_links.proofs.groups.CallLemmas.{all_edges}
+use Rattle.flow_links.proofs.groups.ListLemmas.{values_are_listed, read_at, same_values}
+use Rattle.flow_links.proofs.groups.Written.{places_low}
 use Rattle.flow_links.proofs.lists.step_lists.Goals as goal
 
 pub returns : goal.returns

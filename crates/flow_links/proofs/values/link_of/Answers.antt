@@ -2,8 +2,8 @@ use Rattle.std.proofs.Common.{◌≡◌, ◌<◌, ◌+◌, false, arith, subst, 
 use Rattle.flow_graph.specs.Analyses.{is_backward}
 use Rattle.flow_graph.specs.Points.{point_count}
 use Rattle.flow_links.specs.Shapes.{after_site}
-use Rattle.flow_links.proofs.ListLemmas.{after_low}
-use Rattle.flow_links.proofs.ShapeLemmas.{in_range, ends, procedure_low, link_is_call}
+use Rattle.flow_links.proofs.groups.ListLemmas.{after_low}
+use Rattle.flow_links.proofs.shapes.ShapeLemmas.{in_range, ends, procedure_low, link_is_call}
 use Rattle.flow_links.proofs.values.link_of.Goals as goal
 
 pub procedure-requires : goal.procedure-requires

@@ -1,4 +1,4 @@
-use Rattle.flow_links.proofs.ShapeLemmas.{in_range, ends}
+use Rattle.flow_links.proofs.shapes.ShapeLemmas.{in_range, ends}
 use Rattle.flow_links.proofs.values.site_of.Goals as goal
 
 pub procedure-requires : goal.procedure-requires

@@ -2,7 +2,7 @@ use Rattle.std.proofs.Common.{rules, ◌∙◌}
 use Rattle.std.specs.Str.Parse.{ParsesUnsigned, ExplainsUnsignedError, HasUnsignedDigitsIfOk}
 use Rattle.clap.specs.Words.{found_of, rows_of}
 use Rattle.clap.proofs.WalkLemmas.{one_text-rows}
-use Rattle.flow_runs.proofs.Numbers.{number_read, number_named}
+use Rattle.flow_runs.proofs.matches.Numbers.{number_read, number_named}
 use Rattle.flow_runs.proofs.arguments.number_of.Goals as goal
 
 pub unwrap-requires : goal.unwrap-requires

@@ -1,6 +1,6 @@
 use Rattle.std.proofs.Common.{List, ℕ, sym, subst}
 use Rattle.flow_texts.specs.Reports.{IsReport, ListsSafely}
-use Rattle.flow_runs.proofs.Deliveries.{delivers_as}
+use Rattle.flow_runs.proofs.deliveries.Deliveries.{delivers_as}
 use Rattle.flow_runs.proofs.reports.push_answers.Goals as goal
 
 pub returns-clause-delivers : goal.returns-clause-delivers

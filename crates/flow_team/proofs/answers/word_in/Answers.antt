@@ -1,4 +1,4 @@
-use Rattle.flow_team.proofs.TableAnswers.{table_answers}
+use Rattle.flow_team.proofs.asks.TableAnswers.{table_answers}
 use Rattle.flow_team.proofs.answers.word_in.Goals as goal
 
 pub returns : goal.returns

@@ -2,7 +2,7 @@ use Rattle.std.proofs.Common.{◌≡◌, ◌∙◌, ℕ, List, Some, length, rul
 use Rattle.std.proofs.lemmas.Option.{slice_get_within}
 use Rattle.flow_team.specs.Asks.{IsAnswerTo}
 use Rattle.flow_team.specs.declared.ask.Ask.{Ask}
-use Rattle.flow_team.proofs.TableAnswers.{told_more}
+use Rattle.flow_team.proofs.asks.TableAnswers.{told_more}
 use Rattle.flow_team.proofs.answers.words_in.Goals as goal
 
 pub loop-q-preserved : goal.loop-q-preserved

@@ -2,7 +2,7 @@ use Rattle.std.proofs.Common.{◌≡◌, ◌↔◌, ℕ, true, subst}
 use Rattle.bit_rows.specs.RowSet.{contains}
 use Rattle.bit_rows.specs.RowTable.{set_at}
 use Rattle.flow_team.specs.code.Boards.{Asked, IsWanted}
-use Rattle.flow_team.proofs.Sent.{asked_cross}
+use Rattle.flow_team.proofs.threads.Sent.{asked_cross}
 use Rattle.flow_team.proofs.asked_job.answers_of.Goals as goal
 
 pub close-requires-send-W : goal.close-requires-send-W

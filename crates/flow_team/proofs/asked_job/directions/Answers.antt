@@ -1,4 +1,4 @@
-use Rattle.flow_team.proofs.Sent.{directions_cross}
+use Rattle.flow_team.proofs.threads.Sent.{directions_cross}
 use Rattle.flow_team.proofs.asked_job.directions.Goals as goal
 
 pub side_by_side-forward-requires-send-T : goal.side_by_side-forward-requires-send-T

@@ -1,6 +1,6 @@
 use Rattle.std.proofs.Common.{◌≡◌, ◌/◌, length, rules, arith}
 use Rattle.std.proofs.lemmas.Option.{slice_get_within}
-use Rattle.flow_team.proofs.Sent.{asked_cross}
+use Rattle.flow_team.proofs.threads.Sent.{asked_cross}
 use Rattle.flow_team.proofs.asked_job.on_board.Goals as goal
 
 pub on_board-requires-send-W : goal.on_board-requires-send-W

@@ -1,9 +1,9 @@
 use Rattle.std.proofs.Common.{◌≡◌, ◌+◌, ◌*◌, ◌-◌, ◌^◌, ◌&&◌, min, nat_lt, sym, ap, ◌∙◌, arith}
 use Rattle.bit_rows.specs.Words.{has_bit}
-use Rattle.bit_rows.proofs.WordBits.{has_bit-zero}
+use Rattle.bit_rows.proofs.words.WordBits.{has_bit-zero}
 use Rattle.flow_graph.specs.Directions.{is_intersection}
 use Rattle.flow_graph.specs.declared.analysis.Join.{Join}
-use Rattle.flow_team.proofs.ComplementedPlaces.{has_bit-low_ones}
+use Rattle.flow_team.proofs.complements.ComplementedPlaces.{has_bit-low_ones}
 use Rattle.flow_team.proofs.complemented_words.complement_mask.Goals as goal
 
 pub returns-in-Union : goal.returns-in-Union

@@ -1,4 +1,4 @@
-use Rattle.flow_team.proofs.Posts.{of_still, posts_more, words_more}
+use Rattle.flow_team.proofs.posts.Posts.{of_still, posts_more, words_more}
 use Rattle.flow_team.proofs.posting.post_point.Goals as goal
 
 pub loop-word-preserved : goal.loop-word-preserved

@@ -1,5 +1,5 @@
 use Rattle.std.proofs.Common.{refl, arith}
-use Rattle.flow_team.proofs.Posts.{posts_none}
+use Rattle.flow_team.proofs.posts.Posts.{posts_none}
 use Rattle.flow_team.proofs.posting.post_slice_words.Goals as goal
 
 pub solve_each-requires-clause-begun : goal.solve_each-requires-clause-begun

@@ -1,4 +1,4 @@
-use Rattle.flow_team.proofs.Posts.{of_still, posts_more, points_more}
+use Rattle.flow_team.proofs.posts.Posts.{of_still, posts_more, points_more}
 use Rattle.flow_team.proofs.posting.post_words.Goals as goal
 
 pub loop-point-preserved : goal.loop-point-preserved

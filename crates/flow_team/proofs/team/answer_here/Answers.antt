@@ -2,7 +2,7 @@ use Rattle.std.proofs.Common.{sym, ap, subst}
 use Rattle.flow_team.specs.Asks.{AreAsksOf}
 use Rattle.flow_team.specs.code.Directions.{Pair}
 use Rattle.tac_program.specs.Programs.{Program}
-use Rattle.flow_team.proofs.Sent.{asked_cross}
+use Rattle.flow_team.proofs.threads.Sent.{asked_cross}
 use Rattle.flow_team.proofs.team.answer_here.Goals as goal
 
 pub asked_job-requires-clause-asks : goal.asked_job-requires-clause-asks

@@ -1,6 +1,6 @@
 use Rattle.std.proofs.Common.{ℕ, List, ◌++◌, ap, ◌∙◌, codes}
 use Rattle.flow_texts.specs.Tables.{bit_text}
-use Rattle.text_pieces.proofs.Blocks.{more_texts_held}
+use Rattle.text_pieces.proofs.buffers.Blocks.{more_texts_held}
 use Rattle.flow_texts.proofs.bit_texts.texts_of_bits.Goals as goal
 
 pub loop-bit-preserved : goal.loop-bit-preserved

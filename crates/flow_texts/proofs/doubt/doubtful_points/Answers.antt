@@ -4,7 +4,7 @@ use Rattle.std.proofs.lemmas.Result.{IfOk-weaker}
 use Rattle.flow_graph.specs.Points.{point_count}
 use Rattle.flow_graph.specs.declared.analysis.Analysis.TheVariants.{Live}
 use Rattle.flow_texts.specs.code.Told.{facts_in}
-use Rattle.flow_texts.proofs.Doubts.{tell_doubtful}
+use Rattle.flow_texts.proofs.knowledge.Doubts.{tell_doubtful}
 use Rattle.flow_texts.proofs.doubt.doubtful_points.Goals as goal
 
 pub leads_to-requires : goal.leads_to-requires

@@ -1,6 +1,6 @@
 use Rattle.std.proofs.Common.{◌/◌, ◌^◌, ◌<◌, subst, sym, arith}
 use Rattle.std.proofs.Math.Nat.{div-le_self}
-use Rattle.flow_texts.proofs.BitRuns.{IsNextOne, next_one}
+use Rattle.flow_texts.proofs.sets.BitRuns.{IsNextOne, next_one}
 use Rattle.flow_texts.proofs.members.next_one.Goals as goal
 
 pub returns-clause-before : goal.returns-clause-before

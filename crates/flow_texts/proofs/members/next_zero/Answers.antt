@@ -1,5 +1,5 @@
 use Rattle.std.proofs.Common.{◌≡◌, Bool, true, false, not, ap, sym, ◌∙◌, arith}
-use Rattle.bit_rows.proofs.WordBits.{has_bit-not}
+use Rattle.bit_rows.proofs.words.WordBits.{has_bit-not}
 use Rattle.flow_texts.proofs.members.next_zero.Goals as goal
 
 opposite : (a b c : Bool) → b ≡ not a → b ≡ c → a ≡ not c

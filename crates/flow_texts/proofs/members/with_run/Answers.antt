@@ -1,5 +1,5 @@
 use Rattle.flow_texts.specs.code.Members.{chosen}
-use Rattle.flow_texts.proofs.ListTexts.{wrote-run}
+use Rattle.flow_texts.proofs.sets.ListTexts.{wrote-run}
 use Rattle.flow_texts.proofs.members.with_run.Goals as goal
 
 pub returns-clause-wrote : goal.returns-clause-wrote

@@ -1,8 +1,8 @@
 use Rattle.flow_team.specs.Tables.{facts_of}
 use Rattle.std.proofs.Common.{sym}
 use Rattle.flow_texts.specs.code.Members.{Named, chosen}
-use Rattle.flow_texts.proofs.ListTexts.{set_empty, set_written}
-use Rattle.text_pieces.proofs.Taking.{takes_as, takes_then}
+use Rattle.flow_texts.proofs.sets.ListTexts.{set_empty, set_written}
+use Rattle.text_pieces.proofs.sinks.Taking.{takes_as, takes_then}
 use Rattle.flow_texts.proofs.members.write_set.Goals as goal
 
 pub returns-then-write_members : goal.returns-then-write_members

@@ -3,9 +3,9 @@ use Rattle.flow_texts.specs.code.Members.{Named, Wrote, chosen}
 use Rattle.flow_texts.specs.code.Runs.{IsRunBefore}
 use Rattle.text_pieces.specs.Pieces.{Outlet, outlet}
 use Rattle.text_pieces.specs.declared.pieces.Pieces.{Pieces}
-use Rattle.flow_texts.proofs.BitRuns.{bits_of_word, run_further}
-use Rattle.flow_texts.proofs.ListTexts.{wrote-none, wrote-further}
-use Rattle.text_pieces.proofs.Taking.{stays_open}
+use Rattle.flow_texts.proofs.sets.BitRuns.{bits_of_word, run_further}
+use Rattle.flow_texts.proofs.sets.ListTexts.{wrote-none, wrote-further}
+use Rattle.text_pieces.proofs.sinks.Taking.{stays_open}
 use Rattle.flow_texts.proofs.members.write_word.Goals as goal
 
 pub loop-place-init : goal.loop-place-init

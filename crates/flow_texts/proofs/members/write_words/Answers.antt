@@ -4,8 +4,8 @@ use Rattle.flow_texts.specs.code.Members.{Named, chosen}
 use Rattle.flow_texts.specs.code.Runs.{IsRunBefore}
 use Rattle.text_pieces.specs.Pieces.{Outlet, outlet}
 use Rattle.text_pieces.specs.declared.pieces.Pieces.{Pieces}
-use Rattle.flow_texts.proofs.ListTexts.{wrote-first, wrote-run}
-use Rattle.text_pieces.proofs.Taking.{stays_open}
+use Rattle.flow_texts.proofs.sets.ListTexts.{wrote-first, wrote-run}
+use Rattle.text_pieces.proofs.sinks.Taking.{stays_open}
 use Rattle.flow_texts.proofs.members.write_words.Goals as goal
 
 pub write_word-run-requires : goal.write_word-run-requires

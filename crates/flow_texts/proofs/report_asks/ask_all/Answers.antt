@@ -4,7 +4,7 @@ use Rattle.flow_graph.specs.Universes.{bits}
 use Rattle.flow_graph.specs.declared.analysis.Analysis.TheVariants.{Busy}
 use Rattle.flow_team.specs.declared.ask.Ask.{Ask}
 use Rattle.tac_program.specs.Programs.{Program}
-use Rattle.flow_texts.proofs.Asking.{asks_one, asks_then, one_busy_more}
+use Rattle.flow_texts.proofs.asks.Asking.{asks_one, asks_then, one_busy_more}
 use Rattle.flow_texts.proofs.report_asks.ask_all.Goals as goal
 
 pub loop-word-preserved : goal.loop-word-preserved

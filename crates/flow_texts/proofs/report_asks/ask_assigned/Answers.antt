@@ -5,8 +5,8 @@ use Rattle.flow_graph.proofs.places.Standing.{stands}
 use Rattle.flow_team.specs.Asks.{IsAskOf}
 use Rattle.flow_texts.specs.code.Told.{ask_for}
 use Rattle.tac_program.specs.Programs.{Program}
-use Rattle.flow_texts.proofs.Asking.{asks_one, put_there}
-use Rattle.flow_texts.proofs.RemarkLines.{assigned_there, next_below}
+use Rattle.flow_texts.proofs.asks.Asking.{asks_one, put_there}
+use Rattle.flow_texts.proofs.knowledge.RemarkLines.{assigned_there, next_below}
 use Rattle.flow_texts.proofs.report_asks.ask_assigned.Goals as goal
 
 pub returns-in-Some-clause-asks : goal.returns-in-Some-clause-asks

@@ -5,8 +5,8 @@ use Rattle.flow_graph.specs.declared.analysis.Analysis.TheVariants.{Avail}
 use Rattle.flow_team.specs.Asks.{IsAskOf}
 use Rattle.flow_texts.specs.code.Told.{ask_for}
 use Rattle.tac_program.specs.Programs.{Program}
-use Rattle.flow_texts.proofs.Asking.{asks_one, put_there}
-use Rattle.flow_texts.proofs.KnownReports.{evaluated_there}
+use Rattle.flow_texts.proofs.asks.Asking.{asks_one, put_there}
+use Rattle.flow_texts.proofs.knowledge.KnownReports.{evaluated_there}
 use Rattle.flow_texts.proofs.report_asks.ask_evaluated.Goals as goal
 
 pub returns-in-Some-clause-asks : goal.returns-in-Some-clause-asks

@@ -5,7 +5,7 @@ use Rattle.flow_texts.specs.code.Told.{ask_for}
 use Rattle.tac_program.specs.declared.program.StmtKind.{StmtKind}
 use Rattle.flow_texts.specs.code.Asking.{Asks, AsksAssigned, AsksBusy, AsksEvaluated, AsksReads}
 use Rattle.tac_program.specs.Programs.{Program}
-use Rattle.flow_texts.proofs.Asking.{asks_then, reads_still}
+use Rattle.flow_texts.proofs.asks.Asking.{asks_then, reads_still}
 use Rattle.flow_texts.proofs.report_asks.ask_kind.Goals as goal
 
 pub returns-clause-asks : goal.returns-clause-asks

@@ -6,8 +6,8 @@ use Rattle.flow_team.specs.declared.ask.Ask.{Ask}
 use Rattle.flow_texts.specs.code.Operands.{AreRead}
 use Rattle.flow_texts.specs.code.Told.{ask_for}
 use Rattle.tac_program.specs.Programs.{Program}
-use Rattle.flow_texts.proofs.Asking.{asks_one, asks_then, read_is_ask, reads_asked}
-use Rattle.flow_texts.proofs.RemarkLines.{first_of, second_of}
+use Rattle.flow_texts.proofs.asks.Asking.{asks_one, asks_then, read_is_ask, reads_asked}
+use Rattle.flow_texts.proofs.knowledge.RemarkLines.{first_of, second_of}
 use Rattle.flow_texts.proofs.report_asks.ask_reads.Goals as goal
 
 pub returns-in-None-clause-asked : goal.returns-in-None-clause-asked

@@ -2,7 +2,7 @@ use Rattle.std.proofs.Common.{rules, ◌≡◌, ◌+◌, List, [], ◌∷◌, le
 use Rattle.flow_team.specs.declared.ask.Ask.{Ask}
 use Rattle.flow_texts.specs.declared.report_asks.PointAsks.{PointAsks}
 use Rattle.tac_program.specs.Programs.{Program}
-use Rattle.flow_texts.proofs.Asking.{asked_more}
+use Rattle.flow_texts.proofs.asks.Asking.{asked_more}
 use Rattle.flow_texts.proofs.report_asks.report_asks.Goals as goal
 
 pub loop-point-preserved : goal.loop-point-preserved

@@ -1,4 +1,4 @@
-use Rattle.text_pieces.proofs.Taking.{takes_then}
+use Rattle.text_pieces.proofs.sinks.Taking.{takes_then}
 use Rattle.flow_texts.proofs.reports.write_count.Goals as goal
 
 pub returns : goal.returns

@@ -4,7 +4,7 @@ use Rattle.flow_graph.specs.Points.{point_count}
 use Rattle.flow_graph.specs.Universes.{definitions, expressions}
 use Rattle.tac_program.specs.Programs.{Program}
 use Rattle.flow_texts.specs.Reports.{count_line}
-use Rattle.text_pieces.proofs.Taking.{takes_as, takes_then}
+use Rattle.text_pieces.proofs.sinks.Taking.{takes_as, takes_then}
 use Rattle.flow_texts.proofs.reports.write_counts.Goals as goal
 
 joined : (a p b q c r d s e : List ℕ) → (a ++ p) ++ (b ++ q) ++ (c ++ r) ++ (d ++ s) ++ e ≡ a ++ p ++ b ++ q ++ c ++ r ++ d ++ s ++ e

@@ -5,8 +5,8 @@ use Rattle.std.specs.List.{range_with_len}
 use Rattle.flow_graph.specs.Universes.{bits as bits_of}
 use Rattle.text_pieces.specs.code.Lists.{text_at}
 use Rattle.flow_texts.specs.Tables.{bit_text, bits_at, listed, place_text}
-use Rattle.flow_texts.proofs.ListTexts.{map-members}
-use Rattle.text_pieces.proofs.Taking.{takes_as, takes_then}
+use Rattle.flow_texts.proofs.sets.ListTexts.{map-members}
+use Rattle.text_pieces.proofs.sinks.Taking.{takes_as, takes_then}
 use Rattle.flow_texts.proofs.table_texts.write_point.Goals as goal
 
 pub returns : goal.returns

@@ -2,8 +2,8 @@ use Rattle.flow_team.specs.Tables.{facts_of}
 use Rattle.std.proofs.Common.{List, ℕ, false, ◌++◌, codes, map, filter, ap, ◌∙◌}
 use Rattle.std.specs.List.{range_with_len}
 use Rattle.text_pieces.specs.code.Lists.{after, text_at}
-use Rattle.text_pieces.proofs.Taking.{takes_as, takes_then}
-use Rattle.flow_views.proofs.Rows.{after-joined}
+use Rattle.text_pieces.proofs.sinks.Taking.{takes_as, takes_then}
+use Rattle.flow_views.proofs.texts.Rows.{after-joined}
 use Rattle.flow_views.proofs.json.write_array.Goals as goal
 
 pub returns : goal.returns

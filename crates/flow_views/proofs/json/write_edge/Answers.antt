@@ -1,5 +1,5 @@
 use Rattle.std.proofs.Common.{ap, sym}
-use Rattle.text_pieces.proofs.Taking.{takes_as}
+use Rattle.text_pieces.proofs.sinks.Taking.{takes_as}
 use Rattle.flow_views.specs.Json.{edge_object}
 use Rattle.flow_views.proofs.json.write_edge.Goals as goal
 

@@ -1,8 +1,8 @@
 use Rattle.std.proofs.Common.{codes, arith}
-use Rattle.flow_graph.proofs.edges.SourceLemmas.{get_or_any}
-use Rattle.text_pieces.proofs.Taking.{takes_as, takes_then}
+use Rattle.std.proofs.lemmas.List.{get_or_default}
+use Rattle.text_pieces.proofs.sinks.Taking.{takes_as, takes_then}
 use Rattle.flow_views.specs.Json.{edge_object}
-use Rattle.flow_views.proofs.Rows.{joined_all, joined_behind}
+use Rattle.flow_views.proofs.texts.Rows.{joined_all, joined_behind}
 use Rattle.flow_views.proofs.json.write_edges.Goals as goal
 
 pub loop-place-preserved : goal.loop-place-preserved
@@ -10,7 +10,7 @@ loop-place-preserved g c =
     takes_as _ _ _ _
     (takes_then _ _ _ _ _ (takes_then _ _ _ _ _ c.loop-place.invariant c.write_if.ensures) c.write_edge.ensures)
     (joined_behind (codes "[") (codes ",") edge_object c.args.edges.now c.loop-place.place _ c.loop-place-test.true
-    (get_or_any c.args.edges.now c.loop-place.place _ _ c.loop-place-test.true))
+    (get_or_default c.args.edges.now c.loop-place.place _ _ c.loop-place-test.true))
 
 pub returns : goal.returns
 returns g c =

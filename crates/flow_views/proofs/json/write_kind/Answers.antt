@@ -1,6 +1,6 @@
 use Rattle.std.proofs.Common.{◌++◌, codes, ap, sym, ◌∙◌}
 use Rattle.flow_texts.specs.code.Findings.{remark_name}
-use Rattle.text_pieces.proofs.Taking.{takes_as}
+use Rattle.text_pieces.proofs.sinks.Taking.{takes_as}
 use Rattle.tac_program.specs.Programs.{Program}
 use Rattle.flow_views.specs.Json.{remark_fields}
 use Rattle.text_pieces.specs.Strings.{quoted}

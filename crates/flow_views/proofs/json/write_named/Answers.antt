@@ -1,4 +1,4 @@
-use Rattle.text_pieces.proofs.Taking.{takes_then}
+use Rattle.text_pieces.proofs.sinks.Taking.{takes_then}
 use Rattle.flow_views.proofs.json.write_named.Goals as goal
 
 pub returns : goal.returns

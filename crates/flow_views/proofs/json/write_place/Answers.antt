@@ -1,6 +1,6 @@
 use Rattle.std.proofs.Common.{sym}
-use Rattle.text_pieces.proofs.Taking.{takes_as}
-use Rattle.flow_views.proofs.Tables.{no_span}
+use Rattle.text_pieces.proofs.sinks.Taking.{takes_as}
+use Rattle.flow_views.proofs.facts.Tables.{no_span}
 use Rattle.flow_views.proofs.json.write_place.Goals as goal
 
 pub returns-in-None : goal.returns-in-None

@@ -1,6 +1,6 @@
 use Rattle.std.proofs.Common.{ℕ, List, ◌<◌, ◌++◌, ap, ◌∙◌, arith}
 use Rattle.flow_texts.specs.Tables.{bit_text}
-use Rattle.text_pieces.proofs.Blocks.{more_texts_held}
+use Rattle.text_pieces.proofs.buffers.Blocks.{more_texts_held}
 use Rattle.flow_graph.specs.Universes.{bits}
 use Rattle.flow_views.specs.code.Names.{between, name_in}
 use Rattle.flow_views.proofs.names.names_of.Goals as goal

@@ -1,6 +1,6 @@
 use Rattle.std.proofs.Common.{arith}
 use Rattle.gk_solve.specs.Tables.Groups.{group_of}
-use Rattle.gk_solve.proofs.Beginning.{root_sound}
+use Rattle.gk_solve.proofs.beginnings.Beginning.{root_sound}
 use Rattle.gk_solve.proofs.bring.begin_brought.Goals as goal
 
 pub returns-clause-sound : goal.returns-clause-sound

@@ -4,7 +4,7 @@ use Rattle.std.proofs.lemmas.Bool.{cases_eq}
 use Rattle.std.proofs.lemmas.List.{get_or-set_same, get_or-set_other}
 use Rattle.bit_rows.specs.Words.{has_bit}
 use Rattle.gk_solve.specs.Tables.Words.{place_boundary}
-use Rattle.gk_solve.proofs.EffectLemmas.{boundary_of_word}
+use Rattle.gk_solve.proofs.words.EffectLemmas.{boundary_of_word}
 use Rattle.gk_solve.proofs.bring.boundary.Goals as goal
 
 pub loop-w-preserved : goal.loop-w-preserved

@@ -5,8 +5,8 @@ use Rattle.flow_links.specs.Shapes.{directed_shape}
 use Rattle.gk_solve.specs.Tables.Brought.{IsBroughtClosedAt, brought_word}
 use Rattle.gk_solve.specs.Tables.Flags.{source_procedure}
 use Rattle.gk_solve.specs.Tables.Groups.{group_of, kept_word, made_word}
-use Rattle.gk_solve.proofs.Visits.{visit_falls, visit_settles_from, all_closed}
-use Rattle.gk_solve.proofs.WordEdges.{all_brought}
+use Rattle.gk_solve.proofs.visits.Visits.{visit_falls, visit_settles_from, all_closed}
+use Rattle.gk_solve.proofs.edges.WordEdges.{all_brought}
 use Rattle.gk_solve.proofs.bring.brought.Goals as goal
 
 pub visits-smaller : goal.visits-smaller

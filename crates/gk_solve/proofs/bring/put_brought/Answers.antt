@@ -2,7 +2,7 @@ use Rattle.std.proofs.Common.{◌<◌, length, set, List, [], Bool, arith, subst
 use Rattle.std.proofs.lemmas.List.{get_or_default}
 use Rattle.gk_solve.specs.Tables.Brought.{BroughtSpreads}
 use Rattle.gk_solve.specs.Tables.Groups.{group_of}
-use Rattle.gk_solve.proofs.BroughtVisits.{put_spreads}
+use Rattle.gk_solve.proofs.visits.BroughtVisits.{put_spreads}
 use Rattle.gk_solve.proofs.bring.put_brought.Goals as goal
 
 pub returns-clause-spreads : goal.returns-clause-spreads

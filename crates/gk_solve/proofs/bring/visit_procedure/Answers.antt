@@ -5,10 +5,10 @@ use Rattle.flow_links.specs.Shapes.{directed_shape}
 use Rattle.gk_solve.specs.Tables.Brought.{IsBringSettled}
 use Rattle.gk_solve.specs.Tables.Groups.{group_of}
 use Rattle.flow_links.specs.declared.link.SiteLink.{SiteLink}
-use Rattle.gk_solve.proofs.BroughtVisits.{bring_by_source, brought_on, site_settled_more}
-use Rattle.gk_solve.proofs.Listed.{each_listed, read_more}
-use Rattle.gk_solve.proofs.SummaryVisits.{has_size}
-use Rattle.gk_solve.proofs.Visits.{spreads_more}
+use Rattle.gk_solve.proofs.visits.BroughtVisits.{bring_by_source, brought_on, site_settled_more}
+use Rattle.gk_solve.proofs.visits.Listed.{each_listed, read_more}
+use Rattle.gk_solve.proofs.visits.SummaryVisits.{has_size}
+use Rattle.gk_solve.proofs.visits.Visits.{spreads_more}
 use Rattle.gk_solve.proofs.bring.visit_procedure.Goals as goal
 
 pub visit_site-requires : goal.visit_site-requires

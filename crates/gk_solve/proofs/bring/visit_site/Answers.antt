@@ -3,9 +3,9 @@ use Rattle.std.proofs.lemmas.Bool.{cases_eq}
 use Rattle.work_list.specs.Marks.{IsMarked}
 use Rattle.gk_solve.specs.Tables.Brought.{brought_word}
 use Rattle.gk_solve.specs.Tables.Groups.{group_of}
-use Rattle.gk_solve.proofs.BroughtVisits.{site_settled}
-use Rattle.gk_solve.proofs.GroupLemmas.{brings_bits, brings_of}
-use Rattle.gk_solve.proofs.SummaryVisits.{has_size}
+use Rattle.gk_solve.proofs.visits.BroughtVisits.{site_settled}
+use Rattle.gk_solve.proofs.edges.GroupLemmas.{brings_bits, brings_of}
+use Rattle.gk_solve.proofs.visits.SummaryVisits.{has_size}
 use Rattle.gk_solve.proofs.bring.visit_site.Goals as goal
 
 pub put_brought-requires : goal.put_brought-requires

@@ -1,7 +1,7 @@
 use Rattle.std.proofs.Common.{◌+◌, ◌*◌, slice_index}
 use Rattle.bit_rows.specs.Words.{has_bit}
 use Rattle.gk_solve.specs.Tables.Words.{place_gens, place_kills}
-use Rattle.gk_solve.proofs.EffectLemmas.{idle_in_group, unkilled_same, ungenerated_same}
+use Rattle.gk_solve.proofs.words.EffectLemmas.{idle_in_group, unkilled_same, ungenerated_same}
 use Rattle.gk_solve.proofs.effects.across_step.Goals as goal
 
 pub returns-then-frame-point-eq0-clause-kept : goal.returns-then-frame-point-eq0-clause-kept

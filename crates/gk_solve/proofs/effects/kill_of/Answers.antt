@@ -1,6 +1,6 @@
 use Rattle.std.proofs.Common.{sym, ◌∙◌, ◌+◌}
-use Rattle.bit_rows.proofs.WordBits.{has_bit-zero}
-use Rattle.gk_solve.proofs.EffectLemmas.{kills_of_word}
+use Rattle.bit_rows.proofs.words.WordBits.{has_bit-zero}
+use Rattle.gk_solve.proofs.words.EffectLemmas.{kills_of_word}
 use Rattle.gk_solve.proofs.effects.kill_of.Goals as goal
 
 pub returns-then-touches : goal.returns-then-touches

@@ -1,8 +1,9 @@
-use Rattle.gk_solve.proofs.EffectLemmas.{bit_here, bit_before}
+use Rattle.gk_solve.proofs.words.EffectLemmas.{bit_before}
+use Rattle.work_list.proofs.words.MarkLemmas.{set_same}
 use Rattle.gk_solve.proofs.effects.with_bit.Goals as goal
 
 pub returns-clause-here : goal.returns-clause-here
-returns-clause-here c = bit_here c.args.words c.args.word c.requires
+returns-clause-here c = set_same c.args.words c.args.word c.requires
 
 pub returns-clause-others : goal.returns-clause-others
 returns-clause-others c k had = bit_before c.args.words c.args.word k had

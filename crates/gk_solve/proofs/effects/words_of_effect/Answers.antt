@@ -1,4 +1,4 @@
-use Rattle.gk_solve.proofs.EffectLemmas.{idle_word}
+use Rattle.gk_solve.proofs.words.EffectLemmas.{idle_word}
 use Rattle.gk_solve.proofs.effects.words_of_effect.Goals as goal
 
 pub returns : goal.returns

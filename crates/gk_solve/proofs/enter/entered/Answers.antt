@@ -7,8 +7,8 @@ use Rattle.flow_graph.specs.Paths.{Shape, IsEdge}
 use Rattle.flow_links.specs.Shapes.{directed_shape}
 use Rattle.gk_solve.specs.Tables.Flags.{IsEntryClosedAt, IsFlagged, source_procedure}
 use Rattle.gk_solve.specs.Tables.Visits.{IsSettled}
-use Rattle.gk_solve.proofs.FlagVisits.{all_entered, flag_within}
-use Rattle.gk_solve.proofs.Visits.{visit_falls, visit_settles_from, settled_but, all_closed}
+use Rattle.gk_solve.proofs.visits.FlagVisits.{all_entered, flag_within}
+use Rattle.gk_solve.proofs.visits.Visits.{visit_falls, visit_settles_from, settled_but, all_closed}
 use Rattle.gk_solve.proofs.enter.entered.Goals as goal
 
 -- an edge that leaves a procedure without a flag is closed

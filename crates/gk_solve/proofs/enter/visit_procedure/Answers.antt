@@ -3,9 +3,9 @@ use Rattle.std.proofs.lemmas.List.Elements.{Contains-get_or}
 use Rattle.flow_links.specs.Shapes.{directed_shape}
 use Rattle.gk_solve.specs.Tables.Flags.{IsSiteSettled}
 use Rattle.flow_links.specs.declared.link.SiteLink.{SiteLink}
-use Rattle.gk_solve.proofs.FlagVisits.{site_settled_more, entry_by_source, flags_on}
-use Rattle.gk_solve.proofs.Listed.{each_listed, read_more}
-use Rattle.gk_solve.proofs.Visits.{spreads_more}
+use Rattle.gk_solve.proofs.visits.FlagVisits.{site_settled_more, entry_by_source, flags_on}
+use Rattle.gk_solve.proofs.visits.Listed.{each_listed, read_more}
+use Rattle.gk_solve.proofs.visits.Visits.{spreads_more}
 use Rattle.gk_solve.proofs.enter.visit_procedure.Goals as goal
 
 pub visit_site-requires-clause-there : goal.visit_site-requires-clause-there

@@ -1,7 +1,7 @@
 use Rattle.std.proofs.Common.{subst, sym}
 use Rattle.summary_equations.specs.Equations.{Entered}
 use Rattle.flow_links.specs.Shapes.{directed_shape}
-use Rattle.gk_solve.proofs.FlagVisits.{entered_across_call}
+use Rattle.gk_solve.proofs.visits.FlagVisits.{entered_across_call}
 use Rattle.gk_solve.proofs.enter.visit_site.Goals as goal
 
 pub enter_procedure-requires-clause-entered : goal.enter_procedure-requires-clause-entered

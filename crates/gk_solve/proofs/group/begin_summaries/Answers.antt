@@ -2,7 +2,7 @@ use Rattle.std.proofs.Common.{◌<◌, inl, inr, length, arith, sym, ◌∙◌, 
 use Rattle.std.proofs.lemmas.Bool.{cases_eq}
 use Rattle.flow_links.specs.Shapes.{directed_shape}
 use Rattle.gk_solve.specs.Tables.Groups.{group_of}
-use Rattle.gk_solve.proofs.Beginning.{blank_sound, entry_sound, entry_more}
+use Rattle.gk_solve.proofs.beginnings.Beginning.{blank_sound, entry_sound, entry_more}
 use Rattle.gk_solve.proofs.group.begin_summaries.Goals as goal
 
 pub loop-procedure-init : goal.loop-procedure-init

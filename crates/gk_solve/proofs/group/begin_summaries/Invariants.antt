@@ -3,7 +3,7 @@ use Rattle.flow_links.specs.Shapes.{directed_shape}
 use Rattle.gk_solve.specs.Tables.Groups.{AreSoundSummaries, group_of, kept_word}
 use Rattle.gk_solve.specs.Tables.Words.{HasBit}
 use Rattle.gk_solve.specs.declared.summary.Summary.{Summary}
-use Rattle.gk_solve.proofs.Beginning.{blank_summary}
+use Rattle.gk_solve.proofs.beginnings.Beginning.{blank_summary}
 use Rattle.gk_solve.proofs.group.begin_summaries.Given as goal
 
 abbrev pub invariant-loop-point : goal.invariant-loop-point

@@ -4,9 +4,9 @@ use Rattle.std.proofs.Math.ListN.{length-set}
 use Rattle.flow_graph.specs.Paths.{source_of}
 use Rattle.flow_links.specs.Shapes.{directed_shape}
 use Rattle.gk_solve.specs.Tables.Groups.{WaitsFor, group_of, kept_word, made_word}
-use Rattle.gk_solve.proofs.SummaryVisits.{all_wait, none_waits, waits_but}
-use Rattle.gk_solve.proofs.Visits.{visit_falls, visit_settles}
-use Rattle.gk_solve.proofs.WordEdges.{all_kept, all_made}
+use Rattle.gk_solve.proofs.visits.SummaryVisits.{all_wait, none_waits, waits_but}
+use Rattle.gk_solve.proofs.visits.Visits.{visit_falls, visit_settles}
+use Rattle.gk_solve.proofs.edges.WordEdges.{all_kept, all_made}
 use Rattle.gk_solve.proofs.group.kept_and_made.Goals as goal
 
 pub visits-smaller : goal.visits-smaller

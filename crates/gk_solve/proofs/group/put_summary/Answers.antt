@@ -2,8 +2,8 @@ use Rattle.std.proofs.Common.{◌<◌, length, true, List, Bool, arith, ap, subs
 use Rattle.std.proofs.Math.ListN.{length-set}
 use Rattle.work_list.specs.Marks.{IsMarked}
 use Rattle.gk_solve.specs.Tables.Groups.{group_of}
-use Rattle.gk_solve.proofs.FlagVisits.{flag_here, flags_stay}
-use Rattle.gk_solve.proofs.SummaryVisits.{put_spreads}
+use Rattle.gk_solve.proofs.visits.FlagVisits.{flag_here, flags_stay}
+use Rattle.gk_solve.proofs.visits.SummaryVisits.{put_spreads}
 use Rattle.gk_solve.proofs.group.put_summary.Goals as goal
 
 pub returns-clause-spreads : goal.returns-clause-spreads

@@ -1,11 +1,11 @@
-use Rattle.gk_solve.proofs.Visits.{same_spreads}
+use Rattle.gk_solve.proofs.visits.Visits.{same_spreads}
 use Rattle.gk_solve.specs.Tables.Flags.{IsFlagged}
 use Rattle.gk_solve.specs.Tables.Groups.{group_of}
 use Rattle.std.proofs.Common.{◌<◌, length, arith, subst, sym, ◌≡◌, false, true, get_or}
 use Rattle.flow_graph.specs.Points.{point_count}
-use Rattle.gk_solve.proofs.FlagVisits.{return_low, exit_low}
-use Rattle.gk_solve.proofs.GroupLemmas.{call_keeps_of, call_makes_of, call_settled_of}
-use Rattle.gk_solve.proofs.SummaryVisits.{has_size, call_blocked, still_summaries}
+use Rattle.gk_solve.proofs.edges.GroupLemmas.{call_keeps_of, call_makes_of, call_settled_of}
+use Rattle.gk_solve.proofs.visits.SummaryVisits.{has_size, call_blocked, still_summaries}
+use Rattle.flow_links.proofs.groups.ListLemmas.{exit_low, after_low}
 use Rattle.gk_solve.proofs.group.visit_call.Goals as goal
 
 pub bounds-frame-call : goal.bounds-frame-call
@@ -30,7 +30,7 @@ put_summary-requires g c =
         (
           c.requires.dirty_count,
           (
-            subst (λ n. n < point_count c.args.frame.now.links.now.program) (sym there.4) (return_low is.numbered there.0 c.args.at there.1 there.2),
+            subst (λ n. n < point_count c.args.frame.now.links.now.program) (sym there.4) (after_low is.numbered there.0 c.args.at there.1 there.2),
             (
               call_keeps_of g.row.W c.args.frame.now is c.args.table.now c.requires.sound c.args.at c.args.call there c.requires.path
                   c.if-not-frame-call.false within exit_within c.index-table-at.result c.index-table-call.result c.index-table-at.is

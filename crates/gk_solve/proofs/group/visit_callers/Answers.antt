@@ -2,9 +2,9 @@ use Rattle.std.proofs.Common.{◌<◌, get_or, arith, ◌∙◌}
 use Rattle.std.proofs.lemmas.List.Elements.{All-get_or}
 use Rattle.flow_graph.specs.Points.{point_count}
 use Rattle.gk_solve.specs.Tables.Groups.{IsCallerSettled, group_of}
-use Rattle.gk_solve.proofs.Listed.{each_listed, read_more}
-use Rattle.gk_solve.proofs.SummaryVisits.{caller_settled_more, has_size, summaries_on}
-use Rattle.gk_solve.proofs.Visits.{spreads_more}
+use Rattle.gk_solve.proofs.visits.Listed.{each_listed, read_more}
+use Rattle.gk_solve.proofs.visits.SummaryVisits.{caller_settled_more, has_size, summaries_on}
+use Rattle.gk_solve.proofs.visits.Visits.{spreads_more}
 use Rattle.gk_solve.proofs.group.visit_callers.Goals as goal
 
 pub visit_caller-requires : goal.visit_caller-requires

@@ -3,9 +3,9 @@ use Rattle.std.proofs.lemmas.List.Elements.{Contains-get_or}
 use Rattle.flow_links.specs.Shapes.{after_site, directed_shape}
 use Rattle.gk_solve.specs.Tables.Groups.{IsSummaryCallSettled, group_of}
 use Rattle.flow_links.specs.declared.link.CallLink.{CallLink}
-use Rattle.gk_solve.proofs.Listed.{each_listed, read_more}
-use Rattle.gk_solve.proofs.SummaryVisits.{call_settled_more, has_size, summaries_on}
-use Rattle.gk_solve.proofs.Visits.{spreads_more}
+use Rattle.gk_solve.proofs.visits.Listed.{each_listed, read_more}
+use Rattle.gk_solve.proofs.visits.SummaryVisits.{call_settled_more, has_size, summaries_on}
+use Rattle.gk_solve.proofs.visits.Visits.{spreads_more}
 use Rattle.gk_solve.proofs.group.visit_calls.Goals as goal
 
 pub visit_call-requires : goal.visit_call-requires

@@ -1,7 +1,7 @@
 use Rattle.std.proofs.Common.{arith, ◌∙◌}
 use Rattle.gk_solve.specs.Tables.Groups.{group_of}
-use Rattle.gk_solve.proofs.SummaryVisits.{by_waits, has_size, summaries_on}
-use Rattle.gk_solve.proofs.Visits.{spreads_more}
+use Rattle.gk_solve.proofs.visits.SummaryVisits.{by_waits, has_size, summaries_on}
+use Rattle.gk_solve.proofs.visits.Visits.{spreads_more}
 use Rattle.gk_solve.proofs.group.visit_point.Goals as goal
 
 pub visit_calls-requires : goal.visit_calls-requires

@@ -1,8 +1,8 @@
 use Rattle.std.proofs.Common.{◌<◌, length, arith, ap, ◌∙◌}
 use Rattle.gk_solve.specs.Tables.Groups.{group_of}
 use Rattle.gk_solve.specs.Tables.Words.{step_statement}
-use Rattle.gk_solve.proofs.GroupLemmas.{statement_low, step_kept, step_made, step_keeps_of, step_makes_of}
-use Rattle.gk_solve.proofs.SummaryVisits.{has_size, step_settled}
+use Rattle.gk_solve.proofs.edges.GroupLemmas.{statement_low, step_kept, step_made, step_keeps_of, step_makes_of}
+use Rattle.gk_solve.proofs.visits.SummaryVisits.{has_size, step_settled}
 use Rattle.gk_solve.proofs.group.visit_step.Goals as goal
 
 pub across_step-more-requires : goal.across_step-more-requires

@@ -4,9 +4,9 @@ use Rattle.flow_graph.specs.declared.edge.Edge.TheVariants.{Step}
 use Rattle.flow_graph.specs.Paths.{IsEdge}
 use Rattle.flow_links.specs.Shapes.{directed_shape}
 use Rattle.gk_solve.specs.Tables.Groups.{IsSummarySettled, group_of}
-use Rattle.gk_solve.proofs.Listed.{each_listed, listed_more}
-use Rattle.gk_solve.proofs.SummaryVisits.{has_size, summaries_on}
-use Rattle.gk_solve.proofs.Visits.{spreads_more}
+use Rattle.gk_solve.proofs.visits.Listed.{each_listed, listed_more}
+use Rattle.gk_solve.proofs.visits.SummaryVisits.{has_size, summaries_on}
+use Rattle.gk_solve.proofs.visits.Visits.{spreads_more}
 use Rattle.gk_solve.proofs.group.visit_steps.Goals as goal
 
 pub visit_step-requires : goal.visit_step-requires

@@ -1,6 +1,6 @@
 use Rattle.std.proofs.Common.{◌||◌, ap, ◌∙◌}
 use Rattle.bit_rows.specs.Words.{has_bit}
-use Rattle.bit_rows.proofs.WordBits.{has_bit-or}
+use Rattle.bit_rows.proofs.words.WordBits.{has_bit-or}
 use Rattle.gk_solve.proofs.lanes.across_word.Goals as goal
 
 pub returns : goal.returns

@@ -1,4 +1,4 @@
-use Rattle.bit_rows.proofs.WordBits.{has_bit-and}
+use Rattle.bit_rows.proofs.words.WordBits.{has_bit-and}
 use Rattle.gk_solve.proofs.lanes.both_word.Goals as goal
 
 pub returns : goal.returns

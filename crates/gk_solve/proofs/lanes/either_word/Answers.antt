@@ -1,7 +1,7 @@
 use Rattle.std.proofs.Common.{inl, inr, bit_or, arith}
 use Rattle.std.proofs.lemmas.Nat.{le_or_l, or_lt}
 use Rattle.std.proofs.lemmas.Bool.{cases_eq}
-use Rattle.bit_rows.proofs.WordBits.{has_bit-or}
+use Rattle.bit_rows.proofs.words.WordBits.{has_bit-or}
 use Rattle.gk_solve.proofs.lanes.either_word.Goals as goal
 
 pub returns-clause-bits : goal.returns-clause-bits

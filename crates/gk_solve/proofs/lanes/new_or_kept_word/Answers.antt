@@ -1,6 +1,6 @@
 use Rattle.std.proofs.Common.{◌||◌, ap, ◌∙◌, bit_and}
 use Rattle.bit_rows.specs.Words.{has_bit}
-use Rattle.bit_rows.proofs.WordBits.{has_bit-and, has_bit-or}
+use Rattle.bit_rows.proofs.words.WordBits.{has_bit-and, has_bit-or}
 use Rattle.gk_solve.proofs.lanes.new_or_kept_word.Goals as goal
 
 pub returns : goal.returns

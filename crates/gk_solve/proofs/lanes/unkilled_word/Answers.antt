@@ -1,7 +1,7 @@
 use Rattle.std.proofs.Common.{◌&&◌, ap, ◌∙◌, w64, arith}
 use Rattle.std.specs.Int.{bit_not}
 use Rattle.bit_rows.specs.Words.{has_bit}
-use Rattle.bit_rows.proofs.WordBits.{has_bit-and, has_bit-not}
+use Rattle.bit_rows.proofs.words.WordBits.{has_bit-and, has_bit-not}
 use Rattle.gk_solve.proofs.lanes.unkilled_word.Goals as goal
 
 pub returns : goal.returns

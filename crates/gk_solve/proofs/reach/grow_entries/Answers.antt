@@ -1,5 +1,5 @@
-use Rattle.gk_solve.proofs.Visits.{place_more, spreads_more}
-use Rattle.gk_solve.proofs.FlagVisits.{flags_on}
+use Rattle.gk_solve.proofs.visits.Visits.{place_more, spreads_more}
+use Rattle.gk_solve.proofs.visits.FlagVisits.{flags_on}
 use Rattle.gk_solve.specs.Tables.Flags.{IsFlagged}
 use Rattle.std.proofs.Common.{arith, subst, sym}
 use Rattle.summary_equations.specs.Equations.{Reached, entry_is_reached}

@@ -5,8 +5,8 @@ use Rattle.flow_graph.specs.declared.edge.Edge.TheVariants.{Step, Call, Ret}
 use Rattle.flow_links.specs.Shapes.{directed_shape}
 use Rattle.flow_graph.specs.Paths.{Shape, source_of}
 use Rattle.gk_solve.specs.Tables.Flags.{IsFlagged, IsReachClosedAt}
-use Rattle.gk_solve.proofs.FlagVisits.{all_reached}
-use Rattle.gk_solve.proofs.Visits.{visit_falls, visit_settles_from, all_closed}
+use Rattle.gk_solve.proofs.visits.FlagVisits.{all_reached}
+use Rattle.gk_solve.proofs.visits.Visits.{visit_falls, visit_settles_from, all_closed}
 use Rattle.gk_solve.proofs.reach.reached.Goals as goal
 
 -- an edge that leaves a point without a flag is closed

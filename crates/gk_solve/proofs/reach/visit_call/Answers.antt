@@ -1,7 +1,7 @@
 use Rattle.std.proofs.Common.{subst, sym}
 use Rattle.summary_equations.specs.Equations.{Reached}
 use Rattle.flow_links.specs.Shapes.{directed_shape}
-use Rattle.gk_solve.proofs.FlagVisits.{reached_across_call}
+use Rattle.gk_solve.proofs.visits.FlagVisits.{reached_across_call}
 use Rattle.gk_solve.proofs.reach.visit_call.Goals as goal
 
 pub reach_point-requires-clause-reached : goal.reach_point-requires-clause-reached

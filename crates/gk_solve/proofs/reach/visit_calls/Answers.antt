@@ -3,9 +3,9 @@ use Rattle.std.proofs.lemmas.List.Elements.{Contains-get_or}
 use Rattle.flow_links.specs.Shapes.{after_site, directed_shape}
 use Rattle.gk_solve.specs.Tables.Flags.{IsCallSettled}
 use Rattle.flow_links.specs.declared.link.CallLink.{CallLink}
-use Rattle.gk_solve.proofs.FlagVisits.{call_settled_more, flags_on}
-use Rattle.gk_solve.proofs.Listed.{each_listed, read_more}
-use Rattle.gk_solve.proofs.Visits.{spreads_more}
+use Rattle.gk_solve.proofs.visits.FlagVisits.{call_settled_more, flags_on}
+use Rattle.gk_solve.proofs.visits.Listed.{each_listed, read_more}
+use Rattle.gk_solve.proofs.visits.Visits.{spreads_more}
 use Rattle.gk_solve.proofs.reach.visit_calls.Goals as goal
 
 pub visit_call-requires-clause-there : goal.visit_call-requires-clause-there

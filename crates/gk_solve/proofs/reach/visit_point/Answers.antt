@@ -1,7 +1,7 @@
 use Rattle.std.proofs.Common.{inl}
 use Rattle.flow_links.specs.Shapes.{directed_shape}
-use Rattle.gk_solve.proofs.FlagVisits.{flags_on, reach_by_source}
-use Rattle.gk_solve.proofs.Visits.{spreads_more}
+use Rattle.gk_solve.proofs.visits.FlagVisits.{flags_on, reach_by_source}
+use Rattle.gk_solve.proofs.visits.Visits.{spreads_more}
 use Rattle.gk_solve.proofs.reach.visit_point.Goals as goal
 
 pub returns-then-flags-at-clause-spreads : goal.returns-then-flags-at-clause-spreads

@@ -3,9 +3,9 @@ use Rattle.std.proofs.lemmas.List.Elements.{All-get_or, Contains-get_or}
 use Rattle.flow_graph.specs.Points.{point_count}
 use Rattle.summary_equations.specs.Equations.{reached_by_step}
 use Rattle.gk_solve.specs.Tables.Flags.{IsFlagged}
-use Rattle.gk_solve.proofs.FlagVisits.{flags_on}
-use Rattle.gk_solve.proofs.Listed.{each_listed}
-use Rattle.gk_solve.proofs.Visits.{spreads_more, place_more}
+use Rattle.gk_solve.proofs.visits.FlagVisits.{flags_on}
+use Rattle.gk_solve.proofs.visits.Listed.{each_listed}
+use Rattle.gk_solve.proofs.visits.Visits.{spreads_more, place_more}
 use Rattle.gk_solve.proofs.reach.visit_steps.Goals as goal
 
 pub reach_point-requires : goal.reach_point-requires

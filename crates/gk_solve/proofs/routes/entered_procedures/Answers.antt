@@ -2,8 +2,8 @@ use Rattle.std.proofs.Common.{◌≡◌, ◌∙◌, Bool, false, List, length, a
 use Rattle.flow_links.specs.Shapes.{directed_shape}
 use Rattle.summary_equations.specs.Equations.{Entered}
 use Rattle.gk_solve.specs.Tables.Flags.{AreExactly}
-use Rattle.gk_solve.proofs.Blank.{none_flagged, unset}
-use Rattle.gk_solve.proofs.Slices.{written_over}
+use Rattle.gk_solve.proofs.beginnings.Blank.{none_flagged, unset}
+use Rattle.gk_solve.proofs.slices.Slices.{written_over}
 use Rattle.gk_solve.proofs.routes.entered_procedures.Goals as goal
 
 pub entered-requires-clause-none : goal.entered-requires-clause-none

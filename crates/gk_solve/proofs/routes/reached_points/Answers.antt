@@ -3,8 +3,8 @@ use Rattle.flow_links.specs.Shapes.{directed_shape}
 use Rattle.flow_graph.specs.Points.{point_count}
 use Rattle.summary_equations.specs.Equations.{Reached}
 use Rattle.gk_solve.specs.Tables.Flags.{AreExactly}
-use Rattle.gk_solve.proofs.Blank.{none_flagged, unset}
-use Rattle.gk_solve.proofs.Slices.{written_over}
+use Rattle.gk_solve.proofs.beginnings.Blank.{none_flagged, unset}
+use Rattle.gk_solve.proofs.slices.Slices.{written_over}
 use Rattle.gk_solve.proofs.routes.reached_points.Goals as goal
 
 pub reached-requires-clause-none : goal.reached-requires-clause-none

@@ -1,7 +1,7 @@
 use Rattle.std.proofs.Common.{rules, ◌∙◌, arith, sym}
 use Rattle.gk_solve.specs.Tables.Widths.{by_width}
 use Rattle.gk_solve.specs.declared.slice_words.Width.{Width}
-use Rattle.gk_solve.proofs.SliceWidths.{one_used}
+use Rattle.gk_solve.proofs.slices.SliceWidths.{one_used}
 use Rattle.gk_solve.proofs.slice_words.slice_words.Goals as goal
 
 pub invariant_of-result : goal.invariant_of-result

@@ -6,8 +6,8 @@ use Rattle.flow_graph.specs.Points.{point_count}
 use Rattle.summary_equations.specs.Equations.{IsInSolution}
 use Rattle.gk_solve.specs.Tables.Groups.{group_of, made_word, summary_at}
 use Rattle.gk_solve.specs.declared.summary.Summary.{Summary}
-use Rattle.gk_solve.proofs.GroupLemmas.{read_summary}
-use Rattle.gk_solve.proofs.Slices.{solution_is}
+use Rattle.gk_solve.proofs.edges.GroupLemmas.{read_summary}
+use Rattle.gk_solve.proofs.slices.Slices.{solution_is}
 use Rattle.gk_solve.proofs.solution.put_solutions.Goals as goal
 
 pub loop-point-preserved : goal.loop-point-preserved

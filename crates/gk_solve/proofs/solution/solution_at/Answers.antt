@@ -1,6 +1,6 @@
 use Rattle.std.proofs.Common.{sym, ◌∙◌}
 use Rattle.std.proofs.lemmas.Bool.{false≢true}
-use Rattle.gk_solve.proofs.Beginning.{no_bit}
+use Rattle.gk_solve.proofs.beginnings.Beginning.{no_bit}
 use Rattle.gk_solve.proofs.solution.solution_at.Goals as goal
 
 pub returns-then-not-frame-point : goal.returns-then-not-frame-point

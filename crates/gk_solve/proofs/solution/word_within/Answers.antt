@@ -1,8 +1,8 @@
 use Rattle.std.proofs.Common.{◌≡◌, ◌+◌, ◌*◌, ◌&&◌, ◌↔◌, ◌<◌, ◌≤◌, not, true, Bool, ap, ◌∙◌, sym, subst, w64, bit_and, arith}
 use Rattle.std.specs.Int.{bit_not}
 use Rattle.bit_rows.specs.Words.{has_bit}
-use Rattle.bit_rows.proofs.WordBits.{has_bit-and, has_bit-not}
-use Rattle.gk_solve.proofs.Slices.{within_bit}
+use Rattle.bit_rows.proofs.words.WordBits.{has_bit-and, has_bit-not}
+use Rattle.gk_solve.proofs.slices.Slices.{within_bit}
 use Rattle.gk_solve.proofs.solution.word_within.Goals as goal
 
 pub returns : goal.returns

@@ -5,7 +5,7 @@ use Rattle.flow_graph.specs.Points.{point_count}
 use Rattle.flow_links.specs.Shapes.{directed_shape}
 use Rattle.gk_solve.specs.Tables.Flags.{ArePathFlags}
 use Rattle.gk_solve.specs.Tables.Rows.{TellsBelow}
-use Rattle.gk_solve.proofs.RowWords.{blank_tells}
+use Rattle.gk_solve.proofs.words.RowWords.{blank_tells}
 use Rattle.gk_solve.proofs.solver.blank_rows.Goals as goal
 
 pub returns : goal.returns

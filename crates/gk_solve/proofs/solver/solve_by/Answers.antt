@@ -1,6 +1,6 @@
 use Rattle.std.proofs.lemmas.Result.{IfOk-weaker}
 use Rattle.gk_solve.specs.Solved.{IsLeastSolution, IsMeetOverPaths}
-use Rattle.gk_solve.proofs.RowWords.{solution_to_meet}
+use Rattle.gk_solve.proofs.words.RowWords.{solution_to_meet}
 use Rattle.gk_solve.proofs.solver.solve_by.Goals as goal
 
 pub returns-clause-paths : goal.returns-clause-paths

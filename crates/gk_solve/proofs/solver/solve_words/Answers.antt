@@ -1,9 +1,8 @@
-use Rattle.std.proofs.Common.{◌+◌, ◌*◌, ◌/◌, ap, subst, sym, arith, refl, ◌∙◌}
+use Rattle.std.proofs.Common.{◌+◌, ◌*◌, ◌/◌, ap, subst, sym, arith, ◌∙◌, subst₂, ℕ}
 use Rattle.flow_graph.specs.Points.{point_count}
 use Rattle.flow_links.specs.Shapes.{LinkedProgram, directed_shape}
 use Rattle.gk_solve.specs.Tables.Rows.{TellsBelow}
-use Rattle.gk_solve.proofs.RowWords.{tells_all}
-use Rattle.gk_solve.proofs.Taken.{moved}
+use Rattle.gk_solve.proofs.words.RowWords.{tells_all}
 use Rattle.gk_solve.proofs.solver.solve_words.Goals as goal
 
 pub solve_each-requires : goal.solve_each-requires
@@ -21,8 +20,7 @@ solve_each-requires g c =
         within = omega (arith, made.4, c.requires.within);
       };
       ready = (tells.count, tells.same_lo ∙ sym made.3, tells.same_hi ∙ sym made.4);
-      begun = moved (λ lo hi w. TellsBelow c.args.problem.now (64 * (lo / 64)) lo hi c.args.rows.now) _ _ _ _ 0 0 (sym made.3) (sym made.4) refl
-          tells;
+      begun = subst₂ (λ (lo hi : ℕ). TellsBelow c.args.problem.now (64 * (lo / 64)) lo hi c.args.rows.now) (sym made.3) (sym made.4) tells;
     }
 
 pub returns : goal.returns

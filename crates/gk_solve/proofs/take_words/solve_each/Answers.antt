@@ -1,6 +1,6 @@
-use Rattle.std.proofs.Common.{◌≡◌, ◌∙◌, ◌+◌, ◌/◌, arith, refl, subst, sym}
-use Rattle.gk_solve.proofs.SolvedWords.{meet_words}
-use Rattle.gk_solve.proofs.Taken.{moved}
+use Rattle.std.proofs.Common.{◌≡◌, ◌∙◌, ◌+◌, ◌/◌, arith, refl, subst, sym, subst₂, ℕ}
+use Rattle.std.proofs.Math.Path.{subst₃}
+use Rattle.gk_solve.proofs.words.SolvedWords.{meet_words}
 use Rattle.gk_solve.proofs.take_words.solve_each.Goals as goal
 
 pub words-init : goal.words-init
@@ -24,7 +24,7 @@ take_words-requires g c =
     let lo : slice.lo ≡ c.args.slice.now.lo = after.range.0 ∙ before.lo in
     let hi : slice.hi ≡ c.args.slice.now.hi = after.range.1 ∙ before.hi in
     record {
-      ready = moved (λ l h w. g.T.TakeWords.is_ready c.words.taker form l h) _ _ _ _ 0 0 (sym lo) (sym hi) refl before.ready;
+      ready = subst₂ (λ (l h : ℕ). g.T.TakeWords.is_ready c.words.taker form l h) (sym lo) (sym hi) before.ready;
       slice = after.slice;
       first = omega (arith, after.from, before.low, lo);
       more = omega (arith, after.from, after.until, after.more);
@@ -49,9 +49,9 @@ words-preserved g c =
       hi = hi;
       low = omega (arith, before.low, after.more);
       high = omega (arith, after.last, before.hi);
-      ready = moved (λ l h w. g.T.TakeWords.is_ready taker form l h) _ _ _ _ 0 0 lo hi refl c.take_words.ensures.ready;
-      has = moved (λ l h w. g.T.TakeWords.has start taker form l h w) _ _ _ _ _ _ lo hi after.until
-          (c.take_words.ensures.has start (moved (λ l h w. g.T.TakeWords.has start c.words.taker form l h w) _ _ _ _ _ _ (sym lo) (sym hi)
+      ready = subst₂ (λ (l h : ℕ). g.T.TakeWords.is_ready taker form l h) lo hi c.take_words.ensures.ready;
+      has = subst₃ (λ (l h w : ℕ). g.T.TakeWords.has start taker form l h w) lo hi after.until
+          (c.take_words.ensures.has start (subst₃ (λ (l h w : ℕ). g.T.TakeWords.has start c.words.taker form l h w) (sym lo) (sym hi)
           (sym after.from) before.has));
     }
 

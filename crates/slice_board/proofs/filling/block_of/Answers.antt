@@ -1,5 +1,5 @@
 use Rattle.std.proofs.Common.{◌∙◌, arith, length-set}
-use Rattle.slice_board.proofs.Sums.{copied}
+use Rattle.slice_board.proofs.words.Sums.{copied}
 use Rattle.slice_board.proofs.filling.block_of.Goals as goal
 
 pub loop-k-preserved : goal.loop-k-preserved

@@ -1,8 +1,8 @@
-use Rattle.std.proofs.Common.{◌+◌, take, ap, length, arith}
+use Rattle.std.proofs.Common.{◌+◌, take, ap, length, arith, length-take-le}
 use Rattle.std.specs.Mem.Slots.{slots_items, slots_len}
 use Rattle.bit_rows.specs.RowTable.{RowTable}
 use Rattle.slice_board.specs.Boards.{words_for}
-use Rattle.slice_board.proofs.Putting.{IsPutIn-more, masks_within, taken, block_room, length-taken}
+use Rattle.slice_board.proofs.rows.Putting.{IsPutIn-more, masks_within, taken, block_room}
 use Rattle.slice_board.proofs.filling.put_row.Goals as goal
 
 pub block_of-block-requires-clause-room : goal.block_of-block-requires-clause-room
@@ -25,7 +25,7 @@ or_words-requires-clause-masks c k below i within set =
     let end = c.div_ceil-words.ensures in
     let high = c.hi.ensures in
     let less = c.min-count.ensures in
-    let size = length-taken c.block_of-block.result c.min-count.result (omega arith) in
+    let size = length-take-le c.min-count.result c.block_of-block.result (omega arith) in
     let copy = taken words c.block_of-block.result (c.args.from + c.args.point) c.loop-first.first c.min-count.result c.points-apart.result
     (length c.args.rows.now.flags) c.points-apart.ensures.count c.block_of-block.ensures in
     let inside = masks_within words (c.args.from + c.args.point) c.loop-first.first c.min-count.result c.args.rows.now
@@ -43,7 +43,7 @@ loop-first-preserved c =
       within = omega arith;
       so_far = IsPutIn-more words (c.args.from + c.args.point) c.args.point c.args.rows.now c.loop-first.first c.min-count.result c.loop-first.rows
           c.or_words.new.self (take c.min-count.result c.block_of-block.result) i.so_far c.requires.uniform c.requires.lowest c.requires.point
-          (length-taken c.block_of-block.result c.min-count.result (omega arith))
+          (length-take-le c.min-count.result c.block_of-block.result (omega arith))
           (taken words c.block_of-block.result (c.args.from + c.args.point) c.loop-first.first c.min-count.result c.points-apart.result
           (length c.args.rows.now.flags) c.points-apart.ensures.count c.block_of-block.ensures) c.or_words.ensures;
     }

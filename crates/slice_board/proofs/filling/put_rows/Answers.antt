@@ -1,5 +1,5 @@
 use Rattle.std.specs.Mem.Slots.{slots_items}
-use Rattle.slice_board.proofs.Putting.{ArePutIn-more}
+use Rattle.slice_board.proofs.rows.Putting.{ArePutIn-more}
 use Rattle.slice_board.proofs.filling.put_rows.Goals as goal
 
 pub points-preserved : goal.points-preserved

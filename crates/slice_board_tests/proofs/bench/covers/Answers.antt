@@ -4,7 +4,7 @@ use native.Mathlib.Decide.{dec_le}
 use Rattle.std.proofs.lemmas.Bool.{both_ways}
 use Rattle.bit_rows.specs.RowSet.{contains}
 use Rattle.bit_rows.specs.RowTable.{set_at}
-use Rattle.slice_board_tests.proofs.Benching.{past_point}
+use Rattle.slice_board_tests.proofs.sets.Benching.{past_point}
 use Rattle.slice_board_tests.proofs.bench.covers.Goals as goal
 
 pub returns : goal.returns

@@ -2,7 +2,7 @@ use Rattle.std.proofs.Common.{◌≡◌, ℕ, ◌∙◌, sym, subst, arith, true
 use mathlib.Core.Logic.{dite}
 use native.Mathlib.Decide.{ℕ_discrete}
 use Rattle.bit_rows.specs.RowSet.{contains}
-use Rattle.slice_board_tests.proofs.Benching.{has_it}
+use Rattle.slice_board_tests.proofs.sets.Benching.{has_it}
 use Rattle.slice_board_tests.proofs.bench.covers_row.Goals as goal
 
 pub loop-bit-preserved : goal.loop-bit-preserved

@@ -1,5 +1,5 @@
 use Rattle.std.proofs.Common.{sym, arith}
-use Rattle.bit_rows.proofs.RowSets.{contains-below, contains-above}
+use Rattle.bit_rows.proofs.sets.RowSets.{contains-below, contains-above}
 use Rattle.slice_board_tests.proofs.bench.has.Goals as goal
 
 pub returns-then-bit-lo : goal.returns-then-bit-lo

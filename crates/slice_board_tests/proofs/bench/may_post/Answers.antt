@@ -1,6 +1,6 @@
 use Rattle.std.proofs.Common.{sym, ap, ◌∙◌, ◌+◌, ◌*◌}
 use Rattle.bit_rows.specs.RowSet.{contains}
-use Rattle.slice_board_tests.proofs.Benching.{within_word}
+use Rattle.slice_board_tests.proofs.sets.Benching.{within_word}
 use Rattle.slice_board_tests.proofs.bench.may_post.Goals as goal
 
 pub returns-clause-mask : goal.returns-clause-mask

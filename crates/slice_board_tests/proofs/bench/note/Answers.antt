@@ -1,5 +1,5 @@
 use Rattle.std.proofs.Common.{arith}
-use Rattle.slice_board_tests.proofs.Benching.{in_range, noted_word}
+use Rattle.slice_board_tests.proofs.sets.Benching.{in_range, noted_word}
 use Rattle.slice_board_tests.proofs.bench.note.Goals as goal
 
 pub or_word-requires-clause-mask : goal.or_word-requires-clause-mask

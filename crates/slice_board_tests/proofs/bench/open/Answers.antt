@@ -6,7 +6,7 @@ use Rattle.std.specs.Vec.{vec_len}
 use Rattle.std.proofs.lemmas.Bool.{both_ways}
 use Rattle.bit_rows.specs.RowSet.{contains}
 use Rattle.bit_rows.specs.RowTable.{RowTable, set_at}
-use Rattle.slice_board_tests.proofs.Benching.{in_range, past_point}
+use Rattle.slice_board_tests.proofs.sets.Benching.{in_range, past_point}
 use Rattle.slice_board_tests.proofs.bench.open.Goals as goal
 
 pub open-requires-clause-within : goal.open-requires-clause-within

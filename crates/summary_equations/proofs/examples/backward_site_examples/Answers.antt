@@ -3,8 +3,8 @@ use Rattle.flow_graph.specs.declared.edge.Edge.TheVariants.{Call}
 use Rattle.flow_graph.specs.Reversals.{reversed_shape, reversed_transfer}
 use Rattle.flow_graph.specs.Examples.{two_prints, live_first, out_of_first_call}
 use Rattle.flow_graph.proofs.graphs.ExampleLemmas.{is_one_of, path_is, well_formed_is}
-use Rattle.summary_equations.proofs.Backward.{backward_may_is_reversed}
-use Rattle.summary_equations.proofs.ExampleLemmas.{not_in_solution}
+use Rattle.summary_equations.proofs.paths.Backward.{backward_may_is_reversed}
+use Rattle.summary_equations.proofs.solutions.ExampleLemmas.{not_in_solution}
 use Rattle.summary_equations.proofs.examples.backward_site_examples.Goals as goal
 
 pub returns-clause-before_first_call : goal.returns-clause-before_first_call

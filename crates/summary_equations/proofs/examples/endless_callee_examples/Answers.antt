@@ -5,7 +5,7 @@ use Rattle.flow_graph.specs.Examples.{endless_callee, sum_expression}
 use Rattle.flow_graph.proofs.graphs.ExampleLemmas.{edge_is, is_one_of}
 use Rattle.summary_equations.specs.Equations.{Reached, entry_is_reached, kept_at_entry, reached_by_step, root_is_entered, entered_by_call}
 use Rattle.summary_equations.specs.Equations.{brought_by_boundary}
-use Rattle.summary_equations.proofs.ExampleLemmas.{no_flag, not_in_solution}
+use Rattle.summary_equations.proofs.solutions.ExampleLemmas.{no_flag, not_in_solution}
 use Rattle.summary_equations.proofs.examples.endless_callee_examples.Goals as goal
 
 pub returns-clause-callee_has_flag : goal.returns-clause-callee_has_flag

@@ -3,8 +3,8 @@ use Rattle.flow_graph.specs.declared.edge.Edge.TheVariants.{Step}
 use Rattle.flow_graph.specs.Examples.{recursive_procedure, inner_definition, through_recursion, recursive_main, only_definition, into_main}
 use Rattle.flow_graph.specs.Examples.{value_at_entry}
 use Rattle.flow_graph.proofs.graphs.ExampleLemmas.{is_one_of, path_is, well_formed_is}
-use Rattle.summary_equations.proofs.ExampleLemmas.{not_in_solution}
-use Rattle.summary_equations.proofs.Meet.{solution_is_meet}
+use Rattle.summary_equations.proofs.solutions.ExampleLemmas.{not_in_solution}
+use Rattle.summary_equations.proofs.paths.Meet.{solution_is_meet}
 use Rattle.summary_equations.proofs.examples.recursion_examples.Goals as goal
 
 pub returns-clause-inner_after_inner_call : goal.returns-clause-inner_after_inner_call

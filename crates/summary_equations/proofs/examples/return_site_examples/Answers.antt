@@ -4,8 +4,8 @@ use Rattle.flow_graph.specs.Examples.{two_calls, earlier_definition, later_defin
 use Rattle.flow_graph.proofs.graphs.ExampleLemmas.{edge_is, is_one_of, path_is, well_formed_is}
 use Rattle.summary_equations.specs.Equations.{Reached, Made, Kept, entry_is_reached, reached_by_step, reached_by_call, kept_at_entry, kept_by_step}
 use Rattle.summary_equations.specs.Equations.{made_by_step, made_before_call, root_is_entered}
-use Rattle.summary_equations.proofs.ExampleLemmas.{not_in_solution}
-use Rattle.summary_equations.proofs.Meet.{solution_is_meet}
+use Rattle.summary_equations.proofs.solutions.ExampleLemmas.{not_in_solution}
+use Rattle.summary_equations.proofs.paths.Meet.{solution_is_meet}
 use Rattle.summary_equations.proofs.examples.return_site_examples.Goals as goal
 
 pub returns-clause-later_after_second_call : goal.returns-clause-later_after_second_call

@@ -1,8 +1,8 @@
 use Rattle.std.proofs.Common.{true, false, [], ◌∷◌, refl}
 use Rattle.flow_graph.specs.Examples.{several_callees, outer_definition, inner_of_first, through_first_callee, through_second_callee}
 use Rattle.flow_graph.proofs.graphs.ExampleLemmas.{is_one_of, path_is, well_formed_is}
-use Rattle.summary_equations.proofs.Meet.{solution_is_meet}
-use Rattle.summary_equations.proofs.ExampleLemmas.{not_in_solution}
+use Rattle.summary_equations.proofs.paths.Meet.{solution_is_meet}
+use Rattle.summary_equations.proofs.solutions.ExampleLemmas.{not_in_solution}
 use Rattle.summary_equations.proofs.examples.several_callees_examples.Goals as goal
 
 pub returns-clause-outer_after_call : goal.returns-clause-outer_after_call

@@ -1,5 +1,5 @@
-use Rattle.summary_equations.proofs.Backward.{forward_must_is_complement, backward_flags_are_reversed, backward_may_is_reversed}
-use Rattle.summary_equations.proofs.Backward.{backward_must_is_reversed_complement}
+use Rattle.summary_equations.proofs.paths.Backward.{forward_must_is_complement, backward_flags_are_reversed, backward_may_is_reversed}
+use Rattle.summary_equations.proofs.paths.Backward.{backward_must_is_reversed_complement}
 use Rattle.summary_equations.proofs.laws.reversal_and_complement_carry_the_meet.Goals as goal
 
 pub returns-clause-forward_must : goal.returns-clause-forward_must

@@ -1,4 +1,4 @@
-use Rattle.summary_equations.proofs.Decided.{solution_is_decided, meets_are_decided, backward_meets_are_decided}
+use Rattle.summary_equations.proofs.solutions.Decided.{solution_is_decided, meets_are_decided, backward_meets_are_decided}
 use Rattle.summary_equations.proofs.laws.solution_is_decided.Goals as goal
 
 pub returns-clause-solution : goal.returns-clause-solution

@@ -1,4 +1,4 @@
-use Rattle.summary_equations.proofs.Least.{reached_is_least, kept_is_least, made_is_least, entered_is_least, brought_is_least}
+use Rattle.summary_equations.proofs.solutions.Least.{reached_is_least, kept_is_least, made_is_least, entered_is_least, brought_is_least}
 use Rattle.summary_equations.proofs.laws.solution_is_least.Goals as goal
 
 pub returns-clause-reached : goal.returns-clause-reached

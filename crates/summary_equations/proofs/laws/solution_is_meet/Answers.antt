@@ -1,4 +1,4 @@
-use Rattle.summary_equations.proofs.Meet.{solution_is_meet}
+use Rattle.summary_equations.proofs.paths.Meet.{solution_is_meet}
 use Rattle.summary_equations.proofs.laws.solution_is_meet.Goals as goal
 
 pub returns : goal.returns

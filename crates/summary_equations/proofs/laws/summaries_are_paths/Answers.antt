@@ -1,5 +1,5 @@
 use Rattle.flow_graph.proofs.paths.Splitting.{callee_paths_join}
-use Rattle.summary_equations.proofs.Meet.{summaries_are_paths}
+use Rattle.summary_equations.proofs.paths.Meet.{summaries_are_paths}
 use Rattle.summary_equations.proofs.laws.summaries_are_paths.Goals as goal
 
 pub returns-clause-summaries : goal.returns-clause-summaries

@@ -1,4 +1,5 @@
-use Rattle.summary_equations.proofs.ProgramTables.{flags_are_solutions, may_tables_are_solutions, must_tables_are_solutions, tables_are_decided}
+use Rattle.summary_equations.proofs.tables.ProgramTables.{flags_are_solutions, may_tables_are_solutions, must_tables_are_solutions}
+use Rattle.summary_equations.proofs.tables.ProgramTables.{tables_are_decided}
 use Rattle.summary_equations.proofs.laws.tables_are_solutions.Goals as goal
 
 pub returns-clause-flags : goal.returns-clause-flags

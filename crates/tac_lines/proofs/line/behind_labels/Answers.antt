@@ -1,7 +1,8 @@
 use Rattle.std.proofs.Common.{◌≡◌, ◌∙◌, ap, sym, ℕ, ◌-◌, [], arith, length, take, drop, drop-drop, length-drop, List, nat_lt, true}
+use Rattle.std.proofs.lemmas.List.{take_rest}
 use Rattle.tac_lines.specs.Forms.{behind_labels, labels_of}
 use Rattle.tac_lines.specs.code.Views.{tokens_view, line_forms}
-use Rattle.tac_lines.proofs.forms.LineForms.{label_step, label_stop, label_end, labelled_on, all-left}
+use Rattle.tac_lines.proofs.forms.LineForms.{label_step, label_stop, label_end, labelled_on}
 use Rattle.tac_lines.proofs.forms.LabelCounts.{count_on}
 use Rattle.tac_lines.proofs.line.behind_labels.Goals as goal
 
@@ -29,7 +30,7 @@ returns-clause-behind c text =
     let ts = c.args.tokens.now in
     let at = c.loop-at.at in
     let s = label_stop text (drop at ts) (c.label_at.ensures text ∙ c.loop-at-test.false) in
-    ap (tokens_view text) (all-left at ts) ∙ sym s.0 ∙ c.loop-at.invariant.behind text
+    ap (tokens_view text) (take_rest ts at) ∙ sym s.0 ∙ c.loop-at.invariant.behind text
 
 pub returns-clause-forms : goal.returns-clause-forms
 returns-clause-forms c text =
@@ -37,7 +38,7 @@ returns-clause-forms c text =
     let at = c.loop-at.at in
     let s = label_stop text (drop at ts) (c.label_at.ensures text ∙ c.loop-at-test.false) in
     label_end text at ts c.loop-at.invariant.within (c.loop-at.invariant.forms text) s.1
-    ∙ ap (λ r. line_forms true (nat_lt (length r) (length ts))) (sym (all-left at ts))
+    ∙ ap (λ r. line_forms true (nat_lt (length r) (length ts))) (sym (take_rest ts at))
 
 pub returns-clause-count : goal.returns-clause-count
 returns-clause-count c text =
@@ -46,5 +47,5 @@ returns-clause-count c text =
     let s = label_stop text (drop at ts) (c.label_at.ensures text ∙ c.loop-at-test.false) in
     let none : length (labels_of (tokens_view text (drop at ts))) ≡ 0 = ap length s.1 in
     let left : length (drop at ts) ≡ length ts - at = length-drop at ts in
-    let rest : length (take (length ts - at) (drop at ts)) ≡ length (drop at ts) = ap length (all-left at ts) in
+    let rest : length (take (length ts - at) (drop at ts)) ≡ length (drop at ts) = ap length (take_rest ts at) in
     omega (arith, none, left, rest, c.loop-at.invariant.count text, c.loop-at.invariant.within)

@@ -1,10 +1,11 @@
 use Rattle.std.proofs.Common.{◌∙◌, arith, map, ap, sym}
 use Rattle.std.specs.List.{prefix_len}
+use Rattle.std.proofs.lemmas.List.{drop_all}
 use Rattle.tac_lines.specs.Forms.{is_inner}
 use Rattle.tac_lines.specs.code.Ranges.{range_view}
 use Rattle.tac_lines.specs.code.Views.{tokens_view}
 use Rattle.tac_lines.proofs.lines.RangeLemmas.{no_line}
-use Rattle.tac_reader.proofs.sections.SectionSteps.{rest_none, run_on, run_stops, run_is}
+use Rattle.tac_reader.proofs.sections.SectionSteps.{run_on, run_stops, run_is}
 use Rattle.tac_reader.proofs.section.inner_lines.Goals as goal
 use Rattle.tac_reader.proofs.section.inner_lines.Goals.{then-loop-at-test+else-is_inner, else-loop-at-test}
 
@@ -27,5 +28,5 @@ returns c text =
       | then-loop-at-test+else-is_inner w ↦ run_stops is_inner view ranges c.loop-at.at no_line (omega (arith, w.loop-at-test.true, c.len.ensures))
           (ap (λ ts. is_inner (tokens_view text ts)) (sym (w.line.ensures no_line)) ∙ w.is_inner.ensures text ∙ w.if-is_inner.false)
       | else-loop-at-test w ↦
-          ap (λ xs. prefix_len is_inner (map view xs)) (rest_none ranges c.loop-at.at (omega (arith, w.loop-at-test.false, c.len.ensures)))
+          ap (λ xs. prefix_len is_inner (map view xs)) (drop_all c.loop-at.at ranges (omega (arith, w.loop-at-test.false, c.len.ensures)))
     ])

@@ -1,6 +1,6 @@
 -- The facts of a text, and why there are none.
 use Rattle.std.proofs.Common.{◌∙◌, sym}
-use Rattle.tacflow_c.proofs.Graphs.{bad_table, facts_of_text, has_graph}
+use Rattle.tacflow_c.proofs.answers.Graphs.{bad_table, facts_of_text, has_graph}
 use Rattle.tacflow_c.proofs.calls.facts_of_text.Goals as goal
 
 pub returns-in-Err-clause-fault : goal.returns-in-Err-clause-fault

@@ -1,7 +1,7 @@
 -- The graph of a text, and room that is not what its points need.
 use Rattle.std.proofs.Common.{◌∙◌, sym, ap}
 use Rattle.flow_graph.specs.Points.{point_count}
-use Rattle.tacflow_c.proofs.Graphs.{has_graph}
+use Rattle.tacflow_c.proofs.answers.Graphs.{has_graph}
 use Rattle.tacflow_c.proofs.calls.points_of_text.Goals as goal
 
 pub returns-then-points-clause-fault : goal.returns-then-points-clause-fault

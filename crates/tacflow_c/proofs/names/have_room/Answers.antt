@@ -1,7 +1,7 @@
 -- What is left, and whether the next name fits.
 use Rattle.std.proofs.Common.{arith, ap, length, length-append, take}
 use Rattle.tacflow_c.specs.Names.{names_of}
-use Rattle.tacflow_c.proofs.JoinedNames.{next_name, within_names}
+use Rattle.tacflow_c.proofs.buffers.JoinedNames.{next_name, within_names}
 use Rattle.std.specs.List.{concat}
 use Rattle.tacflow_c.proofs.names.have_room.Goals as goal
 

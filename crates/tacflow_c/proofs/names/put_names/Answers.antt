@@ -3,7 +3,7 @@ use Rattle.std.proofs.Common.{◌≡◌, ◌+◌, ◌-◌, ◌<◌, ◌++◌, �
 use Rattle.std.specs.List.{concat}
 use borrow.Rule.Slice.PartMut.{put_mid}
 use Rattle.tacflow_c.specs.Names.{names_of}
-use Rattle.tacflow_c.proofs.JoinedNames.{next_name, put_behind, told_further, within_names}
+use Rattle.tacflow_c.proofs.buffers.JoinedNames.{next_name, put_behind, told_further, within_names}
 use Rattle.tacflow_c.proofs.names.put_names.Goals as goal
 
 pub slice_bounds-copy_from_slice-end : goal.slice_bounds-copy_from_slice-end

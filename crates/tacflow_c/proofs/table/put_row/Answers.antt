@@ -1,8 +1,8 @@
 -- The next word of a point is told.
 use Rattle.std.proofs.Common.{arith, ◌+◌, ◌*◌, ◌-◌, ◌≤◌, ◌∙◌}
 use Rattle.tacflow_c.specs.Facts.{IsRowWord}
-use Rattle.tacflow_c.proofs.FactWords.{fact_word, same_place}
-use Rattle.tacflow_c.proofs.Filling.{one_word}
+use Rattle.tacflow_c.proofs.facts.FactWords.{fact_word, same_place}
+use Rattle.tacflow_c.proofs.buffers.Filling.{one_word}
 use Rattle.tacflow_c.proofs.table.put_row.Goals as goal
 
 pub loop-word-preserved : goal.loop-word-preserved

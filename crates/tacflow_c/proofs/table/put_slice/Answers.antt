@@ -1,7 +1,7 @@
 -- No word is filled at first.
 use Rattle.std.proofs.Common.{◌-◌, ◌/◌, refl}
 use Rattle.tacflow_c.specs.Facts.{IsRowWord}
-use Rattle.tacflow_c.proofs.Filling.{no_group}
+use Rattle.tacflow_c.proofs.buffers.Filling.{no_group}
 use Rattle.tacflow_c.proofs.table.put_slice.Goals as goal
 
 pub solve_each-requires-clause-begun : goal.solve_each-requires-clause-begun

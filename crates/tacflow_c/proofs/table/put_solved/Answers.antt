@@ -5,7 +5,7 @@ use Rattle.flow_graph.specs.Problems.{MayForm}
 use Rattle.tacflow_c.specs.Facts.{IsRowWord}
 use Rattle.tacflow_c.specs.code.Filled.{AreFilled}
 use Rattle.tacflow_c.specs.code.Flags.{AreNumbers}
-use Rattle.tacflow_c.proofs.Told.{all_told}
+use Rattle.tacflow_c.proofs.facts.Told.{all_told}
 use Rattle.tacflow_c.proofs.table.put_solved.Goals as goal
 
 pub returns-clause-facts : goal.returns-clause-facts

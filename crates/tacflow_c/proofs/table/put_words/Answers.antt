@@ -1,6 +1,6 @@
 -- The next point has its words.
 use Rattle.tacflow_c.specs.Facts.{IsRowWord}
-use Rattle.tacflow_c.proofs.Filling.{one_point}
+use Rattle.tacflow_c.proofs.buffers.Filling.{one_point}
 use Rattle.tacflow_c.proofs.table.put_words.Goals as goal
 
 pub loop-row-preserved : goal.loop-row-preserved

@@ -1,6 +1,6 @@
 -- A word's complement within the slice.
 use Rattle.std.proofs.Common.{◌-◌, ◌&&◌, ap₂, ◌∙◌}
-use Rattle.bit_rows.proofs.WordBits.{has_bit-and, has_bit-not}
+use Rattle.bit_rows.proofs.words.WordBits.{has_bit-and, has_bit-not}
 use Rattle.tacflow_c.proofs.table.told_word.Goals as goal
 
 pub returns-in-Intersection : goal.returns-in-Intersection

@@ -3,7 +3,7 @@ use Rattle.std.proofs.Common.{◌≡◌, ◌∙◌, ◌++◌, ap, subst, drop, l
 use Rattle.flow_texts.specs.Reports.{ListsSafely}
 use Rattle.tac_program.specs.Programs.{Program}
 use Rattle.tac_reader.specs.Parses.{program_of}
-use Rattle.tacflow_c.proofs.Graphs.{has_graph}
+use Rattle.tacflow_c.proofs.answers.Graphs.{has_graph}
 use Rattle.tacflow_c.proofs.texts.report_of_text.Goals as goal
 
 pub returns-then-put_text-clause-held : goal.returns-then-put_text-clause-held

@@ -1,6 +1,6 @@
 use Rattle.std.proofs.Common.{rules, refl}
 use Rattle.text_pieces.specs.Devices.{AppendsBeginning}
-use Rattle.text_pieces.proofs.Taking.{begun}
+use Rattle.text_pieces.proofs.sinks.Taking.{begun}
 use Rattle.text_pieces.proofs.delivery.pass_text.Goals as goal
 
 pub returns-clause-beginning : goal.returns-clause-beginning

@@ -2,7 +2,7 @@
 use Rattle.std.proofs.Common.{rules, subst}
 use Rattle.std.specs.Io.KnownBytes.{Appends}
 use Rattle.std.proofs.KnownBytes.{Appends-trans}
-use Rattle.text_pieces.proofs.Buffers.{take_further}
+use Rattle.text_pieces.proofs.buffers.Buffers.{take_further}
 use Rattle.text_pieces.proofs.pieces.push_all.Goals as goal
 
 pub loop-pushed-preserved : goal.loop-pushed-preserved

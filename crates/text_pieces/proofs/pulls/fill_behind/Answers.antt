@@ -3,7 +3,7 @@ use Rattle.std.proofs.Common.{rules, ◌≤◌, length, subst, sym}
 use Rattle.std.specs.Io.KnownBytes.{Consumes}
 use Rattle.std.proofs.KnownBytes.{Consumes-trans}
 use borrow.Rule.Slice.PartMut.{same_len_mid}
-use Rattle.text_pieces.proofs.Buffers.{take_written}
+use Rattle.text_pieces.proofs.buffers.Buffers.{take_written}
 use Rattle.text_pieces.proofs.pulls.fill_behind.Goals as goal
 
 pub returns-clause-bytes : goal.returns-clause-bytes

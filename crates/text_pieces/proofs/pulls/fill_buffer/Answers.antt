@@ -3,7 +3,7 @@ use Rattle.std.proofs.Common.{rules, sym, subst, ◌∙◌, refl}
 use Rattle.std.proofs.lemmas.Bool.{ne_eqb}
 use Rattle.std.specs.Io.KnownBytes.{Consumes}
 use Rattle.std.proofs.KnownBytes.{Consumes-trans}
-use Rattle.text_pieces.proofs.Buffers.{take_filled}
+use Rattle.text_pieces.proofs.buffers.Buffers.{take_filled}
 use Rattle.text_pieces.proofs.pulls.fill_buffer.Goals as goal
 
 pub loop-filled-preserved : goal.loop-filled-preserved

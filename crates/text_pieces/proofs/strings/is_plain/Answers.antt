@@ -1,5 +1,5 @@
 use Rattle.std.proofs.Common.{◌∙◌, sym}
-use Rattle.text_pieces.proofs.Escapes.{plain_more}
+use Rattle.text_pieces.proofs.sinks.Escapes.{plain_more}
 use Rattle.text_pieces.proofs.strings.is_plain.Goals as goal
 
 pub loop-byte-preserved : goal.loop-byte-preserved

@@ -1,6 +1,6 @@
 use Rattle.std.proofs.Common.{sym}
-use Rattle.text_pieces.proofs.Taking.{takes_as, takes_then}
-use Rattle.text_pieces.proofs.Escapes.{escaped_more}
+use Rattle.text_pieces.proofs.sinks.Taking.{takes_as, takes_then}
+use Rattle.text_pieces.proofs.sinks.Escapes.{escaped_more}
 use Rattle.text_pieces.proofs.strings.write_escaped.Goals as goal
 
 pub returns-then-is_plain : goal.returns-then-is_plain

@@ -1,5 +1,5 @@
 use Rattle.std.proofs.Common.{List, ℕ, sym, subst}
-use Rattle.flow_runs.proofs.Deliveries.{delivers_as}
+use Rattle.flow_runs.proofs.deliveries.Deliveries.{delivers_as}
 use Rattle.flow_views.specs.Dots.{IsDot}
 use Rattle.view_commands.proofs.views.push_dot.Goals as goal
 

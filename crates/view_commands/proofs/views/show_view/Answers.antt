@@ -1,7 +1,7 @@
 use Rattle.std.proofs.Common.{subst}
 use Rattle.tac_program.specs.Programs.{Program}
 use Rattle.flow_runs.specs.Runs.{IsOverLimit}
-use Rattle.flow_runs.proofs.Deliveries.{delivers_as, no_graph_fault}
+use Rattle.flow_runs.proofs.deliveries.Deliveries.{delivers_as, no_graph_fault}
 use Rattle.view_commands.specs.Views.{IsText}
 use Rattle.view_commands.proofs.views.show_view.Goals as goal
 

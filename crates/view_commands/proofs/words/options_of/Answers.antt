@@ -1,7 +1,7 @@
 use Rattle.std.proofs.Common.{◌≡◌, ◌∙◌, refl, sym, ap, arith, Option, Some, None, is_some, true, codes, List, ℕ}
 use Rattle.std.specs.Option.{option_map_or}
 use Rattle.clap.specs.Words.{first_of, found_of, rows_of}
-use Rattle.flow_runs.proofs.Numbers.{named_within}
+use Rattle.flow_runs.proofs.matches.Numbers.{named_within}
 use Rattle.view_commands.specs.Kinds.{facts_asked, facts_named}
 use Rattle.view_commands.specs.declared.options.Format.{Format}
 use Rattle.view_commands.proofs.words.options_of.Goals as goal

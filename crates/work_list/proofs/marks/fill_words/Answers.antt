@@ -1,6 +1,6 @@
 use Rattle.std.proofs.Common.{◌≡◌, ◌<◌, ◌-◌, ◌^◌, ℕ, List, length, get_or, replicate, ap, ◌∙◌, arith}
 use Rattle.std.proofs.lemmas.List.{length-replicate, get_or-replicate}
-use Rattle.work_list.proofs.MarkLemmas.{full_whole, full_part}
+use Rattle.work_list.proofs.words.MarkLemmas.{full_whole, full_part}
 use Rattle.work_list.proofs.marks.fill_words.Goals as goal
 
 ones : (words : List ℕ) (n : ℕ) → words ≡ replicate n (2 ^ 64 - 1) → (k : ℕ) → k < length words → get_or words k 0 ≡ 2 ^ 64 - 1

@@ -1,5 +1,5 @@
 use Rattle.std.proofs.Common.{◌<◌, ◌^◌, get_or, arith}
-use Rattle.work_list.proofs.MarkLemmas.{masked_marked}
+use Rattle.work_list.proofs.words.MarkLemmas.{masked_marked}
 use Rattle.work_list.proofs.marks.first_marked.Goals as goal
 
 pub returns-then-rank-to : goal.returns-then-rank-to

@@ -1,5 +1,5 @@
 use Rattle.std.proofs.Common.{◌<◌, ◌^◌, get_or, arith}
-use Rattle.work_list.proofs.MarkLemmas.{lowest_marked}
+use Rattle.work_list.proofs.words.MarkLemmas.{lowest_marked}
 use Rattle.work_list.proofs.marks.lowest_marked.Goals as goal
 
 pub returns-then-word-ne0 : goal.returns-then-word-ne0

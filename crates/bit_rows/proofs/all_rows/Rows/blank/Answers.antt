@@ -1,7 +1,7 @@
 use Rattle.std.proofs.Common.{◌≡◌, List, length, replicate, sym, ap, ◌∙◌, subst, arith}
 use Rattle.bit_rows.specs.RowSet.{RowSet, empty_set}
 use Rattle.bit_rows.specs.RowTable.{RowTable, IsUniform}
-use Rattle.bit_rows.proofs.Tables.{IsUniform-blank_table}
+use Rattle.bit_rows.proofs.sets.Tables.{IsUniform-blank_table}
 use Rattle.bit_rows.proofs.all_rows.Rows.blank.Goals as goal
 
 pub invariant_of-result : goal.invariant_of-result

@@ -2,8 +2,8 @@ use Rattle.std.proofs.Common.{◌≡◌, ◌<◌, length, sym, subst, arith, rul
 use Rattle.std.proofs.lemmas.List.{get_or_read}
 use Rattle.bit_rows.specs.RowSet.{RowSet, HasRange, hi_of, empty_set}
 use Rattle.bit_rows.specs.RowTable.{RowTable, set_at}
-use Rattle.bit_rows.proofs.SetLaws.{HasRange-with_words}
-use Rattle.bit_rows.proofs.Tables.{IsUniform-replaced}
+use Rattle.bit_rows.proofs.sets.SetLaws.{HasRange-with_words}
+use Rattle.bit_rows.proofs.sets.Tables.{IsUniform-replaced}
 use Rattle.bit_rows.proofs.all_rows.Rows.or_words.Goals as goal
 
 pub invariant_of-self : goal.invariant_of-self

@@ -1,7 +1,7 @@
 use Rattle.std.proofs.Common.{◌≡◌, length, ap, ◌∙◌}
 use Rattle.std.specs.List.{refill}
 use Rattle.bit_rows.specs.RowSet.{intersection}
-use Rattle.bit_rows.proofs.WordRows.{HoldSet, HoldSet-alike, HoldSet-refill, HoldSet-intersection}
+use Rattle.bit_rows.proofs.rows.WordRows.{HoldSet, HoldSet-alike, HoldSet-refill, HoldSet-intersection}
 use Rattle.bit_rows.proofs.one_row.Row.and.Goals as goal
 
 -- the row as it was, and the other one, of the same range and as many words

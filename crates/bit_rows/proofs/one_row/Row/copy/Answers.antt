@@ -2,7 +2,7 @@ use Rattle.std.proofs.Common.{◌≡◌, length, ap, ap₂, arith}
 use Rattle.std.proofs.lemmas.Bool.{false≢true}
 use Rattle.bit_rows.specs.Words.{word_count}
 use Rattle.bit_rows.specs.RowSet.{hi_of}
-use Rattle.bit_rows.proofs.WordRows.{HoldSet, HoldSet-lo, HoldSet-hi}
+use Rattle.bit_rows.proofs.rows.WordRows.{HoldSet, HoldSet-lo, HoldSet-hi}
 use Rattle.bit_rows.proofs.one_row.Row.copy.Goals as goal
 
 pub returns-in_err-words-clause-small : goal.returns-in_err-words-clause-small

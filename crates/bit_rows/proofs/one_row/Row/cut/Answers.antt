@@ -3,7 +3,7 @@ use Rattle.std.specs.List.{refill, between}
 use Rattle.std.proofs.lemmas.List.Edits.{length-between, get_or-between}
 use Rattle.bit_rows.specs.RowSet.{contains, part_of}
 use Rattle.bit_rows.specs.Words.{has_bit}
-use Rattle.bit_rows.proofs.WordRows.{HoldSet, HoldSet-lo, HoldSet-hi, HoldSet-bit, HoldSet-refill, HoldSet-trimmed}
+use Rattle.bit_rows.proofs.rows.WordRows.{HoldSet, HoldSet-lo, HoldSet-hi, HoldSet-bit, HoldSet-refill, HoldSet-trimmed}
 use Rattle.bit_rows.proofs.one_row.Row.cut.Goals as goal
 
 pub overflow_sub-first : goal.overflow_sub-first

@@ -1,7 +1,7 @@
 use Rattle.std.proofs.Common.{◌≡◌, replicate, sym, ap, ◌∙◌, subst, rules}
 use Rattle.bit_rows.specs.RowSet.{empty_set}
 use Rattle.bit_rows.specs.Words.{word_count}
-use Rattle.bit_rows.proofs.WordRows.{HoldSet, HoldSet-zeros}
+use Rattle.bit_rows.proofs.rows.WordRows.{HoldSet, HoldSet-zeros}
 use Rattle.bit_rows.proofs.one_row.Row.empty.Goals as goal
 
 zeros : (c : goal.In_ok-words) → c.in_ok-words.words.items ≡ replicate (word_count c.args.lo c.args.hi) 0

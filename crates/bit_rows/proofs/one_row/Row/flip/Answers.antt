@@ -1,7 +1,7 @@
 use Rattle.std.proofs.Common.{ℕ, List, length, sym, ap, ◌∙◌, subst}
 use Rattle.std.specs.List.{refill}
 use Rattle.bit_rows.specs.RowSet.{complement}
-use Rattle.bit_rows.proofs.WordRows.{HoldSet, HoldSet-refill, HoldSet-complement}
+use Rattle.bit_rows.proofs.rows.WordRows.{HoldSet, HoldSet-refill, HoldSet-complement}
 use Rattle.bit_rows.proofs.one_row.Row.flip.Goals as goal
 
 held : (c : goal.After-self-1) → HoldSet (complement c.args.self.now) c.self.inside.lo c.self.inside.hi

@@ -3,8 +3,8 @@ use Rattle.std.specs.List.{refill}
 use Rattle.std.proofs.lemmas.List.{get_or-replicate, length-replicate}
 use Rattle.bit_rows.specs.RowSet.{full_set}
 use Rattle.bit_rows.specs.Words.{has_bit, word_count}
-use Rattle.bit_rows.proofs.WordBits.{has_bit-max}
-use Rattle.bit_rows.proofs.WordRows.{HoldSet, HoldSet-refill, HoldSet-trimmed}
+use Rattle.bit_rows.proofs.words.WordBits.{has_bit-max}
+use Rattle.bit_rows.proofs.rows.WordRows.{HoldSet, HoldSet-refill, HoldSet-trimmed}
 use Rattle.bit_rows.proofs.one_row.Row.full.Goals as goal
 
 ones : (c : goal.After-words-3-1) → c.as_mut_slice.result.now ≡ replicate (word_count c.args.lo c.args.hi) (2 ^ 64 - 1)

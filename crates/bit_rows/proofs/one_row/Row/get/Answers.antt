@@ -1,7 +1,7 @@
 use Rattle.std.proofs.Common.{◌-◌, ◌/◌, ◌%◌, eqb, length, get_or, ap, ◌∙◌, arith}
 use Rattle.std.proofs.lemmas.Nat.Bits.{shr_and_one}
 use Rattle.bit_rows.specs.Words.{has_bit}
-use Rattle.bit_rows.proofs.WordRows.{HoldSet, HoldSet-lo, HoldSet-hi, HoldSet-has}
+use Rattle.bit_rows.proofs.rows.WordRows.{HoldSet, HoldSet-lo, HoldSet-hi, HoldSet-has}
 use Rattle.bit_rows.proofs.one_row.Row.get.Goals as goal
 
 pub overflow_sub-word : goal.overflow_sub-word

@@ -1,4 +1,4 @@
-use Rattle.bit_rows.proofs.WordRows.{HoldSet, HoldSet-hi}
+use Rattle.bit_rows.proofs.rows.WordRows.{HoldSet, HoldSet-hi}
 use Rattle.std.proofs.Common.{sym}
 use Rattle.bit_rows.proofs.one_row.Row.hi.Goals as goal
 

@@ -1,4 +1,4 @@
-use Rattle.bit_rows.proofs.WordRows.{HoldSet, HoldSet-lo}
+use Rattle.bit_rows.proofs.rows.WordRows.{HoldSet, HoldSet-lo}
 use Rattle.std.proofs.Common.{sym}
 use Rattle.bit_rows.proofs.one_row.Row.lo.Goals as goal
 

@@ -1,7 +1,7 @@
 use Rattle.std.proofs.Common.{◌≡◌, ℕ, List, length, sym, ap, ◌∙◌, subst}
 use Rattle.std.specs.List.{refill}
 use Rattle.bit_rows.specs.RowSet.{RowSet, union}
-use Rattle.bit_rows.proofs.WordRows.{HoldSet, HoldSet-alike, HoldSet-refill, HoldSet-union, same_places, MatchBool-map}
+use Rattle.bit_rows.proofs.rows.WordRows.{HoldSet, HoldSet-alike, HoldSet-refill, HoldSet-union, same_places, MatchBool-map}
 use Rattle.bit_rows.proofs.one_row.Row.or_into.Goals as goal
 
 -- the row as it was, and the other one, of the same range and as many words

@@ -6,8 +6,8 @@ use Rattle.std.proofs.lemmas.List.{length-set}
 use Rattle.std.proofs.lemmas.Nat.{or_lt}
 use Rattle.bit_rows.specs.RowSet.{RowSet, hi_of, with_word}
 use Rattle.bit_rows.specs.Words.{MaskLiesWithin}
-use Rattle.bit_rows.proofs.WordBits.{has_bit-some}
-use Rattle.bit_rows.proofs.WordRows.{HoldSet, HoldSet-lo, HoldSet-hi, HoldSet-refill, HoldSet-with_word, with_word-zero, changed_by_word}
+use Rattle.bit_rows.proofs.words.WordBits.{has_bit-some}
+use Rattle.bit_rows.proofs.rows.WordRows.{HoldSet, HoldSet-lo, HoldSet-hi, HoldSet-refill, HoldSet-with_word, with_word-zero, changed_by_word}
 use Rattle.bit_rows.proofs.one_row.Row.or_word.Goals as goal
 
 -- a word with a place in the range is one of the row's words

@@ -1,7 +1,7 @@
 use Rattle.std.proofs.Common.{ℕ, List, length, sym, ap, ◌∙◌, subst}
 use Rattle.std.specs.List.{refill}
 use Rattle.bit_rows.specs.RowSet.{with_words}
-use Rattle.bit_rows.proofs.WordRows.{HoldSet, HoldSet-refill, HoldSet-with_words}
+use Rattle.bit_rows.proofs.rows.WordRows.{HoldSet, HoldSet-refill, HoldSet-with_words}
 use Rattle.bit_rows.proofs.one_row.Row.or_words.Goals as goal
 
 held : (c : goal.After-self-1) → HoldSet (with_words c.args.self.now c.args.first c.args.masks.now) c.self.inside.lo c.self.inside.hi

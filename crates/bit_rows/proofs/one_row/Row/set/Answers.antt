@@ -2,7 +2,7 @@ use Rattle.std.proofs.Common.{ℕ, ◌-◌, ◌*◌, ◌/◌, ◌%◌, ◌^◌, 
 use Rattle.std.specs.List.{refill}
 use Rattle.std.proofs.lemmas.List.{length-set}
 use Rattle.bit_rows.specs.RowSet.{with_bit}
-use Rattle.bit_rows.proofs.WordRows.{HoldSet, HoldSet-lo, HoldSet-hi, HoldSet-refill, HoldSet-with_bit}
+use Rattle.bit_rows.proofs.rows.WordRows.{HoldSet, HoldSet-lo, HoldSet-hi, HoldSet-refill, HoldSet-with_bit}
 use Rattle.bit_rows.proofs.one_row.Row.set.Goals as goal
 
 pub overflow_sub-at : goal.overflow_sub-at

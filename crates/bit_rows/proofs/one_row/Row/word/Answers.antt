@@ -2,9 +2,9 @@ use Rattle.std.proofs.Common.{◌≡◌, ◌+◌, ◌-◌, ◌*◌, ◌/◌, ◌
 use Rattle.std.proofs.lemmas.List.{get_or_past}
 use Rattle.bit_rows.specs.RowSet.{contains}
 use Rattle.bit_rows.specs.Words.{has_bit}
-use Rattle.bit_rows.proofs.WordBits.{has_bit-zero}
-use Rattle.bit_rows.proofs.RowSets.{contains-below}
-use Rattle.bit_rows.proofs.WordRows.{HoldSet, HoldSet-lo, HoldSet-bit}
+use Rattle.bit_rows.proofs.words.WordBits.{has_bit-zero}
+use Rattle.bit_rows.proofs.sets.RowSets.{contains-below}
+use Rattle.bit_rows.proofs.rows.WordRows.{HoldSet, HoldSet-lo, HoldSet-bit}
 use Rattle.bit_rows.proofs.one_row.Row.word.Goals as goal
 
 pub returns-then-w-first : goal.returns-then-w-first

@@ -1,5 +1,5 @@
 use Rattle.std.proofs.Common.{arith}
-use Rattle.bit_rows.proofs.Cuts.{slices_le_bits}
+use Rattle.bit_rows.proofs.slices.Cuts.{slices_le_bits}
 use Rattle.bit_rows.proofs.slicing.Cut.slices.Goals as goal
 
 pub overflow_cast-result : goal.overflow_cast-result

@@ -3,7 +3,7 @@ use Rattle.clap.specs.Simple.{App, app_of, built, is_buildable, is_simple}
 use Rattle.clap.specs.Words.{HasKind, Row, fault_of, found_of, is_simple_and_free, matches_of, takes}
 use Rattle.clap.proofs.SimpleLemmas.{plain_fields}
 use Rattle.flow_commands.specs.Commands.{NamesOptions, tacflow_command}
-use Rattle.flow_commands.proofs.Held.{has_options, options_held}
+use Rattle.flow_commands.proofs.matches.Held.{has_options, options_held}
 use Rattle.flow_commands.proofs.options.Options.from_words.Goals as goal
 
 pub options_of-requires : goal.options_of-requires

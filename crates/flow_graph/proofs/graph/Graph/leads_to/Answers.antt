@@ -1,5 +1,5 @@
-use Rattle.std.proofs.Common.{rules, ◌≡◌, ◌<◌, ◌∷◌, [], ℕ, List, length, vec_len, All, refl, ap₂, ◌∙◌, sym, subst, arith}
-use Rattle.std.proofs.lemmas.List.{length-map}
+use Rattle.std.proofs.Common.{rules, ◌≡◌, ◌<◌, length, vec_len, All, ap₂, ◌∙◌, sym, subst, arith}
+use Rattle.std.proofs.lemmas.List.{length-map, nil_from_length}
 use Rattle.flow_graph.specs.code.Searching.{Search, search_of}
 use Rattle.flow_graph.proofs.edges.LeadingLemmas.{Searches, search_begins, search_tells, looked_at_inside, reads_sources, sources_are_points}
 use Rattle.flow_graph.proofs.edges.LeadingLemmas.{step_taken}
@@ -49,12 +49,8 @@ loop-point-preserved c =
     (search_of c.know_all.new.known.items c.know_all.new.work.items)
     c.points.ensures.sound c.loop-point.invariant c.in-Some.ensures.items sources c.in_ok-know_all.ensures).searches
 
-no_items : (xs : List ℕ) → length xs ≡ 0 → xs ≡ []
-no_items [] none = refl
-no_items (x ∷ xs) none = absurd (omega arith)
-
 pub returns : goal.returns
 returns c =
     let len : vec_len c.loop-point.work ≡ length c.loop-point.work.items = search rules in
     search_tells c.args.self.now c.args.marked.now c.loop-point.known.items c.loop-point.work.items c.loop-point.invariant
-    (no_items c.loop-point.work.items (sym len ∙ c.in_default.ensures.cases.0))
+    (nil_from_length c.loop-point.work.items (sym len ∙ c.in_default.ensures.cases.0))

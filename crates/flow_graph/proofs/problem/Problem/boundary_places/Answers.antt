@@ -1,5 +1,5 @@
 use Rattle.std.proofs.Common.{◌≡◌, ◌+◌, ◌*◌, length, nat_lt, ap, ◌∙◌, sym}
-use Rattle.bit_rows.proofs.WordBits.{has_bit-max, has_bit-zero}
+use Rattle.bit_rows.proofs.words.WordBits.{has_bit-max, has_bit-zero}
 use Rattle.tac_program.specs.Programs.{Program}
 use Rattle.flow_graph.specs.Problems.{MayForm, may_boundary}
 use Rattle.flow_graph.specs.Universes.{Reach, Live, Avail, Busy}

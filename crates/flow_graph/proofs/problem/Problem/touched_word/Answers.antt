@@ -1,5 +1,5 @@
 use Rattle.std.proofs.Common.{◌+◌, ◌*◌, false, option_map, unwrap_or, sym, ap, ◌∙◌}
-use Rattle.bit_rows.proofs.WordBits.{has_bit-zero}
+use Rattle.bit_rows.proofs.words.WordBits.{has_bit-zero}
 use Rattle.flow_graph.specs.code.Effects.{depends}
 use Rattle.flow_graph.proofs.problem.Problem.touched_word.Goals as goal
 

@@ -4,7 +4,7 @@ use Rattle.flow_graph.specs.Directions.{goes_backward}
 use Rattle.flow_graph.specs.Points.{point_count}
 use Rattle.flow_links.specs.LinkLists.{AreCallsFrom}
 use Rattle.flow_links.specs.Shapes.{LinkedProgram, directed_shape}
-use Rattle.flow_links.proofs.ListLemmas.{part_read, seen, unseen, calls_are}
+use Rattle.flow_links.proofs.groups.ListLemmas.{part_read, seen, unseen, calls_are}
 use Rattle.flow_links.proofs.links.Links.calls_from.Goals as goal
 
 pub returns : goal.returns

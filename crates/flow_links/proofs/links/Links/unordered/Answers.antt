@@ -2,7 +2,7 @@ use Rattle.std.proofs.Common.{sym, subst, ◌∙◌}
 use Rattle.flow_graph.specs.Directions.{goes_backward}
 use Rattle.flow_graph.specs.Problems.{MayForm}
 use Rattle.flow_links.specs.Tables.LinkTables.{AreTables}
-use Rattle.flow_links.proofs.ShapeLemmas.{in_range}
+use Rattle.flow_links.proofs.shapes.ShapeLemmas.{in_range}
 use Rattle.flow_links.proofs.links.Links.unordered.Goals as goal
 
 pub invariant_of-result : goal.invariant_of-result

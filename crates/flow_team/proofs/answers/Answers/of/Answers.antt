@@ -1,8 +1,8 @@
 use Rattle.std.proofs.Common.{◌≡◌, ◌∙◌, length, sym, ap, subst}
 use Rattle.std.specs.Vec.{with_items}
-use Rattle.gk_solve.proofs.Slices.{written_over}
+use Rattle.gk_solve.proofs.slices.Slices.{written_over}
 use Rattle.flow_team.specs.Asks.{AreAnswers, Replies}
-use Rattle.flow_team.proofs.Told.{answers_told}
+use Rattle.flow_team.proofs.asks.Told.{answers_told}
 use Rattle.flow_team.proofs.answers.Answers.of.Goals as goal
 
 pub returns-clause-answers : goal.returns-clause-answers

@@ -2,7 +2,7 @@ use Rattle.std.proofs.Common.{◌≡◌, ℕ, List, Some, length, slice_get, sli
 use Rattle.flow_graph.specs.declared.analysis.Analysis.TheVariants.{Reach, Live}
 use Rattle.flow_team.specs.Asks.{AreAsksOf, IsAnswerTo}
 use Rattle.flow_team.specs.declared.ask.Ask.{Ask}
-use Rattle.flow_team.proofs.TableAnswers.{table_flags, told_by_tables}
+use Rattle.flow_team.proofs.asks.TableAnswers.{table_flags, told_by_tables}
 use Rattle.flow_team.proofs.answers.Answers.of_tables.Goals as goal
 
 pub words_in-requires-clause-asks : goal.words_in-requires-clause-asks

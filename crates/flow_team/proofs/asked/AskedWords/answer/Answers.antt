@@ -3,7 +3,7 @@ use Rattle.std.specs.Prelude.{bit_xor}
 use Rattle.flow_graph.specs.Directions.{is_intersection}
 use Rattle.flow_team.specs.Asks.{IsAnswerTo}
 use Rattle.flow_team.specs.declared.ask.Ask.{Ask}
-use Rattle.flow_team.proofs.Told.{word_answers}
+use Rattle.flow_team.proofs.asks.Told.{word_answers}
 use Rattle.flow_team.proofs.asked.AskedWords.answer.Goals as goal
 
 pub returns : goal.returns

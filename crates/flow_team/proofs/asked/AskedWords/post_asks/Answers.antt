@@ -1,5 +1,5 @@
-use Rattle.flow_team.proofs.Posts.{of_still, posts_more}
-use Rattle.flow_team.proofs.Done.{done_more}
+use Rattle.flow_team.proofs.posts.Posts.{of_still, posts_more}
+use Rattle.flow_team.proofs.asks.Done.{done_more}
 use Rattle.flow_team.proofs.asked.AskedWords.post_asks.Goals as goal
 
 pub asks-preserved : goal.asks-preserved

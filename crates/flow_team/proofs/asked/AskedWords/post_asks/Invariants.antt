@@ -1,6 +1,6 @@
 use Rattle.slice_board.specs.Boards.{IsOf}
 use Rattle.flow_team.specs.code.Boards.{AreDone, AreTold, IsAmong}
-use Rattle.flow_team.specs.Teams.{PostsMore}
+use Rattle.slice_team.specs.Teams.{PostsMore}
 use Rattle.flow_team.proofs.asked.AskedWords.post_asks.Given as goal
 
 abbrev pub invariant-asks : goal.invariant-asks

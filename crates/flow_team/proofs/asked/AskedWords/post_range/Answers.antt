@@ -1,32 +1,11 @@
-use Rattle.std.proofs.Common.{◌≡◌, ◌∙◌, List, IfNone, ap, subst}
+use Rattle.std.proofs.Common.{◌≡◌, ◌∙◌, ap, subst}
 use Rattle.flow_graph.specs.Problems.{MayForm}
 use Rattle.flow_graph.specs.declared.analysis.Analysis.{Analysis}
 use Rattle.flow_graph.specs.declared.analysis.Analysis.TheVariants.{Reach, Live, Avail, Busy}
-use Rattle.flow_team.specs.code.Boards.{AreDone, Asked, IsAmong, NoneOf}
+use Rattle.flow_team.specs.code.Boards.{AreDone, IsAmong}
 use Rattle.flow_team.specs.code.Directions.{Pair}
-use Rattle.flow_team.specs.declared.ask.Ask.{Ask}
-use Rattle.flow_team.proofs.Done.{done_all}
+use Rattle.flow_team.proofs.asks.Done.{done_all}
 use Rattle.flow_team.proofs.asked.AskedWords.post_range.Goals as goal
-
-pub post_part-requires-clause-none : goal.post_part-requires-clause-none
-post_part-requires-clause-none c =
-    subst (λ (asks : List Ask). IfNone c.in_ok-reached.reached (NoneOf asks c.args.from c.args.until c.some-reach.result.now.analysis))
-    (c.as_slice-asks.ensures.value ∙ ap (λ (a : Asked). a.order) c.self.view_is) c.in_ok-reached.ensures.none
-
-pub post_part-requires-2-clause-none : goal.post_part-requires-2-clause-none
-post_part-requires-2-clause-none c =
-    subst (λ (asks : List Ask). IfNone c.in_ok-lived.lived (NoneOf asks c.args.from c.args.until c.some-live.result.now.analysis))
-    (c.as_slice-asks.ensures.value ∙ ap (λ (a : Asked). a.order) c.self.view_is) c.in_ok-lived.ensures.none
-
-pub post_part-requires-3-clause-none : goal.post_part-requires-3-clause-none
-post_part-requires-3-clause-none c =
-    subst (λ (asks : List Ask). IfNone c.in_ok-had.had (NoneOf asks c.args.from c.args.until c.every-avail.result.now.analysis))
-    (c.as_slice-asks.ensures.value ∙ ap (λ (a : Asked). a.order) c.self.view_is) c.in_ok-had.ensures.none
-
-pub post_part-requires-4-clause-none : goal.post_part-requires-4-clause-none
-post_part-requires-4-clause-none c =
-    subst (λ (asks : List Ask). IfNone c.in_ok-ahead.ahead (NoneOf asks c.args.from c.args.until c.every-busy.result.now.analysis))
-    (c.as_slice-asks.ensures.value ∙ ap (λ (a : Asked). a.order) c.self.view_is) c.in_ok-ahead.ensures.none
 
 pub returns-clause-done : goal.returns-clause-done
 returns-clause-done c =

@@ -2,9 +2,9 @@ use Rattle.std.proofs.Common.{◌≡◌, ◌*◌, ◌+◌, ◌%◌, ℕ, true, s
 use Rattle.std.proofs.lemmas.Option.{slice_get_within}
 use Rattle.bit_rows.specs.Words.{has_bit}
 use Rattle.flow_team.specs.code.Boards.{Asked, IsWanted}
-use Rattle.flow_team.proofs.Posts.{marked_last, none_of_zero}
+use Rattle.flow_team.proofs.posts.Posts.{marked_last, none_of_zero}
 use Rattle.slice_board.specs.Passes.{PassState, IsLogged}
-use Rattle.flow_team.proofs.Done.{ask_has, ask_wants}
+use Rattle.flow_team.proofs.asks.Done.{ask_has, ask_wants}
 use Rattle.flow_team.proofs.asked.AskedWords.post_word.Goals as goal
 
 pub returns-then-mask-eq0-clause-done : goal.returns-then-mask-eq0-clause-done

@@ -1,7 +1,7 @@
 use Rattle.std.proofs.Common.{◌≡◌, ◌∙◌, ◌<◌, length, rules, slice_index, ap, subst, arith}
 use Rattle.std.proofs.lemmas.Grind.{get_or_default_zero}
 use Rattle.flow_team.specs.code.Boards.{Asked, IsArranged}
-use Rattle.flow_team.proofs.Placing.{answered_all, answered_more}
+use Rattle.flow_team.proofs.asks.Placing.{answered_all, answered_more}
 use Rattle.flow_team.proofs.asked.AskedWords.put_answers.Goals as goal
 
 pub loop-j-preserved : goal.loop-j-preserved

@@ -1,6 +1,6 @@
 use Rattle.std.proofs.Common.{◌<◌, sym, ap, subst, arith}
 use Rattle.bit_rows.specs.Slices.{Slices}
-use Rattle.bit_rows.proofs.Cuts.{end_le_bits}
+use Rattle.bit_rows.proofs.slices.Cuts.{end_le_bits}
 use Rattle.slice_board.specs.Boards.{slice_count}
 use Rattle.flow_team.proofs.asked.AskedWordsSolve.post_slice.Goals as goal
 

@@ -4,7 +4,7 @@ use Rattle.bit_rows.specs.RowTable.{RowTable}
 use Rattle.bit_rows.specs.Words.{has_bit}
 use Rattle.flow_graph.specs.Directions.{is_intersection}
 use Rattle.flow_team.specs.code.Complements.{members_of}
-use Rattle.flow_team.proofs.ComplementedTables.{none_past, told_contains, word_complemented}
+use Rattle.flow_team.proofs.complements.ComplementedTables.{none_past, told_contains, word_complemented}
 use Rattle.flow_team.proofs.complemented_words.ComplementedWords.word.Goals as goal
 
 pub returns-clause-set : goal.returns-clause-set

@@ -4,7 +4,7 @@ use Rattle.bit_rows.specs.RowTable.{set_at}
 use Rattle.flow_graph.specs.Problems.{MayForm}
 use Rattle.slice_board.specs.Boards.{BoardState, slice_count}
 use Rattle.flow_team.specs.Sets.{IsInMaySet}
-use Rattle.flow_team.proofs.Sent.{sets_cross}
+use Rattle.flow_team.proofs.threads.Sent.{sets_cross}
 use Rattle.flow_team.proofs.job.Job.close.Goals as goal
 
 pub close-requires-send-S : goal.close-requires-send-S

@@ -1,4 +1,4 @@
-use Rattle.flow_team.proofs.Sent.{sets_cross}
+use Rattle.flow_team.proofs.threads.Sent.{sets_cross}
 use Rattle.flow_team.proofs.job.Job.join.Goals as goal
 
 pub join-requires-send-W : goal.join-requires-send-W

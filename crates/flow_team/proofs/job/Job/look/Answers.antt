@@ -3,7 +3,7 @@ use Rattle.bit_rows.specs.Words.{has_bit}
 use Rattle.flow_graph.specs.Problems.{MayForm}
 use Rattle.slice_board.specs.Boards.{BoardState}
 use Rattle.flow_team.specs.Sets.{IsInMaySet}
-use Rattle.flow_team.proofs.Sent.{sets_cross}
+use Rattle.flow_team.proofs.threads.Sent.{sets_cross}
 use Rattle.flow_team.proofs.job.Job.look.Goals as goal
 
 pub look-requires-send-W : goal.look-requires-send-W

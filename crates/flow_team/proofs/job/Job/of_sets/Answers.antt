@@ -2,7 +2,7 @@ use Rattle.std.proofs.Common.{◌∙◌, length, sym, ap, subst}
 use Rattle.bit_rows.specs.RowTable.{RowTable}
 use Rattle.bit_rows.specs.Slices.{Slices}
 use Rattle.gk_solve.specs.Solved.{HasPathFlags}
-use Rattle.flow_team.proofs.Sent.{sets_cross}
+use Rattle.flow_team.proofs.threads.Sent.{sets_cross}
 use Rattle.flow_team.proofs.job.Job.of_sets.Goals as goal
 
 pub on_board-slices-requires-send-W : goal.on_board-slices-requires-send-W

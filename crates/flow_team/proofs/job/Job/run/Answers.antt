@@ -1,4 +1,4 @@
-use Rattle.flow_team.proofs.Sent.{sets_cross}
+use Rattle.flow_team.proofs.threads.Sent.{sets_cross}
 use Rattle.flow_team.proofs.job.Job.run.Goals as goal
 
 pub run_workers-requires-send-W : goal.run_workers-requires-send-W

@@ -1,4 +1,4 @@
-use Rattle.flow_team.proofs.Sent.{sets_cross}
+use Rattle.flow_team.proofs.threads.Sent.{sets_cross}
 use Rattle.flow_team.proofs.job.Job.slices.Goals as goal
 
 pub slices-requires-send-W : goal.slices-requires-send-W

@@ -1,4 +1,4 @@
-use Rattle.flow_team.proofs.Sent.{sets_cross}
+use Rattle.flow_team.proofs.threads.Sent.{sets_cross}
 use Rattle.flow_team.proofs.job.Job.split.Goals as goal
 
 pub split-requires-send-W : goal.split-requires-send-W

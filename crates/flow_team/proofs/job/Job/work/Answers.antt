@@ -1,4 +1,4 @@
-use Rattle.flow_team.proofs.Sent.{sets_cross}
+use Rattle.flow_team.proofs.threads.Sent.{sets_cross}
 use Rattle.flow_team.proofs.job.Job.work.Goals as goal
 
 pub work-requires-send-W : goal.work-requires-send-W

@@ -1,19 +1,24 @@
-use Rattle.std.proofs.Common.{◌∙◌, arith, subst, sym}
-use Rattle.slice_board.specs.Boards.{BoardState, board_points}
+use Rattle.std.proofs.Common.{◌+◌, ◌≤◌, arith, subst, sym}
+use Rattle.slice_board.specs.Boards.{BoardState}
 use Rattle.flow_team.specs.code.Posting.{HasPosted}
-use Rattle.flow_team.proofs.Posts.{groups_more, of_still, posts_more}
-use Rattle.flow_team.proofs.Words.{tell_wanted, words_tell_sets}
+use Rattle.flow_team.proofs.posts.Posts.{groups_more, of_still, posts_more}
+use Rattle.flow_team.proofs.facts.Words.{tell_point, words_tell_sets}
 use Rattle.flow_team.proofs.posting.PostingTakeWords.take_words.Goals as goal
 
 pub post_words-requires : goal.post_words-requires
 post_words-requires g c =
     let ready = c.requires.ready in
     let solved = c.solved-from.ensures in
+    let most : c.args.self.now.first + c.args.self.now.count ≤ c.args.slice.now.points =
+    omega (arith, ready.there, c.requires.slice.points) in
     record {
       of = ready.of;
-      words = tell_wanted (g.W.Wanted.wants c.args.self.now.board.now.wanted) c.args._problem.now c.args.slice.now ready.wants
+      words = λ point there.
+          tell_point (g.W.Wanted.wants c.args.self.now.board.now.wanted) c.args._problem.now c.args.slice.now c.args.self.now.first
+          c.args.self.now.count point ready.wants most there
           (words_tell_sets c.args._problem.now c.args.slice.now c.requires.slice c.requires.paths);
-      points = c.requires.slice.points ∙ sym ready.points;
+      points = ready.points;
+      there = most;
       range = (sym solved.0, sym solved.1);
       within = omega (arith, solved.1, c.requires.last, ready.within);
     }
@@ -24,6 +29,7 @@ returns-clause-ready g c =
     record {
       wants = ready.wants;
       points = ready.points;
+      there = ready.there;
       within = ready.within;
       of = of_still c.args.self.now.board.now c.args.self.now.pass.now c.post_words.new.pass c.post_words.ensures.more ready.of;
     }
@@ -41,8 +47,8 @@ returns-clause-has g c = λ start before.
     subst (λ (b : BoardState _). HasPosted (g.W.Wanted.wants b.wanted) slice.lo slice.hi slice.from start.pass.now old) (sym before.0) before.1.1 in
     let more : HasPosted (g.W.Wanted.wants board.wanted) slice.lo slice.hi slice.until start.pass.now new = record {
       more = posts_more start.pass.now old new has.more posts.more;
-      posted = groups_more (g.W.Wanted.wants board.wanted) slice.lo slice.hi slice.from old new posts.more (board_points board) slice.until
-          (λ p bit want. omega (arith, ((ready.wants p bit).0 want).0, ready.points)) has.posted
+      posted = groups_more (g.W.Wanted.wants board.wanted) slice.lo slice.hi slice.from old new posts.more c.args.self.now.count slice.until
+          (λ p bit want. ((ready.wants p bit).0 want).0) has.posted
           (λ p bit want low high at. posts.posted p bit want low high
           (at.0, omega (arith, at.1, solved.0), omega (arith, at.2, solved.1)));
     } in (

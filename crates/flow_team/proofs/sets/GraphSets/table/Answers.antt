@@ -1,19 +1,36 @@
-use Rattle.std.proofs.Common.{◌≡◌, ◌∙◌, sym, ap, subst}
-use Rattle.flow_graph.specs.Analyses.{is_must}
-use Rattle.flow_graph.specs.Problems.{MayForm}
-use Rattle.flow_team.specs.Tables.{IsTableOf}
-use Rattle.flow_team.specs.code.Complements.{table_facts, complemented_table}
-use Rattle.flow_team.proofs.ComplementedTables.{complemented_is_table}
-use Rattle.flow_team.proofs.Words.{rows_are_meet}
+use Rattle.std.proofs.Common.{◌≡◌, ◌↔◌, ℕ, ◌+◌, true, false, slice_index_or, sym, subst, arith}
+use Rattle.flow_team.specs.Sets.{HasMayPath, IsInMaySet}
 use Rattle.flow_team.proofs.sets.GraphSets.table.Goals as goal
+
+pub table_from-requires-clause-flags : goal.table_from-requires-clause-flags
+table_from-requires-clause-flags c =
+    let flags = c.requires.flags in
+    record {
+      within = omega (arith, flags.count);
+      flag = λ point there.
+          let at : point ≡ 0 + point = omega arith in
+          subst (λ (p : ℕ). (slice_index_or c.args.posted.flags point false ≡ true) ↔ HasMayPath c.args.self.now p) at
+          (flags.flag point (omega (arith, there, flags.count)));
+    }
+
+pub table_from-requires-clause-rows : goal.table_from-requires-clause-rows
+table_from-requires-clause-rows c = λ point bit.
+    let at : point ≡ 0 + point = omega arith in (
+      (λ has.
+          let set = (c.requires.rows point bit).0 has in
+          (omega (arith, set.0, c.requires.flags.count), subst (λ (p : ℕ). IsInMaySet c.args.self.now p bit) at set)),
+      (λ both. (c.requires.rows point bit).1 (subst (λ (p : ℕ). IsInMaySet c.args.self.now p bit) (sym at) both.1)),
+    )
 
 pub returns-clause-table : goal.returns-clause-table
 returns-clause-table c =
-    let form = c.args.self.now in
-    let problem_is : c.problem.result.now ≡ form = c.problem.ensures ∙ c.self.view_is in
-    let analysis : c.analysis-analysis.result ≡ form.analysis = c.analysis-analysis.ensures ∙ ap (λ (f : MayForm). f.analysis) problem_is in
-    let must = c.join.ensures ∙ ap is_must analysis in
-    let rows = c.of-words.ensures ∙ ap (λ t. complemented_table t c.args.posted) must in
-    subst (IsTableOf form.program) (sym (c.of.ensures ∙ (λ i. table_facts (analysis i) (rows i))))
-    (complemented_is_table form.program form.analysis c.args.posted
-    (rows_are_meet form c.args.posted c.requires.range.0 c.requires.range.1 c.requires.flags c.requires.rows))
+    let at = c.table_from.ensures.table in
+    let count = c.requires.flags.count in
+    record {
+      points = omega (arith, at.points, count);
+      bits = at.bits;
+      facts = record {
+        paths = λ point there. at.facts.paths point (omega arith) (omega (arith, there, count));
+        sets = λ point bit there below. at.facts.sets point bit (omega arith) (omega (arith, there, count)) below;
+      };
+    }

@@ -1,7 +1,7 @@
 use Rattle.std.proofs.Common.{ap, ◌∙◌}
 use Rattle.bit_rows.specs.Words.{has_bit}
 use Rattle.flow_team.specs.Asks.{Replies}
-use Rattle.flow_texts.proofs.Told.{word_told}
+use Rattle.flow_texts.proofs.asks.Told.{word_told}
 use Rattle.flow_texts.proofs.findings.Findings.answer.Goals as goal
 
 pub returns : goal.returns

@@ -2,13 +2,13 @@ use Rattle.std.proofs.Common.{ℕ, [], ◌∷◌, ◌+◌, ◌<◌, ◌||◌, le
 use Rattle.std.proofs.lemmas.Option.{slice_get_within}
 use Rattle.flow_graph.specs.declared.analysis.Analysis.TheVariants.{Reach}
 use Rattle.flow_texts.specs.code.Told.{ask_for}
-use Rattle.flow_texts.proofs.Asking.{first_read, second_read}
+use Rattle.flow_texts.proofs.asks.Asking.{first_read, second_read}
 use Rattle.tac_program.specs.Programs.{Program}
 use Rattle.flow_texts.specs.code.Findings.{knowledge_of}
 use Rattle.flow_texts.specs.code.Operands.{AreRead}
 use Rattle.text_pieces.specs.code.Lists.{some_stand}
 use Rattle.flow_texts.specs.Reports.{Knowledge}
-use Rattle.flow_texts.proofs.RemarkLines.{unset_are, one_passes, two_pass}
+use Rattle.flow_texts.proofs.knowledge.RemarkLines.{unset_are, one_passes, two_pass}
 use Rattle.flow_texts.proofs.findings.Findings.reads_unset.Goals as goal
 
 pub may_be_unset-requires-clause-asked : goal.may_be_unset-requires-clause-asked

@@ -3,7 +3,7 @@ use Rattle.flow_graph.proofs.places.Standing.{stands}
 use Rattle.tac_program.specs.Programs.{Program}
 use Rattle.flow_texts.specs.code.Findings.{knowledge_of}
 use Rattle.text_pieces.specs.code.Lists.{some_stand}
-use Rattle.flow_texts.proofs.RemarkLines.{dead_is, next_below, none_dead, some_if}
+use Rattle.flow_texts.proofs.knowledge.RemarkLines.{dead_is, next_below, none_dead, some_if}
 use Rattle.flow_texts.proofs.findings.Findings.sets_dead.Goals as goal
 
 pub is_dead_after-requires-clause-next : goal.is_dead_after-requires-clause-next

@@ -4,7 +4,7 @@ use Rattle.flow_graph.proofs.lists.Ranges.{flat_map-range_more}
 use Rattle.tac_program.specs.Programs.{Program}
 use Rattle.flow_texts.specs.code.Findings.{knowledge_of}
 use Rattle.flow_texts.specs.Reports.{count_line, lines_at}
-use Rattle.text_pieces.proofs.Taking.{takes_as, takes_then}
+use Rattle.text_pieces.proofs.sinks.Taking.{takes_as, takes_then}
 use Rattle.flow_texts.proofs.findings.Findings.write.Goals as goal
 
 -- the lines of one point more

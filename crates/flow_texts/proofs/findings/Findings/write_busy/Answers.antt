@@ -2,8 +2,8 @@ use Rattle.std.proofs.Common.{ℕ, List, true, false, flat_map, ap, sym, ◌∙�
 use Rattle.tac_program.specs.Programs.{Program}
 use Rattle.flow_texts.specs.code.Findings.{knowledge_of}
 use Rattle.flow_texts.specs.declared.remark.Remark.TheVariants.{VeryBusy}
-use Rattle.flow_texts.proofs.RemarkLines.{busy_is}
-use Rattle.text_pieces.proofs.Taking.{takes_as, takes_nothing}
+use Rattle.flow_texts.proofs.knowledge.RemarkLines.{busy_is}
+use Rattle.text_pieces.proofs.sinks.Taking.{takes_as, takes_nothing}
 use Rattle.flow_texts.proofs.findings.Findings.write_busy.Goals as goal
 
 pub returns : goal.returns

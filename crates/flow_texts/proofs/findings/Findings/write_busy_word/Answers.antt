@@ -5,8 +5,8 @@ use Rattle.flow_texts.specs.code.Findings.{knowledge_of, texts_where}
 use Rattle.text_pieces.specs.Pieces.{Outlet, outlet}
 use Rattle.text_pieces.specs.declared.pieces.Pieces.{Pieces}
 use Rattle.flow_texts.specs.declared.remark.Remark.TheVariants.{VeryBusy}
-use Rattle.flow_texts.proofs.RangeLines.{next_member, none_texts}
-use Rattle.text_pieces.proofs.Taking.{takes_as, takes_nothing}
+use Rattle.flow_texts.proofs.sets.RangeLines.{next_member, none_texts}
+use Rattle.text_pieces.proofs.sinks.Taking.{takes_as, takes_nothing}
 use Rattle.flow_texts.proofs.findings.Findings.write_busy_word.Goals as goal
 
 pub loop-place-init : goal.loop-place-init

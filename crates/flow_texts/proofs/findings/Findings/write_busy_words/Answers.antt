@@ -6,8 +6,8 @@ use Rattle.flow_texts.specs.code.Findings.{knowledge_of}
 use Rattle.text_pieces.specs.Pieces.{Outlet, Takes, outlet}
 use Rattle.text_pieces.specs.declared.pieces.Pieces.{Pieces}
 use Rattle.flow_texts.specs.declared.remark.Remark.TheVariants.{VeryBusy}
-use Rattle.flow_texts.proofs.RangeLines.{next_word, no_texts, texts_between}
-use Rattle.text_pieces.proofs.Taking.{takes_as, takes_nothing}
+use Rattle.flow_texts.proofs.sets.RangeLines.{next_word, no_texts, texts_between}
+use Rattle.text_pieces.proofs.sinks.Taking.{takes_as, takes_nothing}
 use Rattle.flow_texts.proofs.findings.Findings.write_busy_words.Goals as goal
 use Rattle.flow_texts.proofs.findings.Findings.write_busy_words.Goals.{then-ones-ne0, else-ones-ne0}
 

@@ -2,8 +2,8 @@ use Rattle.std.proofs.Common.{ℕ, List, flat_map, append-nil, ap, ◌∙◌, sy
 use Rattle.tac_program.specs.Programs.{Program}
 use Rattle.flow_texts.specs.code.Findings.{knowledge_of}
 use Rattle.flow_texts.specs.declared.remark.Remark.TheVariants.{Computed}
-use Rattle.flow_texts.proofs.RemarkLines.{computed_is}
-use Rattle.text_pieces.proofs.Taking.{takes_as}
+use Rattle.flow_texts.proofs.knowledge.RemarkLines.{computed_is}
+use Rattle.text_pieces.proofs.sinks.Taking.{takes_as}
 use Rattle.flow_texts.proofs.findings.Findings.write_computed.Goals as goal
 
 pub returns : goal.returns

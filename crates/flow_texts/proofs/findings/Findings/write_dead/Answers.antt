@@ -4,8 +4,8 @@ use Rattle.flow_graph.proofs.places.Standing.{stands}
 use Rattle.tac_program.specs.Programs.{Program}
 use Rattle.flow_texts.specs.code.Findings.{knowledge_of}
 use Rattle.flow_texts.specs.declared.remark.Remark.TheVariants.{Dead}
-use Rattle.flow_texts.proofs.RemarkLines.{assigned_there, dead_is, next_below}
-use Rattle.text_pieces.proofs.Taking.{takes_as}
+use Rattle.flow_texts.proofs.knowledge.RemarkLines.{assigned_there, dead_is, next_below}
+use Rattle.text_pieces.proofs.sinks.Taking.{takes_as}
 use Rattle.flow_texts.proofs.findings.Findings.write_dead.Goals as goal
 
 pub is_dead_after-requires-clause-next : goal.is_dead_after-requires-clause-next

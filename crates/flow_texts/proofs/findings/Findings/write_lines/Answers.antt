@@ -3,7 +3,7 @@ use Rattle.std.proofs.Common.{flat_map, ap}
 use Rattle.tac_program.specs.Programs.{Program}
 use Rattle.flow_texts.specs.code.Findings.{knowledge_of, line_behind}
 use Rattle.flow_texts.specs.Reports.{remarks_at}
-use Rattle.text_pieces.proofs.Taking.{takes_as}
+use Rattle.text_pieces.proofs.sinks.Taking.{takes_as}
 use Rattle.flow_texts.proofs.findings.Findings.write_lines.Goals as goal
 
 pub returns : goal.returns

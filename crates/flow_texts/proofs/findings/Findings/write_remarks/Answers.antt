@@ -3,8 +3,8 @@ use Rattle.tac_program.specs.Programs.{Program}
 use Rattle.flow_texts.specs.code.Findings.{knowledge_of}
 use Rattle.flow_texts.specs.declared.remark.Remark.{Remark}
 use Rattle.flow_texts.specs.declared.remark.Remark.TheVariants.{NeverReached}
-use Rattle.flow_texts.proofs.RemarkLines.{remarks_if}
-use Rattle.text_pieces.proofs.Taking.{takes_as}
+use Rattle.flow_texts.proofs.knowledge.RemarkLines.{remarks_if}
+use Rattle.text_pieces.proofs.sinks.Taking.{takes_as}
 use Rattle.flow_texts.proofs.findings.Findings.write_remarks.Goals as goal
 
 pub returns-then-is_reached : goal.returns-then-is_reached

@@ -2,14 +2,14 @@ use Rattle.std.proofs.Common.{ℕ, List, [], ◌∷◌, ◌+◌, ◌<◌, flat_m
 use Rattle.std.proofs.lemmas.Option.{slice_get_within}
 use Rattle.flow_graph.specs.declared.analysis.Analysis.TheVariants.{Reach}
 use Rattle.flow_texts.specs.code.Told.{ask_for}
-use Rattle.flow_texts.proofs.Asking.{first_read, second_read}
+use Rattle.flow_texts.proofs.asks.Asking.{first_read, second_read}
 use Rattle.tac_program.specs.Programs.{Program}
 use Rattle.flow_texts.specs.code.Findings.{knowledge_of}
 use Rattle.flow_texts.specs.code.Operands.{AreRead}
 use Rattle.flow_texts.specs.Reports.{Knowledge}
 use Rattle.flow_texts.specs.declared.remark.Remark.TheVariants.{Unset}
-use Rattle.text_pieces.proofs.Taking.{takes_as, takes_nothing, takes_then}
-use Rattle.flow_texts.proofs.RemarkLines.{variables_are_there, unset_are, first_of, second_of, two_texts}
+use Rattle.text_pieces.proofs.sinks.Taking.{takes_as, takes_nothing, takes_then}
+use Rattle.flow_texts.proofs.knowledge.RemarkLines.{variables_are_there, unset_are, first_of, second_of, two_texts}
 use Rattle.flow_texts.proofs.findings.Findings.write_unset.Goals as goal
 
 pub write_unset_variable-requires-clause-asked : goal.write_unset_variable-requires-clause-asked

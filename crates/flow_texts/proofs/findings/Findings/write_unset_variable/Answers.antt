@@ -1,8 +1,8 @@
 use Rattle.std.proofs.Common.{ℕ, List, ◌∙◌, sym}
 use Rattle.flow_texts.specs.code.Findings.{knowledge_of}
 use Rattle.flow_texts.specs.declared.remark.Remark.TheVariants.{Unset}
-use Rattle.flow_texts.proofs.RemarkLines.{one_text}
-use Rattle.text_pieces.proofs.Taking.{takes_as}
+use Rattle.flow_texts.proofs.knowledge.RemarkLines.{one_text}
+use Rattle.text_pieces.proofs.sinks.Taking.{takes_as}
 use Rattle.flow_texts.proofs.findings.Findings.write_unset_variable.Goals as goal
 
 pub returns : goal.returns

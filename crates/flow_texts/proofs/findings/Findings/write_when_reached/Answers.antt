@@ -1,7 +1,7 @@
 use Rattle.tac_program.specs.Programs.{Program}
 use Rattle.flow_texts.specs.code.Findings.{knowledge_of}
-use Rattle.flow_texts.proofs.RemarkLines.{remarks_are}
-use Rattle.text_pieces.proofs.Taking.{takes_as, takes_then}
+use Rattle.flow_texts.proofs.knowledge.RemarkLines.{remarks_are}
+use Rattle.text_pieces.proofs.sinks.Taking.{takes_as, takes_then}
 use Rattle.flow_texts.proofs.findings.Findings.write_when_reached.Goals as goal
 
 pub returns : goal.returns

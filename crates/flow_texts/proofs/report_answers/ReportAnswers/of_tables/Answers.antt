@@ -1,4 +1,4 @@
-use Rattle.flow_texts.proofs.Asking.{tells}
+use Rattle.flow_texts.proofs.asks.Asking.{tells}
 use Rattle.flow_texts.proofs.report_answers.ReportAnswers.of_tables.Goals as goal
 
 pub returns : goal.returns

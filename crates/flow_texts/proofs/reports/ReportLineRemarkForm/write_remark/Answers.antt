@@ -4,8 +4,8 @@ use Rattle.tac_program.specs.Programs.{Program}
 use Rattle.flow_texts.specs.code.Findings.{remark_name, words_before, words_behind}
 use Rattle.flow_texts.specs.Reports.{remark_text}
 use Rattle.flow_texts.specs.declared.remark.Remark.{Remark}
-use Rattle.flow_texts.proofs.RemarkLines.{text_is}
-use Rattle.text_pieces.proofs.Taking.{takes_as, takes_then}
+use Rattle.flow_texts.proofs.knowledge.RemarkLines.{text_is}
+use Rattle.text_pieces.proofs.sinks.Taking.{takes_as, takes_then}
 use Rattle.flow_texts.proofs.reports.ReportLineRemarkForm.write_remark.Goals as goal
 
 regroup : (h b n e t : List ℕ) → h ++ b ++ n ++ (e ++ t) ≡ h ++ (b ++ n ++ e) ++ t

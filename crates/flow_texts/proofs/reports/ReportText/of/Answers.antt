@@ -4,7 +4,7 @@ use Rattle.tac_program.specs.Programs.{Program}
 use Rattle.flow_texts.specs.code.Findings.{knowledge_of}
 use Rattle.flow_texts.specs.Reports.{IsReport, ListsSafely, report_of}
 use Rattle.flow_texts.specs.declared.findings.Findings.{Findings}
-use Rattle.flow_texts.proofs.SafeReports.{is_report, lists_safely}
+use Rattle.flow_texts.proofs.knowledge.SafeReports.{is_report, lists_safely}
 use Rattle.flow_texts.proofs.reports.ReportText.of.Goals as goal
 
 pub returns-clause-report : goal.returns-clause-report

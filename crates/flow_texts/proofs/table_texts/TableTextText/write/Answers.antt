@@ -3,7 +3,7 @@ use Rattle.flow_team.specs.Tables.{facts_of}
 use Rattle.std.proofs.Common.{sym}
 use Rattle.flow_graph.proofs.lists.Ranges.{flat_map-range_more}
 use Rattle.flow_texts.specs.Tables.{point_line}
-use Rattle.text_pieces.proofs.Taking.{takes_as, takes_then}
+use Rattle.text_pieces.proofs.sinks.Taking.{takes_as, takes_then}
 use Rattle.flow_texts.proofs.table_texts.TableTextText.write.Goals as goal
 
 pub loop-point-preserved : goal.loop-point-preserved

@@ -1,4 +1,4 @@
-use Rattle.text_pieces.proofs.Taking.{takes_as}
+use Rattle.text_pieces.proofs.sinks.Taking.{takes_as}
 use Rattle.flow_views.proofs.dots.DotTextText.write.Goals as goal
 
 pub returns : goal.returns

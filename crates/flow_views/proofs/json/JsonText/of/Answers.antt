@@ -4,8 +4,8 @@ use Rattle.flow_views.specs.code.ShownProgram.{AreShown, known_of}
 use Rattle.flow_views.specs.Json.{IsJson, json_of}
 use Rattle.flow_views.specs.declared.shown.ShownProgram.{ShownProgram}
 use Rattle.flow_views.specs.declared.view.View.{View}
-use Rattle.flow_views.proofs.Known.{all_of, all_of_is, known_agrees, told_all}
-use Rattle.flow_views.proofs.SameTexts.{same_json}
+use Rattle.flow_views.proofs.facts.Known.{all_of, all_of_is, known_agrees, told_all}
+use Rattle.flow_views.proofs.texts.SameTexts.{same_json}
 use Rattle.flow_views.proofs.json.JsonText.of.Goals as goal
 
 pub returns : goal.returns
@@ -19,6 +19,6 @@ returns c =
     record {
       known = all_of shown are;
       is_known = all_of_is shown are;
-      is_text = same_json program are.found.sound (known_of shown) (all_of shown are) (known_agrees shown are) shown.view.facts (told_all shown are)
-          shown.view.procedure are.procedure;
+      is_text = same_json program are.found.sound (known_of shown) (all_of shown are) (known_agrees shown are) shown.view.facts
+          shown.view.procedure are.procedure (told_all shown are);
     })

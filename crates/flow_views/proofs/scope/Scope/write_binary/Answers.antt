@@ -1,11 +1,11 @@
 use Rattle.std.proofs.Common.{List, ℕ, ◌++◌, codes, ap}
-use Rattle.text_pieces.proofs.Taking.{takes_as}
+use Rattle.text_pieces.proofs.sinks.Taking.{takes_as}
 use Rattle.tac_program.specs.Listings.{operand_text}
 use Rattle.tac_program.specs.Spelling.{sign_of}
 use Rattle.tac_program.specs.Names.{Names}
 use Rattle.text_pieces.specs.Strings.{escaped}
 use Rattle.flow_views.specs.Views.{names_in}
-use Rattle.text_pieces.proofs.Escapes.{shows_then}
+use Rattle.text_pieces.proofs.sinks.Escapes.{shows_then}
 use Rattle.flow_views.proofs.scope.Scope.write_binary.Goals as goal
 
 pub returns : goal.returns

@@ -2,7 +2,7 @@ use Rattle.std.proofs.Common.{codes}
 use Rattle.tac_program.specs.Listings.{callees_text}
 use Rattle.tac_program.specs.Names.{Names}
 use Rattle.flow_views.specs.Views.{names_in}
-use Rattle.text_pieces.proofs.Escapes.{shows_then}
+use Rattle.text_pieces.proofs.sinks.Escapes.{shows_then}
 use Rattle.flow_views.proofs.scope.Scope.write_call.Goals as goal
 
 pub returns : goal.returns

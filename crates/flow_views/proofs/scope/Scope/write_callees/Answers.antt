@@ -1,11 +1,11 @@
 use Rattle.std.proofs.Common.{ℕ, List, [], ◌++◌, take, get_or, nat_lt, codes, unwrap_or, if◌then◌else◌, ap, sym}
-use Rattle.text_pieces.proofs.Taking.{takes_as}
+use Rattle.text_pieces.proofs.sinks.Taking.{takes_as}
 use Rattle.tac_program.specs.Listings.{callees_text, name_at}
 use Rattle.tac_program.specs.Names.{Names}
 use Rattle.text_pieces.specs.Strings.{escaped}
 use Rattle.flow_views.specs.Views.{names_in}
-use Rattle.text_pieces.proofs.Escapes.{escaped_if, shows_then}
-use Rattle.flow_views.proofs.Statements.{callees_more}
+use Rattle.text_pieces.proofs.sinks.Escapes.{escaped_if, shows_then}
+use Rattle.flow_views.proofs.facts.Statements.{callees_more}
 use Rattle.flow_views.proofs.scope.Scope.write_callees.Goals as goal
 
 pub loop-place-preserved : goal.loop-place-preserved

@@ -1,11 +1,11 @@
 use Rattle.std.proofs.Common.{codes, slice_get, ap}
-use Rattle.text_pieces.proofs.Taking.{takes_as}
+use Rattle.text_pieces.proofs.sinks.Taking.{takes_as}
 use Rattle.tac_program.specs.Listings.{name_at}
 use Rattle.tac_program.specs.Names.{Names}
 use Rattle.text_pieces.specs.Strings.{escaped}
 use Rattle.flow_views.specs.Views.{names_in}
-use Rattle.text_pieces.proofs.Escapes.{shows_then}
-use Rattle.flow_views.proofs.Statements.{label_name, label_there}
+use Rattle.text_pieces.proofs.sinks.Escapes.{shows_then}
+use Rattle.flow_views.proofs.facts.Statements.{label_name, label_there}
 use Rattle.flow_views.proofs.scope.Scope.write_goto.Goals as goal
 
 pub label-requires-clause-label : goal.label-requires-clause-label

@@ -1,6 +1,6 @@
 use Rattle.std.proofs.Common.{codes}
 use Rattle.tac_program.specs.Listings.{name_at}
-use Rattle.text_pieces.proofs.Escapes.{shows_then}
+use Rattle.text_pieces.proofs.sinks.Escapes.{shows_then}
 use Rattle.flow_views.proofs.scope.Scope.write_target.Goals as goal
 
 pub returns : goal.returns

@@ -1,5 +1,5 @@
 use Rattle.std.proofs.Common.{[], unwrap_or, ap, sym}
-use Rattle.text_pieces.proofs.Taking.{takes_as}
+use Rattle.text_pieces.proofs.sinks.Taking.{takes_as}
 use Rattle.text_pieces.specs.Strings.{escaped}
 use Rattle.flow_views.proofs.scope.Scope.write_variable.Goals as goal
 

@@ -1,5 +1,5 @@
 use Rattle.std.proofs.Common.{arith}
-use Rattle.flow_views.proofs.Tables.{has_list, reads_edges}
+use Rattle.flow_views.proofs.facts.Tables.{has_list, reads_edges}
 use Rattle.flow_views.proofs.shown.ShownProgram.edges.Goals as goal
 
 pub index-requires : goal.index-requires

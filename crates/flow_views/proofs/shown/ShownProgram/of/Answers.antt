@@ -1,4 +1,4 @@
-use Rattle.flow_views.proofs.Tables.{shown_is}
+use Rattle.flow_views.proofs.facts.Tables.{shown_is}
 use Rattle.flow_views.proofs.shown.ShownProgram.of.Goals as goal
 
 pub returns-clause-shown : goal.returns-clause-shown

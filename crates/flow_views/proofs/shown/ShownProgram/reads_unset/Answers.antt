@@ -1,6 +1,6 @@
 use Rattle.std.proofs.Common.{ap, ◌∙◌}
 use Rattle.text_pieces.specs.code.Lists.{some_stand}
-use Rattle.flow_views.proofs.Known.{unset_known}
+use Rattle.flow_views.proofs.facts.Known.{unset_known}
 use Rattle.flow_views.proofs.shown.ShownProgram.reads_unset.Goals as goal
 
 pub returns : goal.returns

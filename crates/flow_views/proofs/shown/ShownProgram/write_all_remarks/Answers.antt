@@ -1,10 +1,10 @@
 use Rattle.std.proofs.Common.{◌≡◌, ◌-◌, flat_map, ap, arith}
 use Rattle.std.specs.List.{range_with_len}
-use Rattle.text_pieces.proofs.Taking.{takes_as, takes_then}
+use Rattle.text_pieces.proofs.sinks.Taking.{takes_as, takes_then}
 use Rattle.flow_views.specs.Views.{points_in}
 use Rattle.flow_views.specs.code.ShownProgram.{known_of}
 use Rattle.flow_views.specs.Json.{remark_lines}
-use Rattle.flow_views.proofs.Walks.{walk_list_more}
+use Rattle.flow_views.proofs.texts.Walks.{walk_list_more}
 use Rattle.flow_views.proofs.shown.ShownProgram.write_all_remarks.Goals as goal
 
 pub loop-procedure-preserved : goal.loop-procedure-preserved

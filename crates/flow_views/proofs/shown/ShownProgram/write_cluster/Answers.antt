@@ -1,5 +1,5 @@
-use Rattle.std.proofs.Common.{List, ℕ, ◌++◌, codes, decimal, flat_map, ap, ◌∙◌}
-use Rattle.text_pieces.proofs.Taking.{takes_as, takes_then}
+use Rattle.std.proofs.Common.{List, ℕ, ◌++◌, codes, decimal, flat_map, ap, ◌∙◌, arith}
+use Rattle.text_pieces.proofs.sinks.Taking.{takes_as, takes_then}
 use Rattle.tac_program.specs.Programs.{Program}
 use Rattle.flow_views.specs.code.ShownProgram.{known_of}
 use Rattle.flow_texts.specs.Reports.{Knowledge}
@@ -7,7 +7,20 @@ use Rattle.flow_views.specs.Dots.{node}
 use Rattle.text_pieces.specs.Strings.{quoted}
 use Rattle.flow_views.specs.Views.{procedure_name}
 use Rattle.flow_views.specs.code.ShownProgram.{numbers_of}
+use Rattle.flow_views.proofs.facts.Tables.{shown_within}
 use Rattle.flow_views.proofs.shown.ShownProgram.write_cluster.Goals as goal
+
+pub write_nodes-requires-clause-from : goal.write_nodes-requires-clause-from
+write_nodes-requires-clause-from g c =
+    let program : Program = c.args.self.now.found.graph.now in
+    let within = shown_within program c.args.self.now.view.procedure c.args.procedure c.requires.procedure c.requires.shows in
+    omega (arith, within.0, c.points_of.ensures.first)
+
+pub write_nodes-requires-clause-until : goal.write_nodes-requires-clause-until
+write_nodes-requires-clause-until g c =
+    let program : Program = c.args.self.now.found.graph.now in
+    let within = shown_within program c.args.self.now.view.procedure c.args.procedure c.requires.procedure c.requires.shows in
+    omega (arith, within.1, c.points_of.ensures.end)
 
 pub returns : goal.returns
 returns g c =

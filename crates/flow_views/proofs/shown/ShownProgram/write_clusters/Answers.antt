@@ -1,10 +1,14 @@
 use Rattle.std.proofs.Common.{◌≡◌, ◌-◌, flat_map, ap, arith}
 use Rattle.std.specs.List.{range_with_len}
-use Rattle.text_pieces.proofs.Taking.{takes_as, takes_then}
+use Rattle.text_pieces.proofs.sinks.Taking.{takes_as, takes_then}
 use Rattle.flow_views.specs.code.ShownProgram.{known_of}
 use Rattle.flow_views.specs.Dots.{cluster}
-use Rattle.flow_views.proofs.Walks.{walk_more}
+use Rattle.flow_views.proofs.texts.Walks.{walk_more}
 use Rattle.flow_views.proofs.shown.ShownProgram.write_clusters.Goals as goal
+
+pub write_cluster-requires-clause-shows : goal.write_cluster-requires-clause-shows
+write_cluster-requires-clause-shows g c =
+    c.requires.shows c.loop-procedure.procedure (omega (arith, c.loop-procedure.auto.procedure)) (omega (arith, c.loop-procedure.auto.procedure))
 
 pub loop-procedure-preserved : goal.loop-procedure-preserved
 loop-procedure-preserved g c = takes_as _ _ _ _ (takes_then _ _ _ _ _ c.loop-procedure.invariant c.write_cluster.ensures)

@@ -1,5 +1,5 @@
 use Rattle.std.proofs.Common.{ap, sym}
-use Rattle.text_pieces.proofs.Taking.{takes_as, takes_then}
+use Rattle.text_pieces.proofs.sinks.Taking.{takes_as, takes_then}
 use Rattle.flow_views.specs.Dots.{edge_line}
 use Rattle.flow_views.proofs.shown.ShownProgram.write_edge.Goals as goal
 

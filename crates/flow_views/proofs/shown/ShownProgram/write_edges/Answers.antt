@@ -2,11 +2,11 @@ use Rattle.std.proofs.Common.{List, flat_map, get_or, All, sym, subst, ap}
 use Rattle.std.proofs.lemmas.List.Elements.{All-contains_itself}
 use Rattle.flow_graph.specs.Edges.{edges_from}
 use Rattle.flow_graph.specs.declared.edge.Edge.{Edge}
-use Rattle.text_pieces.proofs.Taking.{takes_as, takes_then}
+use Rattle.text_pieces.proofs.sinks.Taking.{takes_as, takes_then}
 use Rattle.tac_program.specs.Programs.{Program}
 use Rattle.flow_views.specs.Dots.{shown_edge}
 use Rattle.flow_views.specs.code.ShownProgram.{IsSiteIn}
-use Rattle.flow_views.proofs.Tables.{sites_in}
+use Rattle.flow_views.proofs.facts.Tables.{sites_in}
 use Rattle.flow_views.proofs.shown.ShownProgram.write_edges.Goals as goal
 
 pub write_shown_edges-requires-clause-edges : goal.write_shown_edges-requires-clause-edges

@@ -1,10 +1,10 @@
 use Rattle.std.proofs.Common.{codes, ap, ◌∙◌}
 use Rattle.flow_graph.specs.Points.{procedure_at}
-use Rattle.text_pieces.proofs.Taking.{takes_as}
+use Rattle.text_pieces.proofs.sinks.Taking.{takes_as}
 use Rattle.text_pieces.specs.Strings.{escaped}
 use Rattle.flow_views.specs.Views.{procedure_name}
 use Rattle.tac_program.specs.Programs.{Program}
-use Rattle.text_pieces.proofs.Escapes.{shows_then}
+use Rattle.text_pieces.proofs.sinks.Escapes.{shows_then}
 use Rattle.flow_views.proofs.shown.ShownProgram.write_end_title.Goals as goal
 
 pub returns : goal.returns

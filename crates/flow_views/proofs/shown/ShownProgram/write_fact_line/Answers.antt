@@ -5,15 +5,15 @@ use Rattle.text_pieces.specs.code.Blocks.{SeparatedTexts}
 use Rattle.flow_views.specs.code.ShownProgram.{known_of}
 use Rattle.text_pieces.specs.code.Lists.{text_at}
 use Rattle.flow_texts.specs.Reports.{Knowledge}
-use Rattle.text_pieces.proofs.Taking.{takes_as, takes_then}
+use Rattle.text_pieces.proofs.sinks.Taking.{takes_as, takes_then}
 use Rattle.tac_program.specs.Programs.{Program}
 use Rattle.text_pieces.specs.Strings.{escaped}
 use Rattle.flow_views.specs.Views.{analysis_name, told_by}
 use Rattle.flow_views.specs.code.Names.{AreNamesOf}
 use Rattle.flow_views.specs.declared.names.NameForm.TheVariants.{Escaped}
-use Rattle.text_pieces.proofs.Escapes.{shows_then}
-use Rattle.flow_views.proofs.Rows.{escaped_listed}
-use Rattle.flow_views.proofs.Tables.{set_texts}
+use Rattle.text_pieces.proofs.sinks.Escapes.{shows_then}
+use Rattle.flow_views.proofs.texts.Rows.{escaped_listed}
+use Rattle.flow_views.proofs.facts.Tables.{set_texts}
 use Rattle.flow_views.proofs.shown.ShownProgram.write_fact_line.Goals as goal
 
 pub write_set-requires-clause-commas : goal.write_set-requires-clause-commas
@@ -42,6 +42,6 @@ returns g c =
     (ap listed
     (set_texts program analysis c.args.table.now (told_by known analysis) c.bits-bits.result c.args.point (text_at names.texts)
     (λ bit. escaped (bit_text program analysis bit))
-    c.bits-bits.ensures.count c.requires.facts held.texts.each)
+    c.bits-bits.ensures.count c.requires.facts.set held.texts.each)
     ∙ escaped_listed (bit_text program analysis) numbers)))
     c.write-2.ensures

@@ -1,12 +1,12 @@
 use Rattle.flow_graph.specs.declared.analysis.Analysis.TheVariants.{Reach, Live, Avail, Busy}
-use Rattle.text_pieces.proofs.Taking.{takes_as, takes_then}
+use Rattle.text_pieces.proofs.sinks.Taking.{takes_as, takes_then}
 use Rattle.tac_program.specs.Programs.{Program}
 use Rattle.flow_views.specs.code.ShownProgram.{known_of}
 use Rattle.flow_texts.specs.Reports.{Knowledge}
 use Rattle.flow_views.specs.Dots.{fact_line, label_line}
 use Rattle.flow_views.specs.Views.{analysis_if}
 use Rattle.flow_views.specs.declared.view.Chosen.{Chosen}
-use Rattle.flow_views.proofs.Tables.{flat_map_four}
+use Rattle.flow_views.proofs.facts.Tables.{flat_map_four}
 use Rattle.flow_views.proofs.shown.ShownProgram.write_facts.Goals as goal
 
 pub returns : goal.returns

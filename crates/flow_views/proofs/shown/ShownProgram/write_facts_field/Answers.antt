@@ -6,13 +6,13 @@ use Rattle.text_pieces.specs.code.Blocks.{HoldsTexts, SeparatedTexts}
 use Rattle.flow_views.specs.code.ShownProgram.{known_of}
 use Rattle.text_pieces.specs.code.Lists.{text_at}
 use Rattle.flow_texts.specs.Reports.{Knowledge}
-use Rattle.text_pieces.proofs.Taking.{takes_as, takes_then}
+use Rattle.text_pieces.proofs.sinks.Taking.{takes_as, takes_then}
 use Rattle.tac_program.specs.Programs.{Program}
 use Rattle.text_pieces.specs.Strings.{quoted}
 use Rattle.flow_views.specs.Views.{told_by}
 use Rattle.flow_views.specs.code.Names.{AreNamesOf, numbered}
 use Rattle.flow_views.specs.declared.names.NameForm.TheVariants.{Quoted}
-use Rattle.flow_views.proofs.Tables.{facts_text, has_number, set_texts}
+use Rattle.flow_views.proofs.facts.Tables.{facts_text, has_number, set_texts}
 use Rattle.flow_views.proofs.shown.ShownProgram.write_facts_field.Goals as goal
 
 pub write_array-requires-clause-bits : goal.write_array-requires-clause-bits
@@ -47,9 +47,9 @@ returns g c =
     (takes_then _ _ _ _ _ (takes_then _ _ _ _ _ (takes_then _ _ _ _ _ c.write.ensures c.write-2.ensures)
     c.write-3.ensures) c.write_boolean.ensures) c.write-4.ensures) c.write_array.ensures)
     c.write-5.ensures) c.write_array-2.ensures) c.write-6.ensures)
-    (facts_text c.name_of.ensures (c.has_path.ensures ∙ ap (λ (f : Facts). f.has_path c.args.point) c.requires.facts)
+    (facts_text c.name_of.ensures (c.has_path.ensures ∙ c.requires.facts.path)
     (set_texts program analysis c.args.table.now facts c.bits-bits.result c.args.point (text_at numbers.texts) decimal
-    c.bits-bits.ensures.count c.requires.facts (λ n below. numbered_all.texts.each n (omega (arith, below, has_number program analysis))))
+    c.bits-bits.ensures.count c.requires.facts.set (λ n below. numbered_all.texts.each n (omega (arith, below, has_number program analysis))))
     (set_texts program analysis c.args.table.now facts c.bits-bits.result c.args.point (text_at names.texts)
     (λ bit. quoted (bit_text program analysis bit))
-    c.bits-bits.ensures.count c.requires.facts held.texts.each))
+    c.bits-bits.ensures.count c.requires.facts.set held.texts.each))

@@ -1,9 +1,9 @@
-use Rattle.text_pieces.proofs.Taking.{takes_as}
+use Rattle.text_pieces.proofs.sinks.Taking.{takes_as}
 use Rattle.tac_program.specs.Programs.{Program}
 use Rattle.flow_views.specs.code.ShownProgram.{is_chosen, known_of}
 use Rattle.flow_texts.specs.Reports.{Knowledge}
 use Rattle.flow_views.specs.Json.{facts_field}
-use Rattle.flow_views.proofs.Tables.{one_chosen}
+use Rattle.flow_views.proofs.facts.Tables.{one_chosen}
 use Rattle.flow_views.proofs.shown.ShownProgram.write_facts_field_if.Goals as goal
 
 pub returns : goal.returns

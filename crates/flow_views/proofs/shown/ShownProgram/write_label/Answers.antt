@@ -2,7 +2,7 @@ use Rattle.std.proofs.Common.{◌≡◌, List, ℕ, ◌∷◌, ◌++◌, codes, 
 use Rattle.std.proofs.lemmas.Grind.{flat_map-append}
 use Rattle.std.proofs.lemmas.List.Folds.{flat_map-map}
 use Rattle.flow_texts.specs.Reports.{remark_text, remarks_at}
-use Rattle.text_pieces.proofs.Taking.{takes_as, takes_then}
+use Rattle.text_pieces.proofs.sinks.Taking.{takes_as, takes_then}
 use Rattle.tac_program.specs.Programs.{Program}
 use Rattle.flow_views.specs.code.ShownProgram.{known_of}
 use Rattle.flow_texts.specs.Reports.{Knowledge}

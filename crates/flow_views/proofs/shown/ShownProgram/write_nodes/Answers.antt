@@ -1,10 +1,16 @@
 use Rattle.std.proofs.Common.{◌≡◌, ◌-◌, flat_map, ap, arith}
 use Rattle.std.specs.List.{range_with_len}
-use Rattle.text_pieces.proofs.Taking.{takes_as, takes_then}
+use Rattle.text_pieces.proofs.sinks.Taking.{takes_as, takes_then}
 use Rattle.flow_views.specs.code.ShownProgram.{known_of}
 use Rattle.flow_views.specs.Dots.{node}
-use Rattle.flow_views.proofs.Walks.{walk_more}
+use Rattle.flow_views.proofs.texts.Walks.{walk_more}
 use Rattle.flow_views.proofs.shown.ShownProgram.write_nodes.Goals as goal
+
+pub write_node-requires-clause-shows : goal.write_node-requires-clause-shows
+write_node-requires-clause-shows g c = (
+  omega (arith, c.requires.from, c.loop-point.auto.point),
+  omega (arith, c.requires.until, c.loop-point.auto.point),
+)
 
 pub loop-point-preserved : goal.loop-point-preserved
 loop-point-preserved g c = takes_as _ _ _ _ (takes_then _ _ _ _ _ c.loop-point.invariant c.write_node.ensures)

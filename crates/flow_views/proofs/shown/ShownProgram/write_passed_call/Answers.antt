@@ -1,6 +1,6 @@
 use Rattle.std.proofs.Common.{◌∙◌, sym}
-use Rattle.text_pieces.proofs.Taking.{takes_as, takes_then}
-use Rattle.flow_views.proofs.Tables.{passed_is}
+use Rattle.text_pieces.proofs.sinks.Taking.{takes_as, takes_then}
+use Rattle.flow_views.proofs.facts.Tables.{passed_is}
 use Rattle.flow_views.proofs.shown.ShownProgram.write_passed_call.Goals as goal
 
 pub returns : goal.returns

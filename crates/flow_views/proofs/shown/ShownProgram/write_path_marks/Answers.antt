@@ -1,12 +1,12 @@
 use Rattle.std.proofs.Common.{List, ℕ, ◌++◌, codes, if◌then◌else◌, ap, ap₂, sym, ◌∙◌}
 use Rattle.flow_texts.specs.Reports.{dead_at, unset_at}
-use Rattle.text_pieces.proofs.Taking.{takes_as, takes_nothing}
+use Rattle.text_pieces.proofs.sinks.Taking.{takes_as, takes_nothing}
 use Rattle.tac_program.specs.Programs.{Program}
 use Rattle.flow_views.specs.code.ShownProgram.{known_of}
 use Rattle.flow_texts.specs.Reports.{Knowledge}
 use Rattle.flow_views.specs.Dots.{text_if_some}
-use Rattle.flow_views.proofs.Known.{flag_known}
-use Rattle.flow_views.proofs.Tables.{none_dead, none_unset}
+use Rattle.flow_views.proofs.facts.Known.{flag_known}
+use Rattle.flow_views.proofs.facts.Tables.{none_dead, none_unset}
 use Rattle.flow_views.proofs.shown.ShownProgram.write_path_marks.Goals as goal
 
 pub returns-then-not-is_reached : goal.returns-then-not-is_reached

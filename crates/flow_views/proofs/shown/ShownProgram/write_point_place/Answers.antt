@@ -2,7 +2,7 @@ use Rattle.std.proofs.Common.{◌≡◌, List, ℕ, ◌++◌, codes, decimal, ap
 use Rattle.flow_graph.specs.Points.{procedure_at}
 use Rattle.flow_graph.specs.declared.place.Place.{Place}
 use Rattle.flow_graph.proofs.places.PointLemmas.{points_have_places}
-use Rattle.text_pieces.proofs.Taking.{takes_as, takes_then}
+use Rattle.text_pieces.proofs.sinks.Taking.{takes_as, takes_then}
 use Rattle.tac_program.specs.Programs.{Program}
 use Rattle.text_pieces.specs.Strings.{quoted}
 use Rattle.flow_views.specs.Views.{procedure_name}

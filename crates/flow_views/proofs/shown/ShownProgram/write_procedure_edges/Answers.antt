@@ -1,8 +1,8 @@
 use Rattle.std.proofs.Common.{◌≡◌, ◌-◌, flat_map, ap, arith}
 use Rattle.std.specs.List.{range_with_len}
-use Rattle.text_pieces.proofs.Taking.{takes_as, takes_then}
+use Rattle.text_pieces.proofs.sinks.Taking.{takes_as, takes_then}
 use Rattle.flow_views.specs.Dots.{edge_lines}
-use Rattle.flow_views.proofs.Walks.{walk_more}
+use Rattle.flow_views.proofs.texts.Walks.{walk_more}
 use Rattle.flow_views.proofs.shown.ShownProgram.write_procedure_edges.Goals as goal
 
 pub loop-point-preserved : goal.loop-point-preserved

@@ -1,8 +1,8 @@
 use Rattle.std.proofs.Common.{◌≡◌, ℕ, List, ◌<◌, codes, length, ap, ◌∙◌, arith}
-use Rattle.text_pieces.proofs.Taking.{takes_as, takes_then}
+use Rattle.text_pieces.proofs.sinks.Taking.{takes_as, takes_then}
 use Rattle.tac_program.specs.Programs.{Program}
 use Rattle.text_pieces.specs.Strings.{quoted}
-use Rattle.flow_views.proofs.Rows.{joined_all, joined_behind, name_read}
+use Rattle.flow_views.proofs.texts.Rows.{joined_all, joined_behind, name_read}
 use Rattle.flow_views.proofs.shown.ShownProgram.write_procedures.Goals as goal
 
 pub loop-procedure-preserved : goal.loop-procedure-preserved

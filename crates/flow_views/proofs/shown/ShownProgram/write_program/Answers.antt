@@ -1,5 +1,5 @@
 use Rattle.std.proofs.Common.{◌≡◌, List, ℕ, ◌++◌, codes, decimal, map, ap, ◌∙◌}
-use Rattle.text_pieces.proofs.Taking.{takes_as, takes_then}
+use Rattle.text_pieces.proofs.sinks.Taking.{takes_as, takes_then}
 use Rattle.tac_program.specs.Programs.{Program}
 use Rattle.flow_views.specs.Json.{array}
 use Rattle.text_pieces.specs.Strings.{quoted}

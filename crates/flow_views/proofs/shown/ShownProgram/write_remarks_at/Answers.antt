@@ -1,6 +1,6 @@
 use Rattle.std.proofs.Common.{flat_map, ap}
-use Rattle.text_pieces.proofs.Taking.{takes_as}
-use Rattle.flow_views.proofs.Known.{remarks_known}
+use Rattle.text_pieces.proofs.sinks.Taking.{takes_as}
+use Rattle.flow_views.proofs.facts.Known.{remarks_known}
 use Rattle.flow_views.proofs.shown.ShownProgram.write_remarks_at.Goals as goal
 
 pub returns : goal.returns

@@ -1,6 +1,6 @@
-use Rattle.text_pieces.proofs.Taking.{takes_as, takes_then}
+use Rattle.text_pieces.proofs.sinks.Taking.{takes_as, takes_then}
 use Rattle.flow_views.specs.Dots.{shown_edge}
-use Rattle.flow_views.proofs.Walks.{walk_next}
+use Rattle.flow_views.proofs.texts.Walks.{walk_next}
 use Rattle.flow_views.proofs.shown.ShownProgram.write_shown_edges.Goals as goal
 
 pub loop-edge-preserved : goal.loop-edge-preserved

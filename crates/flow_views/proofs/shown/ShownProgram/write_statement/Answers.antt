@@ -1,12 +1,12 @@
 use Rattle.std.proofs.Common.{ℕ, length, option_map, sym, ap, subst, ◌∙◌}
-use Rattle.text_pieces.proofs.Taking.{takes_as}
+use Rattle.text_pieces.proofs.sinks.Taking.{takes_as}
 use Rattle.tac_program.specs.Listings.{statement_text}
 use Rattle.tac_program.specs.Programs.{Program}
 use Rattle.tac_program.specs.Sound.{IsSoundStatement}
 use Rattle.tac_program.specs.declared.program.Stmt.{Stmt}
 use Rattle.text_pieces.specs.Strings.{escaped}
 use Rattle.flow_views.specs.Views.{names_in}
-use Rattle.flow_views.proofs.Statements.{sound_here}
+use Rattle.flow_views.proofs.facts.Statements.{sound_here}
 use Rattle.flow_views.proofs.shown.ShownProgram.write_statement.Goals as goal
 
 pub write_statement-requires-clause-sound : goal.write_statement-requires-clause-sound

@@ -1,10 +1,10 @@
 use Rattle.std.proofs.Common.{List, ℕ, [], ◌++◌, codes, if◌then◌else◌, ap, ap₂, ◌∙◌}
 use Rattle.flow_texts.specs.Reports.{dead_at, unset_at}
-use Rattle.text_pieces.proofs.Taking.{takes_as, takes_then}
+use Rattle.text_pieces.proofs.sinks.Taking.{takes_as, takes_then}
 use Rattle.tac_program.specs.Programs.{Program}
 use Rattle.flow_views.specs.code.ShownProgram.{known_of}
 use Rattle.flow_texts.specs.Reports.{Knowledge}
-use Rattle.flow_views.proofs.Tables.{mark_is}
+use Rattle.flow_views.proofs.facts.Tables.{mark_is}
 use Rattle.flow_views.proofs.shown.ShownProgram.write_statement_marks.Goals as goal
 
 pub returns : goal.returns

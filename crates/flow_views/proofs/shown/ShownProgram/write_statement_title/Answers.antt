@@ -1,7 +1,7 @@
 use Rattle.std.proofs.Common.{◌++◌, codes, decimal}
 use Rattle.tac_program.specs.Listings.{statement_text}
 use Rattle.flow_views.specs.Views.{names_at}
-use Rattle.text_pieces.proofs.Escapes.{shows_then}
+use Rattle.text_pieces.proofs.sinks.Escapes.{shows_then}
 use Rattle.flow_views.proofs.shown.ShownProgram.write_statement_title.Goals as goal
 
 pub returns : goal.returns

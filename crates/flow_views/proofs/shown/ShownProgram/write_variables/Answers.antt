@@ -1,9 +1,9 @@
 use Rattle.std.proofs.Common.{◌≡◌, ℕ, List, ◌<◌, Some, codes, length, slice_get, sym, ap, ◌∙◌, arith}
 use Rattle.std.proofs.lemmas.Option.{get_or_from_slice_get}
-use Rattle.text_pieces.proofs.Taking.{takes_as, takes_then}
+use Rattle.text_pieces.proofs.sinks.Taking.{takes_as, takes_then}
 use Rattle.tac_program.specs.Programs.{Program}
 use Rattle.text_pieces.specs.Strings.{quoted}
-use Rattle.flow_views.proofs.Rows.{joined_all, joined_behind}
+use Rattle.flow_views.proofs.texts.Rows.{joined_all, joined_behind}
 use Rattle.flow_views.proofs.shown.ShownProgram.write_variables.Goals as goal
 
 pub loop-variable-preserved : goal.loop-variable-preserved

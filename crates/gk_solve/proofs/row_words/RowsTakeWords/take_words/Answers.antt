@@ -1,5 +1,5 @@
 use Rattle.std.proofs.Common.{◌*◌, arith, refl}
-use Rattle.gk_solve.proofs.RowWords.{tells_more}
+use Rattle.gk_solve.proofs.words.RowWords.{tells_more}
 use Rattle.gk_solve.proofs.row_words.RowsTakeWords.take_words.Goals as goal
 
 pub returns-clause-has : goal.returns-clause-has

@@ -9,8 +9,8 @@ use Rattle.gk_solve.specs.Tables.Widths.{by_width, width_of}
 use Rattle.gk_solve.specs.declared.slice_words.SliceWords.TheInside.{Inside}
 use Rattle.gk_solve.specs.declared.slice_words.Width.{Width}
 use Rattle.gk_solve.specs.declared.summary.Summary.{Summary}
-use Rattle.gk_solve.proofs.Slices.{written_over}
-use Rattle.gk_solve.proofs.SolvedWords.{solved_by_frame}
+use Rattle.gk_solve.proofs.slices.Slices.{written_over}
+use Rattle.gk_solve.proofs.words.SolvedWords.{solved_by_frame}
 use Rattle.gk_solve.proofs.slice_words.SliceWords.solve_group_from.Goals as goal
 
 pub returns-in-One-clause-solved : goal.returns-in-One-clause-solved

@@ -6,7 +6,7 @@ use Rattle.flow_graph.specs.Points.{point_count}
 use Rattle.flow_links.specs.Shapes.{directed_shape}
 use Rattle.gk_solve.specs.Solved.{HasPathFlags}
 use Rattle.gk_solve.specs.Tables.Flags.{ArePathFlags}
-use Rattle.gk_solve.proofs.SolvedWords.{flags_tell}
+use Rattle.gk_solve.proofs.words.SolvedWords.{flags_tell}
 use Rattle.gk_solve.proofs.solver.Solver.flags.Goals as goal
 
 pub returns : goal.returns

@@ -3,7 +3,7 @@ use Rattle.std.proofs.Common.{IfOk, subst}
 use Rattle.flow_graph.specs.Problems.{may_shape, MayForm}
 use Rattle.flow_graph.specs.WellFormed.{IsWellFormed}
 use Rattle.gk_solve.specs.Solved.{IsLeastSolution, IsMeetOverPaths}
-use Rattle.gk_solve.proofs.RowWords.{solution_to_meet}
+use Rattle.gk_solve.proofs.words.RowWords.{solution_to_meet}
 use Rattle.gk_solve.proofs.solver.Solver.solve.Goals as goal
 
 pub returns-clause-paths : goal.returns-clause-paths

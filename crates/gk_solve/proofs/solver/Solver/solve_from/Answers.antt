@@ -2,7 +2,7 @@ use Rattle.std.proofs.Common.{subst}
 use Rattle.flow_graph.specs.Problems.{may_shape, MayForm}
 use Rattle.flow_graph.specs.WellFormed.{IsWellFormed}
 use Rattle.gk_solve.specs.Solved.{AreSolved}
-use Rattle.gk_solve.proofs.SolvedWords.{meet_words}
+use Rattle.gk_solve.proofs.words.SolvedWords.{meet_words}
 use Rattle.gk_solve.proofs.solver.Solver.solve_from.Goals as goal
 
 pub returns-clause-paths : goal.returns-clause-paths

@@ -1,7 +1,7 @@
 use Rattle.std.proofs.Common.{◌∙◌, ap}
 use Rattle.slice_board.specs.Passes.{PassState}
 use Rattle.slice_board.specs.code.Fields.{pass_state}
-use Rattle.slice_board.proofs.Passing.{held_low, if_some}
+use Rattle.slice_board.proofs.passes.Passing.{held_low, if_some}
 use Rattle.slice_board.proofs.pass.Pass.held.Goals as goal
 
 pub returns-clause-there : goal.returns-clause-there

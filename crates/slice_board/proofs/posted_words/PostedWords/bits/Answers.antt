@@ -3,7 +3,7 @@ use Rattle.std.specs.Mem.Slots.{slots_items}
 use Rattle.bit_rows.specs.RowSet.{contains}
 use Rattle.bit_rows.specs.RowTable.{RowTable, set_at}
 use Rattle.slice_board.specs.code.Worded.{word_of}
-use Rattle.slice_board.proofs.Worded.{bit_within}
+use Rattle.slice_board.proofs.words.Worded.{bit_within}
 use Rattle.slice_board.proofs.posted_words.PostedWords.bits.Goals as goal
 
 pub returns-clause-within : goal.returns-clause-within

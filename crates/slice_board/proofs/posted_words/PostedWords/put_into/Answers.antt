@@ -2,7 +2,7 @@ use Rattle.std.proofs.Common.{◌≡◌, ◌↔◌, true, sym, subst, ◌∙◌}
 use Rattle.std.specs.Mem.Slots.{slots_items, slots_len}
 use Rattle.bit_rows.specs.RowSet.{contains}
 use Rattle.bit_rows.specs.RowTable.{RowTable, set_at, blank_table}
-use Rattle.slice_board.proofs.Worded.{lie_within, same_bits}
+use Rattle.slice_board.proofs.words.Worded.{lie_within, same_bits}
 use Rattle.slice_board.proofs.posted_words.PostedWords.put_into.Goals as goal
 
 pub put_rows-requires-clause-within : goal.put_rows-requires-clause-within

@@ -4,8 +4,8 @@ use Rattle.bit_rows.specs.RowSet.{IsWordOf}
 use Rattle.bit_rows.specs.RowTable.{RowTable, set_at}
 use Rattle.slice_board.specs.Boards.{words_for}
 use Rattle.slice_board.specs.code.Worded.{word_of, worded_table}
-use Rattle.slice_board.proofs.Sums.{read_at}
-use Rattle.slice_board.proofs.Worded.{no_word_there, word_there}
+use Rattle.slice_board.proofs.words.Sums.{read_at}
+use Rattle.slice_board.proofs.words.Worded.{no_word_there, word_there}
 use Rattle.slice_board.proofs.posted_words.PostedWords.word.Goals as goal
 
 pub returns-then-word-div_ceil : goal.returns-then-word-div_ceil

@@ -2,7 +2,7 @@ use Rattle.std.proofs.Common.{◌≡◌, [], ◌∷◌, ap, ◌∙◌, sym, leng
 use Rattle.std.proofs.lemmas.List.{length-append}
 use Rattle.slice_board.specs.Passes.{PassState}
 use Rattle.slice_board.specs.Boards.{BoardState, slice_count}
-use Rattle.slice_board.proofs.Passing.{found_to, found_to-more, found_to-lengths, next_most}
+use Rattle.slice_board.proofs.passes.Passing.{found_to, found_to-more, found_to-lengths, next_most}
 use Rattle.slice_board.proofs.word_board.WordBoard.claim.Goals as goal
 
 pub returns-then-draw_slice-clause-draws : goal.returns-then-draw_slice-clause-draws

@@ -1,5 +1,5 @@
 use Rattle.std.proofs.Common.{◌≡◌, ◌-◌, ◌≤◌, None}
-use Rattle.slice_board.proofs.Passing.{found_to}
+use Rattle.slice_board.proofs.passes.Passing.{found_to}
 use Rattle.slice_board.specs.Boards.{IsOf, slice_count}
 use Rattle.slice_board.proofs.word_board.WordBoard.claim.Given as goal
 

@@ -9,9 +9,9 @@ use Rattle.slice_board.specs.Lawful.{shows_at}
 use Rattle.slice_board.specs.code.Words.{about_key}
 use Rattle.slice_board.specs.code.Fields.{pass_state}
 use Rattle.slice_board.specs.code.Worded.{word_of, worded_table}
-use Rattle.slice_board.proofs.Passing.{knows, same_slices, same_wanted, held_low}
-use Rattle.slice_board.proofs.Calls.{tally_is}
-use Rattle.slice_board.proofs.Endings.{whole, full, not_whole, finals, clear_past, words_exact, some_one}
+use Rattle.slice_board.proofs.passes.Passing.{knows, same_slices, same_wanted, held_low}
+use Rattle.slice_board.proofs.words.Calls.{tally_is}
+use Rattle.slice_board.proofs.passes.Endings.{whole, full, not_whole, finals, clear_past, words_exact, some_one}
 use Rattle.slice_board.proofs.word_board.WordBoard.close.Goals as goal
 
 pub returns-then-done-of-clause-all_finished : goal.returns-then-done-of-clause-all_finished

@@ -3,7 +3,7 @@ use Rattle.slice_board.specs.Passes.{PassState}
 use Rattle.slice_board.specs.Boards.{BoardState, slice_count}
 use Rattle.slice_board.specs.code.Told.{load_of}
 use Rattle.slice_board.specs.code.Closing.{ones_below}
-use Rattle.slice_board.proofs.Counting.{CountedTo-more, Counted-all, shown_below-most}
+use Rattle.slice_board.proofs.passes.Counting.{CountedTo-more, Counted-all, shown_below-most}
 use Rattle.slice_board.proofs.word_board.WordBoard.count_finished.Goals as goal
 
 pub overflow_add-done : goal.overflow_add-done

@@ -3,8 +3,8 @@ use Rattle.std.proofs.lemmas.Nat.{one_shl}
 use Rattle.slice_board.specs.Passes.{PassState}
 use Rattle.slice_board.specs.code.Words.{about_key}
 use Rattle.slice_board.specs.code.Fields.{pass_state, IsKept}
-use Rattle.slice_board.proofs.Keeps.{draws_by}
-use Rattle.slice_board.proofs.Passing.{sits, knows, next_below, drawn_free, drawn_taken, if_same, if_other, kept_claim, kept_find}
+use Rattle.slice_board.proofs.passes.Keeps.{draws_by}
+use Rattle.slice_board.proofs.passes.Passing.{sits, knows, next_below, drawn_free, drawn_taken, if_same, if_other, kept_claim, kept_find}
 use Rattle.slice_board.proofs.word_board.WordBoard.draw_slice.Goals as goal
 
 pub fetch_or-before-requires : goal.fetch_or-before-requires

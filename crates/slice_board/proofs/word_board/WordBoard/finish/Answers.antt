@@ -3,9 +3,9 @@ use Rattle.std.proofs.lemmas.Nat.{one_shl}
 use Rattle.slice_board.specs.Passes.{PassState}
 use Rattle.slice_board.specs.code.Words.{about_key}
 use Rattle.slice_board.specs.code.Fields.{pass_state}
-use Rattle.slice_board.proofs.Keeps.{ends_at}
-use Rattle.slice_board.proofs.Passing.{sits, knows, kept_finish}
-use Rattle.slice_board.proofs.Calls.{tally_is, slice_low, is_posted, state_after, kept_after}
+use Rattle.slice_board.proofs.passes.Keeps.{ends_at}
+use Rattle.slice_board.proofs.passes.Passing.{sits, knows, kept_finish}
+use Rattle.slice_board.proofs.words.Calls.{tally_is, slice_low, is_posted, state_after, kept_after}
 use Rattle.slice_board.proofs.word_board.WordBoard.finish.Goals as goal
 
 pub fetch_or-requires : goal.fetch_or-requires

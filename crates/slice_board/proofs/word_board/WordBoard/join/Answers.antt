@@ -2,9 +2,9 @@ use Rattle.std.proofs.Common.{ap, sym, subst, ◌∙◌, arith, IsSome, is_some}
 use Rattle.slice_board.specs.Passes.{PassState, times}
 use Rattle.slice_board.specs.code.Words.{about_key}
 use Rattle.slice_board.specs.code.Fields.{pass_state, IsKept}
-use Rattle.slice_board.proofs.Sums.{times-append}
-use Rattle.slice_board.proofs.Keeps.{joins, checks}
-use Rattle.slice_board.proofs.Passing.{sits, knows, kept_joined, is_none}
+use Rattle.slice_board.proofs.words.Sums.{times-append}
+use Rattle.slice_board.proofs.passes.Keeps.{joins, checks}
+use Rattle.slice_board.proofs.passes.Passing.{sits, knows, kept_joined, is_none}
 use Rattle.slice_board.proofs.word_board.WordBoard.join.Goals as goal
 use Rattle.slice_board.proofs.word_board.WordBoard.join.Goals.{else-is_some-via-then-is_some+else-is_some-2, else-is_some-via-else-is_some}
 

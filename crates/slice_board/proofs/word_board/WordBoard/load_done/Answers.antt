@@ -3,9 +3,9 @@ use Rattle.slice_board.specs.Passes.{PassState}
 use Rattle.slice_board.specs.code.Words.{about_key}
 use Rattle.slice_board.specs.code.Fields.{pass_state}
 use Rattle.slice_board.specs.code.Told.{load_of}
-use Rattle.slice_board.proofs.Keeps.{tells_at}
-use Rattle.slice_board.proofs.Passing.{sits, knows, kept_marks}
-use Rattle.slice_board.proofs.Calls.{tally_is, tally_below, shows_own, state_after, kept_after}
+use Rattle.slice_board.proofs.passes.Keeps.{tells_at}
+use Rattle.slice_board.proofs.passes.Passing.{sits, knows, kept_marks}
+use Rattle.slice_board.proofs.words.Calls.{tally_is, tally_below, shows_own, state_after, kept_after}
 use Rattle.slice_board.proofs.word_board.WordBoard.load_done.Goals as goal
 
 pub load-requires : goal.load-requires

@@ -2,9 +2,9 @@ use Rattle.std.proofs.Common.{[], ◌∷◌, ◌++◌, ◌+◌, ◌*◌, ap, sym
 use Rattle.slice_board.specs.Passes.{PassState, logged_word, IsLogged}
 use Rattle.slice_board.specs.code.Words.{about_key}
 use Rattle.slice_board.specs.code.Fields.{pass_state}
-use Rattle.slice_board.proofs.Keeps.{looks_at}
-use Rattle.slice_board.proofs.Passing.{sits, knows, kept_marks, same_table, same_wanted}
-use Rattle.slice_board.proofs.Calls.{place_of, row_is, at_place, one_of_bit, bit_of_one, state_after, kept_after}
+use Rattle.slice_board.proofs.passes.Keeps.{looks_at}
+use Rattle.slice_board.proofs.passes.Passing.{sits, knows, kept_marks, same_table, same_wanted}
+use Rattle.slice_board.proofs.words.Calls.{place_of, row_is, at_place, one_of_bit, bit_of_one, state_after, kept_after}
 use Rattle.slice_board.proofs.word_board.WordBoard.look.Goals as goal
 
 pub load-requires : goal.load-requires

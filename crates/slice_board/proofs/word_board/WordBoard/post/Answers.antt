@@ -2,9 +2,9 @@ use Rattle.std.proofs.Common.{[], ◌∷◌, ◌++◌, ap, ◌∙◌}
 use Rattle.slice_board.specs.Passes.{PassState, logged_word}
 use Rattle.slice_board.specs.code.Words.{about_key}
 use Rattle.slice_board.specs.code.Fields.{pass_state}
-use Rattle.slice_board.proofs.Keeps.{puts_at}
-use Rattle.slice_board.proofs.Passing.{sits, knows, kept_marks, same_table}
-use Rattle.slice_board.proofs.Calls.{place_of, row_is, wanted_mask, state_after, kept_after}
+use Rattle.slice_board.proofs.passes.Keeps.{puts_at}
+use Rattle.slice_board.proofs.passes.Passing.{sits, knows, kept_marks, same_table}
+use Rattle.slice_board.proofs.words.Calls.{place_of, row_is, wanted_mask, state_after, kept_after}
 use Rattle.slice_board.proofs.word_board.WordBoard.post.Goals as goal
 
 pub fetch_or-requires : goal.fetch_or-requires

@@ -1,7 +1,7 @@
 use Rattle.std.proofs.Common.{arith}
 use Rattle.slice_board.specs.code.Words.{about_key}
-use Rattle.slice_board.proofs.Keeps.{splits}
-use Rattle.slice_board.proofs.Passing.{sits}
+use Rattle.slice_board.proofs.passes.Keeps.{splits}
+use Rattle.slice_board.proofs.passes.Passing.{sits}
 use Rattle.slice_board.proofs.word_board.WordBoard.split.Goals as goal
 
 pub split_seat-requires : goal.split_seat-requires

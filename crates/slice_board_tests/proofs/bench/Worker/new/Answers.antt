@@ -2,8 +2,8 @@ use Rattle.std.proofs.Common.{ap, ◌∙◌}
 use Rattle.std.proofs.lemmas.Bool.{both_ways}
 use Rattle.bit_rows.specs.RowSet.{contains}
 use Rattle.bit_rows.specs.RowTable.{set_at}
-use Rattle.bit_rows.proofs.SetLaws.{contains-empty_set}
-use Rattle.bit_rows.proofs.Tables.{set_at-blank_table}
+use Rattle.bit_rows.proofs.sets.SetLaws.{contains-empty_set}
+use Rattle.bit_rows.proofs.sets.Tables.{set_at-blank_table}
 use Rattle.slice_board_tests.proofs.bench.Worker.new.Goals as goal
 
 pub returns-clause-noted : goal.returns-clause-noted

@@ -1,6 +1,6 @@
 use Rattle.std.proofs.Common.{⊎_elim, sym, subst}
 use Rattle.slice_board.specs.Passes.{PassState, IsLogged, logged_word}
-use Rattle.slice_board_tests.proofs.Benching.{marked_more, marked_new}
+use Rattle.slice_board_tests.proofs.sets.Benching.{marked_more, marked_new}
 use Rattle.slice_board_tests.proofs.bench.Worker.post.Goals as goal
 
 pub returns-then-may-clause-noted : goal.returns-then-may-clause-noted

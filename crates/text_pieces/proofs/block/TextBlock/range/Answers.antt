@@ -1,6 +1,6 @@
 use Rattle.std.proofs.Common.{rules, ◌+◌, ◌-◌, ◌<◌, length, take, drop, refl, ap, ◌∙◌, arith}
 use Rattle.text_pieces.specs.code.Blocks.{separator_text}
-use Rattle.text_pieces.proofs.Blocks.{count_is, is_read}
+use Rattle.text_pieces.proofs.buffers.Blocks.{count_is, is_read}
 use Rattle.text_pieces.proofs.block.TextBlock.range.Goals as goal
 
 pub index-stop-requires : goal.index-stop-requires

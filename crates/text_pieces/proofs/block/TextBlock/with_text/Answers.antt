@@ -1,6 +1,6 @@
 use Rattle.std.proofs.Common.{rules, ◌≡◌, List, ℕ, length, ◌++◌, ap, ◌∙◌}
 use Rattle.text_pieces.specs.code.Blocks.{SeparatedTexts, separator_text, with_text}
-use Rattle.text_pieces.proofs.Blocks.{grows}
+use Rattle.text_pieces.proofs.buffers.Blocks.{grows}
 use Rattle.text_pieces.proofs.block.TextBlock.with_text.Goals as goal
 
 pub invariant_of-result : goal.invariant_of-result

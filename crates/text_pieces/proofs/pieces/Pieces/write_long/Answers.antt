@@ -1,8 +1,8 @@
 -- What was taken so far, and then the next bytes.
 use Rattle.std.proofs.Common.{ℕ, List, ◌+◌, ◌-◌, take, drop, subst, rules, ap}
 use Rattle.text_pieces.specs.Pieces.{Takes, Writes, outlet}
-use Rattle.text_pieces.proofs.Buffers.{take_next}
-use Rattle.text_pieces.proofs.Taking.{takes_then, takes_waiting}
+use Rattle.text_pieces.proofs.buffers.Buffers.{take_next}
+use Rattle.text_pieces.proofs.sinks.Taking.{takes_then, takes_waiting}
 use Rattle.text_pieces.proofs.pieces.Pieces.write_long.Goals as goal
 
 pub loop-taken-preserved : goal.loop-taken-preserved

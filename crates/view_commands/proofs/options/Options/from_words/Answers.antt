@@ -3,8 +3,8 @@ use Rattle.clap.specs.Simple.{App, app_of, built, is_buildable, is_simple}
 use Rattle.clap.specs.Words.{HasKind, fault_of, found_of, is_simple_and_free, matches_of, rows_of, takes}
 use Rattle.clap.proofs.SimpleLemmas.{plain_fields}
 use Rattle.view_commands.specs.Commands.{tacview_command}
-use Rattle.view_commands.proofs.Held.{has_options, options_held}
-use Rattle.view_commands.proofs.Answered.{answered, refused}
+use Rattle.view_commands.proofs.matches.Held.{has_options, options_held}
+use Rattle.view_commands.proofs.matches.Answered.{answered, refused}
 use Rattle.view_commands.proofs.options.Options.from_words.Goals as goal
 
 pub named_options-requires : goal.named_options-requires

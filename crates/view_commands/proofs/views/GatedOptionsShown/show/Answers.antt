@@ -1,5 +1,5 @@
 use Rattle.std.proofs.Common.{subst}
-use Rattle.flow_runs.proofs.Deliveries.{delivers_as}
+use Rattle.flow_runs.proofs.deliveries.Deliveries.{delivers_as}
 use Rattle.flow_views.specs.declared.view.Chosen.{Chosen}
 use Rattle.flow_views.specs.declared.view.View.{View}
 use Rattle.view_commands.specs.Views.{IsText}

@@ -1,7 +1,7 @@
 use Rattle.std.proofs.Common.{◌≡◌, ◌<◌, arith, rules, false, length, get_or, vec_len, sym, subst, ap, ◌∙◌}
 use Rattle.std.proofs.lemmas.List.{get_or_default}
 use Rattle.work_list.specs.Tables.MarkWords.{is_marked_in}
-use Rattle.work_list.proofs.MarkLemmas.{low_of, mark_at, word_has, word_of}
+use Rattle.work_list.proofs.words.MarkLemmas.{low_of, mark_at, word_has, word_of}
 use Rattle.work_list.proofs.marks.Marks.contains.Goals as goal
 
 pub rank-rank-requires : goal.rank-rank-requires

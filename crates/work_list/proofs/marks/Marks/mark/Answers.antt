@@ -1,5 +1,5 @@
 use Rattle.std.proofs.Common.{◌≡◌, ◌<◌, arith, rules, length, vec_len, set, true, sym, subst, ap, ◌∙◌}
-use Rattle.work_list.proofs.MarkLemmas.{low_of, word_of, puts}
+use Rattle.work_list.proofs.words.MarkLemmas.{low_of, word_of, puts}
 use Rattle.work_list.proofs.marks.Marks.mark.Goals as goal
 
 pub rank-rank-requires : goal.rank-rank-requires

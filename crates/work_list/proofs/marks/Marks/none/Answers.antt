@@ -2,7 +2,7 @@ use Rattle.std.proofs.Common.{◌≡◌, ◌<◌, ◌≤◌, ◌+◌, ◌*◌, �
 use Rattle.work_list.specs.Tables.MarkWords.{AreMarkWords}
 use Rattle.std.proofs.lemmas.Grind.{div_ceil_times}
 use Rattle.std.proofs.lemmas.List.{length-replicate, get_or-replicate}
-use Rattle.work_list.proofs.MarkLemmas.{blank, blank_marks}
+use Rattle.work_list.proofs.words.MarkLemmas.{blank, blank_marks}
 use Rattle.work_list.proofs.marks.Marks.none.Goals as goal
 
 zeros : (words : List ℕ) (n : ℕ) → words ≡ replicate n 0 → (k : ℕ) → k < length words → get_or words k 0 ≡ 0

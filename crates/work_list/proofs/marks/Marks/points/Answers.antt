@@ -1,5 +1,5 @@
 use Rattle.std.proofs.Common.{length, ap, sym, ◌∙◌}
-use Rattle.work_list.proofs.MarkLemmas.{length-marks_of}
+use Rattle.work_list.proofs.words.MarkLemmas.{length-marks_of}
 use Rattle.work_list.proofs.marks.Marks.points.Goals as goal
 
 pub returns : goal.returns

@@ -1,7 +1,7 @@
 use Rattle.std.proofs.Common.{◌≡◌, ◌<◌, ℕ, Bool, false, true, List, length, get_or, set, subst, ap, ◌∙◌, refl}
 use Rattle.work_list.specs.Marks.{IsMarked, AreClear}
 use Rattle.work_list.specs.Tables.MarkWords.{is_marked_in}
-use Rattle.work_list.proofs.MarkLemmas.{takes, marked-low, clear_marks}
+use Rattle.work_list.proofs.words.MarkLemmas.{takes, marked-low, clear_marks}
 use Rattle.work_list.proofs.marks.Marks.take.Goals as goal
 
 pub returns-in-None : goal.returns-in-None

@@ -1,0 +1,4 @@
+pub mod Gains
+pub mod Trim
+pub mod WordLoops
+pub mod WordRows

@@ -1,0 +1,4 @@
+pub mod Cases
+pub mod Entries
+pub mod HeldValues
+pub mod Numbers

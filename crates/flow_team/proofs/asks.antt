@@ -1,0 +1,4 @@
+pub mod Done
+pub mod Placing
+pub mod TableAnswers
+pub mod Told

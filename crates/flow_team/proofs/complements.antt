@@ -1,0 +1,2 @@
+pub mod ComplementedPlaces
+pub mod ComplementedTables

@@ -1,0 +1,3 @@
+pub mod OneTable
+pub mod ExcerptTables
+pub mod Words

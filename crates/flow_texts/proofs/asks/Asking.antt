@@ -1,0 +1,186 @@
+-- Asks that are put behind others.
+use Rattle.std.proofs.Common.{◌≡◌, ◌⊎◌, ◌∙◌, ℕ, zero, suc, ◌+◌, ◌*◌, ◌^◌, ◌<◌, ◌≤◌, true, List, [], ◌∷◌, ◌++◌, map, Some, length}
+use Rattle.std.proofs.Common.{nat_eq, slice_get, inl, inr, refl, sym, ap, subst, arith, length-append}
+use Rattle.std.specs.List.{list_any}
+use Rattle.std.proofs.lemmas.Bool.{cases_lt, or_cases}
+use Rattle.flow_graph.specs.Points.{kind_at, point_count}
+use Rattle.flow_graph.specs.declared.analysis.Analysis.TheVariants.{Busy, Reach}
+use Rattle.tac_program.specs.Programs.{Program}
+use Rattle.tac_program.specs.Sound.{IsSound}
+use Rattle.tac_program.specs.declared.program.StmtKind.{StmtKind}
+use Rattle.flow_team.specs.Asks.{AreAnswers, IsAskOf, Replies}
+use Rattle.flow_team.specs.declared.ask.Ask.{Ask}
+use Rattle.flow_texts.specs.code.Asking.{Asks, AsksReads}
+use Rattle.flow_texts.specs.code.Operands.{AreRead}
+use Rattle.flow_texts.specs.code.Reported.{AreAsked, AreAskedAt, Reported, TellReport}
+use Rattle.flow_texts.specs.code.Told.{ask_for}
+use Rattle.flow_texts.specs.declared.report_asks.PointAsks.{PointAsks}
+use Rattle.flow_texts.proofs.knowledge.RemarkLines.{same_read, variables_are_there, variables_have_dummies}
+
+get_before : (old more : List Ask) (q : ℕ) (ask : Ask) → slice_get old q ≡ Some ask → slice_get (old ++ more) q ≡ Some ask
+get_before [] more q ask is = absurd (cc is)
+get_before (one ∷ old) more zero ask is = is
+get_before (one ∷ old) more (suc q) ask is = get_before old more q ask is
+
+get_last : (old : List Ask) (ask : Ask) → slice_get (old ++ ask ∷ []) (length old) ≡ Some ask
+get_last [] ask = refl
+get_last (one ∷ old) ask = get_last old ask
+
+get_of_more : (old : List Ask) (ask : Ask) (q : ℕ) (one : Ask) → slice_get (old ++ ask ∷ []) q ≡ Some one → (one ≡ ask) ⊎ (slice_get old q ≡ Some one)
+get_of_more [] ask zero one is = inl (sym (cc is))
+get_of_more [] ask (suc q) one is = absurd (cc is)
+get_of_more (first ∷ old) ask zero one is = inr is
+get_of_more (first ∷ old) ask (suc q) one is = get_of_more old ask q one is
+
+-- the last of a list, or one before it
+place_before : (places : List PointAsks) (here : PointAsks) (p : ℕ) (at : PointAsks) → slice_get (places ++ here ∷ []) p ≡ Some at
+    → ((p ≡ length places) × (at ≡ here)) ⊎ (slice_get places p ≡ Some at)
+place_before [] here zero at is = inl (refl, sym (cc is))
+place_before [] here (suc p) at is = absurd (cc is)
+place_before (first ∷ places) here zero at is = inr is
+place_before (first ∷ places) here (suc p) at is = elim (place_before places here p at is) [
+  | inl last ↦ inl (ap (λ n. suc n) last.0, last.1)
+  | inr before ↦ inr before
+]
+
+-- an ask stands where it was put
+pub put_there : (old new : List Ask) (ask : Ask) → new ≡ old ++ ask ∷ [] → slice_get new (length old) ≡ Some ask
+put_there old new ask is = ap (λ asks. slice_get asks (length old)) is ∙ get_last old ask
+
+module _ (program : Program) where
+  -- one ask more
+  pub asks_one : (old new : List Ask) (ask : Ask) (most : ℕ) → new ≡ old ++ ask ∷ [] → IsAskOf program ask → 1 ≤ most → Asks program old new most
+  asks_one old new ask most is of room = subst (λ (asks : List Ask). Asks program old asks most) (sym is) (record {
+    kept = λ q one there. get_before old (ask ∷ []) q one there;
+    of = λ are q one there. elim (get_of_more old ask q one there) [
+      | inl same ↦ subst (IsAskOf program) (sym same) of
+      | inr before ↦ are q one before
+    ];
+    count = omega (arith, length-append old (ask ∷ []), room);
+  })
+
+  pub asks_then : (old mid new : List Ask) (first second most : ℕ) → Asks program old mid first → Asks program mid new second → first + second ≤ most
+      → Asks program old new most
+  asks_then old mid new first second most before after room = record {
+    kept = λ q ask there. after.kept q ask (before.kept q ask there);
+    of = λ are. after.of (before.of are);
+    count = omega (arith, before.count, after.count, room);
+  }
+
+  pub reads_still : (old new : List Ask) (place point : ℕ) (kind : StmtKind) (most : ℕ) → Asks program old new most → AsksReads old place point kind
+      → AsksReads new place point kind
+  reads_still old new place point kind most more asked = record {
+    each = λ variables are i variable at. more.kept (place + i) (ask_for Reach point variable) (asked.each variables are i variable at);
+    all = λ variable reading. let found = asked.all variable reading in (found.0, more.kept found.0 (ask_for Reach point variable) found.1);
+  }
+
+  -- what was asked at a statement stays asked
+  pub asked_still : (old new : List Ask) (here : PointAsks) (point : ℕ) (kind : StmtKind) (most : ℕ) → Asks program old new most
+      → AreAskedAt program old here point kind
+      → AreAskedAt program new here point kind
+  asked_still old new here point kind most more asked = record {
+    reads = reads_still old new here.reads point kind most more asked.reads;
+    evaluated = λ bit is. more.kept here.evaluated _ (asked.evaluated bit is);
+    assigned = λ variable is. more.kept here.assigned _ (asked.assigned variable is);
+    busy = λ test word below. more.kept (here.busy + word) _ (asked.busy test word below);
+  }
+
+  -- and one statement more is
+  pub asked_more : (old new : List Ask) (places more : List PointAsks) (here : PointAsks) (point most : ℕ) → more ≡ places ++ here ∷ []
+      → length places ≡ point
+      → Asks program old new most → ((kind : StmtKind) → kind_at program point ≡ Some kind → AreAskedAt program new here point kind)
+      → AreAsked program old places → AreAsked program new more
+  asked_more old new places more here point most is count asks asked before p at kind there stands_there =
+      let there_ : slice_get (places ++ here ∷ []) p ≡ Some at = ap (λ ps. slice_get ps p) (sym is) ∙ there in
+      elim (place_before places here p at there_) [
+        | inl last ↦ (
+            let same : p ≡ point = last.0 ∙ count in
+            subst (λ (q : ℕ). kind_at program q ≡ Some kind → AreAskedAt program new at q kind) (sym same)
+            (λ stood. subst (λ (a : PointAsks). AreAskedAt program new a point kind) (sym last.1) (asked kind stood)) stands_there)
+        | inr earlier ↦ asked_still old new at p kind most asks (before p at kind earlier stands_there)
+      ]
+
+-- the asks for words of very busy expressions, one more
+pub one_busy_more : (first point word : ℕ) (old new : List Ask) (ask : Ask) → new ≡ old ++ ask ∷ []
+    → ask ≡ record { analysis = Busy; point = point; word = word } → length old ≡ first + word
+    → ((w : ℕ) → w < word → slice_get old (first + w) ≡ Some (let one : Ask = record { analysis = Busy; point = point; word = w } in one))
+    → (w : ℕ) → w < word + 1 → slice_get new (first + w) ≡ Some (let one : Ask = record { analysis = Busy; point = point; word = w } in one)
+one_busy_more first point word old new ask is of count before w below = elim (cases_lt w word) [
+  | inl low ↦ ap (λ asks. slice_get asks (first + w)) is
+      ∙ get_before old (ask ∷ []) (first + w) (record { analysis = Busy; point = point; word = w }) (before w low)
+  | inr high ↦ (
+      let same : word ≡ w = omega (arith, below, high) in
+      let place : first + w ≡ length old = omega (arith, count, same) in
+      ap (slice_get new) place
+      ∙ put_there old new ask is
+      ∙ ap (λ a. Some a) (of ∙ ap (λ n. let one : Ask = record { analysis = Busy; point = point; word = n } in one) same))
+]
+
+-- the asks for variables, put in their order
+in_order : (point : ℕ) (variables : List ℕ) (i variable : ℕ) → slice_get variables i ≡ Some variable
+    → slice_get (map (ask_for Reach point) variables) i ≡ Some (ask_for Reach point variable)
+in_order point [] i variable is = absurd (cc is)
+in_order point (x ∷ variables) zero variable is = let same : x ≡ variable = cc is in ap (λ v. Some (ask_for Reach point v)) same
+in_order point (x ∷ variables) (suc i) variable is = in_order point variables i variable is
+
+get_behind : (old more : List Ask) (i : ℕ) → slice_get (old ++ more) (length old + i) ≡ slice_get more i
+get_behind [] more i = let first : 0 + i ≡ i = omega arith in ap (slice_get more) first
+get_behind (one ∷ old) more i =
+    let later : suc (length old) + i ≡ suc (length old + i) = omega arith in
+    ap (slice_get (one ∷ old ++ more)) later ∙ get_behind old more i
+
+place_of : (variable : ℕ) (variables : List ℕ) → list_any (nat_eq variable) variables ≡ true → (i : ℕ) × (slice_get variables i ≡ Some variable)
+place_of variable [] is = absurd (cc is)
+place_of variable (x ∷ variables) is = elim (or_cases (nat_eq variable x) (list_any (nat_eq variable) variables) is) [
+  | inl same ↦ (let at : x ≡ variable = grind (arith, same) in (0, ap (λ v. Some v) at))
+  | inr later ↦ (let rest = place_of variable variables later in (suc rest.0, rest.1))
+]
+
+module _ (program : Program) (point : ℕ) (kind : StmtKind) (sound : IsSound program) (below : point < point_count program)
+    (at : kind_at program point ≡ Some kind) where
+  -- the asks for the variables that the statement reads stand behind the others
+  pub reads_asked : (old new : List Ask) (variables : List ℕ) → AreRead kind variables → new ≡ old ++ map (ask_for Reach point) variables
+      → AsksReads new (length old) point kind
+  reads_asked old new variables are is = record {
+    each = λ others are_others i variable there. asked i variable
+        (subst (λ vs. slice_get vs i ≡ Some variable) (same_read program point kind others variables sound below at are_others are) there);
+    all = λ variable reading. let found = place_of variable variables (are.read variable ∙ reading) in
+        (length old + found.0, asked found.0 variable found.1);
+  }
+    where
+      asked : (i variable : ℕ) → slice_get variables i ≡ Some variable → slice_get new (length old + i) ≡ Some (ask_for Reach point variable)
+      asked i variable there =
+          ap (λ asks. slice_get asks (length old + i)) is ∙ get_behind old (map (ask_for Reach point) variables) i
+          ∙ in_order point variables i variable there
+
+  -- the ask for a variable that it reads is of the program
+  pub read_is_ask : (variables : List ℕ) → AreRead kind variables → (variable : ℕ) → list_any (nat_eq variable) variables ≡ true
+      → IsAskOf program (ask_for Reach point variable)
+  read_is_ask variables are variable among = record {
+    point = below;
+    word = omega (arith, variables_are_there program point kind variables sound below at are variable among, variables_have_dummies program);
+  }
+
+-- the asks for one variable, and for two
+pub first_read : (asks : List Ask) (place point variable : ℕ) (kind : StmtKind) (others : List ℕ) → AsksReads asks place point kind
+    → AreRead kind (variable ∷ others)
+    → slice_get asks place ≡ Some (ask_for Reach point variable)
+first_read asks place point variable kind others asked are =
+    let here : place + 0 ≡ place = omega arith in
+    subst (λ (q : ℕ). slice_get asks q ≡ Some (ask_for Reach point variable)) here (asked.each (variable ∷ others) are 0 variable refl)
+
+pub second_read : (asks : List Ask) (place point first second : ℕ) (kind : StmtKind) → AsksReads asks place point kind
+    → AreRead kind (first ∷ second ∷ [])
+    → slice_get asks (place + 1) ≡ Some (ask_for Reach point second)
+second_read asks place point first second kind asked are = asked.each (first ∷ second ∷ []) are 1 second refl
+
+-- answers to what was asked tell a report
+pub tells : (program : Program) (asks : List Ask) (replies : Replies) (places : List PointAsks) → replies.asks ≡ asks → 64 * length asks < 2 ^ 32
+    → AreAnswers program replies → length places ≡ point_count program → AreAsked program asks places
+    → TellReport program (let reported : Reported = record { replies = replies; places = places } in reported)
+tells program asks replies places same few answers count asked = record {
+  few = subst (λ (all : List Ask). 64 * length all < 2 ^ 32) (sym same) few;
+  answers = answers;
+  count = count;
+  asked = subst (λ (all : List Ask). AreAsked program all places) (sym same) asked;
+}

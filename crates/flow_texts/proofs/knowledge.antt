@@ -1,0 +1,4 @@
+pub mod Doubts
+pub mod KnownReports
+pub mod RemarkLines
+pub mod SafeReports

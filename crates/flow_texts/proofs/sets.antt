@@ -1,0 +1,4 @@
+pub mod BitRuns
+pub mod ListTexts
+pub mod RangeLines
+pub mod Rising

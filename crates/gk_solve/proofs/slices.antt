@@ -1,0 +1,2 @@
+pub mod SliceWidths
+pub mod Slices

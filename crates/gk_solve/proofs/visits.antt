@@ -1,0 +1,5 @@
+pub mod BroughtVisits
+pub mod FlagVisits
+pub mod Listed
+pub mod SummaryVisits
+pub mod Visits

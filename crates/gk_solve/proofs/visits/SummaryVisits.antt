@@ -1,0 +1,343 @@
+-- What a visit of a point does to summaries and marks
+use Rattle.std.proofs.Common.{◌≡◌, ◌≢◌, ◌<◌, ◌≤◌, ◌+◌, inl, inr, ◌&&◌, ◌||◌, not, length, get_or, set, true, false, refl, ◌⊎◌, Bool, ℕ, List, []}
+use Rattle.std.proofs.Common.{arith, sym, ◌∙◌, subst, ap, suc, zero, ◌*◌}
+use prog.Memory.{up}
+use Rattle.std.proofs.lemmas.Bool.{cases_eq, or_left, or_right, or_cases, and_from, not_from_false}
+use Rattle.std.proofs.lemmas.List.{get_or_default, get_or-set_same, get_or-set_other}
+use Rattle.std.proofs.lemmas.List.Sums.{sum_by-set}
+use Rattle.bit_rows.specs.Words.{has_bit}
+use Rattle.flow_graph.specs.declared.edge.Edge.{Edge}
+use Rattle.flow_graph.specs.declared.edge.Edge.TheVariants.{Step, Call, Ret}
+use Rattle.flow_graph.specs.Paths.{Shape, IsEdge, source_of}
+use Rattle.flow_links.specs.Shapes.{after_site}
+use Rattle.work_list.specs.Marks.{IsMarked, AreClear}
+use Rattle.gk_solve.specs.Tables.Flags.{IsFlagged}
+use Rattle.gk_solve.specs.Tables.Groups.{Group, summary_at, kept_word, made_word, room_of_summary, room_of_summaries, SummariesGrow}
+use Rattle.gk_solve.specs.Tables.Groups.{AreSoundSummaries, IsCallerSettled, IsSummaryCallSettled, IsSummaryClosedAt, IsSummarySettled}
+use Rattle.gk_solve.specs.Tables.Groups.{SummarySpreads, AreSameBut, AreOf, AreJoined, IsKeptAcross, IsMadeAcross, WaitsFor}
+use Rattle.gk_solve.specs.Tables.Words.{HasBit, AreSoundWords, IsKept, IsMade}
+use Rattle.flow_links.specs.declared.link.CallLink.{CallLink}
+use Rattle.gk_solve.specs.declared.summary.Summary.{Summary}
+use Rattle.gk_solve.proofs.edges.WordEdges.{new_bit}
+
+-- ---- tables
+pub still_summaries : {W : ℕ} (width : ℕ) (table : List (Summary W)) → SummariesGrow width table table
+still_summaries width table w inside = (λ x k has. has, λ x k has. has)
+
+pub summaries_on : {W : ℕ} (width : ℕ) (a b c : List (Summary W)) → SummariesGrow width a b → SummariesGrow width b c → SummariesGrow width a c
+summaries_on width a b c first second w inside =
+    (λ x k has. (second w inside).0 x k ((first w inside).0 x k has), λ x k has. (second w inside).1 x k ((first w inside).1 x k has))
+
+module _ {W : ℕ} (width : ℕ) (table : List (Summary W)) (at : ℕ) (more after : Summary W) (within : at < length table)
+    (kept : AreJoined width (summary_at table at).kept more.kept after.kept)
+    (made : AreJoined width (summary_at table at).made more.made after.made) where
+  none : Summary W
+  none = record { kept = []; made = [] }
+
+  pub written : summary_at (set table at after) at ≡ after
+  unfolding none
+  written = get_or-set_same table at after none within
+
+  pub unwritten : (x : ℕ) → x ≢ at → summary_at (set table at after) x ≡ summary_at table x
+  unfolding none
+  unwritten x other = get_or-set_other table at x after none other
+
+  pub put_kept : (w k : ℕ) → w < width → has_bit (get_or more.kept w 0) k ≡ true → HasBit (kept_word (set table at after) w) at k
+  put_kept w k inside has = ap (λ (s : Summary W). has_bit (get_or s.kept w 0) k) written
+      ∙ (kept w k inside ∙ or_right (has_bit (kept_word table w at) k) (has_bit (get_or more.kept w 0) k) has)
+
+  pub put_made : (w k : ℕ) → w < width → has_bit (get_or more.made w 0) k ≡ true → HasBit (made_word (set table at after) w) at k
+  put_made w k inside has = ap (λ (s : Summary W). has_bit (get_or s.made w 0) k) written
+      ∙ (made w k inside ∙ or_right (has_bit (made_word table w at) k) (has_bit (get_or more.made w 0) k) has)
+
+  pub put_grows : SummariesGrow width table (set table at after)
+  put_grows w inside = (keeps, makes)
+    where
+      keeps : (x k : ℕ) → HasBit (kept_word table w) x k → HasBit (kept_word (set table at after) w) x k
+      keeps x k has = elim (cases_eq x at) [
+        | inl same ↦ ap (λ n. has_bit (kept_word (set table at after) w n) k) same ∙ (ap (λ (s : Summary W). has_bit (get_or s.kept w 0) k) written
+            ∙ (kept w k inside ∙ or_left (has_bit (kept_word table w at) k) (has_bit (get_or more.kept w 0) k)
+            (ap (λ n. has_bit (kept_word table w n) k) (sym same) ∙ has)))
+        | inr other ↦ ap (λ (s : Summary W). has_bit (get_or s.kept w 0) k) (unwritten x other) ∙ has
+      ]
+
+      makes : (x k : ℕ) → HasBit (made_word table w) x k → HasBit (made_word (set table at after) w) x k
+      makes x k has = elim (cases_eq x at) [
+        | inl same ↦ ap (λ n. has_bit (made_word (set table at after) w n) k) same ∙ (ap (λ (s : Summary W). has_bit (get_or s.made w 0) k) written
+            ∙ (made w k inside ∙ or_left (has_bit (made_word table w at) k) (has_bit (get_or more.made w 0) k)
+            (ap (λ n. has_bit (made_word table w n) k) (sym same) ∙ has)))
+        | inr other ↦ ap (λ (s : Summary W). has_bit (get_or s.made w 0) k) (unwritten x other) ∙ has
+      ]
+
+  pub put_less : room_of_summary after < room_of_summary (summary_at table at) → room_of_summaries (set table at after) < room_of_summaries table
+  unfolding none
+  put_less less =
+      let moved = sum_by-set room_of_summary table at after none within in
+      falls (room_of_summaries (set table at after)) (room_of_summaries table) (room_of_summary (summary_at table at)) (room_of_summary after)
+      moved less
+    where
+      falls : (new old before now : ℕ) → new + before ≡ old + now → now < before → new < old
+      falls new old before now e m = omega arith
+
+module _ {W : ℕ} (group : Group) (table : List (Summary W)) (at : ℕ) (more after : Summary W) (within : at < length table)
+    (kept : AreJoined group.width (summary_at table at).kept more.kept after.kept)
+    (made : AreJoined group.width (summary_at table at).made more.made after.made) where
+  pub put_sound : AreOf group (IsKept group.shape) more.kept at → AreOf group (IsMade group.shape) more.made at → AreSoundSummaries group table
+      → AreSoundSummaries group (set table at after)
+  put_sound keeps makes sound w inside = (kept_sound, made_sound)
+    where
+      kept_sound : AreSoundWords (IsKept group.shape (group.transfer w)) (kept_word (set table at after) w)
+      kept_sound x k low has = elim (cases_eq x at) [
+        | inl same ↦ subst (IsKept group.shape (group.transfer w) k) (sym same)
+            (elim (or_cases (has_bit (kept_word table w at) k) (has_bit (get_or more.kept w 0) k)
+            (sym (kept w k inside)
+            ∙ (sym (ap (λ (s : Summary W). has_bit (get_or s.kept w 0) k) (written group.width table at more after within kept made))
+            ∙ (ap (λ n. has_bit (kept_word (set table at after) w n) k) (sym same) ∙ has)))) [
+              | inl before ↦ (sound w inside).0 at k low before
+              | inr new ↦ keeps w k inside low new
+            ])
+        | inr other ↦ (sound w inside).0 x k low
+            (sym (ap (λ (s : Summary W). has_bit (get_or s.kept w 0) k) (unwritten group.width table at more after within kept made x other)) ∙ has)
+      ]
+
+      made_sound : AreSoundWords (IsMade group.shape (group.transfer w)) (made_word (set table at after) w)
+      made_sound x k low has = elim (cases_eq x at) [
+        | inl same ↦ subst (IsMade group.shape (group.transfer w) k) (sym same)
+            (elim (or_cases (has_bit (made_word table w at) k) (has_bit (get_or more.made w 0) k)
+            (sym (made w k inside)
+            ∙ (sym (ap (λ (s : Summary W). has_bit (get_or s.made w 0) k) (written group.width table at more after within kept made))
+            ∙ (ap (λ n. has_bit (made_word (set table at after) w n) k) (sym same) ∙ has)))) [
+              | inl before ↦ (sound w inside).1 at k low before
+              | inr new ↦ makes w k inside low new
+            ])
+        | inr other ↦ (sound w inside).1 x k low
+            (sym (ap (λ (s : Summary W). has_bit (get_or s.made w 0) k) (unwritten group.width table at more after within kept made x other)) ∙ has)
+      ]
+
+-- ---- what is settled
+abbrev exit_of : Shape → ℕ → ℕ
+exit_of shape y = shape.exit (shape.procedure_of y)
+
+module _ {W : ℕ} (group : Group) (paths : List Bool) where
+  -- what is settled stays so, where the table grows and the point that changes is marked
+  pub put_settled : (old new : List (Summary W)) (dirty dirty_after : List Bool) (at : ℕ) → SummariesGrow group.width old new
+      → ((x : ℕ) → IsMarked dirty x → IsMarked dirty_after x)
+      → AreSameBut at old new dirty_after
+      → (edge : Edge) → IsEdge group.shape edge → IsSummarySettled group paths old dirty edge → IsSummarySettled group paths new dirty_after edge
+  put_settled old new dirty dirty_after at grows keeps same edge there (inr waits) = inr (waits.0, waits.1, keeps waits.0 waits.2)
+  put_settled old new dirty dirty_after at grows keeps same (Step x y) there (inl closed) = elim (same x) [
+    | inr woken ↦ inr (x, refl, subst (IsMarked dirty_after) (sym woken.0) woken.1)
+    | inl still ↦ inl (λ w inside. (
+      λ k low at_x has unkilled.
+          (grows w inside).0 y k ((closed w inside).0 k low at_x (sym (ap (λ (s : Summary W). has_bit (get_or s.kept w 0) k) still) ∙ has) unkilled),
+      λ k low at_x either. (grows w inside).1 y k ((closed w inside).1 k low at_x (elim either [
+        | inl gens ↦ inl gens
+        | inr before ↦ inr (sym (ap (λ (s : Summary W). has_bit (get_or s.made w 0) k) still) ∙ before.0, before.1)
+      ])),
+    ))
+  ]
+  put_settled old new dirty dirty_after at grows keeps same (Call site x y) there (inl closed) = elim (same x) [
+    | inr woken ↦ inr (x, inl refl, subst (IsMarked dirty_after) (sym woken.0) woken.1)
+    | inl still ↦ elim (same (exit_of group.shape y)) [
+      | inr woken ↦ inr (exit_of group.shape y, inr refl, subst (IsMarked dirty_after) (sym woken.0) woken.1)
+      | inl through ↦ inl (λ w inside. (
+        λ k low at_x at_exit has passes. (grows w inside).0 (after_site group.backward site) k
+            ((closed w inside).0 k low at_x at_exit (sym (ap (λ (s : Summary W). has_bit (get_or s.kept w 0) k) still)
+            ∙ has) (sym (ap (λ (s : Summary W). has_bit (get_or s.kept w 0) k) through) ∙ passes)),
+        λ k low at_x at_exit either. (grows w inside).1 (after_site group.backward site) k ((closed w inside).1 k low at_x at_exit (elim either [
+          | inl callee ↦ inl (sym (ap (λ (s : Summary W). has_bit (get_or s.made w 0) k) through) ∙ callee)
+          | inr before ↦ inr (
+            sym (ap (λ (s : Summary W). has_bit (get_or s.made w 0) k) still) ∙ before.0,
+            sym (ap (λ (s : Summary W). has_bit (get_or s.kept w 0) k) through) ∙ before.1,
+          )
+        ])),
+      ))
+    ]
+  ]
+  put_settled old new dirty dirty_after at grows keeps same (Ret site x y) there (inl closed) = inl (λ w inside. (tt, tt))
+
+  -- a step whose bits were put is settled
+  pub step_settled : (x y : ℕ) (old new : List (Summary W)) (dirty_after : List Bool) (more : Summary W)
+      → IsKeptAcross group x y (summary_at old x).kept more.kept → IsMadeAcross group x y (summary_at old x).made more.made
+      → AreSameBut y old new dirty_after
+      → ((w k : ℕ) → w < group.width → has_bit (get_or more.kept w 0) k ≡ true → HasBit (kept_word new w) y k)
+      → ((w k : ℕ) → w < group.width → has_bit (get_or more.made w 0) k ≡ true → HasBit (made_word new w) y k)
+      → IsSummarySettled group paths new dirty_after (Step x y)
+  step_settled x y old new dirty_after more keep make same kept_added made_added = elim (same x) [
+    | inr woken ↦ inr (x, refl, subst (IsMarked dirty_after) (sym woken.0) woken.1)
+    | inl still ↦ inl (λ w inside. (
+      λ k low at_x has unkilled.
+          kept_added w k inside (keep w k inside low ∙ and_from (has_bit (kept_word old w x) k) (not ((group.transfer w k).kill x y))
+          (sym (ap (λ (s : Summary W). has_bit (get_or s.kept w 0) k) still) ∙ has) (not_from_false ((group.transfer w k).kill x y) unkilled)),
+      λ k low at_x either. made_added w k inside (make w k inside low
+          ∙ new_bit ((group.transfer w k).gen x y) (has_bit (made_word old w x) k) (not ((group.transfer w k).kill x y)) (elim either [
+            | inl gens ↦ inl gens
+            | inr before ↦
+                inr (
+                  sym (ap (λ (s : Summary W). has_bit (get_or s.made w 0) k) still) ∙ before.0,
+                  not_from_false ((group.transfer w k).kill x y) before.1,
+                )
+          ])),
+    ))
+  ]
+
+  -- a call whose bits were put is settled
+  pub call_settled : (site x y : ℕ) → IsEdge group.shape (Call site x y) → (old new : List (Summary W)) (dirty_after : List Bool) (more : Summary W)
+      → ((w k : ℕ) → w < group.width
+      → has_bit (get_or more.kept w 0) k ≡ (has_bit (kept_word old w x) k && has_bit (kept_word old w (exit_of group.shape y)) k))
+      → ((w k : ℕ) → w < group.width → has_bit (get_or more.made w 0) k ≡ (has_bit (made_word old w (exit_of group.shape y)) k
+      || (has_bit (made_word old w x) k && has_bit (kept_word old w (exit_of group.shape y)) k)))
+      → AreSameBut (after_site group.backward site) old new dirty_after
+      → ((w k : ℕ) → w < group.width → has_bit (get_or more.kept w 0) k ≡ true → HasBit (kept_word new w) (after_site group.backward site) k)
+      → ((w k : ℕ) → w < group.width → has_bit (get_or more.made w 0) k ≡ true → HasBit (made_word new w) (after_site group.backward site) k)
+      → IsSummarySettled group paths new dirty_after (Call site x y)
+  call_settled site x y there old new dirty_after more keep make same kept_added made_added = elim (same x) [
+    | inr woken ↦ inr (x, inl refl, subst (IsMarked dirty_after) (sym woken.0) woken.1)
+    | inl still ↦ elim (same (exit_of group.shape y)) [
+      | inr woken ↦ inr (exit_of group.shape y, inr refl, subst (IsMarked dirty_after) (sym woken.0) woken.1)
+      | inl through ↦ inl (λ w inside. (
+        λ k low at_x at_exit has passes.
+            kept_added w k inside (keep w k inside ∙ and_from (has_bit (kept_word old w x) k) (has_bit (kept_word old w (exit_of group.shape y)) k)
+            (sym (ap (λ (s : Summary W). has_bit (get_or s.kept w 0) k) still)
+            ∙ has) (sym (ap (λ (s : Summary W). has_bit (get_or s.kept w 0) k) through) ∙ passes)),
+        λ k low at_x at_exit either. made_added w k inside (make w k inside ∙ new_bit (has_bit (made_word old w (exit_of group.shape y)) k)
+            (has_bit (made_word old w x) k) (has_bit (kept_word old w (exit_of group.shape y)) k) (elim either [
+              | inl callee ↦ inl (sym (ap (λ (s : Summary W). has_bit (get_or s.made w 0) k) through) ∙ callee)
+              | inr before ↦ inr (
+                sym (ap (λ (s : Summary W). has_bit (get_or s.made w 0) k) still) ∙ before.0,
+                sym (ap (λ (s : Summary W). has_bit (get_or s.kept w 0) k) through) ∙ before.1,
+              )
+            ])),
+      ))
+    ]
+  ]
+
+  -- a call whose callee's exit has no path is settled
+  pub call_blocked : (site x y : ℕ) (table : List (Summary W)) (dirty : List Bool) → (IsFlagged paths (exit_of group.shape y) → ⊥)
+      → IsSummarySettled group paths table dirty (Call site x y)
+  call_blocked site x y table dirty never =
+      inl (λ w inside. (λ k low at_x at_exit has passes. absurd (never at_exit), λ k low at_x at_exit either. absurd (never at_exit)))
+
+  -- the edges of a point without a path are
+  pub settled_off_path : (edge : Edge) (table : List (Summary W)) (dirty : List Bool) → (IsFlagged paths (source_of edge) → ⊥)
+      → IsSummarySettled group paths table dirty edge
+  settled_off_path (Step x y) table dirty never =
+      inl (λ w inside. (λ k low at_x has unkilled. absurd (never at_x), λ k low at_x either. absurd (never at_x)))
+  settled_off_path (Call site x y) table dirty never =
+      inl (λ w inside. (λ k low at_x at_exit has passes. absurd (never at_x), λ k low at_x at_exit either. absurd (never at_x)))
+  settled_off_path (Ret site x y) table dirty never = inl (λ w inside. (tt, tt))
+
+  -- the edges that wait for a point are its steps and calls, and the calls that are left there
+  pub by_waits : (table : List (Summary W)) (dirty : List Bool) (at : ℕ)
+      → ((y : ℕ) → IsEdge group.shape (Step at y) → IsSummarySettled group paths table dirty (Step at y))
+      → ((site y : ℕ) → IsEdge group.shape (Call site at y) → IsSummarySettled group paths table dirty (Call site at y))
+      → ((site x y : ℕ) → IsEdge group.shape (Call site x y) → exit_of group.shape y ≡ at → IsSummarySettled group paths table dirty (Call site x y))
+      → (edge : Edge) → IsEdge group.shape edge → WaitsFor group.shape edge at → IsSummarySettled group paths table dirty edge
+  by_waits table dirty at steps calls callers (Step x y) there same =
+      subst (λ n. IsSummarySettled group paths table dirty (Step n y)) (sym same) (steps y (subst (λ n. IsEdge group.shape (Step n y)) same there))
+  by_waits table dirty at steps calls callers (Call site x y) there (inl same) =
+      subst (λ n. IsSummarySettled group paths table dirty (Call site n y)) (sym same)
+      (calls site y (subst (λ n. IsEdge group.shape (Call site n y)) same there))
+  by_waits table dirty at steps calls callers (Call site x y) there (inr left) = callers site x y there left
+  by_waits table dirty at steps calls callers (Ret site x y) there waits = absurd waits
+
+  -- those that wait for a point without a path are settled
+  pub off_path : (table : List (Summary W)) (dirty : List Bool) (at : ℕ) → (IsFlagged paths at → ⊥)
+      → (edge : Edge) → IsEdge group.shape edge → WaitsFor group.shape edge at → IsSummarySettled group paths table dirty edge
+  off_path table dirty at never (Step x y) there same =
+      settled_off_path (Step x y) table dirty (λ flagged. never (subst (IsFlagged paths) same flagged))
+  off_path table dirty at never (Call site x y) there (inl same) =
+      settled_off_path (Call site x y) table dirty (λ flagged. never (subst (IsFlagged paths) same flagged))
+  off_path table dirty at never (Call site x y) there (inr left) =
+      call_blocked site x y table dirty (λ flagged. never (subst (IsFlagged paths) left flagged))
+  off_path table dirty at never (Ret site x y) there waits = absurd waits
+
+  -- a mark that is taken leaves each edge settled but those that wait for its point
+  pub waits_but : (table : List (Summary W)) (dirty : List Bool) (at : ℕ) (edge : Edge) → IsSummarySettled group paths table dirty edge
+      → WaitsFor group.shape edge at ⊎ IsSummarySettled group paths table (set dirty at false) edge
+  waits_but table dirty at edge (inl closed) = inr (inl closed)
+  waits_but table dirty at edge (inr waits) = elim (cases_eq waits.0 at) [
+    | inl same ↦ inl (subst (WaitsFor group.shape edge) same waits.1)
+    | inr other ↦ inr (inr (waits.0, waits.1, get_or-set_other dirty at waits.0 false false other ∙ waits.2))
+  ]
+
+  -- where all is to be visited, each edge is settled
+  pub all_wait : (table : List (Summary W)) (dirty : List Bool) → ((edge : Edge) → IsEdge group.shape edge → IsMarked dirty (source_of edge))
+      → (edge : Edge) → IsEdge group.shape edge → IsSummarySettled group paths table dirty edge
+  all_wait table dirty marked (Step x y) there = inr (x, refl, marked (Step x y) there)
+  all_wait table dirty marked (Call site x y) there = inr (x, inl refl, marked (Call site x y) there)
+  all_wait table dirty marked (Ret site x y) there = inl (λ w inside. (tt, tt))
+
+  -- where none is, each edge is closed
+  pub none_waits : (table : List (Summary W)) (dirty : List Bool)
+      → ((edge : Edge) → IsEdge group.shape edge → IsSummarySettled group paths table dirty edge) → AreClear dirty
+      → (edge : Edge) → IsEdge group.shape edge → IsSummaryClosedAt group paths table edge
+  none_waits table dirty settled clear edge there = elim (settled edge there) [
+    | inl closed ↦ closed
+    | inr waits ↦ let none : get_or dirty waits.0 false ≡ false = clear waits.0 in let marked = waits.2 in absurd (cc)
+  ]
+
+-- what a summary that is put does, where its point is marked
+module _ {W : ℕ} (group : Group) (paths : List Bool) (table : List (Summary W)) (dirty dirty_after : List Bool) (at : ℕ)
+    (before more after : Summary W) (within : at < length table)
+    (read : before ≡ get_or table at before) (kept : AreJoined group.width before.kept more.kept after.kept)
+    (made : AreJoined group.width before.made more.made after.made) where
+  here : before ≡ summary_at table at
+  here = read ∙ get_or_default table at before (record { kept = []; made = [] }) within
+
+  here_kept : AreJoined group.width (summary_at table at).kept more.kept after.kept
+  here_kept = subst (λ (s : Summary W). AreJoined group.width s.kept more.kept after.kept) here kept
+
+  here_made : AreJoined group.width (summary_at table at).made more.made after.made
+  here_made = subst (λ (s : Summary W). AreJoined group.width s.made more.made after.made) here made
+
+  pub put_same : IsMarked dirty_after at → AreSameBut at table (set table at after) dirty_after
+  put_same marked x = elim (cases_eq x at) [
+    | inl same ↦ inr (same, marked)
+    | inr other ↦ inl (unwritten group.width table at more after within here_kept here_made x other)
+  ]
+
+  pub put_spreads : length dirty_after ≡ length dirty → ((x : ℕ) → IsMarked dirty x → IsMarked dirty_after x) → IsMarked dirty_after at
+      → room_of_summary after < room_of_summary before
+      → AreOf group (IsKept group.shape) more.kept at → AreOf group (IsMade group.shape) more.made at
+      → SummarySpreads group paths table dirty (set table at after) dirty_after
+  put_spreads count keeps marked less are_kept are_made =
+      let grows = put_grows group.width table at more after within here_kept here_made in
+      record {
+        count = count;
+        grows = grows;
+        settled = put_settled group paths table (set table at after) dirty dirty_after at grows keeps (put_same marked);
+        progress = inr (put_less group.width table at more after within here_kept here_made
+            (subst (λ (s : Summary W). room_of_summary after < room_of_summary s) here less));
+        sound = put_sound group table at more after within here_kept here_made are_kept are_made;
+      }
+
+-- what is settled of a caller stays so
+pub caller_settled_more : {W : ℕ} (group : Group) (paths : List Bool) (exit : ℕ) (t0 : List (Summary W)) (d0 : List Bool) (t1 : List (Summary W))
+    (d1 : List Bool) (x : ℕ)
+    → SummarySpreads group paths t0 d0 t1 d1 → IsCallerSettled group paths exit t0 d0 x → IsCallerSettled group paths exit t1 d1 x
+caller_settled_more group paths exit t0 d0 t1 d1 x spreads is =
+    record { settled = λ site y there left. spreads.settled (Call site x y) there (is.settled site y there left) }
+
+-- what a call's link tells of stays settled
+pub call_settled_more : {W : ℕ} (group : Group) (paths : List Bool) (at : ℕ) (t0 : List (Summary W)) (d0 : List Bool) (t1 : List (Summary W))
+    (d1 : List Bool) (link : CallLink) → SummarySpreads group paths t0 d0 t1 d1
+    → IsSummaryCallSettled group paths at t0 d0 link → IsSummaryCallSettled group paths at t1 d1 link
+call_settled_more group paths at t0 d0 t1 d1 link spreads is =
+    record { settled = λ site y there exit after. spreads.settled (Call site at y) there (is.settled site y there exit after) }
+
+-- a summary of few words has a size
+pub has_size : (W : ℕ) → W ≤ 8 → up 8 (up 8 (0 + W * 8) + W * 8) < 9223372036854775808
+has_size W few = by_words W few
+  where
+    by_words : (n : ℕ) → n ≤ 8 → up 8 (up 8 (0 + n * 8) + n * 8) < 9223372036854775808
+    by_words zero few = omega arith
+    by_words (suc zero) few = omega arith
+    by_words (suc (suc zero)) few = omega arith
+    by_words (suc (suc (suc zero))) few = omega arith
+    by_words (suc (suc (suc (suc zero)))) few = omega arith
+    by_words (suc (suc (suc (suc (suc zero))))) few = omega arith
+    by_words (suc (suc (suc (suc (suc (suc zero)))))) few = omega arith
+    by_words (suc (suc (suc (suc (suc (suc (suc zero))))))) few = omega arith
+    by_words (suc (suc (suc (suc (suc (suc (suc (suc zero)))))))) few = omega arith
+    by_words (suc (suc (suc (suc (suc (suc (suc (suc (suc n))))))))) few = absurd (omega (arith, few))

@@ -1,0 +1,4 @@
+pub mod Counting
+pub mod Endings
+pub mod Keeps
+pub mod Passing

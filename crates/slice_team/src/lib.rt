@@ -1,0 +1,14 @@
+//! A team of workers over a board: each draws slices, solves and posts them, and finishes them, until none is left, whatever it is that the
+//! board wants.
+#![tactic(auto)]
+
+mod gate;
+mod slice_job;
+mod solve;
+mod workers;
+
+pub use gate::{Gate, OpenGate};
+pub use slice_job::SliceJob;
+pub use solve::Solve;
+pub use std::alloc::AllocError as OutOfMemory;
+pub use workers::{run_here, run_workers};

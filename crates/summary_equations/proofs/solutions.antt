@@ -1,0 +1,4 @@
+pub mod Decided
+pub mod ExampleLemmas
+pub mod Least
+pub mod SolutionTests

@@ -1,0 +1,2 @@
+pub mod FactWords
+pub mod Told
