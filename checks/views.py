@@ -1,6 +1,6 @@
 """Tries tacview on each program of examples/. Each line of JSON is parsed and compared with what tacflow writes of the same program: tables,
 report, listing and source. Each picture goes through Graphviz, where `dot` is there. Then the facts of one procedure of a larger program have
-to do with the memory of its points. TACVIEW=/path/to/program and TACFLOW=/path/to/program take other programs than ./tacview and ./tacflow.
+to do with the memory of its points, and the report of a program with many tests and expressions with that of the words that have a bit. TACVIEW=/path/to/program and TACFLOW=/path/to/program take other programs than ./tacview and ./tacflow.
 Prints `N passed, M failed`."""
 
 import json
@@ -125,18 +125,36 @@ def check_dot(source):
         assert done.returncode == 0 and not done.stderr, done.stderr.decode()
 
 
-def check_memory(source):
-    """The facts of one procedure take at most 100 MB, where a table of all points would take 150 by itself."""
+def run_within(kilobytes, words, source):
+    """What tacview writes within the large limits, and in so much memory."""
     with tempfile.TemporaryFile() as file:
         file.write(source)
         file.seek(0)
-        words = [TACVIEW, "--limits", "large", "--format", "json", "--procedure", "p7"]
-        started = subprocess.Popen(words, stdin=file, stdout=subprocess.PIPE)
-        points = started.stdout.read().count(b'"type":"point"')
+        started = subprocess.Popen([TACVIEW, "--limits", "large", *words], stdin=file, stdout=subprocess.PIPE)
+        written = started.stdout.read()
         _, status, used = os.wait4(started.pid, 0)
         started.returncode = os.waitstatus_to_exitcode(status)
-    assert started.returncode == 0 and points == 101, (started.returncode, points)
-    assert used.ru_maxrss < 100000, used.ru_maxrss
+    assert started.returncode == 0, started.returncode
+    assert used.ru_maxrss < kilobytes, used.ru_maxrss
+    return written
+
+
+def check_memory(source):
+    """The facts of one procedure take at most 100 MB, where a table of all points would take 150 by itself."""
+    written = run_within(100000, ["--format", "json", "--procedure", "p7"], source)
+    points = written.count(b'"type":"point"')
+    assert points == 101, points
+
+
+def check_rounds(source):
+    """Of 20,003 expressions three are very busy at each of 30,000 tests. One worker asks for them in ten rounds, three in seven. A block of
+    all words of all tests would take 75 MB by itself, and 350 with what is asked for each."""
+    wanted = [f"{line}: {name} is very busy" for line in range(4, 30004) for name in ("s + t", "s - t", "s * t")]
+    for workers in ("1", "3"):
+        rows = run_within(150000, ["--format", "report", "--workers", workers], source).decode().splitlines()
+        busy = [row for row in rows if row.endswith("is very busy")]
+        assert rows[0] == "points 50007, variables 4, definitions 20010, expressions 20003", rows[0]
+        assert busy == wanted, (len(busy), busy[:3])
 
 
 def many_procedures():
@@ -147,9 +165,19 @@ def many_procedures():
     return ("\n".join(rows) + "\n").encode()
 
 
+def many_tests():
+    """30,000 tests that lead on either way, and behind them 20,003 expressions, of which the first, one in the middle and the last have their
+    operands before the tests."""
+    rows = ["proc main", "read s", "read t"]
+    rows += [f"T{k}: if s goto T{k + 1}" for k in range(30000)]
+    rows += ["T30000: x = s + t", "read v", *(f"x = v + {k}" for k in range(10000)), "x = s - t"]
+    rows += [*(f"x = v - {k}" for k in range(10000)), "x = s * t", "end"]
+    return ("\n".join(rows) + "\n").encode()
+
+
 def main():
-    """Tries all examples, and a larger program."""
-    tries = [("many procedures", check_memory, many_procedures())]
+    """Tries all examples, and two larger programs."""
+    tries = [("many procedures", check_memory, many_procedures()), ("many tests", check_rounds, many_tests())]
     for name in sorted(name for name in os.listdir(EXAMPLES) if name.endswith(".tac")):
         with open(os.path.join(EXAMPLES, name), "rb") as file:
             source = file.read()

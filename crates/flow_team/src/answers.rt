@@ -1,6 +1,6 @@
 // What was asked, with its answers.
 ghost use Rattle.std.specs.List.{range_with_len};
-ghost use Rattle.std.specs.Prelude.{◌≡◌, ◌↔◌, ℕ, ◌<◌, false, true, Some, length, map, slice_get, slice_index, slice_index_or, IfOk};
+ghost use Rattle.std.specs.Prelude.{◌≡◌, ◌↔◌, ℕ, ◌<◌, ◌≤◌, false, true, Some, length, map, slice_get, slice_index, slice_index_or, take, IfOk};
 ghost use Rattle.bit_rows.specs.RowSet.{contains};
 ghost use Rattle.bit_rows.specs.RowTable.{set_at};
 ghost use Rattle.flow_graph.specs.Points.{point_count};
@@ -8,11 +8,13 @@ ghost use Rattle.flow_graph.specs.declared.analysis.Analysis.TheVariants.{Reach,
 ghost use Rattle.flow_team.specs.Asks.{AreAnswers, AreAsksOf, IsAnswerTo, IsAskOf, flags_of};
 ghost use Rattle.flow_team.specs.Tables.{IsTableOf, facts_of};
 ghost use Rattle.flow_team.specs.declared.ask.Ask.{Ask as AskValue};
-ghost use Rattle.flow_team.specs.code.Boards.{IsWanted};
+ghost use Rattle.flow_team.specs.code.Boards.{AreDirections, IsWanted};
+ghost use Rattle.tac_program.specs.Programs.{Program};
 
 use crate::OutOfMemory;
 use crate::ask::Ask;
 use crate::asked::AskedWords;
+use crate::direction::DirectionSolvers;
 use crate::table::Table;
 use flow_graph::{Analysis, Graph};
 use slice_board::PostedWords;
@@ -120,26 +122,29 @@ fn flags_in(alloc: Global, graph: &Graph<'_>, table: &Table) -> Result<Vec<bool>
 }
 
 impl Answers {
-    /// The answers, of what was posted.
-    pub(crate) fn of(
+    /// The answers, of what was posted, and the solvers of both directions.
+    pub(crate) fn of<'g, 'p>(
         alloc: Global,
-        asked: AskedWords<'_, '_>,
+        asked: AskedWords<'g, 'p>,
         posted: &PostedWords,
-    ) -> Result<Answers, OutOfMemory>
+    ) -> Result<(Answers, DirectionSolvers<'g, 'p>, DirectionSolvers<'g, 'p>), OutOfMemory>
         requires one { length posted.now.flags ≡ 1 }
         requires rows { (point bit : ℕ) → (contains (set_at posted.now point) bit ≡ true) ↔ IsWanted asked point bit }
-        ensures asks { IfOk result (λ answers. answers.asks ≡ asked.entry.asks) }
-        ensures answers { IfOk result (AreAnswers asked.entry.program) }
+        ensures asks { IfOk result (λ r. r.0.asks ≡ asked.entry.asks) }
+        ensures answers { IfOk result (λ r. AreAnswers asked.entry.program r.0) }
+        ensures directions { IfOk result (λ r. AreDirections asked.entry.program r.1 r.2) }
     {
         let mut words = vec![in alloc; 0u64; asked.asks().len()]?;
         asked.put_answers(posted, words.as_mut_slice());
-        let (asks, forward, backward) = asked.into_parts();
-        Ok(Answers {
+        let (forward, backward) = asked.flags(alloc)?;
+        let (asks, forth, back) = asked.into_parts();
+        let answers = Answers {
             asks,
             words,
             forward,
             backward,
-        })
+        };
+        Ok((answers, forth, back))
     }
 
     /// The answers to asks of a graph, read out of its tables: those of reaching definitions, live variables, available and very busy
@@ -170,6 +175,25 @@ impl Answers {
             forward,
             backward,
         })
+    }
+
+    /// Gives up all asks but so many, the first ones, and their memory. The condition: there are as many, each with its answer. Fails only
+    /// where memory runs out.
+    pub fn truncate(&mut self, alloc: Global, count: usize) -> Result<(), OutOfMemory>
+        requires most { count ≤ length self.old.asks }
+        requires answered { length self.old.words ≡ length self.old.asks }
+        ensures asks { IfOk result (λ _. self.new.asks ≡ take count self.old.asks) }
+        ensures answers { IfOk result (λ _. (program : Program) → AreAnswers program self.old → AreAnswers program self.new) }
+    {
+        let mut asks = Vec::with_capacity(alloc, count)?;
+        let mut words = Vec::with_capacity(alloc, count)?;
+        for number in 0..count {
+            asks.push(self.asks[number])?;
+            words.push(self.words[number])?;
+        }
+        self.asks = asks;
+        self.words = words;
+        Ok(())
     }
 
     /// How many asks there are.

@@ -21,6 +21,11 @@ pub(crate) fn groups_for(bits: u32) -> u32
     bits.div_ceil(64 * GROUP_WORDS).max(1)
 }
 
+/// How many slices the asks for so many words of an analysis are cut into, of so many bits each.
+pub fn slices_of(words: u32, cut: u32) -> u32 {
+    words.div_ceil(GROUP_WORDS).div_ceil(groups_for(cut))
+}
+
 /// The order of asks group by group.
 #[derive(Drop)]
 pub(crate) struct AskOrder {

@@ -10,7 +10,8 @@ ghost use Rattle.slice_board.specs.Boards.{IsOf};
 ghost use Rattle.flow_team.specs.Asks.{AreAsksOf, IsAnswerTo};
 ghost use Rattle.flow_team.specs.Sets.{IsInMaySet};
 ghost use Rattle.slice_team.specs.Teams.{PostsMore};
-ghost use Rattle.flow_team.specs.code.Boards.{AreDone, AreTold, Arranges, IsAmong, IsArranged, IsAskBoard, IsWanted, NoneOf, ordered};
+ghost use Rattle.flow_team.specs.code.Boards.{AreDirections, AreDone, AreTold, Arranges, IsAmong, IsArranged, IsAskBoard, IsWanted, NoneOf};
+ghost use Rattle.flow_team.specs.code.Boards.{ordered};
 ghost use Rattle.flow_team.specs.code.Directions.{form_of};
 
 use crate::OutOfMemory;
@@ -210,11 +211,20 @@ impl<'g, 'p> AskedWords<'g, 'p> {
         self.asks.as_slice()
     }
 
-    /// The asks, and the path flags of both directions.
-    pub(crate) fn into_parts(self) -> (Vec<Ask>, Vec<bool>, Vec<bool>)
+    /// The path flags of both directions. Fails only where memory runs out.
+    pub(crate) fn flags(&self, alloc: Global) -> Result<(Vec<bool>, Vec<bool>), OutOfMemory>
+        ensures forward { IfOk result (λ r. HasPathFlags (form_of self.now.program Reach) r.0.items) }
+        ensures backward { IfOk result (λ r. HasPathFlags (form_of self.now.program Live) r.1.items) }
+    {
+        let forward = self.forward.flags(alloc)?;
+        let backward = self.backward.flags(alloc)?;
+        Ok((forward, backward))
+    }
+
+    /// The asks, and the solvers of both directions.
+    pub(crate) fn into_parts(self) -> (Vec<Ask>, DirectionSolvers<'g, 'p>, DirectionSolvers<'g, 'p>)
         ensures asks { result.0.items ≡ self.entry.asks }
-        ensures forward { HasPathFlags (form_of self.entry.program Reach) result.1.items }
-        ensures backward { HasPathFlags (form_of self.entry.program Live) result.2.items }
+        ensures directions { AreDirections self.entry.program result.1 result.2 }
     {
         let AskedWords {
             forward,
@@ -222,7 +232,7 @@ impl<'g, 'p> AskedWords<'g, 'p> {
             asks,
             places: _,
         } = self;
-        (asks, forward.into_flags(), backward.into_flags())
+        (asks, forward, backward)
     }
 
     // Posts the word of an ask, which is among those that were solved last, unless it has no bit.

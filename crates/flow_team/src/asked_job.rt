@@ -4,6 +4,7 @@ ghost use Rattle.flow_graph.specs.Analyses.{is_backward};
 ghost use Rattle.flow_graph.specs.declared.analysis.Analysis.TheVariants.{Reach, Live, Avail, Busy};
 ghost use Rattle.slice_board.specs.Boards.{IsOf, fresh_pass};
 ghost use Rattle.flow_team.specs.Asks.{AreAnswers, AreAsksOf};
+ghost use Rattle.flow_team.specs.code.Boards.{AreDirections};
 
 use crate::OutOfMemory;
 use crate::answers::Answers;
@@ -14,7 +15,7 @@ use crate::direction::DirectionSolvers;
 use crate::halves::{Half, side_by_side};
 use bit_rows::{Cut, CutFault};
 use flow_graph::{Analysis, Graph};
-use slice_board::{Pass, WordBoard};
+use slice_board::{Pass, Unfinished, WordBoard};
 use slice_team::SliceJob;
 use std::alloc::Global;
 use std::thread::Threads;
@@ -164,19 +165,20 @@ pub(crate) fn asked_job<'g, 'p>(
     on_board(alloc, asked, cut)
 }
 
-/// The answers, where every slice is finished.
+/// The answers, where every slice is finished, and the solvers of both directions.
 pub(crate) fn answers_of<'g, 'p>(
     alloc: Global,
     job: AskedJob<'g, 'p>,
     pass: Pass<AskedWords<'g, 'p>>,
-) -> Result<Answers, OutOfMemory>
+) -> Result<(Answers, DirectionSolvers<'g, 'p>, DirectionSolvers<'g, 'p>), OutOfMemory>
     requires { IsOf job pass }
-    ensures asks { IfOk result (λ r. r.asks ≡ job.entry.wanted.asks) }
-    ensures answers { IfOk result (AreAnswers job.entry.wanted.program) }
+    ensures asks { IfOk result (λ r. r.0.asks ≡ job.entry.wanted.asks) }
+    ensures answers { IfOk result (λ r. AreAnswers job.entry.wanted.program r.0) }
+    ensures directions { IfOk result (λ r. AreDirections job.entry.wanted.program r.1 r.2) }
 {
     match job.close(pass) {
         Ok((asked, posted)) => Answers::of(alloc, asked, &posted),
         // A worker that was refused memory left its slice unfinished.
-        Err(_) => Err(OutOfMemory),
+        Err((Unfinished { .. }, _job, _pass)) => Err(OutOfMemory),
     }
 }

@@ -10,13 +10,11 @@ use gk_solve::{Routes, Solver};
 use std::alloc::Global;
 use std::marker::Model;
 
-/// Solvers of a graph's analysis over some path in a direction and of the one over every path, and the edges and the path flags, which both
-/// share.
+/// Solvers of a graph's analysis over some path in a direction and of the one over every path, and the edges and paths, which both share.
 pub(crate) struct DirectionSolvers<'g, 'p> {
     some: Solver<'g, 'p>,
     every: Solver<'g, 'p>,
     routes: Routes<'g, 'p>,
-    flags: Vec<bool>,
 }
 
 impl<'g, 'p> Model for DirectionSolvers<'g, 'p> {
@@ -26,7 +24,7 @@ impl<'g, 'p> Model for DirectionSolvers<'g, 'p> {
 
     ghost view = { λ d. record { program = d.some.program; some = d.some.analysis; every = d.every.analysis } };
 
-    ghost invariant = { λ d. IsDirection d.some d.every d.routes d.flags.items };
+    ghost invariant = { λ d. IsDirection d.some d.every d.routes };
 }
 
 impl Drop for DirectionSolvers<'_, '_> {
@@ -36,7 +34,6 @@ impl Drop for DirectionSolvers<'_, '_> {
             some: _,
             every: _,
             routes: _,
-            flags: _,
         } = self;
     }
 }
@@ -67,12 +64,10 @@ impl<'g, 'p> DirectionSolvers<'g, 'p> {
         let every = solver_of(alloc, graph, every)?;
         let some = solver_of(alloc, graph, some)?;
         let routes = Routes::of(alloc, some.problem())?;
-        let flags = some.flags(alloc, &routes)?;
         Ok(DirectionSolvers {
             some,
             every,
             routes,
-            flags,
         })
     }
 
@@ -98,16 +93,10 @@ impl<'g, 'p> DirectionSolvers<'g, 'p> {
         &self.routes
     }
 
-    /// The path flag of each point.
-    pub(crate) fn into_flags(self) -> Vec<bool>
-        ensures { HasPathFlags (form_of self.entry.program self.entry.some) result.items }
+    /// The path flag of each point. Fails only where memory runs out.
+    pub(crate) fn flags(&self, alloc: Global) -> Result<Vec<bool>, OutOfMemory>
+        ensures { IfOk result (λ flags. HasPathFlags (form_of self.now.program self.now.some) flags.items) }
     {
-        let DirectionSolvers {
-            some: _,
-            every: _,
-            routes: _,
-            flags,
-        } = self;
-        flags
+        self.some.flags(alloc, &self.routes)
     }
 }

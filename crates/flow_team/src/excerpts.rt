@@ -15,7 +15,7 @@ use crate::table::Table;
 use crate::tables::even_cut;
 use bit_rows::Cut;
 use flow_graph::{Analysis, Graph};
-use slice_board::{Pass, PostedWords, Wanted, WordBoard};
+use slice_board::{Pass, PostedWords, Unfinished, Wanted, WordBoard};
 use slice_team::{Gate, SliceJob, Solve, run_workers};
 use std::alloc::Global;
 use std::marker::Model;
@@ -137,7 +137,7 @@ fn closed_table<'g, 'p>(
     match job.close(pass) {
         Ok((excerpt, posted)) => Ok(excerpt.table(posted)),
         // A worker that was refused memory left its slice unfinished.
-        Err(_) => Err(OutOfMemory),
+        Err((Unfinished { .. }, _job, _pass)) => Err(OutOfMemory),
     }
 }
 

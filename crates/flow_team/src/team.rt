@@ -6,15 +6,15 @@ ghost use Rattle.flow_team.specs.Tables.{IsTableOf};
 
 use crate::OutOfMemory;
 use crate::answers::Answers;
-use crate::arrange::groups_for;
 use crate::ask::Ask;
-use crate::asked_job::{answers_of, asked_job, directions, directions_here};
 use crate::fault::TeamFault;
 use crate::job::Job;
+use crate::solvers::GraphSolvers;
 use crate::table::Table;
 use bit_rows::Cut;
 use flow_graph::{Analysis, Graph};
-use slice_team::{Gate, run_here, run_workers};
+use slice_board::Unfinished;
+use slice_team::Gate;
 use std::alloc::Global;
 use std::thread::Threads;
 
@@ -45,7 +45,7 @@ fn worked_table<'g, 'p, R: Threads + Sync, G: Gate>(
     match job.close(pass) {
         Ok(table) => Ok(table),
         // A worker that was refused memory left its slice unfinished.
-        Err(_) => Err(OutOfMemory),
+        Err((Unfinished { .. }, _job, _pass)) => Err(OutOfMemory),
     }
 }
 
@@ -92,10 +92,9 @@ fn worked_answers<'g, 'p, R: Threads + Sync, G: Gate>(
     ensures asks { IfOk result (λ r. r.asks ≡ asks.items) }
     ensures answers { IfOk result (AreAnswers graph.now) }
 {
-    let directions = directions(rt, alloc, graph, workers)?;
-    let (job, pass) = asked_job(alloc, directions, asks, groups_for(cut))?;
-    let pass = run_workers(rt, alloc, &job, gate, workers, pass)?;
-    answers_of(alloc, job, pass)
+    let solvers = GraphSolvers::of(rt, alloc, graph, workers)?;
+    let (answers, _solvers) = solvers.answer(rt, alloc, asks, cut, workers, gate)?;
+    Ok(answers)
 }
 
 /// The words that are asked of a graph's four analyses, by so many workers: of each the bits in the analysis's set at the ask's point,
@@ -135,8 +134,7 @@ pub fn answer_here(alloc: Global, graph: &Graph<'_>, asks: Vec<Ask>) -> Result<A
     ensures asks { IfOk result (λ r. r.asks ≡ asks.items) }
     ensures answers { IfOk result (AreAnswers graph.now) }
 {
-    let directions = directions_here(alloc, graph)?;
-    let (job, pass) = asked_job(alloc, directions, asks, 1)?;
-    let pass = run_here(alloc, &job, pass)?;
-    answers_of(alloc, job, pass)
+    let solvers = GraphSolvers::of_here(alloc, graph)?;
+    let (answers, _solvers) = solvers.answer_here(alloc, asks)?;
+    Ok(answers)
 }

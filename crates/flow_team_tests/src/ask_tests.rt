@@ -9,7 +9,9 @@ use crate::gates::Recorder;
 use crate::table_tests::{BITS_OF_TWO_GROUPS, Cutting, WORKERS, table_by};
 use crate::texts::{Question, check, sums};
 use flow_graph::{Analysis, Graph, OutOfMemory};
-use flow_team::{Answers, Ask, Gate, OpenGate, Table, answer, answer_here};
+use flow_team::{
+    Answers, Ask, Gate, GraphSolvers, JoinedGate, OpenGate, Table, answer, answer_here,
+};
 use std::alloc::Global;
 use std::process::Abort;
 use std::test::Fail;
@@ -382,6 +384,31 @@ pub fn lines_of_tables<R: Threads + Sync>(
     lines_out_of(alloc, graph, asks, (&reach, &avail), (&live, &busy))
 }
 
+// The lines of the second answers of solvers that were asked before, of which so many are kept. The gate is told of four slices and of four
+// behind them.
+fn lines_again<R: Threads + Sync>(
+    rt: &R,
+    alloc: Global,
+    graph: &Graph<'_>,
+    asked: (&[Asked], Order),
+    kept: usize,
+    gate: &Recorder,
+) -> Result<String, Fail> {
+    let (rows, order) = asked;
+    let first = asks_of(alloc, graph, rows, order)?;
+    let again = asks_of(alloc, graph, rows, order)?;
+    let solvers = GraphSolvers::of(rt, alloc, graph, 2)?;
+    let gate = JoinedGate::new(gate, 4);
+    let (_answers, solvers) = solvers.answer(rt, alloc, first, 64, 2, &gate)?;
+    let (mut answers, _solvers) = solvers.answer(rt, alloc, again, 64, 2, &gate)?;
+    gate.end();
+    if answers.count() < kept {
+        return Err(Fail::new("too few answers"));
+    }
+    answers.truncate(alloc, kept)?;
+    Ok(answer_lines(alloc, graph, &answers)?)
+}
+
 // The lines, where the call was not refused.
 fn told(lines: Option<String>) -> Result<String, Fail> {
     match lines {
@@ -423,6 +450,25 @@ impl<'a> Question for Here<'a> {
         graph: &Graph<'_>,
     ) -> Result<String, Fail> {
         told(lines_here(alloc, graph, self.asked)?)
+    }
+}
+
+// Answers of solvers that were asked before.
+#[derive(Clone, Copy)]
+struct Again<'a> {
+    asked: (&'a [Asked], Order),
+    kept: usize,
+    gate: &'a Recorder,
+}
+
+impl<'a> Question for Again<'a> {
+    fn answer<R: Threads + Sync + Abort>(
+        &self,
+        rt: &R,
+        alloc: Global,
+        graph: &Graph<'_>,
+    ) -> Result<String, Fail> {
+        lines_again(rt, alloc, graph, self.asked, self.kept, self.gate)
     }
 }
 
@@ -525,6 +571,27 @@ const TWO_SLICES: &[Slices] = &[(1, 2), (64, 2), (512, 2), (4_096, 2)];
 #[test]
 fn answers_of_all_analyses(rt: HostRuntime) -> Result<(), Fail> {
     check_answers(&rt, callee_loops::TEXT, CALLEE_LOOPS_ASKING, FOUR_SLICES)
+}
+
+#[test]
+fn answers_of_solvers_that_were_asked_before(rt: HostRuntime) -> Result<(), Fail> {
+    let asked = (CALLEE_LOOPS_ASKS, Order::AsWritten);
+    for kept in [0, 5, CALLEE_LOOPS_ASKS.len()] {
+        let asking = Asking {
+            rows: &CALLEE_LOOPS_ASKS[..kept],
+            pathless: CALLEE_LOOPS_PATHLESS,
+        };
+        let want = wanted_lines(rt.alloc(), asking, Order::AsWritten)?;
+        let gate = Recorder::new();
+        let question = Again {
+            asked,
+            kept,
+            gate: &gate,
+        };
+        check(&rt, callee_loops::TEXT, &question, want.as_str(), (3, 2))?;
+        assert_eq!(rt; gate.around(), (8, 8), "{kept} answers kept");
+    }
+    Ok(())
 }
 
 #[test]

@@ -1,3 +1,4 @@
 pub mod asks
+pub mod busy
 pub mod knowledge
 pub mod sets

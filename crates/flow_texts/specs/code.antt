@@ -1,4 +1,5 @@
 pub mod Asking
+pub mod Busy
 pub mod Findings
 pub mod Members
 pub mod Operands

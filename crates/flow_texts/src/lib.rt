@@ -2,6 +2,8 @@
 #![tactic(auto)]
 
 mod bit_texts;
+mod busy_rounds;
+mod busy_words;
 mod doubt;
 mod findings;
 mod members;

@@ -20,7 +20,6 @@ use crate::operands::{VariablesRead, assigned_variable, is_test, variables_read}
 use crate::remark::Remark;
 use crate::remark_form::RemarkForm;
 use flow_graph::Analysis;
-use flow_team::Ask;
 use tac_program::StmtKind;
 use text_pieces::{Pieces, Sink};
 
@@ -226,26 +225,7 @@ impl Findings<'_> {
         }
     }
 
-    // The word of a number of the very busy expressions at a test.
-    fn busy_word(&self, point: u32, kind: &StmtKind, word: u32) -> u64
-        requires found { AreFindings self.now }
-        requires point { point < point_count self.now.graph.now }
-        requires kind { kind_at self.now.graph.now point ≡ Some kind.now }
-        requires test { is_test_of kind.now ≡ true }
-        requires word { 64 * word < bits_of self.now.graph.now Busy }
-        ensures { (k : ℕ) → k < 64 → has_bit result k ≡ (knowledge_of self.now).busy.contains point (64 * word + k) }
-    {
-        let _ = kind;
-        let number = self.answers.places(point).busy + word;
-        let ask = Ask {
-            analysis: Analysis::Busy,
-            point,
-            word,
-        };
-        self.answer(number, ask)
-    }
-
-    // Writes which expressions are very busy at a test, word by word; most words have none.
+    // Writes which expressions are very busy at a test, word by word of those that have a bit.
     fn write_busy_words<F: RemarkForm, K: Sink>(
         &self,
         form: &F,
@@ -262,13 +242,13 @@ impl Findings<'_> {
             (texts_where (λ e. F.text form.now self.now.graph.now point (VeryBusy e)) ((knowledge_of self.now).busy.contains point)
             (range_with_len 0 (bits_of self.now.graph.now Busy))) }
     {
+        let _ = kind;
         let bits = self.graph.bits(Analysis::Busy);
-        for word in 0..(bits + 63) / 64 {
-            let ones = self.busy_word(point, kind, word);
-            if ones != 0 {
-                let (first, end) = (64 * word, bits.min(64 * word + 64));
-                self.write_busy_word(form, out, point, ones, first, end);
-            }
+        let mut next = self.answers.first_busy(self.answers.places(point).test);
+        while let Some(busy) = self.answers.busy_word(next) {
+            let (first, end) = (64 * busy.word, bits.min(64 * busy.word + 64));
+            self.write_busy_word(form, out, point, busy.mask, first, end);
+            next = busy.next;
         }
     }
 

@@ -1,12 +1,11 @@
 // What a report asks of the four analyses.
 
-ghost use Rattle.std.specs.Prelude.{◌≡◌, ◌+◌, ◌*◌, ◌/◌, ◌^◌, ◌<◌, ◌≤◌, [], ◌∷◌, ◌++◌, Some, length, IfOk};
+ghost use Rattle.std.specs.Prelude.{◌≡◌, ◌+◌, ◌/◌, ◌^◌, ◌<◌, ◌≤◌, [], ◌∷◌, ◌++◌, Some, length, IfOk};
 ghost use Rattle.flow_graph.specs.Points.{kind_at, point_count};
 ghost use Rattle.tac_program.specs.Sound.{IsSound};
 ghost use Rattle.tac_program.specs.declared.program.StmtKind.{StmtKind as KindValue};
-ghost use Rattle.flow_team.specs.Asks.{AreAsksOf};
-ghost use Rattle.flow_texts.specs.code.Asking.{Asks, AsksAssigned, AsksBusy, AsksEvaluated, AsksReads};
-ghost use Rattle.flow_texts.specs.code.Reported.{AreAsked, AreAskedAt};
+ghost use Rattle.flow_texts.specs.code.Asking.{Asks, AsksAssigned, AsksEvaluated, AsksReads, IsAmongTests, PutsPoint};
+ghost use Rattle.flow_texts.specs.code.Reported.{AreAskedAt, AreReportAsks};
 
 use crate::OutOfMemory;
 use crate::operands::{VariablesRead, assigned_variable, is_test, variables_read};
@@ -24,8 +23,8 @@ pub(crate) struct PointAsks {
     pub(crate) evaluated: u32,
     /// Of the variable that it assigns, which may be live behind it.
     pub(crate) assigned: u32,
-    /// Of the expressions, which may be very busy.
-    pub(crate) busy: u32,
+    /// Which test it is, of all.
+    pub(crate) test: u32,
 }
 
 // The ask for a bit of the set of a point.
@@ -104,45 +103,22 @@ fn ask_assigned(
     }
 }
 
-// Asks for all words of very busy expressions.
-fn ask_all(graph: &Graph<'_>, asks: &mut Vec<Ask>, point: u32) -> Result<(), OutOfMemory>
-    requires point { point < point_count graph.now }
-    ensures asks { IfOk result (λ _. Asks graph.now asks.old.items asks.new.items 2048) }
-    ensures asked { IfOk result (λ _. (kind : KindValue) → AsksBusy graph.now asks.new.items (length asks.old.items) point kind) }
+// Puts the point of a test behind the others, whose very busy expressions are asked for in rounds.
+fn put_test(tests: &mut Vec<u32>, point: u32, kind: &StmtKind) -> Result<(), OutOfMemory>
+    ensures asked { IfOk result (λ _. IsAmongTests tests.new.items (length tests.old.items) point kind.now) }
+    ensures more { IfOk result (λ _. PutsPoint tests.old.items tests.new.items point) }
 {
-    let words = graph.bits(Analysis::Busy).div_ceil(64);
-    for word in 0..words {
-        let ask = Ask {
-            analysis: Analysis::Busy,
-            point,
-            word,
-        };
-        put_ask(asks, ask)?;
+    if is_test(kind) {
+        tests.push(point)?;
     }
     Ok(())
-}
-
-// Asks at a test for all words of very busy expressions.
-fn ask_busy(
-    graph: &Graph<'_>,
-    asks: &mut Vec<Ask>,
-    point: u32,
-    kind: &StmtKind,
-) -> Result<(), OutOfMemory>
-    requires point { point < point_count graph.now }
-    ensures asks { IfOk result (λ _. Asks graph.now asks.old.items asks.new.items 2048) }
-    ensures asked { IfOk result (λ _. AsksBusy graph.now asks.new.items (length asks.old.items) point kind.now) }
-{
-    if !is_test(kind) {
-        return Ok(());
-    }
-    ask_all(graph, asks, point)
 }
 
 // Asks what a report tells of a statement.
 fn ask_kind(
     graph: &Graph<'_>,
     asks: &mut Vec<Ask>,
+    tests: &mut Vec<u32>,
     point: u32,
     kind: &StmtKind,
 ) -> Result<PointAsks, OutOfMemory>
@@ -150,8 +126,10 @@ fn ask_kind(
     requires point { point < point_count graph.now }
     requires kind { kind_at graph.now point ≡ Some kind.now }
     requires few { length asks.old.items < 2 ^ 31 }
-    ensures asks { IfOk result (λ _. Asks graph.now asks.old.items asks.new.items 2052) }
-    ensures asked { IfOk result (λ here. AreAskedAt graph.now asks.new.items here point kind.now) }
+    requires tests { length tests.old.items ≤ point }
+    ensures asks { IfOk result (λ _. Asks graph.now asks.old.items asks.new.items 4) }
+    ensures tests { IfOk result (λ _. PutsPoint tests.old.items tests.new.items point) }
+    ensures asked { IfOk result (λ here. AreAskedAt graph.now asks.new.items tests.new.items here point kind.now) }
 {
     let reads = asks.len() as u32;
     ask_reads(graph, asks, point, kind)?;
@@ -159,57 +137,67 @@ fn ask_kind(
     ask_evaluated(graph, asks, point)?;
     let assigned = asks.len() as u32;
     ask_assigned(graph, asks, point, kind)?;
-    let busy = asks.len() as u32;
-    ask_busy(graph, asks, point, kind)?;
+    let test = tests.len() as u32;
+    put_test(tests, point, kind)?;
     Ok(PointAsks {
         reads,
         evaluated,
         assigned,
-        busy,
+        test,
     })
 }
 
 // Asks what a report tells of the statement at a point; at a procedure's end there is none.
-fn ask_point(graph: &Graph<'_>, asks: &mut Vec<Ask>, point: u32) -> Result<PointAsks, OutOfMemory>
+fn ask_point(
+    graph: &Graph<'_>,
+    asks: &mut Vec<Ask>,
+    tests: &mut Vec<u32>,
+    point: u32,
+) -> Result<PointAsks, OutOfMemory>
     requires point { point < point_count graph.now }
     requires few { length asks.old.items < 2 ^ 31 }
-    ensures asks { IfOk result (λ _. Asks graph.now asks.old.items asks.new.items 2052) }
+    requires tests { length tests.old.items ≤ point }
+    ensures asks { IfOk result (λ _. Asks graph.now asks.old.items asks.new.items 4) }
+    ensures tests { IfOk result (λ _. PutsPoint tests.old.items tests.new.items point) }
     ensures asked { IfOk result
-        (λ here. (kind : KindValue) → kind_at graph.now point ≡ Some kind → AreAskedAt graph.now asks.new.items here point kind) }
+        (λ here. (kind : KindValue) → kind_at graph.now point ≡ Some kind → AreAskedAt graph.now asks.new.items tests.new.items here point kind) }
 {
     let Some(stmt) = graph.stmt(point) else {
         return Ok(PointAsks {
             reads: 0,
             evaluated: 0,
             assigned: 0,
-            busy: 0,
+            test: 0,
         });
     };
-    ask_kind(graph, asks, point, &stmt.kind)
+    ask_kind(graph, asks, tests, point, &stmt.kind)
 }
 
-// A point asks 2,052 words at most, and a board has fewer than 2^26: with more before a point, there is no room for its own.
-const MOST_ASKS: usize = (1 << 26) - 2_053;
+/// What a report asks of a graph's analyses, point by point.
+#[derive(Drop)]
+pub(crate) struct ReportAsks {
+    /// All but very busy expressions.
+    pub(crate) asks: Vec<Ask>,
+    /// Where the asks of each point stand.
+    pub(crate) places: Vec<PointAsks>,
+    /// The points of the tests, where very busy expressions are asked for.
+    pub(crate) tests: Vec<u32>,
+}
 
-/// What a report asks of a graph's analyses, point by point, and where the asks of each point stand. Fails where memory runs out, and for
-/// more asks than a board has words: within the standard limits none has as many.
-pub(crate) fn report_asks(
-    alloc: Global,
-    graph: &Graph<'_>,
-) -> Result<(Vec<Ask>, Vec<PointAsks>), OutOfMemory>
-    ensures asks { IfOk result (λ r. AreAsksOf graph.now r.0.items) }
-    ensures few { IfOk result (λ r. 64 * length r.0.items < 2 ^ 32) }
-    ensures count { IfOk result (λ r. length r.1.items ≡ point_count graph.now) }
-    ensures asked { IfOk result (λ r. AreAsked graph.now r.0.items r.1.items) }
+/// What a report asks of a graph. Fails only where memory runs out.
+pub(crate) fn report_asks(alloc: Global, graph: &Graph<'_>) -> Result<ReportAsks, OutOfMemory>
+    ensures { IfOk result (AreReportAsks graph.now) }
 {
     let mut asks = Vec::new(alloc);
     let mut places = Vec::new(alloc);
+    let mut tests = Vec::new(alloc);
     for point in 0..graph.points() {
-        if MOST_ASKS < asks.len() {
-            return Err(OutOfMemory);
-        }
-        let here = ask_point(graph, &mut asks, point)?;
+        let here = ask_point(graph, &mut asks, &mut tests, point)?;
         places.push(here)?;
     }
-    Ok((asks, places))
+    Ok(ReportAsks {
+        asks,
+        places,
+        tests,
+    })
 }

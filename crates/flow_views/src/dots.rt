@@ -9,17 +9,18 @@ ghost use Rattle.flow_texts.specs.Reports.{dead_at, remark_text, unset_at};
 ghost use Rattle.flow_texts.specs.code.Reported.{TellReport};
 ghost use Rattle.flow_texts.specs.Tables.{line_at};
 ghost use Rattle.tac_program.specs.Listings.{statement_text};
-ghost use Rattle.flow_views.specs.ShownTables.{AreShownTables, end_shown, first_shown};
+ghost use Rattle.flow_views.specs.ShownTables.{AreShownTables};
 ghost use Rattle.flow_views.specs.code.ShownProgram.{AreShown, AreShownProcedures, IsShownPoint, IsShownProcedure, IsSiteIn, TellSame, is_chosen};
 ghost use Rattle.flow_views.specs.code.ShownProgram.{known_of, numbers_of};
 ghost use Rattle.flow_views.specs.declared.names.NameForm.TheVariants.{Escaped};
 ghost use Rattle.flow_views.specs.Dots.{IsDot, arrow, calls_at, cluster, dot_of, edge_line, edge_lines, fact_line, head, is_call, is_edge_shown};
 ghost use Rattle.flow_views.specs.Dots.{label_line, label_lines, marks, node, passed_call, path_marks, shown_edge, text_if_some, title};
 ghost use Rattle.text_pieces.specs.Strings.{escaped};
-ghost use Rattle.flow_views.specs.Views.{analysis_if, chosen_analyses, names_at, points_in, procedure_name, told_by};
+ghost use Rattle.flow_views.specs.Views.{analysis_if, chosen_analyses, names_at, procedure_name, told_by};
 
 use crate::OutOfMemory;
 use crate::names::NameForm;
+use crate::point_form::PointForm;
 use crate::scope::write_escaped_number;
 use crate::shown::{Numbers, ShownProgram, name_of};
 use crate::shown_tables::ShownTables;
@@ -274,44 +275,6 @@ impl ShownProgram<'_> {
         write_if(out, self.is_doubtful(point), b", peripheries=2");
     }
 
-    // Writes a point as a node.
-    fn write_node<K: Sink>(&self, out: &mut Pieces<'_, K>, point: u32)
-        requires ready { CanWrite K.Sink out.old }
-        requires shown { AreShown self.now }
-        requires form { self.now.names.form ≡ Escaped }
-        requires point { point < point_count self.now.found.graph.now }
-        requires shows { IsShownPoint self.now point }
-        ensures { Writes K.Sink out.old out.new (node self.now.found.graph.now (known_of self.now) self.now.view.facts point) }
-    {
-        if out.has_failed() {
-            return;
-        }
-        out.write(b"    ");
-        write_number(out, point);
-        out.write(b" [label=\"");
-        self.write_label(out, point);
-        out.write(b"\"");
-        self.write_marks(out, point);
-        out.write(b"];\n");
-    }
-
-    // Writes the nodes of a procedure.
-    fn write_nodes<K: Sink>(&self, out: &mut Pieces<'_, K>, points: Numbers)
-        requires ready { CanWrite K.Sink out.old }
-        requires shown { AreShown self.now }
-        requires form { self.now.names.form ≡ Escaped }
-        requires ordered { points.first ≤ points.end }
-        requires points { points.end ≤ point_count self.now.found.graph.now }
-        requires from { first_shown self.now.found.graph.now self.now.view.procedure ≤ points.first }
-        requires until { points.end ≤ end_shown self.now.found.graph.now self.now.view.procedure }
-        ensures { Writes K.Sink out.old out.new
-            (flat_map (node self.now.found.graph.now (known_of self.now) self.now.view.facts) (numbers_of points)) }
-    {
-        for point in points.first..points.end {
-            self.write_node(out, point);
-        }
-    }
-
     // Writes a procedure as a cluster.
     fn write_cluster<K: Sink>(&self, out: &mut Pieces<'_, K>, procedure: u32)
         requires ready { CanWrite K.Sink out.old }
@@ -327,7 +290,7 @@ impl ShownProgram<'_> {
         out.write(b"    label=");
         write_quoted(out, self.procedure_name(procedure));
         out.write(b";\n");
-        self.write_nodes(out, self.points_of(procedure));
+        self.write_points(&DotNodes, out, procedure);
         out.write(b"  }\n");
     }
 
@@ -450,47 +413,6 @@ impl ShownProgram<'_> {
         out.write(b" [style=dashed, label=\"call\"];\n");
     }
 
-    // Writes the edges of a point.
-    fn write_edges<K: Sink>(&self, out: &mut Pieces<'_, K>, point: u32)
-        requires ready { CanWrite K.Sink out.old }
-        requires shown { AreShown self.now }
-        requires point { point < point_count self.now.found.graph.now }
-        ensures { Writes K.Sink out.old out.new (edge_lines self.now.found.graph.now self.now.view point) }
-    {
-        if out.has_failed() {
-            return;
-        }
-        self.write_shown_edges(out, self.edges(point));
-        self.write_passed_call(out, point);
-    }
-
-    // Writes the edges of a procedure's points.
-    fn write_procedure_edges<K: Sink>(&self, out: &mut Pieces<'_, K>, points: Numbers)
-        requires ready { CanWrite K.Sink out.old }
-        requires shown { AreShown self.now }
-        requires ordered { points.first ≤ points.end }
-        requires points { points.end ≤ point_count self.now.found.graph.now }
-        ensures { Writes K.Sink out.old out.new (flat_map (edge_lines self.now.found.graph.now self.now.view) (numbers_of points)) }
-    {
-        for point in points.first..points.end {
-            self.write_edges(out, point);
-        }
-    }
-
-    // Writes all edges that are shown.
-    fn write_all_edges<K: Sink>(&self, out: &mut Pieces<'_, K>, procedures: Numbers)
-        requires ready { CanWrite K.Sink out.old }
-        requires shown { AreShown self.now }
-        requires ordered { procedures.first ≤ procedures.end }
-        requires procedures { procedures.end ≤ length self.now.found.graph.now.procedures }
-        ensures { Writes K.Sink out.old out.new
-            (flat_map (edge_lines self.now.found.graph.now self.now.view) (flat_map (points_in self.now.found.graph.now) (numbers_of procedures))) }
-    {
-        for procedure in procedures.first..procedures.end {
-            self.write_procedure_edges(out, self.points_of(procedure));
-        }
-    }
-
     // Writes the whole text.
     fn write_dot<K: Sink>(&self, out: &mut Pieces<'_, K>)
         requires ready { CanWrite K.Sink out.old }
@@ -498,11 +420,51 @@ impl ShownProgram<'_> {
         requires form { self.now.names.form ≡ Escaped }
         ensures { Writes K.Sink out.old out.new (dot_of self.now.found.graph.now (known_of self.now) self.now.view) }
     {
-        let procedures = self.procedures();
         write_head(out);
-        self.write_clusters(out, procedures);
-        self.write_all_edges(out, procedures);
+        self.write_clusters(out, self.procedures());
+        self.write_all_points(&DotEdges, out);
         out.write(b"}\n");
+    }
+}
+
+// A point as a node.
+#[derive(Clone, Copy)]
+struct DotNodes;
+
+impl PointForm for DotNodes {
+    ghost name_form = { λ _. Escaped };
+
+    ghost text = { λ _ shown point. node shown.found.graph.now (known_of shown) shown.view.facts point };
+
+    fn write_point<K: Sink>(&self, out: &mut Pieces<'_, K>, shown: &ShownProgram<'_>, point: u32) {
+        if out.has_failed() {
+            return;
+        }
+        out.write(b"    ");
+        write_number(out, point);
+        out.write(b" [label=\"");
+        shown.write_label(out, point);
+        out.write(b"\"");
+        shown.write_marks(out, point);
+        out.write(b"];\n");
+    }
+}
+
+// The edges of a point.
+#[derive(Clone, Copy)]
+struct DotEdges;
+
+impl PointForm for DotEdges {
+    ghost name_form = { λ _. Escaped };
+
+    ghost text = { λ _ shown point. edge_lines shown.found.graph.now shown.view point };
+
+    fn write_point<K: Sink>(&self, out: &mut Pieces<'_, K>, shown: &ShownProgram<'_>, point: u32) {
+        if out.has_failed() {
+            return;
+        }
+        shown.write_shown_edges(out, shown.edges(point));
+        shown.write_passed_call(out, point);
     }
 }
 

@@ -9,17 +9,18 @@ ghost use Rattle.text_pieces.specs.code.Lists.{text_at};
 ghost use Rattle.text_pieces.specs.Pieces.{CanWrite, Writes};
 ghost use Rattle.flow_texts.specs.code.Reported.{TellReport};
 ghost use Rattle.tac_program.specs.Listings.{statement_text};
-ghost use Rattle.flow_views.specs.ShownTables.{AreShownTables, end_shown, first_shown};
-ghost use Rattle.flow_views.specs.code.ShownProgram.{AreShown, AreShownProcedures, IsShownPoint, TellSame, is_chosen, known_of, numbers_of};
+ghost use Rattle.flow_views.specs.ShownTables.{AreShownTables};
+ghost use Rattle.flow_views.specs.code.ShownProgram.{AreShown, IsShownPoint, TellSame, is_chosen, known_of};
 ghost use Rattle.flow_views.specs.declared.names.NameForm.TheVariants.{Quoted};
 ghost use Rattle.flow_views.specs.Json.{IsJson, array, boolean, edge_object, facts_field, json_of, point_line, program_line, remark_fields};
 ghost use Rattle.flow_views.specs.Json.{remark_lines, remark_object, span_fields, statement_field};
 ghost use Rattle.text_pieces.specs.Strings.{quoted};
-ghost use Rattle.flow_views.specs.Views.{analysis_if, chosen_analyses, names_at, points_in, procedure_name, told_by};
+ghost use Rattle.flow_views.specs.Views.{analysis_if, chosen_analyses, names_at, procedure_name, told_by};
 
 use crate::OutOfMemory;
 use crate::names::NameForm;
-use crate::shown::{Numbers, ShownProgram, name_of};
+use crate::point_form::PointForm;
+use crate::shown::{ShownProgram, name_of};
 use crate::shown_tables::ShownTables;
 use crate::view::View;
 use flow_graph::{Analysis, Edge, Graph};
@@ -349,90 +350,6 @@ impl ShownProgram<'_> {
         write_number(out, place.place);
     }
 
-    // Writes the line of a point.
-    fn write_point<K: Sink>(&self, out: &mut Pieces<'_, K>, point: u32)
-        requires ready { CanWrite K.Sink out.old }
-        requires shown { AreShown self.now }
-        requires form { self.now.names.form ≡ Quoted }
-        requires point { point < point_count self.now.found.graph.now }
-        requires shows { IsShownPoint self.now point }
-        ensures { Writes K.Sink out.old out.new (point_line self.now.found.graph.now (known_of self.now) self.now.view.facts point) }
-    {
-        if out.has_failed() {
-            return;
-        }
-        self.write_point_place(out, point);
-        write_place(out, self.found.graph, point);
-        out.write(b",\"statement\":");
-        self.write_statement_or_null(out, point);
-        out.write(b",\"edges\":");
-        write_edges(out, self.edges(point));
-        self.write_facts_fields(out, point);
-        out.write(b"}\n");
-    }
-
-    // Writes the lines of a procedure's points.
-    fn write_points<K: Sink>(&self, out: &mut Pieces<'_, K>, points: Numbers)
-        requires ready { CanWrite K.Sink out.old }
-        requires shown { AreShown self.now }
-        requires form { self.now.names.form ≡ Quoted }
-        requires ordered { points.first ≤ points.end }
-        requires points { points.end ≤ point_count self.now.found.graph.now }
-        requires from { first_shown self.now.found.graph.now self.now.view.procedure ≤ points.first }
-        requires until { points.end ≤ end_shown self.now.found.graph.now self.now.view.procedure }
-        ensures { Writes K.Sink out.old out.new
-            (flat_map (point_line self.now.found.graph.now (known_of self.now) self.now.view.facts) (numbers_of points)) }
-    {
-        for point in points.first..points.end {
-            self.write_point(out, point);
-        }
-    }
-
-    // Writes the lines of all points that are shown.
-    fn write_all_points<K: Sink>(&self, out: &mut Pieces<'_, K>, procedures: Numbers)
-        requires ready { CanWrite K.Sink out.old }
-        requires shown { AreShown self.now }
-        requires form { self.now.names.form ≡ Quoted }
-        requires ordered { procedures.first ≤ procedures.end }
-        requires procedures { procedures.end ≤ length self.now.found.graph.now.procedures }
-        requires shows { AreShownProcedures self.now.view.procedure procedures }
-        ensures { Writes K.Sink out.old out.new
-            (flat_map (point_line self.now.found.graph.now (known_of self.now) self.now.view.facts)
-            (flat_map (points_in self.now.found.graph.now) (numbers_of procedures))) }
-    {
-        for procedure in procedures.first..procedures.end {
-            self.write_points(out, self.points_of(procedure));
-        }
-    }
-
-    // Writes the remarks on a procedure's statements.
-    fn write_remarks<K: Sink>(&self, out: &mut Pieces<'_, K>, points: Numbers)
-        requires ready { CanWrite K.Sink out.old }
-        requires shown { AreShown self.now }
-        requires ordered { points.first ≤ points.end }
-        requires points { points.end ≤ point_count self.now.found.graph.now }
-        ensures { Writes K.Sink out.old out.new (flat_map (remark_lines self.now.found.graph.now (known_of self.now)) (numbers_of points)) }
-    {
-        for point in points.first..points.end {
-            self.write_remarks_at(&JsonLine, out, point);
-        }
-    }
-
-    // Writes all remarks that are shown.
-    fn write_all_remarks<K: Sink>(&self, out: &mut Pieces<'_, K>, procedures: Numbers)
-        requires ready { CanWrite K.Sink out.old }
-        requires shown { AreShown self.now }
-        requires ordered { procedures.first ≤ procedures.end }
-        requires procedures { procedures.end ≤ length self.now.found.graph.now.procedures }
-        ensures { Writes K.Sink out.old out.new
-            (flat_map (remark_lines self.now.found.graph.now (known_of self.now))
-            (flat_map (points_in self.now.found.graph.now) (numbers_of procedures))) }
-    {
-        for procedure in procedures.first..procedures.end {
-            self.write_remarks(out, self.points_of(procedure));
-        }
-    }
-
     // Writes the whole text.
     fn write_json<K: Sink>(&self, out: &mut Pieces<'_, K>)
         requires ready { CanWrite K.Sink out.old }
@@ -440,10 +357,47 @@ impl ShownProgram<'_> {
         requires form { self.now.names.form ≡ Quoted }
         ensures { Writes K.Sink out.old out.new (json_of self.now.found.graph.now (known_of self.now) self.now.view) }
     {
-        let procedures = self.procedures();
         self.write_program(out);
-        self.write_all_points(out, procedures);
-        self.write_all_remarks(out, procedures);
+        self.write_all_points(&JsonPoints, out);
+        self.write_all_points(&JsonRemarks, out);
+    }
+}
+
+// A point as a line.
+#[derive(Clone, Copy)]
+struct JsonPoints;
+
+impl PointForm for JsonPoints {
+    ghost name_form = { λ _. Quoted };
+
+    ghost text = { λ _ shown point. point_line shown.found.graph.now (known_of shown) shown.view.facts point };
+
+    fn write_point<K: Sink>(&self, out: &mut Pieces<'_, K>, shown: &ShownProgram<'_>, point: u32) {
+        if out.has_failed() {
+            return;
+        }
+        shown.write_point_place(out, point);
+        write_place(out, shown.found.graph, point);
+        out.write(b",\"statement\":");
+        shown.write_statement_or_null(out, point);
+        out.write(b",\"edges\":");
+        write_edges(out, shown.edges(point));
+        shown.write_facts_fields(out, point);
+        out.write(b"}\n");
+    }
+}
+
+// The lines of the remarks on a point.
+#[derive(Clone, Copy)]
+struct JsonRemarks;
+
+impl PointForm for JsonRemarks {
+    ghost name_form = { λ _. Quoted };
+
+    ghost text = { λ _ shown point. remark_lines shown.found.graph.now (known_of shown) point };
+
+    fn write_point<K: Sink>(&self, out: &mut Pieces<'_, K>, shown: &ShownProgram<'_>, point: u32) {
+        shown.write_remarks_at(&JsonLine, out, point);
     }
 }
 

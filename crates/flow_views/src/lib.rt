@@ -4,6 +4,7 @@
 mod dots;
 mod json;
 mod names;
+mod point_form;
 mod scope;
 mod shown;
 mod shown_tables;

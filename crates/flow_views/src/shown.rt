@@ -11,12 +11,15 @@ ghost use Rattle.flow_texts.specs.code.Reported.{TellReport};
 ghost use Rattle.text_pieces.specs.code.Lists.{some_stand};
 ghost use Rattle.tac_program.specs.Listings.{statement_text};
 ghost use Rattle.flow_views.specs.code.Names.{AreNamesOf};
-ghost use Rattle.flow_views.specs.code.ShownProgram.{AreShown, AreShownProcedures, IsShownPoint, TellSame, contents, is_chosen, known_of, numbers_of};
+ghost use Rattle.flow_views.specs.code.ShownProgram.{AreShown, AreShownProcedures, IsShownPoint, IsShownProcedure, TellSame, contents};
+ghost use Rattle.flow_views.specs.code.ShownProgram.{is_chosen, known_of, numbers_of};
 ghost use Rattle.text_pieces.specs.Strings.{escaped};
-ghost use Rattle.flow_views.specs.Views.{analysis_name, names_at, points_in, procedure_name as name_of_procedure, shown_procedures, told_by};
+ghost use Rattle.flow_views.specs.Views.{analysis_name, names_at, points_in, procedure_name as name_of_procedure, shown_points};
+ghost use Rattle.flow_views.specs.Views.{shown_procedures, told_by};
 
 use crate::OutOfMemory;
 use crate::names::{NameForm, Names};
+use crate::point_form::PointForm;
 use crate::scope::Scope;
 use crate::shown_tables::ShownTables;
 use crate::view::View;
@@ -269,5 +272,38 @@ impl ShownProgram<'_> {
         ensures { Writes K.Sink out.old out.new (escaped (statement_text (names_at self.now.found.graph.now point) stmt.now.kind)) }
     {
         self.scope(point).write_statement(out, &stmt.kind);
+    }
+
+    /// Writes each point of a procedure that is shown.
+    pub(crate) fn write_points<F: PointForm, K: Sink>(
+        &self,
+        form: &F,
+        out: &mut Pieces<'_, K>,
+        procedure: u32,
+    )
+        requires ready { CanWrite K.Sink out.old }
+        requires shown { AreShown self.now }
+        requires form { self.now.names.form ≡ F.name_form form.now }
+        requires procedure { procedure < length self.now.found.graph.now.procedures }
+        requires shows { IsShownProcedure self.now.view.procedure procedure }
+        ensures { Writes K.Sink out.old out.new (flat_map (F.text form.now self.now) (points_in self.now.found.graph.now procedure)) }
+    {
+        let points = self.points_of(procedure);
+        for point in points.first..points.end {
+            form.write_point(out, self, point);
+        }
+    }
+
+    /// Writes each point that is shown.
+    pub(crate) fn write_all_points<F: PointForm, K: Sink>(&self, form: &F, out: &mut Pieces<'_, K>)
+        requires ready { CanWrite K.Sink out.old }
+        requires shown { AreShown self.now }
+        requires form { self.now.names.form ≡ F.name_form form.now }
+        ensures { Writes K.Sink out.old out.new (flat_map (F.text form.now self.now) (shown_points self.now.found.graph.now self.now.view)) }
+    {
+        let procedures = self.procedures();
+        for procedure in procedures.first..procedures.end {
+            self.write_points(form, out, procedure);
+        }
     }
 }

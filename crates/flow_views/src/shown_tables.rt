@@ -3,7 +3,7 @@
 ghost use Rattle.std.specs.Prelude.{◌≡◌, ◌<◌, ◌≤◌, None, Some, length, IfOk, IfSome, MatchOption};
 ghost use Rattle.flow_graph.specs.Points.{point_count};
 ghost use Rattle.flow_team.specs.Ranges.{AreInRange};
-ghost use Rattle.flow_views.specs.ShownTables.{AreShownTables, IsShownTable, end_shown, first_shown};
+ghost use Rattle.flow_views.specs.ShownTables.{AreShownTables, IsTableShown, end_shown, first_shown};
 ghost use Rattle.flow_views.specs.code.ShownProgram.{is_chosen, shown_table};
 
 use crate::OutOfMemory;
@@ -66,26 +66,27 @@ fn shown_points(graph: &Graph<'_>, procedure: Option<u32>) -> Numbers
     }
 }
 
-// The table of an analysis at some points, where its facts are chosen.
+// The table of an analysis at the points that are shown, where its facts are chosen.
 fn table_if<R: Threads + Sync, G: Gate>(
     rt: &R,
     alloc: Global,
     graph: &Graph<'_>,
-    facts: Chosen,
-    points: Numbers,
+    view: View,
     analysis: Analysis,
     workers: u32,
     cut: u32,
     gate: &G,
 ) -> Result<Option<Table>, OutOfMemory>
-    requires ordered { points.first ≤ points.end }
-    requires there { points.end ≤ point_count graph.now }
     requires range { AreInRange workers cut }
-    ensures { IfOk result (IsShownTable graph.now analysis points.first points.end (is_chosen facts analysis)) }
+    requires procedure { IfSome view.procedure (λ procedure. procedure < length graph.now.procedure_names) }
+    ensures { IfOk result (IsTableShown graph.now analysis view.procedure (is_chosen view.facts analysis)) }
 {
-    if !is_chosen(facts, analysis) {
+    if !is_chosen(view.facts, analysis) {
         return Ok(None);
     }
+    // Its contract tells that each procedure has a name.
+    let _ = graph.points();
+    let points = shown_points(graph, view.procedure);
     let (from, until) = (points.first, points.end);
     let table = table_at(rt, alloc, graph, analysis, from, until, workers, cut, gate)?;
     Ok(Some(table))
@@ -109,54 +110,10 @@ impl ShownTables {
         requires procedure { IfSome view.procedure (λ procedure. procedure < length graph.now.procedure_names) }
         ensures { IfOk result (AreShownTables graph.now view) }
     {
-        // Its contract tells that each procedure has a name.
-        let _ = graph.points();
-        let facts = view.facts;
-        let points = shown_points(graph, view.procedure);
-        let reach = table_if(
-            rt,
-            alloc,
-            graph,
-            facts,
-            points,
-            Analysis::Reach,
-            workers,
-            cut,
-            gate,
-        )?;
-        let live = table_if(
-            rt,
-            alloc,
-            graph,
-            facts,
-            points,
-            Analysis::Live,
-            workers,
-            cut,
-            gate,
-        )?;
-        let avail = table_if(
-            rt,
-            alloc,
-            graph,
-            facts,
-            points,
-            Analysis::Avail,
-            workers,
-            cut,
-            gate,
-        )?;
-        let busy = table_if(
-            rt,
-            alloc,
-            graph,
-            facts,
-            points,
-            Analysis::Busy,
-            workers,
-            cut,
-            gate,
-        )?;
+        let reach = table_if(rt, alloc, graph, view, Analysis::Reach, workers, cut, gate)?;
+        let live = table_if(rt, alloc, graph, view, Analysis::Live, workers, cut, gate)?;
+        let avail = table_if(rt, alloc, graph, view, Analysis::Avail, workers, cut, gate)?;
+        let busy = table_if(rt, alloc, graph, view, Analysis::Busy, workers, cut, gate)?;
         Ok(ShownTables {
             reach,
             live,

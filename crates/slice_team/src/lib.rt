@@ -3,11 +3,13 @@
 #![tactic(auto)]
 
 mod gate;
+mod joined_gate;
 mod slice_job;
 mod solve;
 mod workers;
 
 pub use gate::{Gate, OpenGate};
+pub use joined_gate::JoinedGate;
 pub use slice_job::SliceJob;
 pub use solve::Solve;
 pub use std::alloc::AllocError as OutOfMemory;

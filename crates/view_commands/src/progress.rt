@@ -1,5 +1,7 @@
 // How far the work is, told in one line that is written over itself.
 
+ghost use Rattle.std.specs.Prelude.{◌≡◌, ◌++◌, IfOk, codes, decimal};
+
 use crate::terminal::Terminal;
 use flow_runs::OutOfMemory;
 use flow_team::Gate;
@@ -17,7 +19,9 @@ const BETWEEN: u64 = 100;
 const CLEAR: &[u8] = b"\x1b[K";
 
 /// How many slices are finished, of how many, in words. Fails only where memory runs out.
-pub fn progress_words(alloc: Global, finished: u32, slices: u32) -> Result<Vec<u8>, OutOfMemory> {
+pub fn progress_words(alloc: Global, finished: u32, slices: u32) -> Result<Vec<u8>, OutOfMemory>
+    ensures { IfOk result (λ text. text.items ≡ codes "tacview: " ++ (decimal finished ++ (codes " of " ++ (decimal slices ++ codes " slices")))) }
+{
     let text = format!(in alloc; "tacview: {finished} of {slices} slices")?;
     Ok(text.into_bytes())
 }

@@ -15,7 +15,7 @@ ghost use Rattle.view_commands.specs.Views.{HasProcedure, IsShown, IsText, Lacks
 use crate::options::{Format, Options};
 use crate::progress::Progress;
 use flow_graph::Graph;
-use flow_runs::{Fault, Shown, graph_of, push_report, push_text};
+use flow_runs::{Fault, OutOfMemory, Shown, graph_of, push_report, push_text};
 use flow_texts::ReportAnswers;
 use flow_views::{DotText, JsonText, ShownTables, View};
 use std::alloc::Global;
@@ -58,17 +58,36 @@ fn view_of(program: &Program, options: &Options) -> Result<View, Fault>
     }
 }
 
-// Writes the graph for Graphviz.
-fn push_dot<K: Sink>(
+// What texts of a graph are made of: the tables of what is shown, and the answers to what a report asks.
+fn tables_and_answers<R: Threads + Sync>(
+    rt: &R,
     alloc: Global,
     graph: &Graph<'_>,
-    tables: &ShownTables,
-    answers: &ReportAnswers,
     view: View,
+    options: &Options,
+    gate: &Progress,
+) -> Result<(ShownTables, ReportAnswers), OutOfMemory>
+    requires threads { IsSync R.row }
+    requires there { IfSome view.procedure (λ number. number < length graph.now.procedure_names) }
+    ensures { IfOk result (λ made. AreShownTables graph.now view made.0 × TellReport graph.now made.1) }
+{
+    let (workers, cut) = (options.workers, options.cut);
+    let tables = ShownTables::of(rt, alloc, graph, view, workers, cut, gate)?;
+    let answers = ReportAnswers::of(rt, alloc, graph, workers, cut, gate)?;
+    Ok((tables, answers))
+}
+
+// Writes the graph for Graphviz.
+fn push_dot<R: Threads + Sync, K: Sink>(
+    rt: &R,
+    alloc: Global,
+    graph: &Graph<'_>,
+    view: View,
+    options: &Options,
+    gate: &Progress,
     sink: &mut K,
 ) -> Result<(), Fault>
-    requires tables { AreShownTables graph.now view tables.now }
-    requires answers { TellReport graph.now answers.now }
+    requires threads { IsSync R.row }
     requires below { K.faults sink.old < 2 ^ 32 - 1 }
     requires there { IfSome view.procedure (λ number. number < length graph.now.procedure_names) }
     ensures delivers { Delivers (λ out. IsDot graph.now view out) (K.contents sink.old) (K.contents sink.new) result }
@@ -76,21 +95,22 @@ fn push_dot<K: Sink>(
     ensures fault { IfErr result (OfProgram (λ _. ⊥) ⊥) }
     ensures faults { K.faults sink.new ≡ K.faults sink.old + write_faults_in result }
 {
-    let text = DotText::of(alloc, graph, tables, answers, view)?;
+    let (tables, answers) = tables_and_answers(rt, alloc, graph, view, options, gate)?;
+    let text = DotText::of(alloc, graph, &tables, &answers, view)?;
     push_text(alloc, &text, sink)
 }
 
 // Writes the lines of JSON.
-fn push_json<K: Sink>(
+fn push_json<R: Threads + Sync, K: Sink>(
+    rt: &R,
     alloc: Global,
     graph: &Graph<'_>,
-    tables: &ShownTables,
-    answers: &ReportAnswers,
     view: View,
+    options: &Options,
+    gate: &Progress,
     sink: &mut K,
 ) -> Result<(), Fault>
-    requires tables { AreShownTables graph.now view tables.now }
-    requires answers { TellReport graph.now answers.now }
+    requires threads { IsSync R.row }
     requires below { K.faults sink.old < 2 ^ 32 - 1 }
     requires there { IfSome view.procedure (λ number. number < length graph.now.procedure_names) }
     ensures delivers { Delivers (λ out. IsJson graph.now view out) (K.contents sink.old) (K.contents sink.new) result }
@@ -98,56 +118,9 @@ fn push_json<K: Sink>(
     ensures fault { IfErr result (OfProgram (λ _. ⊥) ⊥) }
     ensures faults { K.faults sink.new ≡ K.faults sink.old + write_faults_in result }
 {
-    let text = JsonText::of(alloc, graph, tables, answers, view)?;
+    let (tables, answers) = tables_and_answers(rt, alloc, graph, view, options, gate)?;
+    let text = JsonText::of(alloc, graph, &tables, &answers, view)?;
     push_text(alloc, &text, sink)
-}
-
-// Writes the graph for Graphviz. The graph is not owned here, and the tables where they are made.
-fn dot_of_graph<R: Threads + Sync, K: Sink>(
-    rt: &R,
-    alloc: Global,
-    graph: &Graph<'_>,
-    view: View,
-    options: &Options,
-    gate: &Progress,
-    sink: &mut K,
-) -> Result<(), Fault>
-    requires threads { IsSync R.row }
-    requires below { K.faults sink.old < 2 ^ 32 - 1 }
-    requires there { IfSome view.procedure (λ number. number < length graph.now.procedure_names) }
-    ensures delivers { Delivers (λ out. IsDot graph.now view out) (K.contents sink.old) (K.contents sink.new) result }
-    ensures flushed { OnOk result (K.flushed sink.new ≡ true) }
-    ensures fault { IfErr result (OfProgram (λ _. ⊥) ⊥) }
-    ensures faults { K.faults sink.new ≡ K.faults sink.old + write_faults_in result }
-{
-    let (workers, cut) = (options.workers, options.cut);
-    let tables = ShownTables::of(rt, alloc, graph, view, workers, cut, gate)?;
-    let answers = ReportAnswers::of(rt, alloc, graph, workers, cut, gate)?;
-    push_dot(alloc, graph, &tables, &answers, view, sink)
-}
-
-// Writes the lines of JSON. The graph is not owned here, and the tables where they are made.
-fn json_of_graph<R: Threads + Sync, K: Sink>(
-    rt: &R,
-    alloc: Global,
-    graph: &Graph<'_>,
-    view: View,
-    options: &Options,
-    gate: &Progress,
-    sink: &mut K,
-) -> Result<(), Fault>
-    requires threads { IsSync R.row }
-    requires below { K.faults sink.old < 2 ^ 32 - 1 }
-    requires there { IfSome view.procedure (λ number. number < length graph.now.procedure_names) }
-    ensures delivers { Delivers (λ out. IsJson graph.now view out) (K.contents sink.old) (K.contents sink.new) result }
-    ensures flushed { OnOk result (K.flushed sink.new ≡ true) }
-    ensures fault { IfErr result (OfProgram (λ _. ⊥) ⊥) }
-    ensures faults { K.faults sink.new ≡ K.faults sink.old + write_faults_in result }
-{
-    let (workers, cut) = (options.workers, options.cut);
-    let tables = ShownTables::of(rt, alloc, graph, view, workers, cut, gate)?;
-    let answers = ReportAnswers::of(rt, alloc, graph, workers, cut, gate)?;
-    push_json(alloc, graph, &tables, &answers, view, sink)
 }
 
 // Writes what the options ask for of a graph. A report wants no tables.
@@ -170,8 +143,8 @@ fn view_of_graph<R: Threads + Sync, K: Sink>(
 {
     let (workers, cut) = (options.workers, options.cut);
     match options.format {
-        Format::Dot => dot_of_graph(rt, alloc, graph, view, options, gate, sink),
-        Format::Json => json_of_graph(rt, alloc, graph, view, options, gate, sink),
+        Format::Dot => push_dot(rt, alloc, graph, view, options, gate, sink),
+        Format::Json => push_json(rt, alloc, graph, view, options, gate, sink),
         Format::Report => push_report(rt, alloc, graph, workers, cut, gate, sink),
     }
 }

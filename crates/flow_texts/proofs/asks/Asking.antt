@@ -1,18 +1,19 @@
 -- Asks that are put behind others.
-use Rattle.std.proofs.Common.{◌≡◌, ◌⊎◌, ◌∙◌, ℕ, zero, suc, ◌+◌, ◌*◌, ◌^◌, ◌<◌, ◌≤◌, true, List, [], ◌∷◌, ◌++◌, map, Some, length}
+use Rattle.std.proofs.Common.{◌≡◌, ◌⊎◌, ◌∙◌, ℕ, zero, suc, ◌+◌, ◌<◌, ◌≤◌, true, List, [], ◌∷◌, ◌++◌, map, Some, length}
 use Rattle.std.proofs.Common.{nat_eq, slice_get, inl, inr, refl, sym, ap, subst, arith, length-append}
 use Rattle.std.specs.List.{list_any}
 use Rattle.std.proofs.lemmas.Bool.{cases_lt, or_cases}
 use Rattle.flow_graph.specs.Points.{kind_at, point_count}
-use Rattle.flow_graph.specs.declared.analysis.Analysis.TheVariants.{Busy, Reach}
+use Rattle.flow_graph.specs.declared.analysis.Analysis.TheVariants.{Reach}
 use Rattle.tac_program.specs.Programs.{Program}
 use Rattle.tac_program.specs.Sound.{IsSound}
 use Rattle.tac_program.specs.declared.program.StmtKind.{StmtKind}
-use Rattle.flow_team.specs.Asks.{AreAnswers, IsAskOf, Replies}
+use Rattle.flow_team.specs.Asks.{IsAskOf}
 use Rattle.flow_team.specs.declared.ask.Ask.{Ask}
-use Rattle.flow_texts.specs.code.Asking.{Asks, AsksReads}
+use Rattle.flow_texts.specs.code.Asking.{Asks, AsksReads, PutsPoint}
+use Rattle.flow_texts.specs.code.Busy.{ArePoints}
 use Rattle.flow_texts.specs.code.Operands.{AreRead}
-use Rattle.flow_texts.specs.code.Reported.{AreAsked, AreAskedAt, Reported, TellReport}
+use Rattle.flow_texts.specs.code.Reported.{AreAsked, AreAskedAt}
 use Rattle.flow_texts.specs.code.Told.{ask_for}
 use Rattle.flow_texts.specs.declared.report_asks.PointAsks.{PointAsks}
 use Rattle.flow_texts.proofs.knowledge.RemarkLines.{same_read, variables_are_there, variables_have_dummies}
@@ -31,6 +32,21 @@ get_of_more [] ask zero one is = inl (sym (cc is))
 get_of_more [] ask (suc q) one is = absurd (cc is)
 get_of_more (first ∷ old) ask zero one is = inr is
 get_of_more (first ∷ old) ask (suc q) one is = get_of_more old ask q one is
+
+test_before : (old more : List ℕ) (i test : ℕ) → slice_get old i ≡ Some test → slice_get (old ++ more) i ≡ Some test
+test_before [] more i test is = absurd (cc is)
+test_before (one ∷ old) more zero test is = is
+test_before (one ∷ old) more (suc i) test is = test_before old more i test is
+
+test_last : (old : List ℕ) (test : ℕ) → slice_get (old ++ test ∷ []) (length old) ≡ Some test
+test_last [] test = refl
+test_last (one ∷ old) test = test_last old test
+
+test_of_more : (old : List ℕ) (test i one : ℕ) → slice_get (old ++ test ∷ []) i ≡ Some one → (one ≡ test) ⊎ (slice_get old i ≡ Some one)
+test_of_more [] test zero one is = inl (sym (cc is))
+test_of_more [] test (suc i) one is = absurd (cc is)
+test_of_more (first ∷ old) test zero one is = inr is
+test_of_more (first ∷ old) test (suc i) one is = test_of_more old test i one is
 
 -- the last of a list, or one before it
 place_before : (places : List PointAsks) (here : PointAsks) (p : ℕ) (at : PointAsks) → slice_get (places ++ here ∷ []) p ≡ Some at
@@ -67,53 +83,52 @@ module _ (program : Program) where
     count = omega (arith, before.count, after.count, room);
   }
 
-  pub reads_still : (old new : List Ask) (place point : ℕ) (kind : StmtKind) (most : ℕ) → Asks program old new most → AsksReads old place point kind
+  pub reads_still : (old new : List Ask) (place point : ℕ) (kind : StmtKind)
+      → ((q : ℕ) (ask : Ask) → slice_get old q ≡ Some ask → slice_get new q ≡ Some ask) → AsksReads old place point kind
       → AsksReads new place point kind
-  reads_still old new place point kind most more asked = record {
-    each = λ variables are i variable at. more.kept (place + i) (ask_for Reach point variable) (asked.each variables are i variable at);
-    all = λ variable reading. let found = asked.all variable reading in (found.0, more.kept found.0 (ask_for Reach point variable) found.1);
+  reads_still old new place point kind kept asked = record {
+    each = λ variables are i variable at. kept (place + i) (ask_for Reach point variable) (asked.each variables are i variable at);
+    all = λ variable reading. let found = asked.all variable reading in (found.0, kept found.0 (ask_for Reach point variable) found.1);
   }
 
   -- what was asked at a statement stays asked
-  pub asked_still : (old new : List Ask) (here : PointAsks) (point : ℕ) (kind : StmtKind) (most : ℕ) → Asks program old new most
-      → AreAskedAt program old here point kind
-      → AreAskedAt program new here point kind
-  asked_still old new here point kind most more asked = record {
-    reads = reads_still old new here.reads point kind most more asked.reads;
-    evaluated = λ bit is. more.kept here.evaluated _ (asked.evaluated bit is);
-    assigned = λ variable is. more.kept here.assigned _ (asked.assigned variable is);
-    busy = λ test word below. more.kept (here.busy + word) _ (asked.busy test word below);
+  pub asked_still : (old new : List Ask) (before after : List ℕ) (here : PointAsks) (point : ℕ) (kind : StmtKind)
+      → ((q : ℕ) (ask : Ask) → slice_get old q ≡ Some ask → slice_get new q ≡ Some ask)
+      → ((i test : ℕ) → slice_get before i ≡ Some test → slice_get after i ≡ Some test)
+      → AreAskedAt program old before here point kind → AreAskedAt program new after here point kind
+  asked_still old new before after here point kind kept still asked = record {
+    reads = reads_still old new here.reads point kind kept asked.reads;
+    evaluated = λ bit is. kept here.evaluated _ (asked.evaluated bit is);
+    assigned = λ variable is. kept here.assigned _ (asked.assigned variable is);
+    test = λ test. still here.test point (asked.test test);
   }
 
   -- and one statement more is
-  pub asked_more : (old new : List Ask) (places more : List PointAsks) (here : PointAsks) (point most : ℕ) → more ≡ places ++ here ∷ []
-      → length places ≡ point
-      → Asks program old new most → ((kind : StmtKind) → kind_at program point ≡ Some kind → AreAskedAt program new here point kind)
-      → AreAsked program old places → AreAsked program new more
-  asked_more old new places more here point most is count asks asked before p at kind there stands_there =
+  pub asked_more : (old new : List Ask) (before after : List ℕ) (places more : List PointAsks) (here : PointAsks) (point most : ℕ)
+      → more ≡ places ++ here ∷ [] → length places ≡ point → Asks program old new most
+      → ((i test : ℕ) → slice_get before i ≡ Some test → slice_get after i ≡ Some test)
+      → ((kind : StmtKind) → kind_at program point ≡ Some kind → AreAskedAt program new after here point kind)
+      → AreAsked program old before places → AreAsked program new after more
+  asked_more old new before after places more here point most is count asks still asked asked_before p at kind there stands_there =
       let there_ : slice_get (places ++ here ∷ []) p ≡ Some at = ap (λ ps. slice_get ps p) (sym is) ∙ there in
       elim (place_before places here p at there_) [
         | inl last ↦ (
             let same : p ≡ point = last.0 ∙ count in
-            subst (λ (q : ℕ). kind_at program q ≡ Some kind → AreAskedAt program new at q kind) (sym same)
-            (λ stood. subst (λ (a : PointAsks). AreAskedAt program new a point kind) (sym last.1) (asked kind stood)) stands_there)
-        | inr earlier ↦ asked_still old new at p kind most asks (before p at kind earlier stands_there)
+            subst (λ (q : ℕ). kind_at program q ≡ Some kind → AreAskedAt program new after at q kind) (sym same)
+            (λ stood. subst (λ (a : PointAsks). AreAskedAt program new after a point kind) (sym last.1) (asked kind stood)) stands_there)
+        | inr earlier ↦ asked_still old new before after at p kind asks.kept still (asked_before p at kind earlier stands_there)
       ]
 
--- the asks for words of very busy expressions, one more
-pub one_busy_more : (first point word : ℕ) (old new : List Ask) (ask : Ask) → new ≡ old ++ ask ∷ []
-    → ask ≡ record { analysis = Busy; point = point; word = word } → length old ≡ first + word
-    → ((w : ℕ) → w < word → slice_get old (first + w) ≡ Some (let one : Ask = record { analysis = Busy; point = point; word = w } in one))
-    → (w : ℕ) → w < word + 1 → slice_get new (first + w) ≡ Some (let one : Ask = record { analysis = Busy; point = point; word = w } in one)
-one_busy_more first point word old new ask is of count before w below = elim (cases_lt w word) [
-  | inl low ↦ ap (λ asks. slice_get asks (first + w)) is
-      ∙ get_before old (ask ∷ []) (first + w) (record { analysis = Busy; point = point; word = w }) (before w low)
+-- the asks of a round, one more
+pub one_round_more : (first number : ℕ) (one_of : ℕ → Ask) (old new : List Ask) (ask : Ask) → new ≡ old ++ ask ∷ [] → ask ≡ one_of number
+    → length old ≡ first + number → ((n : ℕ) → n < number → slice_get old (first + n) ≡ Some (one_of n))
+    → (n : ℕ) → n < number + 1 → slice_get new (first + n) ≡ Some (one_of n)
+one_round_more first number one_of old new ask is of count before n below = elim (cases_lt n number) [
+  | inl low ↦ ap (λ asks. slice_get asks (first + n)) is ∙ get_before old (ask ∷ []) (first + n) (one_of n) (before n low)
   | inr high ↦ (
-      let same : word ≡ w = omega (arith, below, high) in
-      let place : first + w ≡ length old = omega (arith, count, same) in
-      ap (slice_get new) place
-      ∙ put_there old new ask is
-      ∙ ap (λ a. Some a) (of ∙ ap (λ n. let one : Ask = record { analysis = Busy; point = point; word = n } in one) same))
+      let same : number ≡ n = omega (arith, below, high) in
+      let place : first + n ≡ length old = omega (arith, count, same) in
+      ap (slice_get new) place ∙ put_there old new ask is ∙ ap (λ a. Some a) (of ∙ ap one_of same))
 ]
 
 -- the asks for variables, put in their order
@@ -174,13 +189,27 @@ pub second_read : (asks : List Ask) (place point first second : ℕ) (kind : Stm
     → slice_get asks (place + 1) ≡ Some (ask_for Reach point second)
 second_read asks place point first second kind asked are = asked.each (first ∷ second ∷ []) are 1 second refl
 
--- answers to what was asked tell a report
-pub tells : (program : Program) (asks : List Ask) (replies : Replies) (places : List PointAsks) → replies.asks ≡ asks → 64 * length asks < 2 ^ 32
-    → AreAnswers program replies → length places ≡ point_count program → AreAsked program asks places
-    → TellReport program (let reported : Reported = record { replies = replies; places = places } in reported)
-tells program asks replies places same few answers count asked = record {
-  few = subst (λ (all : List Ask). 64 * length all < 2 ^ 32) (sym same) few;
-  answers = answers;
-  count = count;
-  asked = subst (λ (all : List Ask). AreAsked program all places) (sym same) asked;
-}
+-- tests stay where they were put
+pub tests_still : (old new : List ℕ) (point : ℕ) → PutsPoint old new point → (i test : ℕ) → slice_get old i ≡ Some test → slice_get new i ≡ Some test
+tests_still old new point (inl same) i test there = ap (λ (tests : List ℕ). slice_get tests i) same ∙ there
+tests_still old new point (inr more) i test there =
+    ap (λ (tests : List ℕ). slice_get tests i) more ∙ test_before old (point ∷ []) i test there
+
+-- and each is the new one or one of the old
+pub points_more : (program : Program) (old new : List ℕ) (point : ℕ) → point < point_count program → PutsPoint old new point → ArePoints program old
+    → ArePoints program new
+points_more program old new point below (inl same) are i test there =
+    are i test (ap (λ (tests : List ℕ). slice_get tests i) (sym same) ∙ there)
+points_more program old new point below (inr more) are i test there =
+    elim (test_of_more old point i test (ap (λ (tests : List ℕ). slice_get tests i) (sym more) ∙ there)) [
+      | inl is ↦ subst (λ (p : ℕ). p < point_count program) (sym is) below
+      | inr before ↦ are i test before
+    ]
+
+pub tests_count : (old new : List ℕ) (point : ℕ) → PutsPoint old new point → length new ≤ length old + 1
+tests_count old new point (inl same) = let count : length new ≡ length old = ap length same in omega (arith, count)
+tests_count old new point (inr more) =
+    let count : length new ≡ length old + 1 = ap length more ∙ length-append old (point ∷ []) in omega (arith, count)
+
+pub test_put : (old new : List ℕ) (point : ℕ) → new ≡ old ++ point ∷ [] → slice_get new (length old) ≡ Some point
+test_put old new point is = ap (λ (tests : List ℕ). slice_get tests (length old)) is ∙ test_last old point

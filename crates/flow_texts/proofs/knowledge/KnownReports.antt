@@ -1,12 +1,14 @@
 -- What a report reads of the facts: answers to that make the report of all that is known.
-use Rattle.std.proofs.Common.{◌≡◌, ◌↔◌, ◌⊎◌, ◌∙◌, ℕ, zero, suc, ◌+◌, ◌/◌, ◌<◌, ◌≤◌, Bool, true, false, not, ◌&&◌, List, [], ◌∷◌, ◌++◌, length, map}
-use Rattle.std.proofs.Common.{flat_map, cond, Option, Some, None, option_and_then, option_map, position, unwrap_or, get_or, slice_get, if◌then◌else◌}
+use Rattle.std.proofs.Common.{◌≡◌, ◌↔◌, ◌⊎◌, ◌∙◌, ℕ, zero, suc, ◌+◌, ◌<◌, ◌≤◌, Bool, true, false, not, ◌&&◌, List, [], ◌∷◌, ◌++◌, length, map}
+use Rattle.std.proofs.Common.{flat_map, cond, Option, Some, None, option_and_then, option_map, position, unwrap_or, slice_get, slice_index}
+use Rattle.std.proofs.Common.{slice_index_or, if◌then◌else◌}
 use Rattle.std.proofs.Common.{inl, inr, refl, sym, ap, ap₂, subst, arith}
 use Rattle.std.specs.List.{filter, list_any, range_with_len}
 use Rattle.std.proofs.lemmas.List.Concat.{flat_map-cons}
 use Rattle.std.proofs.lemmas.List.Quantifiers.{position-Some}
 use Rattle.std.proofs.lemmas.Option.{slice_get-get_or}
 use Rattle.std.proofs.lemmas.Bool.Decides.{same_from_decides}
+use Rattle.flow_graph.specs.Analyses.{IsInTable}
 use Rattle.flow_graph.specs.Points.{kind_at, point_count}
 use Rattle.flow_graph.specs.Transfers.{names_variable, operands_of, reads}
 use Rattle.flow_graph.specs.Universes.{bits, evaluated_at, expression_at, expression_of, expressions, same_expression}
@@ -23,13 +25,14 @@ use Rattle.flow_texts.specs.Reports.{IsKnowledge, Knowledge, assigned, busy_at, 
 use Rattle.flow_texts.specs.Reports.{remarks_at, remarks_when_reached, report_of, unset_at}
 use Rattle.flow_texts.specs.Tables.{bits_at}
 use Rattle.flow_texts.specs.code.Findings.{AreFindings, TellDoubtful, knowledge_of}
-use Rattle.flow_texts.specs.code.Reported.{AreAskedAt}
+use Rattle.flow_texts.specs.code.Reported.{AreAskedAt, no_places}
 use Rattle.flow_texts.specs.code.Told.{ask_for, facts_in}
 use Rattle.flow_texts.specs.declared.findings.Findings.{Findings}
 use Rattle.flow_texts.specs.declared.remark.Remark.TheVariants.{NeverReached, Unset, Computed, VeryBusy, Dead}
 use Rattle.flow_texts.specs.declared.report_asks.PointAsks.{PointAsks}
 use Rattle.flow_texts.proofs.knowledge.RemarkLines.{assigned_there, next_below, read_there, variables_have_dummies}
 use Rattle.flow_texts.proofs.asks.Told.{bit_told}
+use Rattle.flow_texts.proofs.busy.Lists.{busy_told}
 
 -- which of two it is
 is_left : {A B : Type 0} → A ⊎ B → Bool
@@ -191,11 +194,23 @@ none_evaluated program point bit at is =
 -- where the asks of a statement stand
 asked_at : (found : Findings) → AreFindings found → (point : ℕ) → point < point_count found.graph.now → (kind : StmtKind)
     → kind_at found.graph.now point ≡ Some kind
-    → (places : PointAsks) × AreAskedAt found.graph.now found.answers.now.replies.asks places point kind
+    → (places : PointAsks) × AreAskedAt found.graph.now found.answers.now.replies.asks found.answers.now.tests places point kind
 asked_at found are point below kind at =
-    let first : PointAsks = record { reads = 0; evaluated = 0; assigned = 0; busy = 0 } in
-    let places = get_or found.answers.now.places point first in
-    (places, are.answers.asked point places kind (slice_get-get_or found.answers.now.places point first (omega (arith, below, are.answers.count))) at)
+    let places = slice_index_or found.answers.now.places point no_places in
+    let there = slice_get-get_or found.answers.now.places point no_places (omega (arith, below, are.answers.count)) in
+    (places, are.answers.asked point places kind there at)
+
+-- what is told of a test's very busy expressions
+pub busy_in : (found : Findings) → AreFindings found → (point : ℕ) (kind : StmtKind) → point < point_count found.graph.now
+    → kind_at found.graph.now point ≡ Some kind → is_test kind ≡ true → (bit : ℕ)
+    → ((knowledge_of found).busy.contains point bit ≡ true) ↔ ((bit < bits found.graph.now Busy) × IsInTable found.graph.now Busy point bit)
+busy_in found are point kind below at test bit =
+    let places = slice_index_or found.answers.now.places point no_places in
+    let there = slice_get-get_or found.answers.now.places point no_places (omega (arith, below, are.answers.count)) in
+    let busy = found.answers.now.busy in
+    let first : ℕ = slice_index busy.firsts places.test in
+    busy_told found.graph.now point busy.words 0 first first bit (omega arith) (omega arith)
+    (are.answers.busy places.test point ((are.answers.asked point places kind there at).test test))
 
 module _ (found : Findings) (are : AreFindings found) (known : Knowledge) (is : IsKnowledge found.graph.now known) where
   -- a bit that was asked for is known
@@ -223,8 +238,9 @@ module _ (found : Findings) (are : AreFindings found) (known : Knowledge) (is : 
       → is_test kind ≡ true → bit < bits found.graph.now Busy
       → (knowledge_of found).busy.contains point bit ≡ known.busy.contains point bit
   same_busy_bit point bit kind below at test there =
-      let here = asked_at found are point below kind at in
-      same_bit Busy known.busy is.busy point bit (here.0.busy + bit / 64) below there (here.1.busy test (bit / 64) (omega (arith, there)))
+      same_from_decides ((knowledge_of found).busy.contains point bit) (known.busy.contains point bit)
+      (within ((knowledge_of found).busy.contains point bit) bit (bits found.graph.now Busy) there (busy_in found are point kind below at test bit))
+      (is.busy.sets point bit below there)
 
   same_live_bit : (point variable : ℕ) (kind : StmtKind) → point < point_count found.graph.now → kind_at found.graph.now point ≡ Some kind
       → assigned kind ≡ Some variable

@@ -61,6 +61,17 @@ none_pass test a (suc k) fails =
 pub none_texts : (text_of : ℕ → List ℕ) (test : ℕ → Bool) (a k : ℕ) → ((i : ℕ) → i < k → test (a + i) ≡ false) → texts_between text_of test a k ≡ []
 none_texts text_of test a k fails = ap (flat_map text_of) (none_pass test a k fails)
 
+-- as far as none passes the texts stay
+pub no_more : (text_of : ℕ → List ℕ) (test : ℕ → Bool) (a b : ℕ) → a ≤ b → ((i : ℕ) → a ≤ i → i < b → test i ≡ false)
+    → texts_between text_of test 0 a ≡ texts_between text_of test 0 b
+no_more text_of test a b less none =
+    let k : ℕ = b - a in
+    let all : a + k ≡ b = omega (arith, less) in
+    let nothing : texts_between text_of test (0 + a) k ≡ [] =
+    none_texts text_of test (0 + a) k (λ i below. none (0 + a + i) (omega arith) (omega (arith, below, less))) in
+    sym (ap (texts_between text_of test 0) (sym all) ∙ texts_split text_of test 0 a k
+    ∙ ap (λ t. texts_between text_of test 0 a ++ t) nothing ∙ append-nil (texts_between text_of test 0 a))
+
 -- a number more that passes, and none behind it as far as another place
 pub next_member : (text_of : ℕ → List ℕ) (test : ℕ → Bool) (a place next width : ℕ) (old one two : Outlet) → place < width → place + 1 ≤ next
     → test (a + place) ≡ true

@@ -1,9 +1,9 @@
 -- Asks that are put behind others.
-use Rattle.std.specs.Prelude.{◌≡◌, ℕ, ◌+◌, ◌*◌, ◌<◌, ◌≤◌, true, List, Some, length, slice_get}
+use Rattle.std.specs.Prelude.{◌≡◌, ◌⊎◌, ℕ, ◌+◌, ◌≤◌, true, List, [], ◌∷◌, ◌++◌, Some, length, slice_get}
 use Rattle.std.specs.List.{list_any}
 use Rattle.flow_graph.specs.Transfers.{names_variable, operands_of}
-use Rattle.flow_graph.specs.Universes.{bits, evaluated_at}
-use Rattle.flow_graph.specs.declared.analysis.Analysis.TheVariants.{Reach, Live, Avail, Busy}
+use Rattle.flow_graph.specs.Universes.{evaluated_at}
+use Rattle.flow_graph.specs.declared.analysis.Analysis.TheVariants.{Reach, Live, Avail}
 use Rattle.flow_team.specs.Asks.{AreAsksOf}
 use Rattle.flow_team.specs.declared.ask.Ask.{Ask}
 use Rattle.flow_texts.specs.Reports.{assigned, is_test}
@@ -33,7 +33,10 @@ AsksEvaluated program asks place point = (bit : ℕ) → evaluated_at program po
 abbrev pub AsksAssigned : List Ask → ℕ → ℕ → StmtKind → Type 0
 AsksAssigned asks place point kind = (variable : ℕ) → assigned kind ≡ Some variable → slice_get asks place ≡ Some (ask_for Live (point + 1) variable)
 
--- and from a place on, at a test, those for all very busy expressions.
-abbrev pub AsksBusy : Program → List Ask → ℕ → ℕ → StmtKind → Type 0
-AsksBusy program asks place point kind = is_test kind ≡ true → (word : ℕ) → 64 * word < bits program Busy
-    → slice_get asks (place + word) ≡ Some (let ask : Ask = record { analysis = Busy; point = point; word = word } in ask)
+-- and a test is one of the tests.
+abbrev pub IsAmongTests : List ℕ → ℕ → ℕ → StmtKind → Type 0
+IsAmongTests tests number point kind = is_test kind ≡ true → slice_get tests number ≡ Some point
+
+-- The point came behind the others, or nothing did.
+abbrev pub PutsPoint : List ℕ → List ℕ → ℕ → Type 0
+PutsPoint old new point = (new ≡ old) ⊎ (new ≡ old ++ point ∷ [])

@@ -12,7 +12,7 @@ use Rattle.tac_program.specs.Sound.{IsSound}
 use Rattle.text_pieces.specs.code.Lists.{AreTexts}
 use Rattle.flow_texts.specs.Reports.{Knowledge, remark_text}
 use Rattle.flow_texts.specs.Tables.{bit_text, variable_text}
-use Rattle.flow_texts.specs.code.Reported.{TellReport}
+use Rattle.flow_texts.specs.code.Reported.{TellReport, busy_facts}
 use Rattle.flow_texts.specs.code.Told.{facts_in}
 use Rattle.flow_texts.specs.declared.findings.Findings.{Findings}
 use Rattle.flow_texts.specs.declared.remark.Remark.{Remark}
@@ -38,7 +38,7 @@ knowledge_of found = record {
   reach = facts_in found.answers.now.replies Reach;
   live = facts_in found.answers.now.replies Live;
   avail = facts_in found.answers.now.replies Avail;
-  busy = facts_in found.answers.now.replies Busy;
+  busy = busy_facts found.answers.now;
   doubtful = λ point. get_or found.doubtful.items point false;
 }
 

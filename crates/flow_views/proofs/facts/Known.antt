@@ -12,7 +12,6 @@ use Rattle.flow_team.specs.Tables.{AreFacts, Facts, TableFacts, facts_of}
 use Rattle.tac_program.specs.Programs.{Program}
 use Rattle.flow_texts.specs.Reports.{IsKnowledge, Knowledge, dead_at, remarks_at, unset_at}
 use Rattle.flow_texts.specs.code.Findings.{knowledge_of}
-use Rattle.flow_texts.specs.code.Told.{facts_in}
 use Rattle.flow_texts.proofs.knowledge.KnownReports.{Agree, agrees, all_is_known, all_known, same_dead, same_remarks, same_unset}
 use Rattle.flow_views.specs.ShownTables.{IsShownTable, end_shown, first_shown}
 use Rattle.flow_views.specs.Views.{told_by}
@@ -105,14 +104,14 @@ some_told N P Q (Some x) told next = next x told
 pub table_told : (shown : ShownProgram) (analysis : Analysis) (table : TableFacts) → shown_table shown.tables.now analysis ≡ Some table
     → (point : ℕ) → IsShownPoint shown point → TellSame (facts_of table) (told_by (known_of shown) analysis) point
 table_told shown analysis table is point at = subst (λ (told : Facts). TellSame (facts_of table) told point) (known analysis is)
-    (table_tells (from_of shown) (until_of shown) point (facts_in shown.found.answers.now.replies analysis) table at.0 at.1)
+    (table_tells (from_of shown) (until_of shown) point (told_by (knowledge_of shown.found) analysis) table at.0 at.1)
   where
     known : (a : Analysis) → shown_table shown.tables.now a ≡ Some table
-        → known_by shown (facts_in shown.found.answers.now.replies a) (Some table) ≡ told_by (known_of shown) a
-    known Reach same = ap (known_by shown (facts_in shown.found.answers.now.replies Reach)) (sym same)
-    known Live same = ap (known_by shown (facts_in shown.found.answers.now.replies Live)) (sym same)
-    known Avail same = ap (known_by shown (facts_in shown.found.answers.now.replies Avail)) (sym same)
-    known Busy same = ap (known_by shown (facts_in shown.found.answers.now.replies Busy)) (sym same)
+        → known_by shown (told_by (knowledge_of shown.found) a) (Some table) ≡ told_by (known_of shown) a
+    known Reach same = ap (known_by shown (knowledge_of shown.found).reach) (sym same)
+    known Live same = ap (known_by shown (knowledge_of shown.found).live) (sym same)
+    known Avail same = ap (known_by shown (knowledge_of shown.found).avail) (sym same)
+    known Busy same = ap (known_by shown (knowledge_of shown.found).busy) (sym same)
 
 module _ (shown : ShownProgram) (are : AreShown shown) where
   -- all that is known

@@ -11,8 +11,7 @@ use Rattle.flow_graph.specs.declared.edge.Edge.{Edge}
 use Rattle.flow_graph.specs.declared.edge.Edge.TheVariants.{Step, Call, Ret}
 use Rattle.flow_team.specs.Tables.{Facts, TableFacts, facts_of}
 use Rattle.flow_texts.specs.Reports.{Knowledge}
-use Rattle.flow_texts.specs.code.Findings.{AreFindings, TellDoubtful}
-use Rattle.flow_texts.specs.code.Told.{facts_in}
+use Rattle.flow_texts.specs.code.Findings.{AreFindings, TellDoubtful, knowledge_of}
 use Rattle.tac_program.specs.Programs.{Program}
 use Rattle.flow_views.specs.code.Names.{AreNames}
 use Rattle.flow_views.specs.declared.shown.Numbers.{Numbers}
@@ -66,10 +65,10 @@ known_by shown facts table =
 -- what is known of a program by its tables, by what a report asks where there is none, and by its doubtful points
 abbrev pub known_of : ShownProgram → Knowledge
 known_of shown = record {
-  reach = known_by shown (facts_in shown.found.answers.now.replies Reach) shown.tables.now.reach;
-  live = known_by shown (facts_in shown.found.answers.now.replies Live) shown.tables.now.live;
-  avail = known_by shown (facts_in shown.found.answers.now.replies Avail) shown.tables.now.avail;
-  busy = known_by shown (facts_in shown.found.answers.now.replies Busy) shown.tables.now.busy;
+  reach = known_by shown (knowledge_of shown.found).reach shown.tables.now.reach;
+  live = known_by shown (knowledge_of shown.found).live shown.tables.now.live;
+  avail = known_by shown (knowledge_of shown.found).avail shown.tables.now.avail;
+  busy = known_by shown (knowledge_of shown.found).busy shown.tables.now.busy;
   doubtful = λ point. get_or shown.found.doubtful.items point false;
 }
 

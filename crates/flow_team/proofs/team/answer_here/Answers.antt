@@ -1,22 +1,11 @@
-use Rattle.std.proofs.Common.{sym, ap, subst}
-use Rattle.flow_team.specs.Asks.{AreAsksOf}
-use Rattle.flow_team.specs.code.Directions.{Pair}
+use Rattle.std.proofs.Common.{sym, subst}
+use Rattle.flow_team.specs.Asks.{AreAnswers, AreAsksOf}
 use Rattle.tac_program.specs.Programs.{Program}
-use Rattle.flow_team.proofs.threads.Sent.{asked_cross}
 use Rattle.flow_team.proofs.team.answer_here.Goals as goal
 
-pub asked_job-requires-clause-asks : goal.asked_job-requires-clause-asks
-asked_job-requires-clause-asks c =
-    subst (λ (p : Program). AreAsksOf p c.args.asks.items) (sym (ap (λ (d : Pair). d.program) c.in_ok-directions.ensures.forward)) c.requires.asks
+pub answer_here-requires-clause-asks : goal.answer_here-requires-clause-asks
+answer_here-requires-clause-asks c = subst (λ (p : Program). AreAsksOf p c.args.asks.items) (sym c.in_ok-solvers.ensures) c.requires.asks
 
-pub run_here-requires-send-W : goal.run_here-requires-send-W
-run_here-requires-send-W c = λ κs lives. search asked_cross depth 60
-
-pub run_here-requires-send-S : goal.run_here-requires-send-S
-run_here-requires-send-S c = λ κs lives. search asked_cross depth 60
-
-pub run_here-requires-sync-W : goal.run_here-requires-sync-W
-run_here-requires-sync-W c = λ κs lives. search asked_cross depth 60
-
-pub run_here-requires-sync-S : goal.run_here-requires-sync-S
-run_here-requires-sync-S c = λ κs lives. search asked_cross depth 60
+pub returns-clause-answers : goal.returns-clause-answers
+returns-clause-answers c =
+    subst (λ (p : Program). AreAnswers p c.in_ok-answers.answers) c.in_ok-solvers.ensures c.in_ok-answers.ensures.answers

@@ -1,42 +1,152 @@
--- A word more, be it passed over or written.
-use Rattle.std.proofs.Common.{◌≡◌, ◌+◌, ◌-◌, ◌*◌, ◌<◌, ℕ, List, Bool, min, length, ap, sym, subst, arith}
+-- The words that have a bit, one after the other; between them is none.
+use Rattle.std.proofs.Common.{◌≡◌, ℕ, suc, ◌+◌, ◌-◌, ◌*◌, ◌<◌, ◌≤◌, Bool, true, false, List, Some, min, refl, sym, ap, subst, arith}
+use Rattle.std.proofs.lemmas.Bool.Decides.{same_from_decides}
+use Rattle.std.proofs.lemmas.Option.{slice_get_within}
+use Rattle.bit_rows.specs.Words.{has_bit}
+use Rattle.flow_graph.specs.Analyses.{IsInTable}
+use Rattle.flow_graph.specs.Points.{kind_at, point_count}
+use Rattle.flow_graph.specs.Universes.{bits}
+use Rattle.flow_graph.specs.declared.analysis.Analysis.TheVariants.{Busy}
 use Rattle.tac_program.specs.Programs.{Program}
-use Rattle.flow_graph.specs.Universes.{expressions}
-use Rattle.flow_texts.specs.code.Findings.{knowledge_of}
-use Rattle.text_pieces.specs.Pieces.{Outlet, Takes, outlet}
-use Rattle.text_pieces.specs.declared.pieces.Pieces.{Pieces}
+use Rattle.tac_program.specs.declared.program.StmtKind.{StmtKind}
+use Rattle.flow_texts.specs.Reports.{is_test}
+use Rattle.flow_texts.specs.code.Busy.{AreBusy}
+use Rattle.flow_texts.specs.code.Findings.{AreFindings, knowledge_of}
+use Rattle.flow_texts.specs.declared.findings.Findings.{Findings}
 use Rattle.flow_texts.specs.declared.remark.Remark.TheVariants.{VeryBusy}
-use Rattle.flow_texts.proofs.sets.RangeLines.{next_word, no_texts, texts_between}
+use Rattle.flow_texts.proofs.busy.Lists.{IsFirst, ended_told, first_told}
+use Rattle.flow_texts.proofs.knowledge.KnownReports.{busy_in}
+use Rattle.flow_texts.proofs.sets.RangeLines.{next_word, no_more, texts_between}
+use Rattle.text_pieces.specs.Pieces.{Outlet, outlet}
+use Rattle.text_pieces.specs.declared.pieces.Pieces.{Pieces}
 use Rattle.text_pieces.proofs.sinks.Taking.{takes_as, takes_nothing}
 use Rattle.flow_texts.proofs.findings.Findings.write_busy_words.Goals as goal
-use Rattle.flow_texts.proofs.findings.Findings.write_busy_words.Goals.{then-ones-ne0, else-ones-ne0}
 
-pub loop-word-preserved : goal.loop-word-preserved
-loop-word-preserved g c =
+not_true : (b : Bool) → (b ≡ true → ⊥) → b ≡ false
+not_true true never = absurd (never refl)
+not_true false never = refl
+
+-- what is not in the table is not told
+none_told : (found : Findings) → AreFindings found → (point : ℕ) (kind : StmtKind) → point < point_count found.graph.now
+    → kind_at found.graph.now point ≡ Some kind → is_test kind ≡ true → (bit : ℕ)
+    → (bit < bits found.graph.now Busy → ¬ (IsInTable found.graph.now Busy point bit)) → (knowledge_of found).busy.contains point bit ≡ false
+none_told found are point kind below at test bit none =
+    not_true ((knowledge_of found).busy.contains point bit)
+    (λ has. let both = (busy_in found are point kind below at test bit).0 has in none both.0 both.1)
+
+pub first_busy-next-requires : goal.first_busy-next-requires
+first_busy-next-requires g c =
+    let answers = c.requires.found.answers in
+    let asked = answers.asked c.args.point c.places.result c.args.kind.now c.places.ensures c.requires.kind in
+    let inside = slice_get_within c.args.self.now.answers.now.tests c.places.result.test c.args.point (asked.test c.requires.test) in
+    omega (arith, inside, answers.firsts)
+
+pub loop-busy-init : goal.loop-busy-init
+loop-busy-init g c =
+    let program : Program = c.args.self.now.graph.now in
+    let answers = c.requires.found.answers in
+    let text : ℕ → List ℕ = λ e. g.F.RemarkForm.text c.args.form.now program c.args.point (VeryBusy e) in
+    let test : ℕ → Bool = (knowledge_of c.args.self.now).busy.contains c.args.point in
+    let at : Pieces _ → Outlet = outlet g.K.Sink in
+    let asked = answers.asked c.args.point c.places.result c.args.kind.now c.places.ensures c.requires.kind in
+    let none : min (bits program Busy) (64 * 0) ≡ 0 = omega arith in
+    record {
+      from = 0;
+      told = subst (λ (n : ℕ). AreBusy program c.args.self.now.answers.now.busy.words c.args.point 0 n) (sym c.first_busy-next.ensures)
+          (answers.busy c.places.result.test c.args.point (asked.test c.requires.test));
+      writes = takes_as _ _ _ _ (takes_nothing (at c.args.out.now)) (sym (ap (texts_between text test 0) none));
+    }
+
+pub overflow_mul-first : goal.overflow_mul-first
+overflow_mul-first g c =
+    let inv = c.loop-busy.invariant in
+    let first : IsFirst c.args.self.now.graph.now c.args.point c.args.self.now.answers.now.busy.words inv.from c.in-Some.ensures.0 c.in-Some.busy =
+    first_told c.args.self.now.graph.now c.args.point c.args.self.now.answers.now.busy.words inv.from c.loop-busy.next c.in-Some.ensures.0
+    c.in-Some.busy c.in-Some.ensures.1 c.in-Some.ensures.2 inv.told in
+    omega (arith, first.within, c.bits-bits.ensures.count, c.bits-bits.ensures.most)
+
+pub overflow_mul-busy : goal.overflow_mul-busy
+overflow_mul-busy g c =
+    let inv = c.loop-busy.invariant in
+    let first : IsFirst c.args.self.now.graph.now c.args.point c.args.self.now.answers.now.busy.words inv.from c.in-Some.ensures.0 c.in-Some.busy =
+    first_told c.args.self.now.graph.now c.args.point c.args.self.now.answers.now.busy.words inv.from c.loop-busy.next c.in-Some.ensures.0
+    c.in-Some.busy c.in-Some.ensures.1 c.in-Some.ensures.2 inv.told in
+    omega (arith, first.within, c.bits-bits.ensures.count, c.bits-bits.ensures.most)
+
+pub overflow_add-busy : goal.overflow_add-busy
+overflow_add-busy g c =
+    let inv = c.loop-busy.invariant in
+    let first : IsFirst c.args.self.now.graph.now c.args.point c.args.self.now.answers.now.busy.words inv.from c.in-Some.ensures.0 c.in-Some.busy =
+    first_told c.args.self.now.graph.now c.args.point c.args.self.now.answers.now.busy.words inv.from c.loop-busy.next c.in-Some.ensures.0
+    c.in-Some.busy c.in-Some.ensures.1 c.in-Some.ensures.2 inv.told in
+    omega (arith, first.within, c.bits-bits.ensures.count, c.bits-bits.ensures.most)
+
+pub write_busy_word-requires-clause-word : goal.write_busy_word-requires-clause-word
+write_busy_word-requires-clause-word g c = λ k small.
+    let inv = c.loop-busy.invariant in
+    let first : IsFirst c.args.self.now.graph.now c.args.point c.args.self.now.answers.now.busy.words inv.from c.in-Some.ensures.0 c.in-Some.busy =
+    first_told c.args.self.now.graph.now c.args.point c.args.self.now.answers.now.busy.words inv.from c.loop-busy.next c.in-Some.ensures.0
+    c.in-Some.busy c.in-Some.ensures.1 c.in-Some.ensures.2 inv.told in
+    let word : ℕ = c.in-Some.busy.word in
+    same_from_decides (has_bit c.in-Some.busy.mask k) ((knowledge_of c.args.self.now).busy.contains c.args.point (64 * word + k))
+    (first.answers k small)
+    (busy_in c.args.self.now c.requires.found c.args.point c.args.kind.now c.requires.point c.requires.kind c.requires.test (64 * word + k))
+
+pub write_busy_word-requires-clause-ordered : goal.write_busy_word-requires-clause-ordered
+write_busy_word-requires-clause-ordered g c =
+    let inv = c.loop-busy.invariant in
+    let first : IsFirst c.args.self.now.graph.now c.args.point c.args.self.now.answers.now.busy.words inv.from c.in-Some.ensures.0 c.in-Some.busy =
+    first_told c.args.self.now.graph.now c.args.point c.args.self.now.answers.now.busy.words inv.from c.loop-busy.next c.in-Some.ensures.0
+    c.in-Some.busy c.in-Some.ensures.1 c.in-Some.ensures.2 inv.told in
+    omega (arith, first.within, c.bits-bits.ensures.count, c.min-end.ensures)
+
+pub loop-busy-smaller : goal.loop-busy-smaller
+loop-busy-smaller g c =
+    let inv = c.loop-busy.invariant in
+    let first : IsFirst c.args.self.now.graph.now c.args.point c.args.self.now.answers.now.busy.words inv.from c.in-Some.ensures.0 c.in-Some.busy =
+    first_told c.args.self.now.graph.now c.args.point c.args.self.now.answers.now.busy.words inv.from c.loop-busy.next c.in-Some.ensures.0
+    c.in-Some.busy c.in-Some.ensures.1 c.in-Some.ensures.2 inv.told in
+    omega (arith, first.lower, c.in-Some.ensures.1)
+
+pub loop-busy-preserved : goal.loop-busy-preserved
+loop-busy-preserved g c =
     let program : Program = c.args.self.now.graph.now in
     let point : ℕ = c.args.point in
+    let words = c.args.self.now.answers.now.busy.words in
     let text : ℕ → List ℕ = λ e. g.F.RemarkForm.text c.args.form.now program point (VeryBusy e) in
-    let bits : ℕ = length (expressions program) in
-    let word : ℕ = c.loop-word.word in
     let test : ℕ → Bool = (knowledge_of c.args.self.now).busy.contains point in
     let at : Pieces _ → Outlet = outlet g.K.Sink in
-    let more : List ℕ = texts_between text test (64 * word) (min bits (64 * word + 64) - 64 * word) in
-    let below : 64 * word < bits = omega (arith, c.bits-bits.ensures.count, c.loop-word-test.true) in
-    let step = next_word text test bits word (at c.args.out.now) (at c.loop-word.out) (at c.if-ones-ne0.out) below c.loop-word.invariant in
-    elim c.if-ones-ne0.branch [
-      | then-ones-ne0 w ↦ (
-          let end : w.min-end.result ≡ min bits (64 * word + 64) = omega (arith, w.min-end.ensures, c.bits-bits.ensures.count) in
-          step (subst (λ p. Takes (at c.loop-word.out) (at p) more) (sym w.out-is)
-          (takes_as _ _ _ _ w.write_busy_word.ensures (ap (λ e. texts_between text test (64 * word) (e - 64 * word)) end))))
-      | else-ones-ne0 w ↦ step (subst (λ p. Takes (at c.loop-word.out) (at p) more) (sym w.out-is)
-          (takes_as _ _ _ _ (takes_nothing (at c.loop-word.out))
-          (sym (no_texts text test bits word c.busy_word-ones.result c.busy_word-ones.ensures w.if-ones-ne0.false))))
-    ]
+    let busy = c.in-Some.busy in
+    let most : ℕ = bits program Busy in
+    let inv = c.loop-busy.invariant in
+    let first : IsFirst c.args.self.now.graph.now c.args.point c.args.self.now.answers.now.busy.words inv.from c.in-Some.ensures.0 c.in-Some.busy =
+    first_told c.args.self.now.graph.now c.args.point c.args.self.now.answers.now.busy.words inv.from c.loop-busy.next c.in-Some.ensures.0
+    c.in-Some.busy c.in-Some.ensures.1 c.in-Some.ensures.2 inv.told in
+    let before : min most (64 * inv.from) ≤ min most (64 * busy.word) = omega (arith, first.above) in
+    let none : (i : ℕ) → min most (64 * inv.from) ≤ i → i < min most (64 * busy.word) → test i ≡ false =
+    λ i low high. none_told c.args.self.now c.requires.found point c.args.kind.now c.requires.point c.requires.kind c.requires.test i
+    (λ below. first.gap i (omega (arith, low, below)) (omega (arith, high)) below) in
+    let end : c.min-end.result ≡ min most (64 * busy.word + 64) = omega (arith, c.min-end.ensures, c.bits-bits.ensures.count) in
+    let next : suc busy.word ≡ busy.word + 1 = omega arith in
+    record {
+      from = busy.word + 1;
+      told = subst (λ (n : ℕ). AreBusy program words point n busy.next) next first.rest;
+      writes = next_word text test most busy.word (at c.args.out.now) (at c.loop-busy.out) (at c.write_busy_word.new.out) first.within
+          (takes_as _ _ _ _ inv.writes (no_more text test (min most (64 * inv.from)) (min most (64 * busy.word)) before none))
+          (takes_as _ _ _ _ c.write_busy_word.ensures (ap (λ (e : ℕ). texts_between text test (64 * busy.word) (e - 64 * busy.word)) end));
+    }
 
 pub returns : goal.returns
 returns g c =
     let program : Program = c.args.self.now.graph.now in
-    let text : ℕ → List ℕ = λ e. g.F.RemarkForm.text c.args.form.now program c.args.point (VeryBusy e) in
-    let bits : ℕ = length (expressions program) in
-    let all : min bits (64 * c.loop-word.word) ≡ bits = omega (arith, c.loop-word-test.false, c.bits-bits.ensures.count) in
-    takes_as _ _ _ _ c.loop-word.invariant (ap (texts_between text ((knowledge_of c.args.self.now).busy.contains c.args.point) 0) all)
+    let point : ℕ = c.args.point in
+    let words = c.args.self.now.answers.now.busy.words in
+    let text : ℕ → List ℕ = λ e. g.F.RemarkForm.text c.args.form.now program point (VeryBusy e) in
+    let test : ℕ → Bool = (knowledge_of c.args.self.now).busy.contains point in
+    let most : ℕ = bits program Busy in
+    let inv = c.loop-busy.invariant in
+    let rest = ended_told program point words inv.from c.loop-busy.next c.in_default.ensures inv.told in
+    let none : (i : ℕ) → min most (64 * inv.from) ≤ i → i < most → test i ≡ false =
+    λ i low high. none_told c.args.self.now c.requires.found point c.args.kind.now c.requires.point c.requires.kind c.requires.test i
+    (λ below. rest i (omega (arith, low, below)) below) in
+    takes_as _ _ _ _ inv.writes (no_more text test (min most (64 * inv.from)) most (omega arith) none)

@@ -4,7 +4,7 @@ use Rattle.tac_program.specs.Programs.{Program}
 use Rattle.flow_views.specs.code.ShownProgram.{known_of}
 use Rattle.flow_texts.specs.Reports.{Knowledge}
 use Rattle.flow_views.specs.Dots.{cluster, edge_lines, head}
-use Rattle.flow_views.specs.Views.{points_in}
+use Rattle.flow_views.specs.Views.{shown_points}
 use Rattle.flow_views.specs.declared.view.View.{View}
 use Rattle.flow_views.proofs.shown.ShownProgram.write_dot.Goals as goal
 
@@ -14,6 +14,6 @@ returns g c =
     let known : Knowledge = known_of c.args.self.now in
     let view : View = c.args.self.now.view in
     takes_as _ _ _ _ (takes_then _ _ _ _ _ (takes_then _ _ _ _ _ (takes_then _ _ _ _ _ c.write_head.ensures
-    c.write_clusters.ensures) c.write_all_edges.ensures) c.write.ensures)
-    (ap (λ ps. head ++ flat_map (cluster program known view.facts) ps ++ flat_map (edge_lines program view) (flat_map (points_in program) ps)
-    ++ codes "}\n") c.procedures-procedures.ensures.numbers)
+    c.write_clusters.ensures) c.write_all_points.ensures) c.write.ensures)
+    (ap (λ ps. head ++ flat_map (cluster program known view.facts) ps ++ flat_map (edge_lines program view) (shown_points program view)
+    ++ codes "}\n") c.procedures.ensures.numbers)

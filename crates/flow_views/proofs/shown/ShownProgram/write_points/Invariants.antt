@@ -1,12 +1,9 @@
 use Rattle.std.proofs.Common.{◌-◌, flat_map}
 use Rattle.std.specs.List.{range_with_len}
 use Rattle.text_pieces.specs.Pieces.{Writes}
-use Rattle.flow_views.specs.code.ShownProgram.{known_of}
-use Rattle.flow_views.specs.Json.{point_line}
 use Rattle.flow_views.proofs.shown.ShownProgram.write_points.Given as goal
 
 abbrev pub invariant-loop-point : goal.invariant-loop-point
 invariant-loop-point g l =
     Writes g.K.Sink l.fn.out l.out
-    (flat_map (point_line l.fn.self.found.graph.now (known_of l.fn.self) l.fn.self.view.facts)
-    (range_with_len l.fn.points.first (l.point - l.fn.points.first)))
+    (flat_map (g.F.PointForm.text l.form l.self) (range_with_len l.initial.point (l.point - l.initial.point)))

@@ -1,0 +1,34 @@
+use Rattle.std.proofs.Common.{◌≡◌, ◌∙◌, ◌+◌, ◌/◌, ◌%◌, ◌<◌, ℕ, List, [], ◌∷◌, length, slice_index, refl, ap, length-append, arith}
+use Rattle.std.proofs.lemmas.Nat.{div_below}
+use Rattle.std.proofs.lemmas.Option.{slice_get-get_or}
+use Rattle.flow_team.specs.Asks.{IsAskOf}
+use Rattle.flow_team.specs.declared.ask.Ask.{Ask}
+use Rattle.tac_program.specs.Programs.{Program}
+use Rattle.flow_texts.specs.code.Busy.{round_ask}
+use Rattle.flow_texts.proofs.asks.Asking.{asks_one, asks_then, one_round_more}
+use Rattle.flow_texts.proofs.busy_rounds.ask_round.Goals as goal
+
+pub loop-number-preserved : goal.loop-number-preserved
+loop-number-preserved c =
+    let program : Program = c.args.graph.now in
+    let points = c.args.tests.now in
+    let from : ℕ = c.args.from in
+    let width : ℕ = c.args.width in
+    let number : ℕ = c.loop-number.number in
+    let ask : Ask = round_ask points from width number in
+    let old : List Ask = c.loop-number.asks.items in
+    let new : List Ask = c.push.new.self.items in
+    let test : number / width < length points = div_below number width (length points) c.requires.some c.loop-number-test.true in
+    let place : number % width < width = omega (arith, c.requires.some) in
+    let of : IsAskOf program ask = record {
+      point = c.requires.points (number / width) (slice_index points (number / width)) (slice_get-get_or points (number / width) 0 test);
+      word = omega (arith, place, c.requires.within);
+    } in
+    let count : length new ≡ length old + 1 = ap length c.in_ok-push.ensures.items ∙ length-append old (ask ∷ []) in
+    record {
+      asks = asks_then program c.args.asks.now.items old new number 1 (number + 1) c.loop-number.invariant.asks
+          (asks_one program old new ask 1 c.in_ok-push.ensures.items of (omega arith)) (omega arith);
+      count = omega (arith, count, c.loop-number.invariant.count);
+      each = one_round_more (length c.args.asks.now.items) number (round_ask points from width) old new ask c.in_ok-push.ensures.items refl
+          c.loop-number.invariant.count c.loop-number.invariant.each;
+    }

@@ -1,0 +1,28 @@
+// How points are written.
+
+ghost use Rattle.std.specs.Prelude.{◌≡◌, ◌<◌, ℕ, List};
+ghost use Rattle.flow_graph.specs.Points.{point_count};
+ghost use Rattle.text_pieces.specs.Pieces.{CanWrite, Writes};
+ghost use Rattle.flow_views.specs.code.ShownProgram.{AreShown, IsShownPoint};
+ghost use Rattle.flow_views.specs.declared.names.NameForm.{NameForm};
+ghost use Rattle.flow_views.specs.declared.shown.ShownProgram.{ShownProgram as ShownValue};
+
+use crate::shown::ShownProgram;
+use text_pieces::{Pieces, Sink};
+
+/// How one point is written.
+pub(crate) trait PointForm {
+    // How the names of bits are written there.
+    ghost name_form: { Self → NameForm };
+
+    ghost text: { Self → ShownValue → ℕ → List ℕ };
+
+    /// Writes a point that is shown.
+    fn write_point<K: Sink>(&self, out: &mut Pieces<'_, K>, shown: &ShownProgram<'_>, point: u32)
+        requires ready { CanWrite K.Sink out.old }
+        requires shown { AreShown shown.now }
+        requires form { shown.now.names.form ≡ name_form self.now }
+        requires point { point < point_count shown.now.found.graph.now }
+        requires shows { IsShownPoint shown.now point }
+        ensures { Writes K.Sink out.old out.new (text self.now shown.now point) };
+}
