@@ -1,6 +1,7 @@
 pub mod BitTables
 pub mod Effects
 pub mod Evaluated
+pub mod KeptEffects
 pub mod Labels
 pub mod NumberLists
 pub mod PointTables

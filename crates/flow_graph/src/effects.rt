@@ -12,7 +12,7 @@ ghost use Rattle.tac_program.specs.Sound.{IsSound};
 use crate::OutOfMemory;
 use crate::analysis::Analysis;
 use crate::bit_table::BitTable;
-use crate::effect::Effect;
+use crate::effect::{Effect, KeptEffect};
 use crate::expression::Expr;
 use crate::graph::Graph;
 use crate::universes::target;
@@ -157,7 +157,7 @@ pub(crate) fn effects(
     alloc: Global,
     graph: &Graph<'_>,
     analysis: Analysis,
-) -> Result<Vec<Effect>, OutOfMemory>
+) -> Result<Vec<KeptEffect>, OutOfMemory>
     ensures { IfOk result (λ v. AreEffects graph.now analysis v.items) }
 {
     let mut effects = Vec::with_capacity(alloc, graph.points() as usize)?;
@@ -167,7 +167,7 @@ pub(crate) fn effects(
     for point in 0..graph.points() {
         let (stmt, next) = walk.step();
         let effect = effect(graph, analysis, number, point, stmt);
-        effects.push(effect)?;
+        effects.push(KeptEffect::of(effect))?;
         match effect.written {
             Some(_) => number += 1,
             None => {},

@@ -3,7 +3,7 @@ ghost use Rattle.bit_rows.specs.Words.{has_bit};
 ghost use Rattle.flow_graph.specs.Analyses.{is_backward, is_must, main_procedure};
 ghost use Rattle.flow_graph.specs.Directions.{goes_backward};
 ghost use Rattle.flow_graph.specs.Problems.{may_shape, IsAffected, IsWordOfTest, may_boundary, may_gens, may_kills};
-ghost use Rattle.flow_graph.specs.code.Effects.{IsDependence, depends};
+ghost use Rattle.flow_graph.specs.code.Effects.{IsDependence, IsEffect, depends};
 ghost use Rattle.flow_graph.specs.Limits.{HasFewBits, HasFewPoints};
 ghost use Rattle.flow_graph.specs.WellFormed.{IsWellFormed};
 ghost use Rattle.flow_graph.specs.Points.{end_point, point_count, procedure_at};
@@ -16,7 +16,7 @@ use crate::analysis::{Analysis, Direction, Join};
 use crate::bit_table::BitTable;
 use crate::directed_edges::directed_edges;
 use crate::edge::Edge;
-use crate::effect::Effect;
+use crate::effect::{Effect, KeptEffect};
 use crate::effects::{bit_variables, dependent_words, effects, put_dependence};
 use crate::graph::Graph;
 use crate::words::{
@@ -30,8 +30,7 @@ use std::marker::Model;
 pub struct Problem<'g, 'p> {
     graph: &'g Graph<'p>,
     analysis: Analysis,
-    edges: Vec<Edge>,
-    effects: Vec<Effect>,
+    effects: Vec<KeptEffect>,
     dependent_words: BitTable,
 }
 
@@ -47,7 +46,6 @@ impl<'g, 'p> Model for Problem<'g, 'p> {
 
     ghost invariant = { λ problem. AreEffects problem.graph.now problem.analysis problem.effects.items
         × AreDependentWords problem.graph.now problem.analysis problem.dependent_words.words.items problem.dependent_words.width
-        × (problem.edges.items ≡ (may_shape problem.graph.now problem.analysis).edges)
         × IsWellFormed (may_shape problem.graph.now problem.analysis) };
 }
 
@@ -57,7 +55,6 @@ impl Drop for Problem<'_, '_> {
         let Problem {
             graph: _,
             analysis: _,
-            edges: _,
             effects: _,
             dependent_words: _,
         } = self;
@@ -71,13 +68,11 @@ impl<'g, 'p> Problem<'g, 'p> {
     {
         // Its contract tells that the program is sound.
         let _ = graph.program().procs();
-        let edges = directed_edges(alloc, graph, analysis)?;
         let effects = effects(alloc, graph, analysis)?;
         let dependent_words = dependent_words(alloc, graph, analysis)?;
         Ok(Problem {
             graph,
             analysis,
-            edges,
             effects,
             dependent_words,
         })
@@ -90,10 +85,12 @@ impl<'g, 'p> Problem<'g, 'p> {
         self.analysis
     }
 
-    /// The procedure at whose entry the problem begins: the number of `main`.
+    /// The procedure at whose entry the problem begins: the number of `main`. Edges, entries, exits and procedures fit together, as the
+    /// laws over paths want it.
     pub fn root(&self) -> u32
         ensures number { result ≡ main_procedure self.now.program }
         ensures there { result < length self.now.program.procedures }
+        ensures well_formed { IsWellFormed (may_shape self.now.program self.now.analysis) }
     {
         let program = self.graph.program();
         // Its contract tells that no two procedures have one name.
@@ -149,13 +146,12 @@ impl<'g, 'p> Problem<'g, 'p> {
         self.graph.place(point).procedure
     }
 
-    /// The edges, each reversed where the analysis goes backwards, in the order of the points that they leave in the
-    /// graph. They fit together with entries, exits and procedures, as the laws over paths want it.
-    pub fn edges(&self) -> &[Edge]
-        ensures edges { result.now ≡ (may_shape self.now.program self.now.analysis).edges }
-        ensures well_formed { IsWellFormed (may_shape self.now.program self.now.analysis) }
+    /// The edges, each reversed where the analysis goes backwards, in the order of the points that they leave in the graph. Fails only
+    /// where memory runs out.
+    pub fn edges(&self, alloc: Global) -> Result<Vec<Edge>, OutOfMemory>
+        ensures { IfOk result (λ edges. edges.items ≡ (may_shape self.now.program self.now.analysis).edges) }
     {
-        self.edges.as_slice()
+        directed_edges(alloc, self.graph, self.analysis)
     }
 
     /// How many points there are: at most 1,048,576.
@@ -225,6 +221,14 @@ impl<'g, 'p> Problem<'g, 'p> {
         }
     }
 
+    // What the statement at a point does.
+    fn effect(&self, point: u32) -> Effect
+        requires { point < point_count self.now.program }
+        ensures { IsEffect self.now.program self.now.analysis point result }
+    {
+        self.effects[point as usize].effect()
+    }
+
     /// The words of 64 bits in which the step of the statement at a point may generate or kill a bit: where place `p` is 0, it does so
     /// for no bit of a word `w` with `w % 64` equal to `p`.
     pub fn effect_words(&self, point: u32) -> u64
@@ -232,7 +236,7 @@ impl<'g, 'p> Problem<'g, 'p> {
         ensures { (bit : ℕ) → bit < bits_of self.now.program self.now.analysis → IsAffected self.now point bit
             → has_bit result (bit / 64 % 64) ≡ true }
     {
-        let effect = self.effects[point as usize];
+        let effect = self.effect(point);
         let own = word_mark(effect.first) | word_mark(effect.second);
         own | self.touched_words(effect.written)
     }
@@ -283,7 +287,7 @@ impl<'g, 'p> Problem<'g, 'p> {
         requires until { word < table.now.first + table.now.width }
         ensures { IsWordOfTest (may_gens self.now point) (bits_of self.now.program self.now.analysis) word result }
     {
-        let effect = self.effects[point as usize];
+        let effect = self.effect(point);
         let own = own_word(effect, word);
         let touched = self.touched_word(effect.written, word, table);
         generated(self.analysis, own, touched) & full_word(self.bits(), word)
@@ -297,7 +301,7 @@ impl<'g, 'p> Problem<'g, 'p> {
         requires until { word < table.now.first + table.now.width }
         ensures { IsWordOfTest (may_kills self.now point) (bits_of self.now.program self.now.analysis) word result }
     {
-        let effect = self.effects[point as usize];
+        let effect = self.effect(point);
         let own = own_word(effect, word);
         let touched = self.touched_word(effect.written, word, table);
         killed(self.analysis, own, touched) & full_word(self.bits(), word)
@@ -309,7 +313,7 @@ impl<'g, 'p> Problem<'g, 'p> {
         requires bit { bit < bits_of self.now.program self.now.analysis }
         ensures { result ≡ may_gens self.now point bit }
     {
-        let effect = self.effects[point as usize];
+        let effect = self.effect(point);
         let own = is_either(effect.first, effect.second, bit);
         let touched = self.touches(effect.written, bit);
         generates(self.analysis, own, touched)
@@ -321,7 +325,7 @@ impl<'g, 'p> Problem<'g, 'p> {
         requires bit { bit < bits_of self.now.program self.now.analysis }
         ensures { result ≡ may_kills self.now point bit }
     {
-        let effect = self.effects[point as usize];
+        let effect = self.effect(point);
         let own = is_either(effect.first, effect.second, bit);
         let touched = self.touches(effect.written, bit);
         kills(self.analysis, own, touched)

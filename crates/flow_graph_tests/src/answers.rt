@@ -91,7 +91,11 @@ pub fn write_answer(
         Question::Points => write_points(text, graph),
         Question::Numbers => write_numbers(text, graph),
         Question::LeadsTo(marked) => write_leading(text, alloc, graph, marked),
-        Question::Frame(analysis) => write_frame(text, &Problem::of(alloc, graph, analysis)?),
+        Question::Frame(analysis) => {
+            let problem = Problem::of(alloc, graph, analysis)?;
+            let edges = problem.edges(alloc)?;
+            write_frame(text, &problem, edges.as_slice())
+        }
         Question::Sets(analysis) => {
             write_all_sets(text, alloc, &Problem::of(alloc, graph, analysis)?)
         }
@@ -193,7 +197,11 @@ fn write_leading(
 }
 
 /// Writes how the edges of a problem go, and where it begins and ends.
-pub fn write_frame(text: &mut String, problem: &Problem<'_, '_>) -> Result<(), OutOfMemory> {
+pub fn write_frame(
+    text: &mut String,
+    problem: &Problem<'_, '_>,
+    edges: &[Edge],
+) -> Result<(), OutOfMemory> {
     write!(
         text,
         "{:?}, complements {}\n",
@@ -209,7 +217,7 @@ pub fn write_frame(text: &mut String, problem: &Problem<'_, '_>) -> Result<(), O
         write!(text, " {}", problem.procedure(point))?;
     }
     text.push('\n')?;
-    write_edges(text, problem.edges())
+    write_edges(text, edges)
 }
 
 /// A word with its number, unless it is empty.

@@ -64,7 +64,8 @@ fn told_of_problem<'g, 'p>(
         "Problem::of",
         Problem::of(alloc, graph, Analysis::Reach)
     );
-    write_frame(text, &problem)
+    let edges = again!(*refused, "Problem::edges", problem.edges(alloc));
+    write_frame(text, &problem, edges.as_slice())
 }
 
 fn told_of_graph(

@@ -123,9 +123,11 @@ pub(crate) struct EdgeLists {
 fn point_lists(
     alloc: Global,
     problem: &Problem<'_, '_>,
+    edges: &[Edge],
     calls: &[Edge],
 ) -> Result<(PointLists, PointLists), OutOfMemory>
-    requires { calls.now ≡ filter is_call (may_shape problem.now.program problem.now.analysis).edges }
+    requires edges { edges.now ≡ (may_shape problem.now.program problem.now.analysis).edges }
+    requires calls { calls.now ≡ filter is_call (may_shape problem.now.program problem.now.analysis).edges }
     ensures steps { IfOk result (λ lists. AreListed (may_shape problem.now.program problem.now.analysis).edges
         (key_of ListKind.Steps (may_shape problem.now.program problem.now.analysis) (point_count problem.now.program)) step_target
         (point_count problem.now.program) lists.0.starts.items lists.0.items.items) }
@@ -133,7 +135,7 @@ fn point_lists(
         (key_of ListKind.Callers (may_shape problem.now.program problem.now.analysis) (point_count problem.now.program)) call_source
         (point_count problem.now.program) lists.1.starts.items lists.1.items.items) }
 {
-    let steps = step_lists(alloc, problem, problem.edges())?;
+    let steps = step_lists(alloc, problem, edges)?;
     let callers = caller_lists(alloc, problem, calls)?;
     Ok((steps, callers))
 }
@@ -159,13 +161,15 @@ fn link_lists(
     Ok((calls, sites))
 }
 
-// The lists of all kinds, those of calls over these.
+// The lists of all kinds of these edges, and of the calls among them.
 fn lists_over(
     alloc: Global,
     problem: &Problem<'_, '_>,
+    edges: &[Edge],
     calls: &[Edge],
 ) -> Result<EdgeLists, OutOfMemory>
-    requires { calls.now ≡ filter is_call (may_shape problem.now.program problem.now.analysis).edges }
+    requires edges { edges.now ≡ (may_shape problem.now.program problem.now.analysis).edges }
+    requires calls { calls.now ≡ filter is_call (may_shape problem.now.program problem.now.analysis).edges }
     ensures steps { IfOk result (λ lists. AreListed (may_shape problem.now.program problem.now.analysis).edges
         (key_of ListKind.Steps (may_shape problem.now.program problem.now.analysis) (point_count problem.now.program)) step_target
         (point_count problem.now.program) lists.steps.starts.items lists.steps.items.items) }
@@ -181,7 +185,7 @@ fn lists_over(
         (site_link (may_shape problem.now.program problem.now.analysis))
         (may_shape problem.now.program problem.now.analysis).procedures lists.sites.starts.items lists.sites.items.items) }
 {
-    let (steps, callers) = point_lists(alloc, problem, calls)?;
+    let (steps, callers) = point_lists(alloc, problem, edges, calls)?;
     let (calls, sites) = link_lists(alloc, problem, calls)?;
     Ok(EdgeLists {
         steps,
@@ -208,6 +212,7 @@ pub(crate) fn edge_lists(alloc: Global, problem: &Problem<'_, '_>) -> Result<Edg
         (site_link (may_shape problem.now.program problem.now.analysis))
         (may_shape problem.now.program problem.now.analysis).procedures lists.sites.starts.items lists.sites.items.items) }
 {
-    let calls = calls_of(alloc, problem)?;
-    lists_over(alloc, problem, calls.as_slice())
+    let edges = problem.edges(alloc)?;
+    let calls = calls_of(alloc, edges.as_slice())?;
+    lists_over(alloc, problem, edges.as_slice(), calls.as_slice())
 }

@@ -8,8 +8,8 @@ use flow_graph::Analysis;
 use std::alloc::Global;
 use work_list::group;
 
-// A solver solves so many words at once, a group: a slice that cuts groups would solve the same words again.
-const GROUP_WORDS: u32 = 4;
+/// A solver solves so many words at once, a group, or two: a slice that cuts what is solved at once would solve the same words again.
+pub(crate) const GROUP_WORDS: u32 = 4;
 
 // At most so many groups of words are told apart in each analysis: more than an analysis has.
 const MOST_GROUPS: u32 = 1 << 14;
@@ -31,6 +31,8 @@ pub fn slices_of(words: u32, cut: u32) -> u32 {
 pub(crate) struct AskOrder {
     /// The numbers of the asks, in that order.
     pub(crate) places: Vec<u32>,
+    /// How many groups each analysis has.
+    pub(crate) groups: u32,
     /// Where each group begins in it, as many of each analysis, and at the end how many asks there are.
     pub(crate) starts: Vec<u32>,
 }
@@ -86,6 +88,7 @@ pub(crate) fn arranged_asks(alloc: Global, asks: &[Ask]) -> Result<AskOrder, Out
     let grouped = group(alloc, keys.as_slice(), 4 * groups)?;
     Ok(AskOrder {
         places: grouped.places,
+        groups,
         starts: grouped.starts,
     })
 }

@@ -8,13 +8,14 @@ ghost use Rattle.flow_team.specs.code.Boards.{AreDirections};
 
 use crate::OutOfMemory;
 use crate::answers::Answers;
-use crate::arrange::arranged_asks;
+use crate::arrange::{AskOrder, GROUP_WORDS, arranged_asks};
 use crate::ask::Ask;
 use crate::asked::AskedWords;
 use crate::direction::DirectionSolvers;
 use crate::halves::{Half, side_by_side};
 use bit_rows::{Cut, CutFault};
 use flow_graph::{Analysis, Graph};
+use gk_solve::words_at_once;
 use slice_board::{Pass, Unfinished, WordBoard};
 use slice_team::SliceJob;
 use std::alloc::Global;
@@ -78,29 +79,25 @@ pub(crate) fn directions_here<'g, 'p>(
     Ok((forward, backward))
 }
 
-// With more groups of an analysis two are solved at once: a slice of one would solve the other for nothing.
-const SHORT: usize = 16;
-
-// Where slices of so many groups end between so many asks: no slice has asks of two analyses, and each has one.
+// Where slices of so many groups end between so many asks at so many points: no slice has asks of two analyses, and each has one. Where two
+// groups are solved at once, a slice of one would solve the other for nothing.
 fn ends(
     alloc: Global,
-    starts: &[u32],
+    order: &AskOrder,
     slice_groups: u32,
     count: u32,
+    points: u32,
 ) -> Result<Vec<u32>, OutOfMemory>
     requires groups { 0 < slice_groups }
     requires few { 64 * count < 2 ^ 32 }
 {
-    let analysis_groups = (starts.len() / 4).max(1);
-    let slice_groups = if analysis_groups > SHORT {
-        (slice_groups / 2 * 2).max(2)
-    } else {
-        slice_groups
-    };
+    let groups = order.groups.max(1);
+    let at_once = words_at_once(points, groups.saturating_mul(GROUP_WORDS)) / GROUP_WORDS;
+    let slice_groups = (slice_groups / at_once * at_once).max(at_once);
     let mut ends = Vec::new(alloc);
     let mut last = 0;
-    for (key, start) in starts.iter().enumerate() {
-        let begins_slice = key % analysis_groups % slice_groups as usize == 0;
+    for (key, start) in order.starts.iter().enumerate() {
+        let begins_slice = key % groups as usize % slice_groups as usize == 0;
         if begins_slice && last < *start && *start < count {
             last = *start;
             ends.push(64 * last)?;
@@ -109,13 +106,19 @@ fn ends(
     Ok(ends)
 }
 
-// So many asks cut into slices of so many groups.
-fn cut_of(alloc: Global, starts: &[u32], slice_groups: u32, count: u32) -> Result<Cut, OutOfMemory>
+// So many asks at so many points, cut into slices of so many groups.
+fn cut_of(
+    alloc: Global,
+    order: &AskOrder,
+    slice_groups: u32,
+    count: u32,
+    points: u32,
+) -> Result<Cut, OutOfMemory>
     requires groups { 0 < slice_groups }
     requires few { 64 * count < 2 ^ 32 }
     ensures { IfOk result (λ cut. cut.bits ≡ 64 * count) }
 {
-    let ends = ends(alloc, starts, slice_groups, count)?;
+    let ends = ends(alloc, order, slice_groups, count, points)?;
     match Cut::at(alloc, 64 * count, ends.as_slice()) {
         Ok(cut) => Ok(cut),
         Err(CutFault::OutOfMemory | CutFault::BadPlaces | CutFault::ZeroWidth) => Err(OutOfMemory),
@@ -159,8 +162,9 @@ pub(crate) fn asked_job<'g, 'p>(
 {
     let arranged = arranged_asks(alloc, asks.as_slice())?;
     let count = asks.len() as u32;
-    let cut = cut_of(alloc, arranged.starts.as_slice(), slice_groups, count)?;
     let (forward, backward) = directions;
+    let points = forward.some().problem().points();
+    let cut = cut_of(alloc, &arranged, slice_groups, count, points)?;
     let asked = AskedWords::of(forward, backward, asks, arranged.places);
     on_board(alloc, asked, cut)
 }

@@ -28,6 +28,7 @@ pub use arrange::slices_of;
 pub use ask::Ask;
 pub use excerpts::table_at;
 pub use fault::TeamFault;
+pub use gk_solve::words_at_once;
 pub use job::Job;
 pub use sets::GraphSets;
 pub use slice_team::{Gate, JoinedGate, OpenGate};

@@ -101,8 +101,8 @@ fn worked_answers<'g, 'p, R: Threads + Sync, G: Gate>(
 /// exactly the union or intersection over all valid paths, as [`analyse`] finds them.
 ///
 /// The asks come in any order. They are solved in slices: the asks of one analysis in as many words as `cut` bits have, rounded up to
-/// whole groups of four, which are solved at once, and of a program with more than 64 words to whole pairs of groups. The conditions: each
-/// ask is of the graph's program, and there are fewer than 2^26.
+/// whole groups of four, which are solved at once, and where eight are, to whole pairs of groups. The conditions: each ask is of the graph's
+/// program, and there are fewer than 2^26.
 ///
 /// - `BadWorkers`: the number of workers is not one of 1 to 64. This is checked first.
 /// - `OutOfMemory`: memory was refused, here or to a worker; all workers have ended.

@@ -11,7 +11,7 @@ ghost use Rattle.flow_texts.specs.code.Busy.{ArePoints, AreRounds, AsksRound, ro
 use crate::OutOfMemory;
 use crate::busy_words::BusyWords;
 use flow_graph::{Analysis, Graph};
-use flow_team::{Answers, Ask, slices_of};
+use flow_team::{Answers, Ask, slices_of, words_at_once};
 use std::alloc::Global;
 
 // For each worker, of which two are taken to be there at least, a round asks for so many words: more than two such shares no program within
@@ -45,10 +45,11 @@ fn round_width(tests: u32, workers: u32) -> u32
     SOLVED_WORDS * groups.max(1)
 }
 
-/// So many bits, rounded up to those that are solved at once where a solver has many words: a slice that cut them would solve them again.
+/// So many bits, rounded up to those that are solved at once: a slice that cut them would solve them again.
 pub(crate) fn whole_groups(graph: &Graph<'_>, cut: u32) -> u32 {
-    let solved = 64 * SOLVED_WORDS;
-    if graph.bits(Analysis::Busy) > 8 * solved && cut < u32::MAX - solved {
+    let words = graph.bits(Analysis::Busy).div_ceil(64);
+    let solved = 64 * words_at_once(graph.points(), words);
+    if cut < u32::MAX - solved {
         cut.div_ceil(solved) * solved
     } else {
         cut
@@ -73,6 +74,7 @@ fn ask_round(
     // Its contract tells that there are few expressions.
     let _ = graph.bits(Analysis::Busy);
     let count = tests.len() as u32 * width;
+    asks.reserve_exact(count as usize)?;
     for number in 0..count {
         let point = tests[(number / width) as usize];
         asks.push(Ask {

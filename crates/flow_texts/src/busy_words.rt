@@ -32,6 +32,19 @@ pub(crate) struct BusyWords {
     pub(crate) words: Vec<BusyWord>,
 }
 
+// How many answers from one on have a bit.
+fn with_bits(answers: &Answers, from: u32) -> usize
+    requires { length answers.now.words ≡ length answers.now.asks }
+{
+    let mut count = 0usize;
+    for number in from as usize..answers.count() {
+        if answers.word(number) != 0 {
+            count = count.saturating_add(1);
+        }
+    }
+    count
+}
+
 impl BusyWords {
     /// So many empty lists.
     pub(crate) fn empty(alloc: Global, tests: usize) -> Result<BusyWords, OutOfMemory>
@@ -120,6 +133,7 @@ impl BusyWords {
         ensures firsts { IfOk result (λ _. length self.new.firsts.items ≡ length tests.now) }
         ensures told { IfOk result (λ _. TellBusy graph.now tests.now (busy_lists self.new) from) }
     {
+        self.words.reserve(with_bits(answers, before))?;
         for test in 0..tests.len() {
             self.put_test(graph, answers, tests, test as u32, before, from, width)?;
         }

@@ -21,14 +21,14 @@ end_shown program None = point_count program
 
 -- There is a table exactly where the analysis is chosen, and it is this program's table of that analysis, at the points from one on and before
 -- another.
-pub record IsShownTable (program : Program) (analysis : Analysis) (from until : ℕ) (chosen : Bool) (table : Option TableFacts) : Type 0 where
+pub record IsTableIfChosen (program : Program) (analysis : Analysis) (from until : ℕ) (chosen : Bool) (table : Option TableFacts) : Type 0 where
   pub there : is_some table ≡ chosen
   pub of : IfSome table (λ t. (t.analysis ≡ analysis) × IsTableAt program from until t)
 
 -- It is so of an analysis, at the points that are shown.
 abbrev pub IsTableShown : Program → Analysis → Option ℕ → Bool → Option TableFacts → Type 0
 IsTableShown program analysis procedure chosen table =
-    IsShownTable program analysis (first_shown program procedure) (end_shown program procedure) chosen table
+    IsTableIfChosen program analysis (first_shown program procedure) (end_shown program procedure) chosen table
 
 -- It is so of each analysis.
 pub record AreShownTables (program : Program) (view : View) (tables : ShownTables) : Type 0 where

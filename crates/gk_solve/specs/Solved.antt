@@ -1,5 +1,6 @@
 -- What the rows of a slice of a problem's bits say.
-use Rattle.std.specs.Prelude.{◌≡◌, ◌↔◌, ℕ, ◌≤◌, ◌<◌, ◌+◌, ◌-◌, ◌*◌, true, false, Bool, List, [], length, slice_index, slice_index_or}
+use Rattle.std.specs.Prelude.{◌≡◌, ◌↔◌, ℕ, ◌≤◌, ◌<◌, ◌+◌, ◌-◌, ◌*◌, ◌/◌, ◌&&◌, ◌||◌, true, false, Bool, List, [], if◌then◌else◌, length, nat_lt}
+use Rattle.std.specs.Prelude.{slice_index, slice_index_or}
 use Rattle.bit_rows.specs.RowSet.{contains}
 use Rattle.bit_rows.specs.RowTable.{RowTable, flag_at, set_at}
 use Rattle.bit_rows.specs.Words.{has_bit}
@@ -51,6 +52,15 @@ pub record SliceTable : Type 0 where
   pub from : ℕ
   pub until : ℕ
   pub words : List (List ℕ)
+
+-- how many words hold the bits from one up to another
+abbrev pub words_between : ℕ → ℕ → ℕ
+words_between lo hi = (hi + 63) / 64 - lo / 64
+
+-- How many words a slice of so many words solves at once, at so many points: eight where it has more than 64, or more than four at more points
+-- than a program within the standard limits has, and else four.
+abbrev pub words_at_once : ℕ → ℕ → ℕ
+words_at_once points words = if (nat_lt 64 words || (nat_lt 16384 points && nat_lt 4 words)) then 8 else 4
 
 -- a word at a point
 abbrev pub word_at : SliceTable → ℕ → ℕ → ℕ

@@ -18,7 +18,7 @@ mod summary;
 mod take_words;
 
 pub use routes::Routes;
-pub use slice_words::SliceWords;
+pub use slice_words::{SliceWords, words_at_once};
 pub use solver::{Solver, solve, solve_counted};
 pub use std::alloc::AllocError as OutOfMemory;
 pub use take_words::TakeWords;

@@ -1,11 +1,11 @@
 // The words of a slice.
-ghost use Rattle.std.specs.Prelude.{◌≡◌, ◌+◌, ◌-◌, ◌*◌, ◌/◌, ◌%◌, ◌^◌, ◌<◌, ◌≤◌, ◌↔◌, ℕ, true, IfOk, length, slice_index};
+ghost use Rattle.std.specs.Prelude.{◌≡◌, ◌+◌, ◌-◌, ◌*◌, ◌/◌, ◌%◌, ◌^◌, ◌<◌, ◌≤◌, ◌↔◌, ◌&&◌, ◌||◌, ℕ, true, IfOk, length, nat_lt, slice_index};
 ghost use Rattle.bit_rows.specs.Words.{has_bit};
 ghost use Rattle.flow_graph.specs.Points.{point_count};
 ghost use Rattle.flow_graph.specs.Universes.{bits as bits_of};
 ghost use Rattle.flow_graph.specs.code.Effects.{IsDependence};
 ghost use Rattle.flow_links.specs.Shapes.{directed_shape};
-ghost use Rattle.gk_solve.specs.Solved.{AreSolved, IsSliceOf, direction_of, word_at};
+ghost use Rattle.gk_solve.specs.Solved.{AreSolved, IsSliceOf, direction_of, word_at, words_at_once, words_between};
 ghost use Rattle.gk_solve.specs.Tables.Groups.{AreEffectWords, IsGroupFrame};
 ghost use Rattle.gk_solve.specs.Tables.Widths.{width_of};
 ghost use Rattle.gk_solve.specs.declared.slice_words.Width.TheVariants.{One, Four, Eight};
@@ -26,7 +26,10 @@ use work_list::Marks;
 // A slice of more words is long, and solves eight at once: twice as many for some more work.
 const LONG: u32 = 64;
 
-/// How many words a slice solves at once: one where it has no more, and eight where it is long.
+// So does one at more points that has more than four words. No program within the standard limits has as many.
+const MANY_POINTS: u32 = 16_384;
+
+/// How many words a slice solves at once: one where it has no more, and eight where it is long, or has many points.
 #[derive(Clone, Copy)]
 pub(crate) enum Width {
     One,
@@ -163,20 +166,37 @@ fn marks(alloc: Global, links: &Links<'_, '_>) -> Result<(Marks, Marks), OutOfMe
     Ok((points, procedures))
 }
 
-// How many words a slice of the bits `lo..hi` solves at once.
-fn width_for(lo: u32, hi: u32) -> Width
+// Whether a slice of so many words at so many points solves eight at once.
+fn solves_eight(points: u32, words: u32) -> bool
+    ensures { result ≡ (nat_lt 64 words || (nat_lt 16384 points && nat_lt 4 words)) }
+{
+    words > LONG || (points > MANY_POINTS && words > 4)
+}
+
+/// How many words a slice of so many words solves at once, at so many points: eight where it has more than 64, or more than four at more
+/// than 16,384 points, which no program within the standard limits has; else four. A slice of one word solves that one.
+pub fn words_at_once(points: u32, words: u32) -> u32
+    ensures number { result ≡ words_at_once points words }
+    ensures range { (4 ≤ result) × (result ≤ 8) }
+{
+    if solves_eight(points, words) { 8 } else { 4 }
+}
+
+// How many words a slice of the bits `lo..hi` at so many points solves at once.
+fn width_for(points: u32, lo: u32, hi: u32) -> Width
     requires { lo ≤ hi }
     ensures one { result ≡ One → hi ≤ 64 * (lo / 64) + 64 }
-    ensures four { result ≡ Four → (hi + 63) / 64 ≤ lo / 64 + 64 }
-    ensures eight { result ≡ Eight → lo / 64 + 64 < (hi + 63) / 64 }
+    ensures four { result ≡ Four → words_at_once points (words_between lo hi) ≡ 4 }
+    ensures eight { result ≡ Eight → words_at_once points (words_between lo hi) ≡ 8 }
 {
     let words = hi.div_ceil(64).saturating_sub(lo / 64);
     if words <= 1 {
-        Width::One
-    } else if words <= LONG {
-        Width::Four
-    } else {
+        return Width::One;
+    }
+    if solves_eight(points, words) {
         Width::Eight
+    } else {
+        Width::Four
     }
 }
 
@@ -218,9 +238,9 @@ pub(crate) fn slice_words(
         × (slice.variables ≡ length problem.now.program.variable_names) × (slice.lo ≡ lo) × (slice.hi ≡ hi)) }
 {
     let links = routes.links();
+    let width = width_for(links.points(), lo, hi);
     let points = links.points() as usize;
     let procedures = links.procedures() as usize;
-    let width = width_for(lo, hi);
     let (ones, fours, eights) = tables(width);
     let (one, one_brought) = blank_tables(alloc, ones * points, ones * procedures)?;
     let (four, four_brought) = blank_tables(alloc, fours * points, fours * procedures)?;
@@ -245,6 +265,22 @@ pub(crate) fn slice_words(
         variables,
         dependence,
     })
+}
+
+// The word behind those that a slice of this width solves at once, from one on.
+fn group_end(width: Width, points: u32, lo: u32, hi: u32, word: u32) -> u32
+    requires one { width ≡ One → hi ≤ 64 * (lo / 64) + 64 }
+    requires four { width ≡ Four → words_at_once points (words_between lo hi) ≡ 4 }
+    requires eight { width ≡ Eight → words_at_once points (words_between lo hi) ≡ 8 }
+    requires word { 64 * word < hi }
+    ensures more { word < result }
+    ensures last { 64 * result < hi + 64 }
+    ensures fits { result ≤ word + width_of width }
+    ensures most { result ≤ word + words_at_once points (words_between lo hi) }
+    ensures whole { lo / 64 ≤ word → 64 * result < hi → result ≡ word + words_at_once points (words_between lo hi) }
+{
+    let left = hi.div_ceil(64) - word;
+    word + left.min(count(width))
 }
 
 impl SliceWords {
@@ -299,7 +335,7 @@ impl SliceWords {
         }
     }
 
-    // Solves the words from one on, four, or eight of a long slice, or to the slice's end.
+    // Solves the words from one on, as many as a slice solves at once, or to its end.
     fn solve_group_from<'a, 'g, 'p, C: CountSteps>(
         &mut self,
         problem: &'a Problem<'g, 'p>,
@@ -317,23 +353,20 @@ impl SliceWords {
         ensures from { self.new.from ≡ word }
         ensures more { word < self.new.until }
         ensures last { 64 * self.new.until < self.old.hi + 64 }
-        ensures most { self.new.until ≤ word + 8 }
-        ensures most_short { (self.old.hi + 63) / 64 ≤ self.old.lo / 64 + 64 → self.new.until ≤ word + 4 }
-        ensures whole { self.old.lo / 64 ≤ word → 64 * self.new.until < self.old.hi → (self.old.hi + 63) / 64 ≤ self.old.lo / 64 + 64
-            → self.new.until ≡ word + 4 }
-        ensures whole_long { self.old.lo / 64 ≤ word → 64 * self.new.until < self.old.hi → self.old.lo / 64 + 64 < (self.old.hi + 63) / 64
-            → self.new.until ≡ word + 8 }
+        ensures most { self.new.until ≤ word + words_at_once self.old.points (words_between self.old.lo self.old.hi) }
+        ensures whole { self.old.lo / 64 ≤ word → 64 * self.new.until < self.old.hi
+            → self.new.until ≡ word + words_at_once self.old.points (words_between self.old.lo self.old.hi) }
         ensures solved { AreSolved problem.now self.new }
     {
-        let left = self.hi.div_ceil(64) - word;
         // Its contract tells that there are few bits.
         let _ = problem.bits();
         problem.put_dependence(word, &mut self.dependence);
         let width = count(self.width);
         let frame = group_frame(problem, routes, effects, &self.dependence, word, width);
         let range = (self.lo, self.hi);
+        let until = group_end(self.width, self.dirty.points(), self.lo, self.hi, word);
         self.from = word;
-        self.until = word + left.min(width);
+        self.until = until;
         match self.width {
             Width::One => solve_group(
                 &frame,
@@ -365,7 +398,7 @@ impl SliceWords {
         }
     }
 
-    /// Solves the words from one on, four, or eight of a long slice, or to the slice's end, and answers the word after the last.
+    /// Solves the words from one on, as many as a slice solves at once, or to its end, and answers the word after the last.
     pub(crate) fn solve_from<'a, 'g, 'p, C: CountSteps>(
         &mut self,
         problem: &'a Problem<'g, 'p>,
@@ -384,12 +417,9 @@ impl SliceWords {
         ensures until { self.new.until ≡ result }
         ensures more { word < result }
         ensures last { 64 * result < self.old.hi + 64 }
-        ensures most { result ≤ word + 8 }
-        ensures most_short { (self.old.hi + 63) / 64 ≤ self.old.lo / 64 + 64 → result ≤ word + 4 }
-        ensures whole { self.old.lo / 64 ≤ word → 64 * result < self.old.hi → (self.old.hi + 63) / 64 ≤ self.old.lo / 64 + 64
-            → result ≡ word + 4 }
-        ensures whole_long { self.old.lo / 64 ≤ word → 64 * result < self.old.hi → self.old.lo / 64 + 64 < (self.old.hi + 63) / 64
-            → result ≡ word + 8 }
+        ensures most { result ≤ word + words_at_once self.old.points (words_between self.old.lo self.old.hi) }
+        ensures whole { self.old.lo / 64 ≤ word → 64 * result < self.old.hi
+            → result ≡ word + words_at_once self.old.points (words_between self.old.lo self.old.hi) }
         ensures solved { AreSolved problem.now self.new }
     {
         self.solve_group_from(problem, routes, effects, word, followed);

@@ -46,7 +46,8 @@ fn words_within<const W: usize>(frame: &GroupFrame, lo: u32, hi: u32) -> [u64; W
     words
 }
 
-// The solution's words at a point, as far as they lie within a slice, in the place of what is made.
+// The solution's words at a point, as far as they lie within a slice, in the place of what is made. What is kept stays, so that it need
+// not be written.
 #[inline(always)]
 fn solution_at<const W: usize>(
     frame: &GroupFrame,
@@ -59,15 +60,13 @@ fn solution_at<const W: usize>(
     requires inside { point < point_count frame.now.links.now.program }
     ensures { IsSolutionAt (group_of frame.now W) frame.now.paths.now point here.entry.kept here.entry.made brought.entry within.entry result.made }
 {
+    let kept = here.kept;
     if !frame.paths[point as usize] {
-        return Summary {
-            kept: [0; W],
-            made: [0; W],
-        };
+        return Summary { kept, made: [0; W] };
     }
-    let all = new_or_kept(here.made, brought, here.kept);
+    let all = new_or_kept(here.made, brought, kept);
     Summary {
-        kept: [0; W],
+        kept,
         made: common_words(all, within),
     }
 }

@@ -3,6 +3,7 @@ ghost use Rattle.std.specs.Prelude.{◌≡◌, ◌+◌, ◌*◌, ◌/◌, ◌<�
 ghost use Rattle.flow_graph.specs.Problems.{MayForm};
 ghost use Rattle.flow_graph.specs.Universes.{bits as bits_of};
 ghost use Rattle.gk_solve.specs.Solved.{AreMeetWords, AreSolved, HasPathFlags, IsLeastSolution, IsMeetOverPaths, IsSliceOf, direction_of};
+ghost use Rattle.gk_solve.specs.Solved.{words_at_once, words_between};
 ghost use Rattle.gk_solve.specs.Tables.Groups.{AreEffectWords};
 ghost use Rattle.gk_solve.specs.Tables.Rows.{TellsBelow};
 
@@ -163,7 +164,7 @@ fn solve_by<C: CountSteps>(
     ensures paths { IfOk result (λ rows. IsMeetOverPaths problem.now lo hi rows) }
 {
     // Its contract tells that the problem is well formed.
-    let _ = problem.edges();
+    let _ = problem.root();
     let routes = Routes::counted(alloc, problem, followed)?;
     solve_along(alloc, problem, &routes, lo, hi, followed)
 }
@@ -234,7 +235,7 @@ impl<'g, 'p> Solver<'g, 'p> {
         ensures { IfOk result (λ flags. HasPathFlags self.now flags.items) }
     {
         // Its contract tells that the problem is well formed.
-        let _ = self.problem.edges();
+        let _ = self.problem.root();
         let flags = routes.paths();
         copied_flags(alloc, flags)
     }
@@ -254,7 +255,7 @@ impl<'g, 'p> Solver<'g, 'p> {
         ensures paths { IfOk result (λ rows. IsMeetOverPaths self.now lo hi rows) }
     {
         // Its contract tells that the problem is well formed.
-        let _ = self.problem.edges();
+        let _ = self.problem.root();
         let effects = self.effects.as_slice();
         solve_slice(
             alloc,
@@ -284,8 +285,8 @@ impl<'g, 'p> Solver<'g, 'p> {
         slice_words(alloc, &self.problem, routes, lo, hi)
     }
 
-    /// Solves the words of a slice from one on: four, or eight where the slice has more than 64, or to its end. Answers the word after
-    /// the last one solved. It takes no memory.
+    /// Solves the words of a slice from one on, four or eight ([`words_at_once`](crate::words_at_once)), or to its end. Answers the word
+    /// after the last one solved. It takes no memory.
     pub fn solve_from<'a>(
         &'a self,
         routes: &'a Routes<'g, 'p>,
@@ -301,17 +302,14 @@ impl<'g, 'p> Solver<'g, 'p> {
         ensures until { slice.new.until ≡ result }
         ensures more { word < result }
         ensures last { 64 * result < slice.old.hi + 64 }
-        ensures most { result ≤ word + 8 }
-        ensures most_short { (slice.old.hi + 63) / 64 ≤ slice.old.lo / 64 + 64 → result ≤ word + 4 }
-        ensures whole { slice.old.lo / 64 ≤ word → 64 * result < slice.old.hi → (slice.old.hi + 63) / 64 ≤ slice.old.lo / 64 + 64
-            → result ≡ word + 4 }
-        ensures whole_long { slice.old.lo / 64 ≤ word → 64 * result < slice.old.hi → slice.old.lo / 64 + 64 < (slice.old.hi + 63) / 64
-            → result ≡ word + 8 }
+        ensures most { result ≤ word + words_at_once slice.old.points (words_between slice.old.lo slice.old.hi) }
+        ensures whole { slice.old.lo / 64 ≤ word → 64 * result < slice.old.hi
+            → result ≡ word + words_at_once slice.old.points (words_between slice.old.lo slice.old.hi) }
         ensures equations { AreSolved self.now slice.new }
         ensures paths { AreMeetWords self.now slice.new }
     {
         // Its contract tells that the problem is well formed.
-        let _ = self.problem.edges();
+        let _ = self.problem.root();
         let effects = self.effects.as_slice();
         slice.solve_from(&self.problem, routes, effects, word, &mut Uncounted)
     }

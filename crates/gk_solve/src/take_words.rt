@@ -48,7 +48,7 @@ pub(crate) fn solve_each<'a, 'g, 'p, T: TakeWords, C: CountSteps>(
     ensures { T.has taker.old taker.new problem.now slice.old.lo slice.old.hi ((slice.old.hi + 63) / 64) }
 {
     // Its contract tells that the problem is well formed.
-    let _ = problem.edges();
+    let _ = problem.root();
     let (lo, hi) = slice.range();
     let mut word = lo / 64;
     'words: while word < hi.div_ceil(64) {

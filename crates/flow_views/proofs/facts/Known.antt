@@ -13,7 +13,7 @@ use Rattle.tac_program.specs.Programs.{Program}
 use Rattle.flow_texts.specs.Reports.{IsKnowledge, Knowledge, dead_at, remarks_at, unset_at}
 use Rattle.flow_texts.specs.code.Findings.{knowledge_of}
 use Rattle.flow_texts.proofs.knowledge.KnownReports.{Agree, agrees, all_is_known, all_known, same_dead, same_remarks, same_unset}
-use Rattle.flow_views.specs.ShownTables.{IsShownTable, end_shown, first_shown}
+use Rattle.flow_views.specs.ShownTables.{IsTableIfChosen, end_shown, first_shown}
 use Rattle.flow_views.specs.Views.{told_by}
 use Rattle.flow_views.specs.code.ShownProgram.{AreShown, IsShownPoint, TellSame, facts_between, facts_or, is_between, is_chosen, known_by, known_of}
 use Rattle.flow_views.specs.code.ShownProgram.{shown_table}
@@ -48,7 +48,7 @@ module _ (program : Program) (analysis : Analysis) (from until : ℕ) (facts : F
   }
 
 facts_or_are : (program : Program) (analysis : Analysis) (from until : ℕ) (facts : Facts) (chosen : Bool) (table : Option TableFacts)
-    → AreFacts program analysis facts → IsShownTable program analysis from until chosen table
+    → AreFacts program analysis facts → IsTableIfChosen program analysis from until chosen table
     → AreFacts program analysis (facts_or from until facts table)
 facts_or_are program analysis from until facts chosen None are is = are
 facts_or_are program analysis from until facts chosen (Some table) are is =
@@ -80,7 +80,7 @@ table_tells from until point facts table low high =
 
 -- where an analysis is chosen there is a table
 chosen_or : (program : Program) (analysis : Analysis) (from until point : ℕ) (chosen : Bool) (one other : Facts) (table : Option TableFacts)
-    → IsShownTable program analysis from until chosen table → chosen ≡ true → from ≤ point → point < until
+    → IsTableIfChosen program analysis from until chosen table → chosen ≡ true → from ≤ point → point < until
     → TellSame (facts_or from until one table) (facts_or from until other table) point
 chosen_or program analysis from until point chosen one other None is chosen_is low high = absurd (cc (is.there ∙ chosen_is))
 chosen_or program analysis from until point chosen one other (Some table) is chosen_is low high =

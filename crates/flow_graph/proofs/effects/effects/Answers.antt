@@ -44,11 +44,12 @@ loop-point-preserved c =
           c.step-next.ensures.next ∙ ap (λ (w : WalkAt). let v : WalkAt = record { program = w.program; point = w.point + 1 } in v) invariant.walks;
       numbered = step c.match-effect.number number_is.0;
       few = omega (arith, invariant.few, number_is.1);
-      so_many = ap length c.in_ok-push.ensures.items ∙ length-append c.loop-point.effects.items (effect ∷ []) ∙ ap (λ m. m + 1) invariant.so_many;
+      so_many = ap length c.in_ok-push.ensures.items ∙ length-append c.loop-point.effects.items (c.of.result ∷ []) ∙ ap (λ m. m + 1) invariant.so_many;
       each = λ k d before.
           subst
           (λ (items : List Effect). IsEffect program c.args.analysis k (get_or items k d))
           (sym c.in_ok-push.ensures.items)
           (pushed_each (λ k e. IsEffect program c.args.analysis k e)
-          c.loop-point.effects.items effect n invariant.so_many invariant.each is_effect k d before);
+          c.loop-point.effects.items c.of.result n invariant.so_many invariant.each
+          (subst (λ (e : Effect). IsEffect program c.args.analysis n e) (sym c.of.ensures) is_effect) k d before);
     }

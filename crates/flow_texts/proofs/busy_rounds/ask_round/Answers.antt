@@ -1,12 +1,24 @@
-use Rattle.std.proofs.Common.{◌≡◌, ◌∙◌, ◌+◌, ◌/◌, ◌%◌, ◌<◌, ℕ, List, [], ◌∷◌, length, slice_index, refl, ap, length-append, arith}
+use Rattle.std.proofs.Common.{◌≡◌, ◌∙◌, ◌+◌, ◌/◌, ◌%◌, ◌<◌, ℕ, List, [], ◌∷◌, length, slice_index, refl, sym, ap, subst, length-append}
+use Rattle.std.proofs.Common.{arith}
 use Rattle.std.proofs.lemmas.Nat.{div_below}
 use Rattle.std.proofs.lemmas.Option.{slice_get-get_or}
 use Rattle.flow_team.specs.Asks.{IsAskOf}
 use Rattle.flow_team.specs.declared.ask.Ask.{Ask}
 use Rattle.tac_program.specs.Programs.{Program}
+use Rattle.flow_texts.specs.code.Asking.{Asks}
 use Rattle.flow_texts.specs.code.Busy.{round_ask}
 use Rattle.flow_texts.proofs.asks.Asking.{asks_one, asks_then, one_round_more}
 use Rattle.flow_texts.proofs.busy_rounds.ask_round.Goals as goal
+
+pub loop-number-init : goal.loop-number-init
+loop-number-init c =
+    let same = c.in_ok-reserve_exact.ensures.items in
+    record {
+      asks = subst (λ (asks : List Ask). Asks c.args.graph.now c.args.asks.now.items asks 0) (sym same)
+          (record { kept = λ q ask there. there; of = λ are. are; count = omega arith });
+      count = omega (arith, ap length same);
+      each = λ n below. absurd (omega (arith, below));
+    }
 
 pub loop-number-preserved : goal.loop-number-preserved
 loop-number-preserved c =

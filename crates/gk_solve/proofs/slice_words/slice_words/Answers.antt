@@ -1,4 +1,5 @@
-use Rattle.std.proofs.Common.{rules, ◌∙◌, arith, sym}
+use Rattle.std.proofs.Common.{rules, ◌≡◌, ◌∙◌, arith, subst, sym}
+use Rattle.gk_solve.specs.Solved.{words_at_once, words_between}
 use Rattle.gk_solve.specs.Tables.Widths.{by_width}
 use Rattle.gk_solve.specs.declared.slice_words.Width.{Width}
 use Rattle.gk_solve.proofs.slices.SliceWidths.{one_used}
@@ -9,6 +10,7 @@ invariant_of-result c =
     let width : Width = c.width_for-width.result in
     let used = c.tables-ones.ensures in
     let counts = c.tables-ones.result in
+    let same = c.points.ensures.count ∙ sym c.in_ok-dirty.ensures.0 in
     record {
       points =
           (λ i. by_width (c.in_ok-one.ensures.0 i) (c.in_ok-four.ensures.0 i) (c.in_ok-eight.ensures.0 i) width)
@@ -21,8 +23,8 @@ invariant_of-result c =
       ordered = omega arith;
       few = omega arith;
       narrow = c.width_for-width.ensures.one;
-      short = c.width_for-width.ensures.four;
-      long = c.width_for-width.ensures.eight;
+      four = λ is. subst (λ n. words_at_once n (words_between c.args.lo c.args.hi) ≡ 4) same (c.width_for-width.ensures.four is);
+      eight = λ is. subst (λ n. words_at_once n (words_between c.args.lo c.args.hi) ≡ 8) same (c.width_for-width.ensures.eight is);
       rows = search rules;
       row_words = search rules;
     }

@@ -8,4 +8,4 @@ returns-clause-paths g c =
     let form = c.args.problem.now in
     IfOk-weaker c.solve_along.result (IsLeastSolution form c.args.lo c.args.hi)
     (IsMeetOverPaths form c.args.lo c.args.hi)
-    (λ rows. solution_to_meet form c.args.lo c.args.hi rows c.edges.ensures.well_formed) c.solve_along.ensures
+    (λ rows. solution_to_meet form c.args.lo c.args.hi rows c.root.ensures.well_formed) c.solve_along.ensures

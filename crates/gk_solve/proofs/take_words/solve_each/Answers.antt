@@ -30,7 +30,7 @@ take_words-requires g c =
       more = omega (arith, after.from, after.until, after.more);
       last = omega (arith, after.until, after.last, after.range.1);
       equations = after.solved;
-      paths = meet_words form slice c.edges.ensures.well_formed after.solved;
+      paths = meet_words form slice c.root.ensures.well_formed after.solved;
     }
 
 pub words-preserved : goal.words-preserved

@@ -1,7 +1,6 @@
-use Rattle.std.proofs.Common.{◌+◌, ◌*◌, ◌<◌, nat_lt, ap, ◌∙◌, sym, subst}
+use Rattle.std.proofs.Common.{◌+◌, ◌*◌, nat_lt, ap, ◌∙◌}
 use Rattle.bit_rows.specs.Words.{has_bit}
 use Rattle.flow_graph.specs.code.Effects.{IsEffect, kill_from}
-use Rattle.flow_graph.specs.Points.{point_count}
 use Rattle.flow_graph.specs.Problems.{MayForm}
 use Rattle.flow_graph.specs.declared.effect.Effect.{Effect}
 use Rattle.flow_graph.proofs.bits.MayWords.{word_of_kills}
@@ -10,14 +9,8 @@ use Rattle.flow_graph.proofs.problem.Problem.kill_word.Goals as goal
 pub returns : goal.returns
 returns c =
     let form : MayForm = c.args.self.now in
-    let effect : Effect = c.index-effect.result.now in
-    let below : c.args.point < point_count c.self.inside.graph.now =
-    subst (λ (f : MayForm). c.args.point < point_count f.program) (sym c.self.view_is) c.requires.point in
-    let kept : IsEffect c.self.inside.graph.now c.self.inside.analysis c.args.point effect =
-    subst (λ (e : Effect). IsEffect c.self.inside.graph.now c.self.inside.analysis c.args.point e) (sym c.index-effect.ensures)
-    (c.self.invariant.0.each c.args.point effect below) in
-    let known : IsEffect form.program form.analysis c.args.point effect =
-    subst (λ (f : MayForm). IsEffect f.program f.analysis c.args.point effect) c.self.view_is kept in
+    let effect : Effect = c.effect-effect.result in
+    let known : IsEffect form.program form.analysis c.args.point effect = c.effect-effect.ensures in
     word_of_kills form c.args.point c.args.word effect known c.own_word-own.result c.touched_word-touched.result c.killed.result c.full_word.result
     c.own_word-own.ensures c.touched_word-touched.ensures
     (λ k within. c.full_word.ensures k within ∙ ap (nat_lt (64 * c.args.word + k)) c.bits.ensures.count)

@@ -9,6 +9,5 @@ invariant_of-result c =
     let sound : IsSound c.args.graph.now = subst (λ (p : Program). IsSound p) c.program.ensures c.procs.ensures.sound in (
       c.in_ok-effects.ensures,
       c.in_ok-dependent_words.ensures,
-      c.in_ok-edges.ensures,
       may_forms_are_well_formed c.args.graph.now c.args.analysis sound,
     )

@@ -1,4 +1,4 @@
-use Rattle.std.proofs.Common.{◌≡◌, ◌+◌, length, map, arith, ap, sym, ◌∙◌, subst}
+use Rattle.std.proofs.Common.{◌≡◌, length, map, arith, ap, sym, ◌∙◌, subst}
 use Rattle.flow_graph.specs.Points.{point_count}
 use Rattle.flow_links.specs.Shapes.{LinkedProgram}
 use Rattle.gk_solve.specs.Solved.{SliceTable, direction_of}
@@ -18,6 +18,7 @@ returns-in-One-clause-solved g c =
     let form = c.args.problem.now in
     let frame = c.group_frame-frame.result in
     let width : c.count-width.result ≡ 1 = c.count-width.ensures ∙ ap width_of c.in-One.is in
+    let fits : width_of c.self.inside.width ≡ 1 = ap width_of c.in-One.is in
     let direction : frame.links.now ≡ direction_of form = c.group_frame-frame.ensures.links ∙ c.requires.routes in
     let points : length c.self.inside.dirty ≡ point_count frame.links.now.program =
     ap (λ (s : SliceTable). s.points) c.self.view_is
@@ -27,7 +28,7 @@ returns-in-One-clause-solved g c =
       lo = c.self.inside.lo;
       hi = c.self.inside.hi;
       from = c.args.word;
-      until = c.args.word + c.min.result;
+      until = c.group_end-until.result;
       width = c.self.inside.width;
       one = with_items c.self.inside.one c.solve_group.new.table;
       one_brought = with_items c.self.inside.one_brought c.solve_group.new.brought_words;
@@ -47,13 +48,14 @@ returns-in-One-clause-solved g c =
     (map (λ (s : Summary 8). s.made) inside.eight.items) w) c.in-One.is
     ∙ ap (map (λ (s : Summary 1). s.made)) (written_over c.self.inside.one.len c.solve_group.new.table c.self.inside.one.items
     c.self.inside.one.ok.0 (c.solve_group.auto.table ∙ ap length c.as_mut_slice.ensures.value)))
-    (omega (arith, c.min.ensures, width)) (omega (arith, points, c.solve_group.ensures.dirty)) c.solve_group.ensures.solutions
+    (omega (arith, c.group_end-until.ensures.fits, fits)) (omega (arith, points, c.solve_group.ensures.dirty)) c.solve_group.ensures.solutions
 
 pub returns-in-Four-clause-solved : goal.returns-in-Four-clause-solved
 returns-in-Four-clause-solved g c =
     let form = c.args.problem.now in
     let frame = c.group_frame-frame.result in
     let width : c.count-width.result ≡ 4 = c.count-width.ensures ∙ ap width_of c.in-Four.is in
+    let fits : width_of c.self.inside.width ≡ 4 = ap width_of c.in-Four.is in
     let direction : frame.links.now ≡ direction_of form = c.group_frame-frame.ensures.links ∙ c.requires.routes in
     let points : length c.self.inside.dirty ≡ point_count frame.links.now.program =
     ap (λ (s : SliceTable). s.points) c.self.view_is
@@ -63,7 +65,7 @@ returns-in-Four-clause-solved g c =
       lo = c.self.inside.lo;
       hi = c.self.inside.hi;
       from = c.args.word;
-      until = c.args.word + c.min.result;
+      until = c.group_end-until.result;
       width = c.self.inside.width;
       one = c.self.inside.one;
       one_brought = c.self.inside.one_brought;
@@ -83,13 +85,14 @@ returns-in-Four-clause-solved g c =
     (map (λ (s : Summary 8). s.made) inside.eight.items) w) c.in-Four.is
     ∙ ap (map (λ (s : Summary 4). s.made)) (written_over c.self.inside.four.len c.solve_group-in-Four.new.table c.self.inside.four.items
     c.self.inside.four.ok.0 (c.solve_group-in-Four.auto.table ∙ ap length c.as_mut_slice-in-Four.ensures.value)))
-    (omega (arith, c.min.ensures, width)) (omega (arith, points, c.solve_group-in-Four.ensures.dirty)) c.solve_group-in-Four.ensures.solutions
+    (omega (arith, c.group_end-until.ensures.fits, fits)) (omega (arith, points, c.solve_group-in-Four.ensures.dirty)) c.solve_group-in-Four.ensures.solutions
 
 pub returns-in-Eight-clause-solved : goal.returns-in-Eight-clause-solved
 returns-in-Eight-clause-solved g c =
     let form = c.args.problem.now in
     let frame = c.group_frame-frame.result in
     let width : c.count-width.result ≡ 8 = c.count-width.ensures ∙ ap width_of c.in-Eight.is in
+    let fits : width_of c.self.inside.width ≡ 8 = ap width_of c.in-Eight.is in
     let direction : frame.links.now ≡ direction_of form = c.group_frame-frame.ensures.links ∙ c.requires.routes in
     let points : length c.self.inside.dirty ≡ point_count frame.links.now.program =
     ap (λ (s : SliceTable). s.points) c.self.view_is
@@ -99,7 +102,7 @@ returns-in-Eight-clause-solved g c =
       lo = c.self.inside.lo;
       hi = c.self.inside.hi;
       from = c.args.word;
-      until = c.args.word + c.min.result;
+      until = c.group_end-until.result;
       width = c.self.inside.width;
       one = c.self.inside.one;
       one_brought = c.self.inside.one_brought;
@@ -119,4 +122,4 @@ returns-in-Eight-clause-solved g c =
     (map (λ (s : Summary 8). s.made) inside.eight.items) w) c.in-Eight.is
     ∙ ap (map (λ (s : Summary 8). s.made)) (written_over c.self.inside.eight.len c.solve_group-in-Eight.new.table c.self.inside.eight.items
     c.self.inside.eight.ok.0 (c.solve_group-in-Eight.auto.table ∙ ap length c.as_mut_slice-in-Eight.ensures.value)))
-    (omega (arith, c.min.ensures, width)) (omega (arith, points, c.solve_group-in-Eight.ensures.dirty)) c.solve_group-in-Eight.ensures.solutions
+    (omega (arith, c.group_end-until.ensures.fits, fits)) (omega (arith, points, c.solve_group-in-Eight.ensures.dirty)) c.solve_group-in-Eight.ensures.solutions

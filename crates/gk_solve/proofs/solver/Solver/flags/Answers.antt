@@ -13,7 +13,7 @@ pub returns : goal.returns
 returns c =
     let form = c.args.self.now in
     let linked = c.args.routes.now in
-    let formed = subst (λ (f : MayForm). IsWellFormed (may_shape f.program f.analysis)) c.self.view_is c.edges.ensures.well_formed in
+    let formed = subst (λ (f : MayForm). IsWellFormed (may_shape f.program f.analysis)) c.self.view_is c.root.ensures.well_formed in
     IfOk-weaker c.copied_flags.result (λ copy. copy.items ≡ c.paths-flags.result.now) (λ copy. HasPathFlags form copy.items)
     (λ copy same. flags_tell form linked c.requires formed copy.items
     (subst (λ (flags : List Bool). ArePathFlags (directed_shape linked) (point_count linked.program) flags) (sym same) c.paths-flags.ensures))

@@ -8,7 +8,7 @@ use Rattle.gk_solve.proofs.solver.Solver.solve.Goals as goal
 
 pub returns-clause-paths : goal.returns-clause-paths
 returns-clause-paths c =
-    let formed = subst (λ (form : MayForm). IsWellFormed (may_shape form.program form.analysis)) c.self.view_is c.edges.ensures.well_formed in
+    let formed = subst (λ (form : MayForm). IsWellFormed (may_shape form.program form.analysis)) c.self.view_is c.root.ensures.well_formed in
     let form = c.args.self.now in
     IfOk-weaker c.solve_slice.result (IsLeastSolution form c.args.lo c.args.hi) (IsMeetOverPaths form c.args.lo c.args.hi)
     (λ rows. solution_to_meet form c.args.lo c.args.hi rows formed)

@@ -7,6 +7,6 @@ use Rattle.gk_solve.proofs.solver.Solver.solve_from.Goals as goal
 
 pub returns-clause-paths : goal.returns-clause-paths
 returns-clause-paths c =
-    let formed = subst (λ (form : MayForm). IsWellFormed (may_shape form.program form.analysis)) c.self.view_is c.edges.ensures.well_formed in
+    let formed = subst (λ (form : MayForm). IsWellFormed (may_shape form.program form.analysis)) c.self.view_is c.root.ensures.well_formed in
     meet_words c.args.self.now c.solve_from.new.self formed
     (subst (λ (form : MayForm). AreSolved form c.solve_from.new.self) c.self.view_is c.solve_from.ensures.solved)
