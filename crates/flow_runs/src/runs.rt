@@ -50,5 +50,5 @@ pub fn run<R: Threads + Sync, S: Source, K: Sink, W: Shown>(
 {
     let most = shown.limits().text() as usize + 1;
     let text = pull_text(alloc, source, most)?;
-    answer(rt, alloc, &text, shown, sink)
+    answer(rt, alloc, text, shown, sink)
 }

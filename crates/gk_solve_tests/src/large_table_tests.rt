@@ -1,5 +1,6 @@
 use crate::tables::{Question, check};
 use flow_graph::{Analysis, OutOfMemory};
+use gk_solve::words_at_once;
 use std::alloc::Global;
 use std::process::Abort;
 use std::test::Fail;
@@ -15,6 +16,8 @@ enum Large {
     Circle,
     /// A loop of 4,000 statements that set `x`.
     Loop,
+    /// 300 variables at more than 16,384 points, so that a slice of all solves eight words at once.
+    Long,
 }
 
 fn chain(text: &mut String, broken: bool) -> Result<(), OutOfMemory> {
@@ -53,6 +56,17 @@ fn long_loop(text: &mut String) -> Result<(), OutOfMemory> {
     text.push_str("goto L\nM: print x\nend\n")
 }
 
+fn long(text: &mut String) -> Result<(), OutOfMemory> {
+    text.push_str("proc main\n")?;
+    for number in 0..300_u32 {
+        write!(text, "print v{number}\n")?;
+    }
+    for _ in 0..16_100 {
+        text.push_str("skip\n")?;
+    }
+    text.push_str("v0 = 1\ncall f\nprint v299\nend\nproc f\nv299 = 1\nend\n")
+}
+
 fn program(alloc: Global, large: Large) -> Result<String, OutOfMemory> {
     let mut text = String::new(alloc);
     write_program(&mut text, large)?;
@@ -65,6 +79,7 @@ fn write_program(text: &mut String, large: Large) -> Result<(), OutOfMemory> {
         Large::BrokenChain => chain(text, true),
         Large::Circle => circle(text),
         Large::Loop => long_loop(text),
+        Large::Long => long(text),
     }
 }
 
@@ -116,6 +131,15 @@ const CHOSEN_LINES: &[(Large, Analysis, &[u32], &str)] = &[
         Analysis::Live,
         &[0, 1, 2, 4_000, 4_001, 4_002, 4_003],
         "main 0: c, x\nmain 1: c\nmain 2: c\nmain 4000: c\nmain 4001: c, x\nmain 4002: x\nmain 4003: -\n",
+    ),
+    (
+        Large::Long,
+        Analysis::Live,
+        &[
+            298, 299, 300, 16_400, 16_401, 16_402, 16_403, 16_404, 16_405,
+        ],
+        "main 298: v298, v299\nmain 299: v299\nmain 300: -\nmain 16400: -\nmain 16401: -\nmain 16402: v299\nmain 16403: -\n\
+        f 0: -\nf 1: v299\n",
     ),
 ];
 
@@ -170,4 +194,14 @@ fn all_meet_behind_the_circle(rt: HostRuntime) -> Result<(), Fail> {
     let circle = program(rt.alloc(), Large::Circle)?;
     check_circle(&rt, circle.as_str(), &[1], "main 1: x@entry, ")?;
     check_circle(&rt, circle.as_str(), &[45], "p10 3: ")
+}
+
+#[test]
+fn eight_words_at_once(rt: HostRuntime) -> Result<(), Fail> {
+    assert_eq!(rt; words_at_once(16_384, 64), 4);
+    assert_eq!(rt; words_at_once(16_384, 65), 8);
+    assert_eq!(rt; words_at_once(16_385, 4), 4);
+    assert_eq!(rt; words_at_once(16_385, 5), 8);
+    assert_eq!(rt; words_at_once(0, 0), 4);
+    Ok(())
 }

@@ -11,7 +11,8 @@ use gk_solve::{Routes, Solver, solve};
 use std::alloc::Global;
 use std::process::Abort;
 use std::test::Fail;
-use tac_reader::{Program, read, write_binary_expression, write_unary_expression};
+use tac_program::Limits;
+use tac_reader::{Program, read_within, write_binary_expression, write_unary_expression};
 
 /// What is asked of a text's program.
 #[derive(Clone, Copy)]
@@ -40,13 +41,13 @@ fn answer_of_graph(
 }
 
 fn answer_of_program(alloc: Global, program: &Program, question: Question) -> Result<String, Fail> {
-    let graph = Graph::build(alloc, program)?;
+    let graph = Graph::build_within(alloc, program, Limits::Large)?;
     Ok(answer_of_graph(alloc, &graph, question)?)
 }
 
 /// The answer to a question of a text's program.
 pub fn answer(alloc: Global, text: &str, question: Question) -> Result<String, Fail> {
-    let program = read(alloc, text.as_bytes())?;
+    let program = read_within(alloc, text.as_bytes(), Limits::Large)?;
     answer_of_program(alloc, &program, question)
 }
 
