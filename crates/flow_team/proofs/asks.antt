@@ -1,4 +1,5 @@
 pub mod Done
+pub mod Ends
 pub mod Placing
 pub mod TableAnswers
 pub mod Told

@@ -1,5 +1,6 @@
 // The job of what is asked of a graph.
 ghost use Rattle.std.specs.Prelude.{◌≡◌, ◌+◌, ◌*◌, ◌^◌, ◌<◌, ◌≤◌, length, IfOk};
+ghost use Rattle.bit_rows.specs.Slices.{ArePlaces};
 ghost use Rattle.flow_graph.specs.Analyses.{is_backward};
 ghost use Rattle.flow_graph.specs.declared.analysis.Analysis.TheVariants.{Reach, Live, Avail, Busy};
 ghost use Rattle.slice_board.specs.Boards.{IsOf, fresh_pass};
@@ -90,6 +91,7 @@ fn ends(
 ) -> Result<Vec<u32>, OutOfMemory>
     requires groups { 0 < slice_groups }
     requires few { 64 * count < 2 ^ 32 }
+    ensures { IfOk result (λ ends. ArePlaces (64 * count) ends.items) }
 {
     let groups = order.groups.max(1);
     let at_once = words_at_once(points, groups.saturating_mul(GROUP_WORDS)) / GROUP_WORDS;
@@ -121,7 +123,8 @@ fn cut_of(
     let ends = ends(alloc, order, slice_groups, count, points)?;
     match Cut::at(alloc, 64 * count, ends.as_slice()) {
         Ok(cut) => Ok(cut),
-        Err(CutFault::OutOfMemory | CutFault::BadPlaces | CutFault::ZeroWidth) => Err(OutOfMemory),
+        Err(CutFault::OutOfMemory) => Err(OutOfMemory),
+        Err(CutFault::BadPlaces | CutFault::ZeroWidth) => unreachable!(),
     }
 }
 

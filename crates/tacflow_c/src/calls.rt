@@ -173,13 +173,9 @@ pub(crate) fn facts_of_text(
     let program = program_of(alloc, text, limits)?;
     let graph = graph_of(alloc, &program, limits)?;
     let points = (points.0, find_end(&graph, points.1));
-    if let Err(fault) = check_table(&graph, analysis, points, bits, flags.len(), words.len()) {
-        return Err(fault);
-    }
-    match put_facts(alloc, &graph, analysis, points, bits, flags, words) {
-        Ok(()) => Ok(()),
-        Err(_) => Err(Fault::OutOfMemory),
-    }
+    check_table(&graph, analysis, points, bits, flags.len(), words.len())?;
+    put_facts(alloc, &graph, analysis, points, bits, flags, words)?;
+    Ok(())
 }
 
 /// The names of a text's procedures or variables within limits.

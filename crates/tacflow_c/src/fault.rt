@@ -3,6 +3,7 @@
 ghost use Rattle.std.specs.Prelude.{◌≡◌, Some};
 ghost use Rattle.tacflow_c.specs.Statuses.{fault_in, place_after, status_of};
 
+use flow_graph::OutOfMemory;
 use tac_lines::Refusal;
 
 /// Why a call has no answer.
@@ -24,6 +25,17 @@ pub(crate) enum Fault {
     BadRange,
     /// The room does not fit the answer.
     BadRoom,
+}
+
+impl From<OutOfMemory> for Fault {
+    ghost use Rattle.std.specs.Prelude.{◌≡◌};
+    ghost use Rattle.tacflow_c.specs.declared.fault.Fault.TheVariants as fault;
+
+    ghost from_gives = { λ _ e. e ≡ fault.OutOfMemory };
+
+    fn from(_no_memory: OutOfMemory) -> Fault {
+        Fault::OutOfMemory
+    }
 }
 
 /// Why a text is no program, and where: the refusal's number, its line, from 1, and its column, in bytes from 1.

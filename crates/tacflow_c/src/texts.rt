@@ -36,9 +36,7 @@ pub(crate) fn listing_of_text(
     ensures fault { IfErr result (IsListingFault limits text.now (length bytes.old) size.new) }
 {
     let program = program_of(alloc, text, limits)?;
-    let Ok(out) = listing(alloc, &program) else {
-        return Err(Fault::OutOfMemory);
-    };
+    let out = listing(alloc, &program)?;
     if put_text(&out, bytes, size) {
         Ok(())
     } else {
@@ -60,9 +58,7 @@ pub(crate) fn report_of_text(
 {
     let program = program_of(alloc, text, limits)?;
     let graph = graph_of(alloc, &program, limits)?;
-    let Ok(out) = report_here(alloc, &graph) else {
-        return Err(Fault::OutOfMemory);
-    };
+    let out = report_here(alloc, &graph)?;
     if put_text(&out, bytes, size) {
         Ok(())
     } else {
