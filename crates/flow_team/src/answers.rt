@@ -8,13 +8,13 @@ ghost use Rattle.flow_graph.specs.declared.analysis.Analysis.TheVariants.{Reach,
 ghost use Rattle.flow_team.specs.Asks.{AreAnswers, AreAsksOf, IsAnswerTo, IsAskOf, flags_of};
 ghost use Rattle.flow_team.specs.Tables.{IsTableOf, facts_of};
 ghost use Rattle.flow_team.specs.declared.ask.Ask.{Ask as AskValue};
-ghost use Rattle.flow_team.specs.code.Boards.{AreDirections, IsWanted};
+ghost use Rattle.flow_team.specs.code.Boards.{IsWanted};
 ghost use Rattle.tac_program.specs.Programs.{Program};
 
 use crate::OutOfMemory;
 use crate::ask::Ask;
 use crate::asked::AskedWords;
-use crate::direction::DirectionSolvers;
+use crate::solvers::GraphSolvers;
 use crate::table::Table;
 use flow_graph::{Analysis, Graph};
 use slice_board::PostedWords;
@@ -122,29 +122,29 @@ fn flags_in(alloc: Global, graph: &Graph<'_>, table: &Table) -> Result<Vec<bool>
 }
 
 impl Answers {
-    /// The answers, of what was posted, and the solvers of both directions.
+    /// The answers, of what was posted, and the solvers.
     pub(crate) fn of<'g, 'p>(
         alloc: Global,
         asked: AskedWords<'g, 'p>,
         posted: &PostedWords,
-    ) -> Result<(Answers, DirectionSolvers<'g, 'p>, DirectionSolvers<'g, 'p>), OutOfMemory>
+    ) -> Result<(Answers, GraphSolvers<'g, 'p>), OutOfMemory>
         requires one { length posted.now.flags ≡ 1 }
         requires rows { (point bit : ℕ) → (contains (set_at posted.now point) bit ≡ true) ↔ IsWanted asked point bit }
         ensures asks { IfOk result (λ r. r.0.asks ≡ asked.entry.asks) }
         ensures answers { IfOk result (λ r. AreAnswers asked.entry.program r.0) }
-        ensures directions { IfOk result (λ r. AreDirections asked.entry.program r.1 r.2) }
+        ensures solvers { IfOk result (λ r. r.1 ≡ asked.entry.program) }
     {
         let mut words = vec![in alloc; 0u64; asked.asks().len()]?;
         asked.put_answers(posted, words.as_mut_slice());
         let (forward, backward) = asked.flags(alloc)?;
-        let (asks, forth, back) = asked.into_parts();
+        let (asks, solvers) = asked.into_parts();
         let answers = Answers {
             asks,
             words,
             forward,
             backward,
         };
-        Ok((answers, forth, back))
+        Ok((answers, solvers))
     }
 
     /// The answers to asks of a graph, read out of its tables: those of reaching definitions, live variables, available and very busy

@@ -4,20 +4,20 @@ ghost use Rattle.std.specs.Prelude.{IfSome, IfNone};
 ghost use Rattle.bit_rows.specs.RowSet.{contains};
 ghost use Rattle.bit_rows.specs.RowTable.{set_at};
 ghost use Rattle.flow_graph.specs.Universes.{bits as bits_of};
-ghost use Rattle.flow_graph.specs.declared.analysis.Analysis.TheVariants.{Reach, Live, Avail, Busy};
+ghost use Rattle.flow_graph.specs.declared.analysis.Analysis.TheVariants.{Reach, Live};
 ghost use Rattle.gk_solve.specs.Solved.{HasPathFlags, TellWords, direction_of};
 ghost use Rattle.slice_board.specs.Boards.{IsOf};
 ghost use Rattle.flow_team.specs.Asks.{AreAsksOf, IsAnswerTo};
 ghost use Rattle.flow_team.specs.Sets.{IsInMaySet};
 ghost use Rattle.slice_team.specs.Teams.{PostsMore};
-ghost use Rattle.flow_team.specs.code.Boards.{AreDirections, AreDone, AreTold, Arranges, IsAmong, IsArranged, IsAskBoard, IsWanted, NoneOf};
+ghost use Rattle.flow_team.specs.code.Boards.{AreDone, AreTold, Arranges, IsAmong, IsArranged, IsAskBoard, IsWanted, NoneOf};
 ghost use Rattle.flow_team.specs.code.Boards.{ordered};
 ghost use Rattle.flow_team.specs.code.Directions.{form_of};
 
 use crate::OutOfMemory;
 use crate::ask::Ask;
 use crate::complemented_words::complement_mask;
-use crate::direction::DirectionSolvers;
+use crate::solvers::GraphSolvers;
 use flow_graph::Analysis;
 use gk_solve::{Routes, SliceWords, Solver};
 use slice_board::{Pass, PostedWords, Wanted, WordBoard};
@@ -25,31 +25,28 @@ use slice_team::Solve;
 use std::alloc::Global;
 use std::marker::Model;
 
-/// What is asked of a graph, and solvers of both directions.
+/// What is asked of a graph, and the solvers of its analyses.
 pub(crate) struct AskedWords<'g, 'p> {
-    forward: DirectionSolvers<'g, 'p>,
-    backward: DirectionSolvers<'g, 'p>,
+    solvers: GraphSolvers<'g, 'p>,
     asks: Vec<Ask>,
     places: Vec<u32>,
 }
 
 impl<'g, 'p> Model for AskedWords<'g, 'p> {
-    ghost use Rattle.flow_team.specs.code.Boards.{AreDirections, Asked, IsArranged, asked_in};
+    ghost use Rattle.flow_team.specs.code.Boards.{Asked, IsArranged, asked_in};
 
     ghost Value = { Asked };
 
-    ghost view = { λ s. asked_in s.forward.program s.asks.items s.places.items };
+    ghost view = { λ s. asked_in s.solvers s.asks.items s.places.items };
 
-    ghost invariant = { λ s. AreDirections s.forward.program s.forward s.backward
-        × IsArranged (asked_in s.forward.program s.asks.items s.places.items) };
+    ghost invariant = { λ s. IsArranged (asked_in s.solvers s.asks.items s.places.items) };
 }
 
 impl Drop for AskedWords<'_, '_> {
     // By hand: who gives it up then makes one call.
     fn drop(self) {
         let AskedWords {
-            forward: _,
-            backward: _,
+            solvers: _,
             asks: _,
             places: _,
         } = self;
@@ -97,24 +94,16 @@ fn solve_to<'a, 'g, 'p>(
 
 impl<'g, 'p> AskedWords<'g, 'p> {
     /// What is asked of a graph, with the order in which the asks are solved.
-    pub(crate) fn of(
-        forward: DirectionSolvers<'g, 'p>,
-        backward: DirectionSolvers<'g, 'p>,
-        asks: Vec<Ask>,
-        places: Vec<u32>,
-    ) -> Self
-        requires forward { forward ≡ record { program = forward.program; some = Reach; every = Avail } }
-        requires backward { backward ≡ record { program = forward.program; some = Live; every = Busy } }
-        requires asks { AreAsksOf forward.program asks.items }
+    pub(crate) fn of(solvers: GraphSolvers<'g, 'p>, asks: Vec<Ask>, places: Vec<u32>) -> Self
+        requires asks { AreAsksOf solvers asks.items }
         requires few { 64 * length asks.items < 2 ^ 32 }
         requires arranged { Arranges asks.items (ordered asks.items places.items) places.items }
-        ensures program { result.program ≡ forward.entry.program }
+        ensures program { result.program ≡ solvers.entry }
         ensures asks { result.asks ≡ asks.items }
         ensures order { result.order ≡ ordered asks.items places.items }
     {
         AskedWords {
-            forward,
-            backward,
+            solvers,
             asks,
             places,
         }
@@ -124,13 +113,7 @@ impl<'g, 'p> AskedWords<'g, 'p> {
     fn bits(&self, analysis: Analysis) -> u32
         ensures { result ≡ bits_of self.now.program analysis }
     {
-        let solver = match analysis {
-            Analysis::Reach => self.forward.some(),
-            Analysis::Live => self.backward.some(),
-            Analysis::Avail => self.forward.every(),
-            Analysis::Busy => self.backward.every(),
-        };
-        solver.problem().bits()
+        self.solvers.solver(analysis).problem().bits()
     }
 
     // The ask of a number in the order in which they are solved.
@@ -160,21 +143,20 @@ impl<'g, 'p> AskedWords<'g, 'p> {
     fn memory(
         &self,
         alloc: Global,
-        solver: &Solver<'g, 'p>,
-        routes: &Routes<'g, 'p>,
+        analysis: Analysis,
         from: u32,
         until: u32,
     ) -> Result<Option<SliceWords>, OutOfMemory>
-        requires routes { routes.now ≡ direction_of solver.now }
         requires until { until ≤ length self.now.order }
-        ensures some { IfOk result (λ r. IfSome r (AreTold solver.now 0 0)) }
-        ensures none { IfOk result (λ r. IfNone r (NoneOf self.now.order from until solver.now.analysis)) }
+        ensures some { IfOk result (λ r. IfSome r (AreTold (form_of self.now.program analysis) 0 0)) }
+        ensures none { IfOk result (λ r. IfNone r (NoneOf self.now.order from until analysis)) }
     {
-        let problem = solver.problem();
-        if !self.asks_some(problem.analysis(), from, until) {
+        if !self.asks_some(analysis, from, until) {
             return Ok(None);
         }
-        let words = solver.slice(alloc, routes, 0, problem.bits())?;
+        let solver = self.solvers.solver(analysis);
+        let routes = self.solvers.routes(analysis);
+        let words = solver.slice(alloc, routes, 0, solver.problem().bits())?;
         Ok(Some(words))
     }
 
@@ -216,23 +198,20 @@ impl<'g, 'p> AskedWords<'g, 'p> {
         ensures forward { IfOk result (λ r. HasPathFlags (form_of self.now.program Reach) r.0.items) }
         ensures backward { IfOk result (λ r. HasPathFlags (form_of self.now.program Live) r.1.items) }
     {
-        let forward = self.forward.flags(alloc)?;
-        let backward = self.backward.flags(alloc)?;
-        Ok((forward, backward))
+        self.solvers.flags(alloc)
     }
 
-    /// The asks, and the solvers of both directions.
-    pub(crate) fn into_parts(self) -> (Vec<Ask>, DirectionSolvers<'g, 'p>, DirectionSolvers<'g, 'p>)
+    /// The asks, and the solvers.
+    pub(crate) fn into_parts(self) -> (Vec<Ask>, GraphSolvers<'g, 'p>)
         ensures asks { result.0.items ≡ self.entry.asks }
-        ensures directions { AreDirections self.entry.program result.1 result.2 }
+        ensures solvers { result.1 ≡ self.entry.program }
     {
         let AskedWords {
-            forward,
-            backward,
+            solvers,
             asks,
             places: _,
         } = self;
-        (asks, forward, backward)
+        (asks, solvers)
     }
 
     // Posts the word of an ask, which is among those that were solved last, unless it has no bit.
@@ -324,25 +303,24 @@ impl<'g, 'p> AskedWords<'g, 'p> {
         &self,
         board: &WordBoard<AskedWords<'g, 'p>>,
         pass: &mut Pass<AskedWords<'g, 'p>>,
-        solver: &Solver<'g, 'p>,
-        routes: &Routes<'g, 'p>,
+        analysis: Analysis,
         words: Option<SliceWords>,
         from: u32,
         until: u32,
     )
         requires on { IsAskBoard self.now board.now }
         requires of { IsOf board.now pass.old }
-        requires program { solver.now.program ≡ self.now.program }
-        requires routes { routes.now ≡ direction_of solver.now }
         requires until { until ≤ length self.now.order }
-        requires some { IfSome words (AreTold solver.now 0 0) }
-        requires none { IfNone words (NoneOf self.now.order from until solver.now.analysis) }
+        requires some { IfSome words (AreTold (form_of self.now.program analysis) 0 0) }
+        requires none { IfNone words (NoneOf self.now.order from until analysis) }
         ensures more { PostsMore pass.old pass.new }
-        ensures done { AreDone self.now (IsAmong self.now.order from until solver.now.analysis) pass.new.posted }
+        ensures done { AreDone self.now (IsAmong self.now.order from until analysis) pass.new.posted }
     {
         let Some(words) = words else {
             return;
         };
+        let solver = self.solvers.solver(analysis);
+        let routes = self.solvers.routes(analysis);
         self.post_asks(board, pass, solver, routes, words, from, until);
     }
 
@@ -362,17 +340,14 @@ impl<'g, 'p> AskedWords<'g, 'p> {
         ensures done { IfOk result (λ _. AreDone self.now (λ j. (from ≤ j) × (j < until)) pass.new.posted) }
         ensures refused { IfErr result (λ _. pass.new ≡ pass.old) }
     {
-        let (forward, backward) = (self.forward.routes(), self.backward.routes());
-        let (reach, avail) = (self.forward.some(), self.forward.every());
-        let (live, busy) = (self.backward.some(), self.backward.every());
-        let reached = self.memory(alloc, reach, forward, from, until)?;
-        let lived = self.memory(alloc, live, backward, from, until)?;
-        let had = self.memory(alloc, avail, forward, from, until)?;
-        let ahead = self.memory(alloc, busy, backward, from, until)?;
-        self.post_part(board, pass, reach, forward, reached, from, until);
-        self.post_part(board, pass, live, backward, lived, from, until);
-        self.post_part(board, pass, avail, forward, had, from, until);
-        self.post_part(board, pass, busy, backward, ahead, from, until);
+        let reached = self.memory(alloc, Analysis::Reach, from, until)?;
+        let lived = self.memory(alloc, Analysis::Live, from, until)?;
+        let had = self.memory(alloc, Analysis::Avail, from, until)?;
+        let ahead = self.memory(alloc, Analysis::Busy, from, until)?;
+        self.post_part(board, pass, Analysis::Reach, reached, from, until);
+        self.post_part(board, pass, Analysis::Live, lived, from, until);
+        self.post_part(board, pass, Analysis::Avail, had, from, until);
+        self.post_part(board, pass, Analysis::Busy, ahead, from, until);
         Ok(())
     }
 }

@@ -1,18 +1,42 @@
 // Solvers of all analyses of a graph.
 ghost use Rattle.std.specs.Prelude.{◌≡◌, ◌*◌, ◌^◌, ◌<◌, length, IfOk};
+ghost use Rattle.flow_graph.specs.Analyses.{is_backward};
+ghost use Rattle.flow_graph.specs.declared.analysis.Analysis.TheVariants.{Reach, Live};
+ghost use Rattle.gk_solve.specs.Solved.{HasPathFlags, direction_of};
 ghost use Rattle.flow_team.specs.Asks.{AreAnswers, AreAsksOf};
+ghost use Rattle.flow_team.specs.code.Directions.{form_of};
 
 use crate::OutOfMemory;
 use crate::answers::Answers;
 use crate::arrange::groups_for;
 use crate::ask::Ask;
-use crate::asked_job::{answers_of, asked_job, directions, directions_here};
+use crate::asked_job::{answers_of, asked_job};
 use crate::direction::DirectionSolvers;
-use flow_graph::Graph;
+use crate::halves::{Half, side_by_side};
+use flow_graph::{Analysis, Graph};
+use gk_solve::{Routes, Solver};
 use slice_team::{Gate, run_here, run_workers};
 use std::alloc::Global;
 use std::marker::Model;
 use std::thread::Threads;
+
+// What finds a direction of a graph.
+#[derive(Clone, Copy)]
+struct Finding<'g, 'p> {
+    graph: &'g Graph<'p>,
+    some: Analysis,
+    every: Analysis,
+}
+
+impl<'g, 'p> Half<DirectionSolvers<'g, 'p>> for Finding<'g, 'p> {
+    ghost is_ready = { λ finding. is_backward finding.some ≡ is_backward finding.every };
+
+    ghost gives = { λ finding d. d ≡ record { program = finding.graph.now; some = finding.some; every = finding.every } };
+
+    fn find(self, alloc: Global) -> Result<DirectionSolvers<'g, 'p>, OutOfMemory> {
+        DirectionSolvers::of(alloc, self.graph, self.some, self.every)
+    }
+}
 
 /// Solvers of a graph's four analyses: made once, for what is asked of them time after time.
 pub struct GraphSolvers<'g, 'p> {
@@ -51,16 +75,65 @@ impl<'g, 'p> GraphSolvers<'g, 'p> {
     ) -> Result<Self, OutOfMemory>
         ensures { IfOk result (λ solvers. solvers ≡ graph.now) }
     {
-        let (forward, backward) = directions(rt, alloc, graph, workers)?;
-        Ok(GraphSolvers { forward, backward })
+        if workers <= 1 {
+            return GraphSolvers::of_here(alloc, graph);
+        }
+        let forward = Finding {
+            graph,
+            some: Analysis::Reach,
+            every: Analysis::Avail,
+        };
+        let backward = Finding {
+            graph,
+            some: Analysis::Live,
+            every: Analysis::Busy,
+        };
+        let (forward, backward) = side_by_side(rt, alloc, forward, backward);
+        Ok(GraphSolvers {
+            forward: forward?,
+            backward: backward?,
+        })
     }
 
     /// The solvers of a graph, made on the calling thread. Fails only where memory runs out.
     pub fn of_here(alloc: Global, graph: &'g Graph<'p>) -> Result<Self, OutOfMemory>
         ensures { IfOk result (λ solvers. solvers ≡ graph.now) }
     {
-        let (forward, backward) = directions_here(alloc, graph)?;
+        let forward = DirectionSolvers::of(alloc, graph, Analysis::Reach, Analysis::Avail)?;
+        let backward = DirectionSolvers::of(alloc, graph, Analysis::Live, Analysis::Busy)?;
         Ok(GraphSolvers { forward, backward })
+    }
+
+    /// The solver of an analysis.
+    pub(crate) fn solver(&self, analysis: Analysis) -> &Solver<'g, 'p>
+        ensures { result.now ≡ form_of self.now analysis }
+    {
+        match analysis {
+            Analysis::Reach => self.forward.some(),
+            Analysis::Live => self.backward.some(),
+            Analysis::Avail => self.forward.every(),
+            Analysis::Busy => self.backward.every(),
+        }
+    }
+
+    /// The edges and paths by which an analysis is solved.
+    pub(crate) fn routes(&self, analysis: Analysis) -> &Routes<'g, 'p>
+        ensures { result.now ≡ direction_of (form_of self.now analysis) }
+    {
+        match analysis {
+            Analysis::Reach | Analysis::Avail => self.forward.routes(),
+            Analysis::Live | Analysis::Busy => self.backward.routes(),
+        }
+    }
+
+    /// The path flags of both directions. Fails only where memory runs out.
+    pub(crate) fn flags(&self, alloc: Global) -> Result<(Vec<bool>, Vec<bool>), OutOfMemory>
+        ensures forward { IfOk result (λ r. HasPathFlags (form_of self.now Reach) r.0.items) }
+        ensures backward { IfOk result (λ r. HasPathFlags (form_of self.now Live) r.1.items) }
+    {
+        let forward = self.forward.flags(alloc)?;
+        let backward = self.backward.flags(alloc)?;
+        Ok((forward, backward))
     }
 
     /// The words that are asked, found by so many workers in slices of so many bits, as [`answer`](crate::answer) has it, and the solvers for
@@ -83,11 +156,9 @@ impl<'g, 'p> GraphSolvers<'g, 'p> {
         ensures answers { IfOk result (λ r. AreAnswers self.entry r.0) }
         ensures solvers { IfOk result (λ r. r.1 ≡ self.entry) }
     {
-        let GraphSolvers { forward, backward } = self;
-        let (job, pass) = asked_job(alloc, (forward, backward), asks, groups_for(cut))?;
+        let (job, pass) = asked_job(alloc, self, asks, groups_for(cut))?;
         let pass = run_workers(rt, alloc, &job, gate, workers, pass)?;
-        let (answers, forward, backward) = answers_of(alloc, job, pass)?;
-        Ok((answers, GraphSolvers { forward, backward }))
+        answers_of(alloc, job, pass)
     }
 
     /// The same, found on the calling thread, for a caller that may start none.
@@ -98,10 +169,8 @@ impl<'g, 'p> GraphSolvers<'g, 'p> {
         ensures answers { IfOk result (λ r. AreAnswers self.entry r.0) }
         ensures solvers { IfOk result (λ r. r.1 ≡ self.entry) }
     {
-        let GraphSolvers { forward, backward } = self;
-        let (job, pass) = asked_job(alloc, (forward, backward), asks, 1)?;
+        let (job, pass) = asked_job(alloc, self, asks, 1)?;
         let pass = run_here(alloc, &job, pass)?;
-        let (answers, forward, backward) = answers_of(alloc, job, pass)?;
-        Ok((answers, GraphSolvers { forward, backward }))
+        answers_of(alloc, job, pass)
     }
 }

@@ -16,6 +16,7 @@ use Rattle.flow_team.specs.contracts.excerpts.ExcerptSets as ExcerptSets
 use Rattle.flow_team.specs.contracts.sets.GraphSets as GraphSets
 use Rattle.flow_team.specs.contracts.asked.AskedWords as AskedWords
 use Rattle.flow_team.specs.contracts.direction.DirectionSolvers as DirectionSolvers
+use Rattle.flow_team.specs.contracts.solvers.GraphSolvers as GraphSolvers
 
 program_sync : IsSync Program.the_row
 program_sync = search (crosses, sendable) depth 60 fits 5000
@@ -83,10 +84,16 @@ direction_sync g p = search (routes_sync, solver_sync, crosses, sendable) depth 
 
 pub ruleset directions_cross = (graph_sync, direction_send, crosses, sendable)
 
+solvers_send : (g p : NamedLft) → IsSend (GraphSolvers.the_row g p)
+solvers_send g p = search (direction_send, crosses, sendable) depth 60 fits 5000
+
+solvers_sync : (g p : NamedLft) → IsSync (GraphSolvers.the_row g p)
+solvers_sync g p = search (direction_sync, crosses, sendable) depth 60 fits 5000
+
 pub asked_send : (g p : NamedLft) → IsSend (AskedWords.the_row g p)
-asked_send g p = search (direction_send, crosses, sendable) depth 60 fits 5000
+asked_send g p = search (solvers_send, crosses, sendable) depth 60 fits 5000
 
 pub asked_sync : (g p : NamedLft) → IsSync (AskedWords.the_row g p)
-asked_sync g p = search (direction_sync, crosses, sendable) depth 60 fits 5000
+asked_sync g p = search (solvers_sync, crosses, sendable) depth 60 fits 5000
 
 pub ruleset asked_cross = (asked_send, asked_sync, crosses, sendable)

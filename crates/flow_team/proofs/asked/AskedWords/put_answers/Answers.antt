@@ -7,10 +7,10 @@ use Rattle.flow_team.proofs.asked.AskedWords.put_answers.Goals as goal
 pub loop-j-preserved : goal.loop-j-preserved
 loop-j-preserved c =
     let asked = c.args.self.now in
-    let of = subst IsArranged c.self.view_is c.self.invariant.1 in
+    let of = subst IsArranged c.self.view_is c.self.invariant in
     let before = c.loop-j.invariant in
     let there : c.loop-j.j < length c.self.inside.asks.items =
-    omega (arith, c.loop-j-test.true, c.len-j-end.ensures, c.self.invariant.1.arranged.size) in
+    omega (arith, c.loop-j-test.true, c.len-j-end.ensures, c.self.invariant.arranged.size) in
     let at : c.index.result.now ≡ slice_index asked.places c.loop-j.j =
     c.index.ensures
     ∙ get_or_default_zero c.self.inside.places.items c.loop-j.j c.index.result.now (omega (arith, c.loop-j-test.true, c.len-j-end.ensures))
@@ -24,7 +24,7 @@ loop-j-preserved c =
 
 pub returns-clause-answered : goal.returns-clause-answered
 returns-clause-answered c =
-    let of = subst IsArranged c.self.view_is c.self.invariant.1 in
+    let of = subst IsArranged c.self.view_is c.self.invariant in
     answered_all c.args.self.now of.arranged c.loop-j.words c.loop-j.j
-    (omega (arith, c.loop-j-test.false, c.len-j-end.ensures, c.self.invariant.1.arranged.size, ap (λ (a : Asked). length a.asks) c.self.view_is))
+    (omega (arith, c.loop-j-test.false, c.len-j-end.ensures, c.self.invariant.arranged.size, ap (λ (a : Asked). length a.asks) c.self.view_is))
     c.loop-j.invariant.answered
