@@ -1,3 +1,4 @@
 pub mod ProgramExamples
+pub mod ReaderExamples
 pub mod WorkedTexts
 pub mod WorkedViews

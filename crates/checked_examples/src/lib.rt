@@ -2,5 +2,6 @@
 #![tactic(auto)]
 
 pub mod program_examples;
+pub mod reader_examples;
 pub mod text_examples;
 pub mod view_examples;

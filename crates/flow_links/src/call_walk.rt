@@ -8,9 +8,11 @@ use std::alloc::Global;
 
 /// Along which calls a walk goes.
 #[derive(Clone, Copy)]
-pub(crate) enum Way {
+pub(crate) enum Way<'r> {
     /// From a procedure to those that it calls.
     ToCallees,
+    /// From a procedure to those that it calls and whose exits are reached in a round before its own, of these rounds.
+    ToEarlierCallees(&'r [u32]),
     /// From a procedure to those that call it.
     ToCallers,
 }
@@ -32,13 +34,13 @@ pub(crate) struct CallWalk {
 }
 
 // The procedure at the other end of a call, if there are so many.
-fn other_end(links: &Links<'_, '_>, way: Way, procedure: u32, call: usize) -> Option<u32>
+fn other_end(links: &Links<'_, '_>, way: Way<'_>, procedure: u32, call: usize) -> Option<u32>
     requires { procedure < (directed_shape links.now).procedures }
 {
     // Its contract tells where exits lie.
     let _ = links.points();
     match way {
-        Way::ToCallees => match links.sites_in(procedure).get(call) {
+        Way::ToCallees | Way::ToEarlierCallees(_) => match links.sites_in(procedure).get(call) {
             Some(site) => Some(site.callee),
             None => None,
         },
@@ -46,6 +48,16 @@ fn other_end(links: &Links<'_, '_>, way: Way, procedure: u32, call: usize) -> Op
             Some(point) if *point < links.points() => { Some(links.procedure_of(*point)) }
             _ => None,
         },
+    }
+}
+
+// Whether a walk goes on from a procedure to this other one.
+fn goes_on(way: Way<'_>, procedure: u32, other: u32) -> bool {
+    match way {
+        Way::ToEarlierCallees(rounds) => {
+            rounds.get(other as usize).copied() < rounds.get(procedure as usize).copied()
+        }
+        Way::ToCallees | Way::ToCallers => true,
     }
 }
 
@@ -77,7 +89,7 @@ impl CallWalk {
     fn visit_procedure(
         &mut self,
         links: &Links<'_, '_>,
-        way: Way,
+        way: Way<'_>,
         latest: OpenProcedure,
     ) -> Result<(), OutOfMemory>
         requires { latest.procedure < (directed_shape links.now).procedures }
@@ -90,7 +102,10 @@ impl CallWalk {
                     procedure: latest.procedure,
                     calls: latest.calls.saturating_add(1),
                 })?;
-                self.enter_procedure(other)
+                if goes_on(way, latest.procedure, other) {
+                    self.enter_procedure(other)?;
+                }
+                Ok(())
             }
             None => {
                 self.left.push(latest.procedure)?;
@@ -103,7 +118,7 @@ impl CallWalk {
     pub(crate) fn walk_from(
         &mut self,
         links: &Links<'_, '_>,
-        way: Way,
+        way: Way<'_>,
         procedure: u32,
     ) -> Result<usize, OutOfMemory> {
         self.enter_procedure(procedure)?;

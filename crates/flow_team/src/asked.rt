@@ -109,13 +109,6 @@ impl<'g, 'p> AskedWords<'g, 'p> {
         }
     }
 
-    // How many bits an analysis has.
-    fn bits(&self, analysis: Analysis) -> u32
-        ensures { result ≡ bits_of self.now.program analysis }
-    {
-        self.solvers.solver(analysis).problem().bits()
-    }
-
     // The ask of a number in the order in which they are solved.
     fn ask(&self, j: u32) -> Ask
         requires { j < length self.now.order }
@@ -168,7 +161,7 @@ impl<'g, 'p> AskedWords<'g, 'p> {
         ensures { (ask : Ask) → slice_get self.now.order j ≡ Some ask → IsAnswerTo self.now.program ask result }
     {
         let ask = self.ask(j);
-        let bits = self.bits(ask.analysis);
+        let bits = self.solvers.solver(ask.analysis).problem().bits();
         posted.word(0, j) ^ complement_mask(bits, ask.analysis.join(), ask.word)
     }
 

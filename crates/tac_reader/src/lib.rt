@@ -7,7 +7,6 @@
 mod build;
 mod checks;
 mod cursor;
-pub mod examples;
 pub mod laws;
 mod occurrences;
 mod procedure;

@@ -1,7 +1,7 @@
 -- The listings compute, once the digits of a number do.
 use Rattle.std.proofs.Common.{refl}
 use Rattle.std.specs.Fmt.{digits}
-use Rattle.tac_reader.proofs.examples.listings.Goals as goal
+use Rattle.checked_examples.proofs.reader_examples.listings.Goals as goal
 
 pub returns-clause-listing : goal.returns-clause-listing
 unfolding digits

@@ -1,8 +1,7 @@
-//! Worked examples of the definitions, each checked by computing it: a wrong digit in any of them is
-//! refused.
+//! Texts, their refusals and their programs, checked by computing them: a wrong digit in any of them is refused.
 
 ghost use Rattle.std.specs.Prelude.{◌≡◌, [], ◌∷◌, ◌++◌, codes, None};
-ghost use Rattle.tac_reader.specs.Examples.{refused, procedures_before, word_from, numbered_example};
+ghost use Rattle.checked_examples.specs.ReaderExamples.{refused, procedures_before, word_from, numbered_example};
 ghost use Rattle.tac_reader.specs.Faults.{refusal_of, refusal_within};
 ghost use Rattle.tac_program.specs.Listings.{listing_of};
 ghost use Rattle.tac_reader.specs.Parses.{program_of};

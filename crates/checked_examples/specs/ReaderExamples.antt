@@ -1,4 +1,4 @@
--- Words for the worked examples.
+-- Words for the worked texts of the reader.
 use Rattle.std.specs.Prelude.{ℕ, zero, suc, ◌+◌, ◌/◌, ◌%◌, List, [], ◌∷◌, ◌++◌, Option, Some, codes}
 use Rattle.tac_program.specs.Programs.{Program}
 use Rattle.tac_lines.specs.Tokens.{Word, Token}

@@ -2,7 +2,7 @@ use Rattle.std.proofs.Common.{◌<◌, arith, []}
 use Rattle.tac_program.specs.Programs.{Procedure}
 use Rattle.tac_program.specs.declared.program.Stmt.{Stmt}
 use Rattle.tac_program.specs.declared.program.StmtKind.TheVariants.{Skip}
-use Rattle.tac_reader.proofs.examples.sound_programs.Goals as goal
+use Rattle.checked_examples.proofs.reader_examples.sound_programs.Goals as goal
 
 -- The comparison of the second procedure names the third variable.
 pub returns-clause-variable_missing : goal.returns-clause-variable_missing
