@@ -417,3 +417,37 @@ fn what_leads_to_no_exit_waits(rt: HostRuntime) -> Result<(), Fail> {
     assert!(rt; for_all <= once + most);
     Ok(())
 }
+
+/// How many procedures another one may call, one after the other.
+const CALLED: u32 = 60;
+
+/// A procedure that may go past each of its calls. Whom it calls has no way past a call of `r`, which may call the first one again.
+fn write_called(text: &mut String) -> Result<(), OutOfMemory> {
+    text.push_str("proc main\ncall p\nend\nproc r\nif c goto out\ncall p\nout:\nend\nproc p\n")?;
+    for number in 0..CALLED {
+        write!(
+            text,
+            "n{number}: if c goto n{}\ncall q{number}\n",
+            number + 1
+        )?;
+    }
+    write!(text, "n{CALLED}:\nend\n")?;
+    for number in 0..CALLED {
+        write!(text, "proc q{number}\ncall r\nv{number} = 1\nend\n")?;
+    }
+    Ok(())
+}
+
+/// They all call one another, and the caller's end is reached before those of its callees. It is gone over behind them all the same, so
+/// that no step is followed more than twice: once more when what is made came round.
+#[test]
+fn callees_come_first_though_their_ends_come_late(rt: HostRuntime) -> Result<(), Fail> {
+    let mut text = String::new(rt.alloc());
+    write_called(&mut text)?;
+    let followed = steps_followed(rt.alloc(), text.as_bytes())?;
+    let (for_flags, for_all) = followed.expect(&rt, "a graph");
+    let once = u64::from(CALLED) * 3 + 2;
+    assert_eq!(rt; for_flags, once);
+    assert!(rt; for_all <= once + 2 * once);
+    Ok(())
+}
