@@ -47,7 +47,8 @@ CALLS = {
     "bit_rows_tests": {"Row::empty", "Row::full", "Row::cut", "Row::copy", "Rows::blank, or its flags", "Cut::even", "Cut::at"},
     "flow_commands_tests": {"run of tacflow", "fault_line", "Options::from_words"},
     "flow_graph_tests": {"Graph::build", "Graph::succ", "Graph::leads_to", "Problem::of", "Problem::edges"},
-    "flow_team_tests": {"Job::open", "analyse", "answer", "answer_here", "Answers::of_tables"},
+    "flow_team_answers_tests": {"answer", "answer_here", "Answers::of_tables"},
+    "flow_team_tests": {"Job::open", "analyse", "table_at"},
     "flow_texts_tests": {
         *("table_of", "TableText::of", "table_text", "Tables::of", "ReportAnswers::of", "ReportAnswers::answered_here", "ReportAnswers::of_tables"),
         *("ReportText::of", "report", "report_here"),

@@ -1,12 +1,13 @@
 // Tables at some points: there as the table of all points, and before them without a path or a bit.
 
-use crate::texts::{Question, RECURSIVE_REACH, check, lines_before};
+use crate::questions::{Question, check};
 use flow_graph::{Analysis, Graph};
 use flow_team::{OpenGate, OutOfMemory, table_at};
 use std::alloc::Global;
 use std::process::Abort;
 use std::test::Fail;
 use std::thread::Threads;
+use team_probes::{RECURSIVE_REACH, lines_before};
 use worked_programs::{callee_loops, no_end, recursion};
 
 /// An analysis at the points from one on and before another, by so many workers.

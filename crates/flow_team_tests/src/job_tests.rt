@@ -6,8 +6,7 @@ ghost use Rattle.flow_graph.specs.Universes.{bits as bits_of};
 ghost use Rattle.flow_team.specs.Tables.{IsTableOf};
 ghost use Rattle.slice_board.specs.Boards.{IsOf, board_points};
 
-use crate::gates::Recorder;
-use crate::texts::{Question, RECURSIVE_REACH, check, lines, printed, slices};
+use crate::questions::{Question, check};
 use flow_graph::{Analysis, Graph};
 use flow_team::{GraphSets, Job, OpenGate, OutOfMemory, Table};
 use slice_board::Pass;
@@ -15,6 +14,7 @@ use std::alloc::Global;
 use std::process::Abort;
 use std::test::Fail;
 use std::thread::{Threads, join};
+use team_probes::{RECURSIVE_REACH, Recorder, lines, printed, slices};
 use worked_programs::recursion;
 use worked_programs::series::prints;
 

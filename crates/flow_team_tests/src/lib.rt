@@ -3,15 +3,13 @@
 #![tactic(auto)]
 
 #[cfg(test)]
-mod ask_tests;
-#[cfg(test)]
 mod excerpt_tests;
-#[cfg(test)]
-mod gates;
 #[cfg(test)]
 mod job_tests;
 #[cfg(test)]
 mod overlap_tests;
+#[cfg(test)]
+mod questions;
 #[cfg(test)]
 mod refusal_tests;
 #[cfg(test)]
@@ -20,5 +18,3 @@ mod std_thread_tests;
 mod table_tests;
 #[cfg(test)]
 mod team_tests;
-#[cfg(test)]
-mod texts;

@@ -1,7 +1,6 @@
 // That workers run at the same time, and that the standard helpers which may start them do.
 
-use crate::gates::Meeting;
-use crate::texts::{Question, RECURSIVE_REACH, check, lines, slices_at};
+use crate::questions::{Question, check};
 use flow_graph::{Analysis, Graph};
 use flow_team::analyse;
 use std::alloc::Global;
@@ -9,6 +8,7 @@ use std::process::Abort;
 use std::sync::atomic::Ordering;
 use std::test::Fail;
 use std::thread::Threads;
+use team_probes::{Meeting, RECURSIVE_REACH, lines, slices_at};
 use worked_programs::recursion;
 
 // The lines of reaching definitions, in two slices by two workers.

@@ -4,14 +4,9 @@ ghost use Rattle.std.specs.Prelude.{IfOk};
 ghost use Rattle.flow_team.specs.Tables.{IsTableOf};
 ghost use Rattle.slice_board.specs.Boards.{IsOf};
 
-use crate::ask_tests::{
-    Asked, CALLEE_LOOPS_ASKING, CALLEE_LOOPS_ASKS, Order, lines_here, lines_of_tables,
-    lines_of_team, wanted_lines,
-};
 use crate::excerpt_tests::{Excerpt, RECURSIVE_REACH_BEHIND, lines_of_excerpt};
-use crate::gates::Recorder;
 use crate::job_tests::{closed, opened};
-use crate::texts::{Question, RECURSIVE_REACH, check, lines, slices};
+use crate::questions::{Question, check};
 use flow_graph::{Analysis, Graph};
 use flow_team::{GraphSets, Job, OpenGate, OutOfMemory, Table, TeamFault, analyse};
 use refusal_probes::refusal_of;
@@ -20,7 +15,8 @@ use std::alloc::Global;
 use std::process::Abort;
 use std::test::Fail;
 use std::thread::Threads;
-use worked_programs::{callee_loops, recursion};
+use team_probes::{RECURSIVE_REACH, Recorder, lines, slices, told_again};
+use worked_programs::recursion;
 
 // Where the last slice that was claimed is the one that was not finished, which of the three it is.
 fn left_slice(gate: &Recorder) -> &'static str {
@@ -233,16 +229,10 @@ fn a_refused_call_goes_on(rt: HostRuntime) -> Result<(), Fail> {
     check_told(&rt, &WithRefusals)
 }
 
-// What is asked of the program whose callee loops.
-const ASKED: (&[Asked], Order) = (CALLEE_LOOPS_ASKS, Order::AsWritten);
-
 // A call that takes memory, made once more where it is refused.
 #[derive(Clone, Copy)]
 enum Call {
     Analyse(u32),
-    Answer(u32),
-    AnswerHere,
-    AnswersOfTables,
     TableAt,
 }
 
@@ -274,16 +264,6 @@ fn lines_of_table<R: Threads + Sync>(
     }
 }
 
-// What the asks of the program whose callee loops are answered by so many workers.
-fn lines_of_answer<R: Threads + Sync>(
-    rt: &R,
-    alloc: Global,
-    graph: &Graph<'_>,
-    workers: u32,
-) -> Result<Option<String>, Fail> {
-    lines_of_team(rt, alloc, graph, ASKED, (64, workers), &OpenGate)
-}
-
 // What a call gives, once what it takes is there; none where it was refused.
 fn lines_of_call<R: Threads + Sync>(
     rt: &R,
@@ -293,9 +273,6 @@ fn lines_of_call<R: Threads + Sync>(
 ) -> Result<Option<String>, Fail> {
     match call {
         Call::Analyse(workers) => lines_of_table(rt, alloc, graph, workers),
-        Call::Answer(workers) => lines_of_answer(rt, alloc, graph, workers),
-        Call::AnswerHere => lines_here(alloc, graph, ASKED),
-        Call::AnswersOfTables => lines_of_tables(rt, alloc, graph, ASKED),
         Call::TableAt => Ok(lines_of_excerpt(rt, alloc, graph, BEHIND)?),
     }
 }
@@ -303,23 +280,7 @@ fn lines_of_call<R: Threads + Sync>(
 fn name_of(call: Call) -> &'static str {
     match call {
         Call::Analyse(_) => "analyse",
-        Call::Answer(_) => "answer",
-        Call::AnswerHere => "answer_here",
-        Call::AnswersOfTables => "Answers::of_tables",
         Call::TableAt => "table_at",
-    }
-}
-
-// What a call that was refused tells the second time, where it is not refused again: the test then fails by the call's name.
-fn told_again(lines: Option<String>, want: &str, call: &'static str) -> Result<String, Fail> {
-    let Some(lines) = lines else {
-        return Err(Fail::from(TeamFault::OutOfMemory));
-    };
-    let same = lines.as_str() == want;
-    if same {
-        Err(refusal_of(call))
-    } else {
-        Err(Fail::new("another answer the second time"))
     }
 }
 
@@ -383,13 +344,6 @@ fn check_call<R: Threads + Sync + Abort + AllocGlobal>(rt: &R, call: Call) -> Re
     check_told(rt, &Twice { call, want })
 }
 
-// The answers that a call gives.
-fn check_answers<R: Threads + Sync + Abort + AllocGlobal>(rt: &R, call: Call) -> Result<(), Fail> {
-    let text = wanted_lines(rt.alloc(), CALLEE_LOOPS_ASKING, Order::AsWritten)?;
-    let want = text.as_str();
-    check(rt, callee_loops::TEXT, &Twice { call, want }, want, (0, 0))
-}
-
 #[test]
 fn an_opened_job_is_refused(rt: HostRuntime) -> Result<(), Fail> {
     check_told(&rt, &OpenedJob)
@@ -403,21 +357,6 @@ fn a_team_of_one_is_refused(rt: HostRuntime) -> Result<(), Fail> {
 #[test]
 fn a_team_of_two_is_refused(rt: HostRuntime) -> Result<(), Fail> {
     check_call(&rt, Call::Analyse(2))
-}
-
-#[test]
-fn answers_by_one_are_refused(rt: HostRuntime) -> Result<(), Fail> {
-    check_answers(&rt, Call::Answer(1))
-}
-
-#[test]
-fn answers_by_two_are_refused(rt: HostRuntime) -> Result<(), Fail> {
-    check_answers(&rt, Call::Answer(2))
-}
-
-#[test]
-fn answers_here_are_refused(rt: HostRuntime) -> Result<(), Fail> {
-    check_answers(&rt, Call::AnswerHere)
 }
 
 // The points of the second procedure of `recursion`.
@@ -436,9 +375,4 @@ fn tables_at_some_points_are_refused(rt: HostRuntime) -> Result<(), Fail> {
         want,
     };
     check(&rt, recursion::TEXT, &twice, want, (0, 0))
-}
-
-#[test]
-fn answers_of_tables_are_refused(rt: HostRuntime) -> Result<(), Fail> {
-    check_answers(&rt, Call::AnswersOfTables)
 }

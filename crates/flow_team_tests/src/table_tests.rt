@@ -1,27 +1,21 @@
 // Tables by teams of workers: the same for all numbers of workers and all cuts.
 
-ghost use Rattle.std.specs.Prelude.{◌≡◌, IfOk};
-ghost use Rattle.flow_graph.specs.Universes.{bits as bits_of};
-ghost use Rattle.flow_team.specs.Tables.{IsTableOf};
-
-use crate::texts::{
-    Question, RECURSIVE_REACH, check, lines, printed, slices, slices_at, summed, sums, words,
-};
-use bit_rows::Cut;
+use crate::questions::{Question, check};
 use flow_graph::{Analysis, Graph};
-use flow_team::{Gate, OpenGate, Table, analyse};
+use flow_team::OpenGate;
 use std::alloc::Global;
 use std::process::Abort;
 use std::test::Fail;
 use std::thread::Threads;
+use team_probes::{
+    BITS_OF_TWO_GROUPS, Cutting, RECURSIVE_REACH, WORKERS, lines, printed, summed, sums, table_by,
+    words,
+};
 use worked_programs::series::prints;
 use worked_programs::{
     adds_to_itself, both_branches, called_twice, callee_loops, calls_main, no_bits, no_end,
     not_called, reads_behind_calls, recursion, smallest,
 };
-
-/// Numbers of workers.
-pub const WORKERS: &[u32] = &[1, 2, 3, 64];
 
 const WIDTHS: &[u32] = &[1, 2, 64];
 
@@ -120,38 +114,6 @@ const TABLES: &[(&str, Analysis, &str)] = &[
     ),
 ];
 
-/// How the bits are cut.
-#[derive(Clone, Copy)]
-pub enum Cutting {
-    Even(u32),
-    At(&'static [u32]),
-}
-
-fn cut(alloc: Global, graph: &Graph<'_>, analysis: Analysis, cutting: Cutting) -> Result<Cut, Fail>
-    ensures { IfOk result (λ cut. cut.bits ≡ bits_of graph.now analysis) }
-{
-    match cutting {
-        Cutting::Even(width) => slices(alloc, graph, analysis, width),
-        Cutting::At(places) => slices_at(alloc, graph, analysis, places),
-    }
-}
-
-/// A graph's table, by so many workers.
-pub fn table_by<R: Threads + Sync, G: Gate>(
-    rt: &R,
-    alloc: Global,
-    graph: &Graph<'_>,
-    how: (Analysis, Cutting, u32),
-    gate: &G,
-) -> Result<Table, Fail>
-    ensures analysis { IfOk result (λ table. table.analysis ≡ how.0) }
-    ensures table { IfOk result (IsTableOf graph.now) }
-{
-    let (analysis, cutting, workers) = how;
-    let cut = cut(alloc, graph, analysis, cutting)?;
-    Ok(analyse(rt, alloc, graph, analysis, cut, workers, gate)?)
-}
-
 // Its lines.
 #[derive(Clone, Copy)]
 struct Lines {
@@ -227,9 +189,6 @@ fn complements_of_more_bits_than_a_word(rt: HostRuntime) -> Result<(), Fail> {
     let busy = printed(rt.alloc(), 70)?;
     check_cuttings(&rt, text.as_str(), Analysis::Busy, busy.as_str())
 }
-
-/// Two groups of words, the second of which has two, the last of them with 10 bits.
-pub const BITS_OF_TWO_GROUPS: u32 = 330;
 
 #[test]
 fn more_words_than_a_group(rt: HostRuntime) -> Result<(), Fail> {

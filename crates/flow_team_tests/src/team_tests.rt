@@ -2,17 +2,16 @@
 
 ghost use Rattle.std.specs.Prelude.{◌≡◌};
 
-use crate::gates::{Crowd, Ledger, Recorder};
-use crate::table_tests::{Cutting, WORKERS, table_by};
-use crate::texts::{
-    Question, RECURSIVE_REACH, answered, check, check_text, lines, printed, slices,
-};
+use crate::questions::{Question, answered, check, check_text};
 use flow_graph::{Analysis, Graph};
 use flow_team::{OpenGate, OutOfMemory, TeamFault, analyse, answer};
 use std::alloc::Global;
 use std::process::Abort;
 use std::test::Fail;
 use std::thread::Threads;
+use team_probes::{
+    Crowd, Cutting, Ledger, RECURSIVE_REACH, Recorder, WORKERS, lines, printed, slices, table_by,
+};
 use worked_programs::recursion;
 use worked_programs::series::prints;
 

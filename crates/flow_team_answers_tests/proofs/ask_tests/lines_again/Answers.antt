@@ -1,7 +1,7 @@
 use Rattle.std.proofs.Common.{◌∙◌, sym, subst}
 use Rattle.flow_team.specs.Asks.{AreAnswers, AreAsksOf}
 use Rattle.tac_program.specs.Programs.{Program}
-use Rattle.flow_team_tests.proofs.ask_tests.lines_again.Goals as goal
+use Rattle.flow_team_answers_tests.proofs.ask_tests.lines_again.Goals as goal
 
 pub answer-requires-clause-asks : goal.answer-requires-clause-asks
 answer-requires-clause-asks g c = λ κs lives.

@@ -1,7 +1,6 @@
 // Tables as text: a line for each point with the numbers of its bits.
 
 ghost use Rattle.std.specs.Prelude.{◌≡◌, length, IfOk};
-ghost use Rattle.std.specs.Thread.{IsSync};
 ghost use Rattle.flow_graph.specs.Universes.{bits as bits_of};
 ghost use Rattle.flow_team.specs.Tables.{IsTableOf};
 
@@ -9,10 +8,7 @@ use bit_rows::Cut;
 use flow_graph::{Analysis, Graph, OutOfMemory};
 use flow_team::Table;
 use std::alloc::Global;
-use std::process::Abort;
 use std::test::Fail;
-use std::thread::Threads;
-use tac_reader::{Program, read};
 
 /// The definitions that reach each point of `recursion`: `x` at the entry, at line 2 and at line 9.
 pub const RECURSIVE_REACH: &str = "0: 0\n1: 1\n2: 1 2\n3: 1 2\n4: 1\n5: 1\n6: 1 2\n7: 1 2\n";
@@ -52,58 +48,6 @@ pub fn summed(alloc: Global, count: u32) -> Result<String, OutOfMemory> {
         text.push('\n')?;
     }
     Ok(text)
-}
-
-/// What is asked of a graph.
-pub trait Question {
-    fn answer<R: Threads + Sync + Abort>(
-        &self,
-        rt: &R,
-        alloc: Global,
-        graph: &Graph<'_>,
-    ) -> Result<String, Fail>
-        requires { IsSync R.row };
-}
-
-// The answer of a program's graph.
-fn answered_of_program<R: Threads + Sync + Abort, Q: Question>(
-    rt: &R,
-    alloc: Global,
-    program: &Program,
-    question: &Q,
-) -> Result<String, Fail> {
-    let graph = Graph::build(alloc, program)?;
-    question.answer(rt, alloc, &graph)
-}
-
-/// The answer of the graph of a text's program.
-pub fn answered<R: Threads + Sync + Abort, Q: Question>(
-    rt: &R,
-    alloc: Global,
-    text: &str,
-    question: &Q,
-) -> Result<String, Fail> {
-    let program = read(alloc, text.as_bytes())?;
-    answered_of_program(rt, alloc, &program, question)
-}
-
-/// The text is what is wanted. A failure names the case and the number of workers.
-pub fn check_text<R: Abort>(rt: &R, told: &str, want: &str, case: (u32, u32)) {
-    let (case, workers) = case;
-    assert_eq!(rt; told, want, "case {case}, {workers} workers");
-}
-
-/// The answer of the graph of a text's program is what is wanted. Of the case and the number of workers a failure tells.
-pub fn check<R: Threads + Sync + Abort + AllocGlobal, Q: Question>(
-    rt: &R,
-    text: &str,
-    question: &Q,
-    want: &str,
-    case: (u32, u32),
-) -> Result<(), Fail> {
-    let told = answered(rt, rt.alloc(), text, question)?;
-    check_text(rt, told.as_str(), want, case);
-    Ok(())
 }
 
 /// The lines of all points, `(no path)` behind the number of one without a path.

@@ -5,9 +5,6 @@ ghost use Rattle.flow_graph.specs.declared.analysis.Analysis.TheVariants.{Reach,
 ghost use Rattle.flow_team.specs.Asks.{AreAnswers, AreAsksOf, IsAskOf};
 ghost use Rattle.flow_team.specs.Tables.{IsTableOf};
 
-use crate::gates::Recorder;
-use crate::table_tests::{BITS_OF_TWO_GROUPS, Cutting, WORKERS, table_by};
-use crate::texts::{Question, check, sums};
 use flow_graph::{Analysis, Graph, OutOfMemory};
 use flow_team::{
     Answers, Ask, Gate, GraphSolvers, JoinedGate, OpenGate, Table, answer, answer_here,
@@ -16,6 +13,8 @@ use std::alloc::Global;
 use std::process::Abort;
 use std::test::Fail;
 use std::thread::Threads;
+use tac_reader::{Program, read};
+use team_probes::{BITS_OF_TWO_GROUPS, Cutting, Recorder, WORKERS, sums, table_by, told_again};
 use worked_programs::callee_loops;
 use worked_programs::series::prints;
 
@@ -313,8 +312,8 @@ pub fn wanted_lines(alloc: Global, asking: Asking, order: Order) -> Result<Strin
     Ok(text)
 }
 
-/// The lines of answers by so many workers; none where the call was refused.
-pub fn lines_of_team<R: Threads + Sync, G: Gate>(
+// The lines of answers by so many workers; none where the call was refused.
+fn lines_of_team<R: Threads + Sync, G: Gate>(
     rt: &R,
     alloc: Global,
     graph: &Graph<'_>,
@@ -331,8 +330,8 @@ pub fn lines_of_team<R: Threads + Sync, G: Gate>(
     }
 }
 
-/// The lines of answers that are found on the calling thread; none where the call was refused.
-pub fn lines_here(
+// The lines of answers that are found on the calling thread; none where the call was refused.
+fn lines_here(
     alloc: Global,
     graph: &Graph<'_>,
     asked: (&[Asked], Order),
@@ -367,8 +366,8 @@ fn lines_out_of(
     }
 }
 
-/// The lines of answers out of tables by two workers; none where the call was refused that takes the tables.
-pub fn lines_of_tables<R: Threads + Sync>(
+// The lines of answers out of tables by two workers; none where the call was refused that takes the tables.
+fn lines_of_tables<R: Threads + Sync>(
     rt: &R,
     alloc: Global,
     graph: &Graph<'_>,
@@ -409,84 +408,94 @@ fn lines_again<R: Threads + Sync>(
     Ok(answer_lines(alloc, graph, &answers)?)
 }
 
-// The lines, where the call was not refused.
-fn told(lines: Option<String>) -> Result<String, Fail> {
-    match lines {
+/// How the answers to asks are found.
+#[derive(Clone, Copy)]
+pub enum Way<'a> {
+    /// In slices of so many bits, by so many workers.
+    Team {
+        cut: u32,
+        workers: u32,
+        gate: &'a Recorder,
+    },
+    /// On the calling thread.
+    Here,
+    /// By solvers that were asked before, of whose answers so many are kept.
+    Again {
+        kept: usize,
+        gate: &'a Recorder,
+    },
+    /// Out of tables.
+    OfTables,
+}
+
+// The call that is made.
+fn call_of(way: Way<'_>) -> &'static str {
+    match way {
+        Way::Team { .. } => "answer",
+        Way::Here => "answer_here",
+        Way::Again { .. } => "GraphSolvers::answer",
+        Way::OfTables => "Answers::of_tables",
+    }
+}
+
+// The lines of answers that are found in a way; none where the call was refused.
+fn lines_by<R: Threads + Sync>(
+    rt: &R,
+    alloc: Global,
+    graph: &Graph<'_>,
+    asked: (&[Asked], Order),
+    way: Way<'_>,
+) -> Result<Option<String>, Fail> {
+    match way {
+        Way::Team { cut, workers, gate } => {
+            lines_of_team(rt, alloc, graph, asked, (cut, workers), gate)
+        }
+        Way::Here => lines_here(alloc, graph, asked),
+        Way::Again { kept, gate } => Ok(Some(lines_again(rt, alloc, graph, asked, kept, gate)?)),
+        Way::OfTables => lines_of_tables(rt, alloc, graph, asked),
+    }
+}
+
+// The same. A call that is refused is made once more, and then it fails by its name.
+fn told_of_graph<R: Threads + Sync>(
+    rt: &R,
+    alloc: Global,
+    graph: &Graph<'_>,
+    asked: (&[Asked], Order),
+    way: Way<'_>,
+    want: &str,
+) -> Result<String, Fail> {
+    match lines_by(rt, alloc, graph, asked, way)? {
         Some(lines) => Ok(lines),
-        None => Err(Fail::new("refused")),
+        None => told_again(lines_by(rt, alloc, graph, asked, way)?, want, call_of(way)),
     }
 }
 
-// Answers by a team.
-#[derive(Clone, Copy)]
-struct ByTeam<'a> {
-    asked: (&'a [Asked], Order),
-    how: (u32, u32),
-    gate: &'a Recorder,
+// The same of a program's graph.
+fn told_of_program<R: Threads + Sync>(
+    rt: &R,
+    alloc: Global,
+    program: &Program,
+    asked: (&[Asked], Order),
+    way: Way<'_>,
+    want: &str,
+) -> Result<String, Fail> {
+    let graph = Graph::build(alloc, program)?;
+    told_of_graph(rt, alloc, &graph, asked, way, want)
 }
 
-impl<'a> Question for ByTeam<'a> {
-    fn answer<R: Threads + Sync + Abort>(
-        &self,
-        rt: &R,
-        alloc: Global,
-        graph: &Graph<'_>,
-    ) -> Result<String, Fail> {
-        told(lines_of_team(rt, alloc, graph, self.asked, self.how, self.gate)?)
-    }
-}
-
-// Answers on the calling thread.
-#[derive(Clone, Copy)]
-struct Here<'a> {
-    asked: (&'a [Asked], Order),
-}
-
-impl<'a> Question for Here<'a> {
-    fn answer<R: Threads + Sync + Abort>(
-        &self,
-        _: &R,
-        alloc: Global,
-        graph: &Graph<'_>,
-    ) -> Result<String, Fail> {
-        told(lines_here(alloc, graph, self.asked)?)
-    }
-}
-
-// Answers of solvers that were asked before.
-#[derive(Clone, Copy)]
-struct Again<'a> {
-    asked: (&'a [Asked], Order),
-    kept: usize,
-    gate: &'a Recorder,
-}
-
-impl<'a> Question for Again<'a> {
-    fn answer<R: Threads + Sync + Abort>(
-        &self,
-        rt: &R,
-        alloc: Global,
-        graph: &Graph<'_>,
-    ) -> Result<String, Fail> {
-        lines_again(rt, alloc, graph, self.asked, self.kept, self.gate)
-    }
-}
-
-// Answers out of tables.
-#[derive(Clone, Copy)]
-struct OfTables<'a> {
-    asked: (&'a [Asked], Order),
-}
-
-impl<'a> Question for OfTables<'a> {
-    fn answer<R: Threads + Sync + Abort>(
-        &self,
-        rt: &R,
-        alloc: Global,
-        graph: &Graph<'_>,
-    ) -> Result<String, Fail> {
-        told(lines_of_tables(rt, alloc, graph, self.asked)?)
-    }
+/// The answers to what is asked of a text's program are what is wanted, found in this way.
+pub fn check<R: Threads + Sync + Abort + AllocGlobal>(
+    rt: &R,
+    text: &str,
+    asked: (&[Asked], Order),
+    way: Way<'_>,
+    want: &str,
+) -> Result<(), Fail> {
+    let program = read(rt.alloc(), text.as_bytes())?;
+    let told = told_of_program(rt, rt.alloc(), &program, asked, way, want)?;
+    assert_eq!(rt; told.as_str(), want, "{}", call_of(way));
+    Ok(())
 }
 
 /// Cuts, and how many slices the asks are in.
@@ -503,12 +512,12 @@ fn check_team<R: Threads + Sync + Abort + AllocGlobal>(
 ) -> Result<(), Fail> {
     let (cut, count) = slices;
     let gate = Recorder::new();
-    let question = ByTeam {
-        asked,
-        how: (cut, workers),
+    let way = Way::Team {
+        cut,
+        workers,
         gate: &gate,
     };
-    check(rt, text, &question, want, (cut, workers))?;
+    check(rt, text, asked, way, want)?;
     let all = (1u64 << (count % 64)).wrapping_sub(1);
     assert_eq!(rt;
         gate.told(),
@@ -545,8 +554,8 @@ fn check_without_team<R: Threads + Sync + Abort + AllocGlobal>(
 ) -> Result<(), Fail> {
     let want = wanted_lines(rt.alloc(), asking, order)?;
     let asked = (asking.rows, order);
-    check(rt, text, &Here { asked }, want.as_str(), (1, 0))?;
-    check(rt, text, &OfTables { asked }, want.as_str(), (2, 0))
+    check(rt, text, asked, Way::Here, want.as_str())?;
+    check(rt, text, asked, Way::OfTables, want.as_str())
 }
 
 // The answers in every order, by teams and without one.
@@ -583,12 +592,8 @@ fn answers_of_solvers_that_were_asked_before(rt: HostRuntime) -> Result<(), Fail
         };
         let want = wanted_lines(rt.alloc(), asking, Order::AsWritten)?;
         let gate = Recorder::new();
-        let question = Again {
-            asked,
-            kept,
-            gate: &gate,
-        };
-        check(&rt, callee_loops::TEXT, &question, want.as_str(), (3, 2))?;
+        let way = Way::Again { kept, gate: &gate };
+        check(&rt, callee_loops::TEXT, asked, way, want.as_str())?;
         assert_eq!(rt; gate.around(), (8, 8), "{kept} answers kept");
     }
     Ok(())

@@ -1,0 +1,14 @@
+//! What tests of teams share: gates that note what they are told, tables by so many workers, and tables as text.
+#![tactic(auto)]
+
+mod again;
+mod gates;
+mod tables;
+mod texts;
+
+pub use again::told_again;
+pub use gates::{Crowd, Ledger, Meeting, Recorder};
+pub use tables::{BITS_OF_TWO_GROUPS, Cutting, WORKERS, table_by};
+pub use texts::{
+    RECURSIVE_REACH, lines, lines_before, printed, slices, slices_at, summed, sums, words,
+};
