@@ -18,6 +18,17 @@ use std::alloc::Global;
 use std::marker::Model;
 use std::thread::Threads;
 
+// The widest slices that may be.
+const WIDEST: u32 = 4_096;
+
+// How wide the slices of so many workers are. One shares nothing, and each slice takes memory anew.
+fn width_for(workers: u32, cut: u32) -> u32
+    requires { AreInRange workers cut }
+    ensures { AreInRange workers result }
+{
+    if workers == 1 { WIDEST } else { cut }
+}
+
 // What is asked of a graph first.
 #[derive(Drop)]
 struct Begun {
@@ -285,8 +296,9 @@ impl ReportAnswers {
         Ok(ReportAnswers::told(answers, places, rounds))
     }
 
-    /// What a report asks of a graph, answered by so many workers, in slices of so many bits, which the gate is told of. Of very busy
-    /// expressions the words that have a bit are kept, and some 2^19 words for each worker are asked for at a time.
+    /// What a report asks of a graph, answered by so many workers, in slices of so many bits, which the gate is told of. By one worker they
+    /// are 4,096 bits wide. Of very busy expressions the words that have a bit are kept, and some 2^19 words for each worker are asked for
+    /// at a time.
     ///
     /// The condition: 1 to 64 workers, and 1 to 4,096 bits. Fails only where memory runs out.
     pub fn of<R: Threads + Sync, G: Gate>(
@@ -300,6 +312,7 @@ impl ReportAnswers {
         requires { AreInRange workers cut }
         ensures { IfOk result (TellReport graph.now) }
     {
+        let cut = width_for(workers, cut);
         let (asks, begun) = begin(alloc, graph, workers)?;
         let gate = JoinedGate::new(gate, begun.rounds.slices_behind(graph, cut));
         let told = ReportAnswers::by_workers(rt, alloc, graph, asks, begun, workers, cut, &gate);

@@ -5,3 +5,5 @@
 mod piece_tests;
 #[cfg(test)]
 mod refusal_tests;
+#[cfg(test)]
+mod slice_tests;

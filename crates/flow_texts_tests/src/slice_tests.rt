@@ -1,0 +1,33 @@
+// How many slices what a report asks is cut into.
+
+ghost use Rattle.flow_team.specs.Ranges.{AreInRange};
+
+use flow_graph::Graph;
+use flow_texts::ReportAnswers;
+use std::alloc::Global;
+use std::test::Fail;
+use std::thread::Threads;
+use tac_reader::read;
+use team_probes::{BITS_OF_TWO_GROUPS, Recorder, sums};
+
+// How many slices of 64 bits or more so many workers claim for the report of a text.
+fn claims<R: Threads + Sync>(rt: &R, alloc: Global, text: &str, workers: u32) -> Result<u32, Fail>
+    requires { AreInRange workers 64 }
+{
+    let program = read(alloc, text.as_bytes())?;
+    let graph = Graph::build(alloc, &program)?;
+    let gate = Recorder::new();
+    let _answers = ReportAnswers::of(rt, alloc, &graph, workers, 64, &gate)?;
+    let (_, _, claims, _) = gate.told();
+    Ok(claims)
+}
+
+// Of 331 variables the values at the beginning are asked for, and of 330 expressions those that are computed: two groups each. Of live
+// variables it is the one that is assigned.
+#[test]
+fn one_worker_takes_groups_together(rt: HostRuntime) -> Result<(), Fail> {
+    let text = sums(rt.alloc(), BITS_OF_TWO_GROUPS)?;
+    assert_eq!(rt; claims(&rt, rt.alloc(), text.as_str(), 1)?, 3);
+    assert_eq!(rt; claims(&rt, rt.alloc(), text.as_str(), 2)?, 5);
+    Ok(())
+}
