@@ -24,6 +24,7 @@ use crate::words::{
 };
 use std::alloc::Global;
 use std::marker::Model;
+use tac_program::Program;
 
 /// The may form of an analysis: the forward problem, in which a path has a bit where some edge has put it in, by which the
 /// analysis is solved. A backward analysis has its edges reversed, and an analysis over every path its sets complemented.
@@ -76,6 +77,13 @@ impl<'g, 'p> Problem<'g, 'p> {
             effects,
             dependent_words,
         })
+    }
+
+    /// The program.
+    pub fn program(&self) -> &'p Program
+        ensures { result.now ≡ self.now.program }
+    {
+        self.graph.program()
     }
 
     /// The analysis.

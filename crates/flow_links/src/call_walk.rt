@@ -34,7 +34,7 @@ pub(crate) struct CallWalk {
 }
 
 // The procedure at the other end of a call, if there are so many.
-fn other_end(links: &Links<'_, '_>, way: Way<'_>, procedure: u32, call: usize) -> Option<u32>
+fn other_end(links: &Links, way: Way<'_>, procedure: u32, call: usize) -> Option<u32>
     requires { procedure < (directed_shape links.now).procedures }
 {
     // Its contract tells where exits lie.
@@ -63,7 +63,7 @@ fn goes_on(way: Way<'_>, procedure: u32, other: u32) -> bool {
 
 impl CallWalk {
     /// A walk that did not begin.
-    pub(crate) fn new(alloc: Global, links: &Links<'_, '_>) -> Result<CallWalk, OutOfMemory> {
+    pub(crate) fn new(alloc: Global, links: &Links) -> Result<CallWalk, OutOfMemory> {
         let entered = vec![in alloc; false; links.procedures() as usize]?;
         Ok(CallWalk {
             open: Vec::new(alloc),
@@ -88,7 +88,7 @@ impl CallWalk {
     // Goes over the next call of a procedure that was entered, or leaves it.
     fn visit_procedure(
         &mut self,
-        links: &Links<'_, '_>,
+        links: &Links,
         way: Way<'_>,
         latest: OpenProcedure,
     ) -> Result<(), OutOfMemory>
@@ -117,7 +117,7 @@ impl CallWalk {
     /// Walks from a procedure on, where it was not entered, and tells how many were left by then.
     pub(crate) fn walk_from(
         &mut self,
-        links: &Links<'_, '_>,
+        links: &Links,
         way: Way<'_>,
         procedure: u32,
     ) -> Result<usize, OutOfMemory> {

@@ -25,7 +25,7 @@ struct ExitWalk {
 }
 
 impl ExitWalk {
-    fn new(alloc: Global, links: &Links<'_, '_>) -> Result<ExitWalk, OutOfMemory> {
+    fn new(alloc: Global, links: &Links) -> Result<ExitWalk, OutOfMemory> {
         let points = links.points() as usize;
         let procedures = links.procedures() as usize;
         let reached = vec![in alloc; false; points]?;
@@ -49,7 +49,7 @@ impl ExitWalk {
     }
 
     // Whether the callee of a call was left in a round before.
-    fn leads_on(&self, links: &Links<'_, '_>, call: CallLink) -> bool {
+    fn leads_on(&self, links: &Links, call: CallLink) -> bool {
         let exit = call.exit;
         exit < links.points() && self.round_of(links.procedure_of(exit)) != NEVER
     }
@@ -63,7 +63,7 @@ impl ExitWalk {
     }
 
     // Goes on from a point that was reached.
-    fn visit_point(&mut self, links: &Links<'_, '_>, point: u32) -> Result<(), OutOfMemory>
+    fn visit_point(&mut self, links: &Links, point: u32) -> Result<(), OutOfMemory>
         requires { point < point_count links.now.program }
     {
         for target in links.steps_from(point) {
@@ -85,7 +85,7 @@ impl ExitWalk {
     }
 
     // Goes on from all points that wait.
-    fn visit_waiting(&mut self, links: &Links<'_, '_>) -> Result<(), OutOfMemory> {
+    fn visit_waiting(&mut self, links: &Links) -> Result<(), OutOfMemory> {
         // Each point waits once.
         for _ in 0..links.points() {
             match self.waiting.pop() {
@@ -99,7 +99,7 @@ impl ExitWalk {
     }
 
     // Reaches what is behind the calls of a procedure that was left.
-    fn reach_behind(&mut self, links: &Links<'_, '_>, procedure: u32) -> Result<(), OutOfMemory>
+    fn reach_behind(&mut self, links: &Links, procedure: u32) -> Result<(), OutOfMemory>
         requires { procedure < (directed_shape links.now).procedures }
     {
         // Its contract tells where exits lie.
@@ -120,12 +120,7 @@ impl ExitWalk {
     }
 
     // Ends a round: the calls of the procedures that were left lead on.
-    fn end_round(
-        &mut self,
-        links: &Links<'_, '_>,
-        round: u32,
-        left: &[u32],
-    ) -> Result<(), OutOfMemory> {
+    fn end_round(&mut self, links: &Links, round: u32, left: &[u32]) -> Result<(), OutOfMemory> {
         for procedure in left {
             if let Some(place) = self.rounds.get_mut(*procedure as usize) {
                 *place = round;
@@ -141,11 +136,7 @@ impl ExitWalk {
 }
 
 // Walks from the entries on, round by round.
-fn walk_in_rounds(
-    alloc: Global,
-    links: &Links<'_, '_>,
-    walk: &mut ExitWalk,
-) -> Result<(), OutOfMemory> {
+fn walk_in_rounds(alloc: Global, links: &Links, walk: &mut ExitWalk) -> Result<(), OutOfMemory> {
     // Its contract tells where entries lie.
     let _ = links.points();
     for procedure in 0..links.procedures() {
@@ -163,7 +154,7 @@ fn walk_in_rounds(
 }
 
 /// For each procedure the round in which its exit is reached, where a call leads on from the round on that is behind its callee's.
-pub(crate) fn exit_rounds(alloc: Global, links: &Links<'_, '_>) -> Result<Vec<u32>, OutOfMemory> {
+pub(crate) fn exit_rounds(alloc: Global, links: &Links) -> Result<Vec<u32>, OutOfMemory> {
     let mut found = ExitWalk::new(alloc, links)?;
     walk_in_rounds(alloc, links, &mut found)?;
     Ok(found.rounds)

@@ -38,7 +38,7 @@ impl Layout {
     /// Puts those of the points last that lead on, or those that do not, as a whole; those of a procedure, which stand in a row, as a part.
     pub(crate) fn put_points(
         &mut self,
-        links: &Links<'_, '_>,
+        links: &Links,
         points: &[u32],
         leading: &[bool],
         leads: bool,

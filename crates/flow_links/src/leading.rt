@@ -15,7 +15,7 @@ fn is_known(leading: &[bool], point: u32) -> bool {
 }
 
 // Whether a point is an exit, or one of its steps or its calls goes to a point that leads on.
-fn leads_on(links: &Links<'_, '_>, leading: &[bool], point: u32) -> bool
+fn leads_on(links: &Links, leading: &[bool], point: u32) -> bool
     requires { point < point_count links.now.program }
 {
     // Its contract tells that the procedure is there.
@@ -38,7 +38,7 @@ fn leads_on(links: &Links<'_, '_>, leading: &[bool], point: u32) -> bool
 }
 
 // Goes over these points from the last to the first, and tells whether one more leads on.
-fn find_more(links: &Links<'_, '_>, points: &[u32], leading: &mut [bool]) -> bool {
+fn find_more(links: &Links, points: &[u32], leading: &mut [bool]) -> bool {
     let mut more = false;
     for point in points.iter().rev() {
         let point = *point;
@@ -56,7 +56,7 @@ fn find_more(links: &Links<'_, '_>, points: &[u32], leading: &mut [bool]) -> boo
 /// For each point whether it leads on to its procedure's exit, every call being left. The points are given in an order of their steps.
 pub(crate) fn leading_points(
     alloc: Global,
-    links: &Links<'_, '_>,
+    links: &Links,
     points: &[u32],
 ) -> Result<Vec<bool>, OutOfMemory> {
     let mut leading = vec![in alloc; false; links.points() as usize]?;

@@ -13,10 +13,11 @@ use crate::OutOfMemory;
 use crate::link::{CallLink, SiteLink};
 use crate::lists::{CallLists, PointLists, SiteLists, edge_lists};
 use crate::orders::{Orders, number_orders, orders_of};
-use flow_graph::{Direction, Problem};
+use flow_graph::{Analysis, Direction, Problem};
 use std::alloc::Global;
 use std::marker::Model;
 use std::snapshot::Snapshot;
+use tac_program::Program;
 use work_list::Order;
 
 /// The edges of a problem by point, in the direction in which it is solved, and an order in which to take its points and
@@ -24,8 +25,9 @@ use work_list::Order;
 /// the same links.
 ///
 /// The lists lie side by side in a handful of blocks, made in time that goes with the number of edges.
-pub struct Links<'g, 'p> {
-    problem: Snapshot<Problem<'g, 'p>>,
+pub struct Links {
+    program: Snapshot<Program>,
+    analysis: Analysis,
     direction: Direction,
     root: u32,
     entries: Vec<u32>,
@@ -39,25 +41,27 @@ pub struct Links<'g, 'p> {
     call_order: Order,
 }
 
-impl<'g, 'p> Model for Links<'g, 'p> {
+impl Model for Links {
     ghost use Rattle.flow_graph.specs.Directions.{goes_backward};
     ghost use Rattle.flow_links.specs.Shapes.{LinkedProgram};
     ghost use Rattle.flow_links.specs.Tables.LinkTables.{AreTables};
 
     ghost Value = { LinkedProgram };
 
-    ghost view = { λ links. record { program = links.problem.value.program; backward = goes_backward links.direction } };
+    ghost view = { λ links. record { program = links.program.value; backward = goes_backward links.direction } };
 
-    ghost invariant = { λ links. AreTables links.problem.value (goes_backward links.direction) links.root links.entries.items links.exits.items
-        links.procedures.items links.steps.starts.items links.steps.items.items links.calls.starts.items links.calls.items.items
-        links.callers.starts.items links.callers.items.items links.sites.starts.items links.sites.items.items links.order links.call_order };
+    ghost invariant = { λ links. AreTables (record { program = links.program.value; analysis = links.analysis }) (goes_backward links.direction)
+        links.root links.entries.items links.exits.items links.procedures.items links.steps.starts.items links.steps.items.items
+        links.calls.starts.items links.calls.items.items links.callers.starts.items links.callers.items.items
+        links.sites.starts.items links.sites.items.items links.order links.call_order };
 }
 
-impl Drop for Links<'_, '_> {
+impl Drop for Links {
     // By hand: a caller that gives links up then makes one call, and not one for each list.
     fn drop(self) {
         let Links {
-            problem: _,
+            program: _,
+            analysis: _,
             direction: _,
             root: _,
             entries: _,
@@ -142,16 +146,17 @@ fn place_tables(alloc: Global, problem: &Problem<'_, '_>) -> Result<PlaceTables,
     })
 }
 
-impl<'g, 'p> Links<'g, 'p> {
+impl Links {
     // The links of a problem, in the order of the numbers.
-    fn unordered(alloc: Global, problem: &Problem<'g, 'p>) -> Result<Self, OutOfMemory>
+    fn unordered(alloc: Global, problem: &Problem<'_, '_>) -> Result<Self, OutOfMemory>
         ensures { IfOk result (λ links. links ≡ record { program = problem.now.program; backward = is_backward problem.now.analysis }) }
     {
         let tables = place_tables(alloc, problem)?;
         let orders = number_orders(alloc, problem.points(), problem.procedures())?;
         let lists = edge_lists(alloc, problem)?;
         Ok(Links {
-            problem: Snapshot::of(problem),
+            program: Snapshot::of(problem.program()),
+            analysis: problem.analysis(),
             direction: problem.direction(),
             root: problem.root(),
             entries: tables.entries,
@@ -170,7 +175,7 @@ impl<'g, 'p> Links<'g, 'p> {
     fn with_orders(self, order: Order, call_order: Order) -> Self
         requires points { length order ≡ point_count self.program }
         requires procedures { length call_order ≡ (directed_shape self).procedures }
-        ensures { result ≡ self.entry }
+        ensures { result ≡ self }
     {
         let mut links = self;
         links.order = order;
@@ -179,7 +184,7 @@ impl<'g, 'p> Links<'g, 'p> {
     }
 
     /// The links of a problem.
-    pub fn of(alloc: Global, problem: &Problem<'g, 'p>) -> Result<Self, OutOfMemory>
+    pub fn of(alloc: Global, problem: &Problem<'_, '_>) -> Result<Self, OutOfMemory>
         ensures { IfOk result (λ links. links ≡ record { program = problem.now.program; backward = is_backward problem.now.analysis }) }
     {
         let links = Links::unordered(alloc, problem)?;

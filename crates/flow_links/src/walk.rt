@@ -23,7 +23,7 @@ pub(crate) struct StepWalk {
 
 impl StepWalk {
     /// A walk that did not begin.
-    pub(crate) fn new(alloc: Global, links: &Links<'_, '_>) -> Result<StepWalk, OutOfMemory> {
+    pub(crate) fn new(alloc: Global, links: &Links) -> Result<StepWalk, OutOfMemory> {
         let points = links.points() as usize;
         let entered = vec![in alloc; false; points]?;
         Ok(StepWalk {
@@ -52,7 +52,7 @@ impl StepWalk {
     }
 
     // Enters a point: it is left when those behind its steps and its calls are.
-    fn enter_point(&mut self, links: &Links<'_, '_>, point: u32) -> Result<(), OutOfMemory>
+    fn enter_point(&mut self, links: &Links, point: u32) -> Result<(), OutOfMemory>
         requires { point < point_count links.now.program }
     {
         match self.entered.get_mut(point as usize) {
@@ -71,7 +71,7 @@ impl StepWalk {
     }
 
     // Walks from a point on.
-    fn walk_from(&mut self, links: &Links<'_, '_>, point: u32) -> Result<(), OutOfMemory> {
+    fn walk_from(&mut self, links: &Links, point: u32) -> Result<(), OutOfMemory> {
         self.put_point(point)?;
         // Each point is left once, and is put here by its steps and its calls: no walk does as much.
         let most = 8 * u64::from(links.points());
@@ -90,7 +90,7 @@ impl StepWalk {
     /// Walks over the points of a procedure, which stand in a row: from its entry on, and then from those that were not entered.
     pub(crate) fn walk_row(
         &mut self,
-        links: &Links<'_, '_>,
+        links: &Links,
         entry: u32,
         first: u32,
         last: u32,

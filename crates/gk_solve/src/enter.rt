@@ -15,7 +15,7 @@ use work_list::Marks;
 
 // Sets the flag of a procedure that is entered, and where it was clear, marks it.
 fn enter_procedure(
-    links: &Links<'_, '_>,
+    links: &Links,
     _reached: &[bool],
     flags: &mut [bool],
     dirty: &mut Marks,
@@ -37,7 +37,7 @@ fn enter_procedure(
 
 // Goes over one call of an entered procedure.
 fn visit_site(
-    links: &Links<'_, '_>,
+    links: &Links,
     reached: &[bool],
     flags: &mut [bool],
     dirty: &mut Marks,
@@ -63,7 +63,7 @@ fn visit_site(
 
 // Goes over the calls of a procedure.
 fn visit_procedure(
-    links: &Links<'_, '_>,
+    links: &Links,
     reached: &[bool],
     flags: &mut [bool],
     dirty: &mut Marks,
@@ -86,12 +86,7 @@ fn visit_procedure(
 }
 
 /// Sets the flag of each procedure that is entered, given the points that are reached. No flag is set before.
-pub(crate) fn entered(
-    links: &Links<'_, '_>,
-    reached: &[bool],
-    flags: &mut [bool],
-    dirty: &mut Marks,
-)
+pub(crate) fn entered(links: &Links, reached: &[bool], flags: &mut [bool], dirty: &mut Marks)
     requires points { length reached.now ≡ point_count links.now.program }
     requires count { length flags.now ≡ (directed_shape links.now).procedures }
     requires dirty_count { length dirty.now ≡ (directed_shape links.now).procedures }

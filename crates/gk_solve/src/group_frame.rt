@@ -7,7 +7,7 @@ pub(crate) struct GroupFrame<'a, 'g, 'p> {
     /// The problem.
     pub problem: &'a Problem<'g, 'p>,
     /// Its edges by point.
-    pub links: &'a Links<'g, 'p>,
+    pub links: &'a Links,
     /// For each point whether a path leads to it.
     pub paths: &'a [bool],
     /// For each point the words in which its statement does something: word `w` at place `w % 64`.

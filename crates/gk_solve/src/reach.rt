@@ -16,7 +16,7 @@ use flow_links::{CallLink, Links};
 use work_list::Marks;
 
 // Sets the flag of a point that is reached, and where it was clear, marks the point and those that wait for it.
-fn reach_point(links: &Links<'_, '_>, flags: &mut [bool], dirty: &mut Marks, at: u32)
+fn reach_point(links: &Links, flags: &mut [bool], dirty: &mut Marks, at: u32)
     requires count { length flags.now ≡ point_count links.now.program }
     requires dirty_count { length dirty.now ≡ point_count links.now.program }
     requires within { at < point_count links.now.program }
@@ -37,7 +37,7 @@ fn reach_point(links: &Links<'_, '_>, flags: &mut [bool], dirty: &mut Marks, at:
 
 // Goes over the steps from a reached point.
 fn visit_steps<C: CountSteps>(
-    links: &Links<'_, '_>,
+    links: &Links,
     flags: &mut [bool],
     dirty: &mut Marks,
     at: u32,
@@ -58,7 +58,7 @@ fn visit_steps<C: CountSteps>(
 }
 
 // Goes over one call from a reached point.
-fn visit_call(links: &Links<'_, '_>, flags: &mut [bool], dirty: &mut Marks, at: u32, call: CallLink)
+fn visit_call(links: &Links, flags: &mut [bool], dirty: &mut Marks, at: u32, call: CallLink)
     requires count { length flags.now ≡ point_count links.now.program }
     requires dirty_count { length dirty.now ≡ point_count links.now.program }
     requires reached { Reached (directed_shape links.now) at }
@@ -76,7 +76,7 @@ fn visit_call(links: &Links<'_, '_>, flags: &mut [bool], dirty: &mut Marks, at: 
 }
 
 // Goes over the calls from a reached point.
-fn visit_calls(links: &Links<'_, '_>, flags: &mut [bool], dirty: &mut Marks, at: u32)
+fn visit_calls(links: &Links, flags: &mut [bool], dirty: &mut Marks, at: u32)
     requires count { length flags.now ≡ point_count links.now.program }
     requires dirty_count { length dirty.now ≡ point_count links.now.program }
     requires within { at < point_count links.now.program }
@@ -94,7 +94,7 @@ fn visit_calls(links: &Links<'_, '_>, flags: &mut [bool], dirty: &mut Marks, at:
 
 // Goes over the edges from a point.
 fn visit_point<C: CountSteps>(
-    links: &Links<'_, '_>,
+    links: &Links,
     flags: &mut [bool],
     dirty: &mut Marks,
     at: u32,
@@ -115,7 +115,7 @@ fn visit_point<C: CountSteps>(
 }
 
 // Sets the flags of the entries.
-fn grow_entries(links: &Links<'_, '_>, flags: &mut [bool], dirty: &mut Marks)
+fn grow_entries(links: &Links, flags: &mut [bool], dirty: &mut Marks)
     requires count { length flags.now ≡ point_count links.now.program }
     requires dirty_count { length dirty.now ≡ point_count links.now.program }
     ensures spreads { ReachSpreads (directed_shape links.now) links.now.backward flags.old dirty.old flags.new dirty.new }
@@ -131,7 +131,7 @@ fn grow_entries(links: &Links<'_, '_>, flags: &mut [bool], dirty: &mut Marks)
 
 /// Sets the flag of each point that is reached inside its procedure. No flag is set before. Counts the steps that are followed.
 pub(crate) fn reached<C: CountSteps>(
-    links: &Links<'_, '_>,
+    links: &Links,
     flags: &mut [bool],
     dirty: &mut Marks,
     followed: &mut C,

@@ -19,12 +19,12 @@ use work_list::Marks;
 /// The edges of a problem by point, and for each point whether some valid path leads to it.
 ///
 /// It rests on the program and the direction alone, so that two analyses of one direction can share it.
-pub struct Routes<'g, 'p> {
-    links: Links<'g, 'p>,
+pub struct Routes {
+    links: Links,
     paths: Vec<bool>,
 }
 
-impl<'g, 'p> Model for Routes<'g, 'p> {
+impl Model for Routes {
     ghost use Rattle.flow_graph.specs.Points.{point_count};
     ghost use Rattle.flow_links.specs.Shapes.{LinkedProgram, directed_shape};
     ghost use Rattle.gk_solve.specs.Tables.Flags.{ArePathFlags};
@@ -36,7 +36,7 @@ impl<'g, 'p> Model for Routes<'g, 'p> {
     ghost invariant = { λ routes. ArePathFlags (directed_shape routes.links) (point_count routes.links.program) routes.paths.items };
 }
 
-impl Drop for Routes<'_, '_> {
+impl Drop for Routes {
     // By hand: a caller that gives routes up then makes one call.
     fn drop(self) {
         let Routes { links: _, paths: _ } = self;
@@ -46,7 +46,7 @@ impl Drop for Routes<'_, '_> {
 // The points that are reached.
 fn reached_points<C: CountSteps>(
     alloc: Global,
-    links: &Links<'_, '_>,
+    links: &Links,
     followed: &mut C,
 ) -> Result<Vec<bool>, OutOfMemory>
     ensures { IfOk result
@@ -61,7 +61,7 @@ fn reached_points<C: CountSteps>(
 // The procedures that are entered.
 fn entered_procedures(
     alloc: Global,
-    links: &Links<'_, '_>,
+    links: &Links,
     reached: &[bool],
 ) -> Result<Vec<bool>, OutOfMemory>
     requires count { length reached.now ≡ point_count links.now.program }
@@ -78,7 +78,7 @@ fn entered_procedures(
 // The flag of each point: that its procedure is entered, and it is reached there.
 fn path_flags(
     alloc: Global,
-    links: &Links<'_, '_>,
+    links: &Links,
     reached: &[bool],
     entered: &[bool],
 ) -> Result<Vec<bool>, OutOfMemory>
@@ -99,7 +99,7 @@ fn path_flags(
 // The flag of each point, by the points that are reached.
 fn paths_by_reached(
     alloc: Global,
-    links: &Links<'_, '_>,
+    links: &Links,
     reached: &[bool],
 ) -> Result<Vec<bool>, OutOfMemory>
     requires count { length reached.now ≡ point_count links.now.program }
@@ -113,7 +113,7 @@ fn paths_by_reached(
 // The flag of each point.
 fn paths_of<C: CountSteps>(
     alloc: Global,
-    links: &Links<'_, '_>,
+    links: &Links,
     followed: &mut C,
 ) -> Result<Vec<bool>, OutOfMemory>
     ensures { IfOk result (λ flags. ArePathFlags (directed_shape links.now) (point_count links.now.program) flags.items) }
@@ -122,9 +122,9 @@ fn paths_of<C: CountSteps>(
     paths_by_reached(alloc, links, reached.as_slice())
 }
 
-impl<'g, 'p> Routes<'g, 'p> {
+impl Routes {
     /// The edges and paths of a problem.
-    pub fn of(alloc: Global, problem: &Problem<'g, 'p>) -> Result<Self, OutOfMemory>
+    pub fn of(alloc: Global, problem: &Problem<'_, '_>) -> Result<Self, OutOfMemory>
         ensures { IfOk result (λ routes. routes ≡ record { program = problem.now.program; backward = is_backward problem.now.analysis }) }
     {
         Routes::counted(alloc, problem, &mut Uncounted)
@@ -133,7 +133,7 @@ impl<'g, 'p> Routes<'g, 'p> {
     /// The same. Counts the steps that are followed to find the points that are reached.
     pub(crate) fn counted<C: CountSteps>(
         alloc: Global,
-        problem: &Problem<'g, 'p>,
+        problem: &Problem<'_, '_>,
         followed: &mut C,
     ) -> Result<Self, OutOfMemory>
         ensures { IfOk result (λ routes. routes ≡ record { program = problem.now.program; backward = is_backward problem.now.analysis }) }
@@ -152,7 +152,7 @@ impl<'g, 'p> Routes<'g, 'p> {
     }
 
     /// The edges.
-    pub(crate) fn links(&self) -> &Links<'g, 'p>
+    pub(crate) fn links(&self) -> &Links
         ensures { result.now ≡ self.now }
     {
         &self.links

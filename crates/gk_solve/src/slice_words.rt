@@ -106,7 +106,7 @@ fn group_mask(first: u32, width: u32) -> u64
 // What a group of so many words from one on is solved by.
 fn group_frame<'a, 'g, 'p>(
     problem: &'a Problem<'g, 'p>,
-    routes: &'a Routes<'g, 'p>,
+    routes: &'a Routes,
     effects: &'a [u64],
     dependence: &'a BitTable,
     word: u32,
@@ -158,7 +158,7 @@ fn blank_tables<const W: usize>(
 }
 
 // The marks of points, and those of procedures.
-fn marks(alloc: Global, links: &Links<'_, '_>) -> Result<(Marks, Marks), OutOfMemory>
+fn marks(alloc: Global, links: &Links) -> Result<(Marks, Marks), OutOfMemory>
     ensures { IfOk result (λ marks. (length marks.0 ≡ point_count links.now.program) × (length marks.1 ≡ (directed_shape links.now).procedures)) }
 {
     let points = Marks::none(alloc, links.order())?;
@@ -229,7 +229,7 @@ fn tables(width: Width) -> (usize, usize, usize)
 pub(crate) fn slice_words(
     alloc: Global,
     problem: &Problem<'_, '_>,
-    routes: &Routes<'_, '_>,
+    routes: &Routes,
     lo: u32,
     hi: u32,
 ) -> Result<SliceWords, OutOfMemory>
@@ -339,7 +339,7 @@ impl SliceWords {
     fn solve_group_from<'a, 'g, 'p, C: CountSteps>(
         &mut self,
         problem: &'a Problem<'g, 'p>,
-        routes: &'a Routes<'g, 'p>,
+        routes: &'a Routes,
         effects: &'a [u64],
         word: u32,
         followed: &mut C,
@@ -402,7 +402,7 @@ impl SliceWords {
     pub(crate) fn solve_from<'a, 'g, 'p, C: CountSteps>(
         &mut self,
         problem: &'a Problem<'g, 'p>,
-        routes: &'a Routes<'g, 'p>,
+        routes: &'a Routes,
         effects: &'a [u64],
         word: u32,
         followed: &mut C,

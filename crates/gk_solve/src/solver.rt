@@ -71,7 +71,7 @@ fn effects_within(
 fn blank_rows(
     alloc: Global,
     problem: &Problem<'_, '_>,
-    routes: &Routes<'_, '_>,
+    routes: &Routes,
     lo: u32,
     hi: u32,
 ) -> Result<Rows, OutOfMemory>
@@ -89,7 +89,7 @@ fn blank_rows(
 fn solve_words<'a, 'g, 'p, C: CountSteps>(
     alloc: Global,
     problem: &'a Problem<'g, 'p>,
-    routes: &'a Routes<'g, 'p>,
+    routes: &'a Routes,
     effects: &'a [u64],
     rows: &mut Rows,
     lo: u32,
@@ -112,7 +112,7 @@ fn solve_words<'a, 'g, 'p, C: CountSteps>(
 fn solve_slice<'a, 'g, 'p, C: CountSteps>(
     alloc: Global,
     problem: &'a Problem<'g, 'p>,
-    routes: &'a Routes<'g, 'p>,
+    routes: &'a Routes,
     effects: &'a [u64],
     lo: u32,
     hi: u32,
@@ -136,7 +136,7 @@ fn solve_slice<'a, 'g, 'p, C: CountSteps>(
 fn solve_along<'a, 'g, 'p, C: CountSteps>(
     alloc: Global,
     problem: &'a Problem<'g, 'p>,
-    routes: &'a Routes<'g, 'p>,
+    routes: &'a Routes,
     lo: u32,
     hi: u32,
     followed: &mut C,
@@ -230,7 +230,7 @@ impl<'g, 'p> Solver<'g, 'p> {
     }
 
     /// The path flag of each point: whether some valid path leads to it.
-    pub fn flags(&self, alloc: Global, routes: &Routes<'g, 'p>) -> Result<Vec<bool>, OutOfMemory>
+    pub fn flags(&self, alloc: Global, routes: &Routes) -> Result<Vec<bool>, OutOfMemory>
         requires { routes.now ≡ direction_of self.now }
         ensures { IfOk result (λ flags. HasPathFlags self.now flags.items) }
     {
@@ -244,7 +244,7 @@ impl<'g, 'p> Solver<'g, 'p> {
     pub fn solve(
         &self,
         alloc: Global,
-        routes: &Routes<'g, 'p>,
+        routes: &Routes,
         lo: u32,
         hi: u32,
     ) -> Result<Rows, OutOfMemory>
@@ -272,7 +272,7 @@ impl<'g, 'p> Solver<'g, 'p> {
     pub fn slice(
         &self,
         alloc: Global,
-        routes: &Routes<'g, 'p>,
+        routes: &Routes,
         lo: u32,
         hi: u32,
     ) -> Result<SliceWords, OutOfMemory>
@@ -287,12 +287,7 @@ impl<'g, 'p> Solver<'g, 'p> {
 
     /// Solves the words of a slice from one on, four or eight ([`words_at_once`](crate::words_at_once)), or to its end. Answers the word
     /// after the last one solved. It takes no memory.
-    pub fn solve_from<'a>(
-        &'a self,
-        routes: &'a Routes<'g, 'p>,
-        slice: &mut SliceWords,
-        word: u32,
-    ) -> u32
+    pub fn solve_from<'a>(&'a self, routes: &'a Routes, slice: &mut SliceWords, word: u32) -> u32
         requires routes { routes.now ≡ direction_of self.now }
         requires slice { IsSliceOf self.now slice.old }
         requires word { 64 * word < slice.old.hi }
@@ -317,7 +312,7 @@ impl<'g, 'p> Solver<'g, 'p> {
     /// Solves the words of a slice, and has them taken, some at a time.
     pub fn solve_each<'a, T: TakeWords>(
         &'a self,
-        routes: &'a Routes<'g, 'p>,
+        routes: &'a Routes,
         slice: &mut SliceWords,
         taker: &mut T,
     )

@@ -34,7 +34,7 @@ pub trait TakeWords {
 /// Solves the words of a slice, and has them taken.
 pub(crate) fn solve_each<'a, 'g, 'p, T: TakeWords, C: CountSteps>(
     problem: &'a Problem<'g, 'p>,
-    routes: &'a Routes<'g, 'p>,
+    routes: &'a Routes,
     effects: &'a [u64],
     slice: &mut SliceWords,
     taker: &mut T,

@@ -28,7 +28,7 @@ enum Call {
 }
 
 /// The points to which steps lead from each point.
-fn write_steps(text: &mut String, links: &Links<'_, '_>) -> Result<(), OutOfMemory> {
+fn write_steps(text: &mut String, links: &Links) -> Result<(), OutOfMemory> {
     for point in 0..links.points() {
         write!(text, "{point}:")?;
         let steps = links.steps_from(point);
@@ -67,7 +67,7 @@ fn routes_of<'g, 'p>(
     alloc: Global,
     problem: &Problem<'g, 'p>,
     refused: &mut Refused,
-) -> Result<Routes<'g, 'p>, OutOfMemory>
+) -> Result<Routes, OutOfMemory>
     ensures { IfOk result (λ routes. routes ≡ direction_of problem.now) }
 {
     Ok(again!(*refused, "Routes::of", Routes::of(alloc, problem)))
@@ -128,7 +128,7 @@ fn told_of_problem(
 fn slice_of<'g, 'p>(
     alloc: Global,
     solver: &Solver<'g, 'p>,
-    routes: &Routes<'g, 'p>,
+    routes: &Routes,
     bits: u32,
     refused: &mut Refused,
 ) -> Result<SliceWords, OutOfMemory>
@@ -149,7 +149,7 @@ fn told_of_words<'a, 'g, 'p>(
     text: &mut String,
     alloc: Global,
     solver: &'a Solver<'g, 'p>,
-    routes: &'a Routes<'g, 'p>,
+    routes: &'a Routes,
     refused: &mut Refused,
 ) -> Result<(), OutOfMemory>
     requires { routes.now ≡ direction_of solver.now }
@@ -169,7 +169,7 @@ fn told_of_solver<'g, 'p>(
     text: &mut String,
     alloc: Global,
     solver: &Solver<'g, 'p>,
-    routes: &Routes<'g, 'p>,
+    routes: &Routes,
     call: Call,
     refused: &mut Refused,
 ) -> Result<(), OutOfMemory>

@@ -138,7 +138,7 @@ fn bit_names(
 fn words_agree<'a, 'g, 'p>(
     alloc: Global,
     solver: &'a Solver<'g, 'p>,
-    routes: &'a Routes<'g, 'p>,
+    routes: &'a Routes,
     rows: &Rows,
 ) -> Result<bool, OutOfMemory>
     requires routes { routes.now ≡ direction_of solver.now }
@@ -166,7 +166,7 @@ fn words_agree<'a, 'g, 'p>(
 fn add_slice<'g, 'p>(
     alloc: Global,
     solver: &Solver<'g, 'p>,
-    routes: &Routes<'g, 'p>,
+    routes: &Routes,
     slices: &mut Vec<Rows>,
     lo: u32,
     hi: u32,
@@ -185,7 +185,7 @@ fn add_slice<'g, 'p>(
 fn add_slices<'g, 'p>(
     alloc: Global,
     solver: &Solver<'g, 'p>,
-    routes: &Routes<'g, 'p>,
+    routes: &Routes,
     slices: &mut Vec<Rows>,
     width: u32,
 ) -> Result<bool, OutOfMemory>
@@ -206,7 +206,7 @@ fn solved_with<'g, 'p>(
     alloc: Global,
     names: Vec<String>,
     solver: &Solver<'g, 'p>,
-    routes: &Routes<'g, 'p>,
+    routes: &Routes,
     width: u32,
 ) -> Result<Table, OutOfMemory>
     requires { routes.now ≡ direction_of solver.now }

@@ -3,6 +3,8 @@ use Rattle.std.proofs.Common.{◌≡◌, ℕ, ◌+◌, ◌-◌, ◌<◌, ◌≤�
 use Rattle.std.specs.List.{slice_range}
 use Rattle.std.proofs.lemmas.List.{length-map, length-take-le, length-drop, get_or-map, get_or-take, get_or-drop, get_or_default}
 use Rattle.std.proofs.lemmas.List.Elements.{All-contains_itself}
+use Rattle.tac_program.specs.Programs.{Program}
+use Rattle.flow_graph.specs.declared.analysis.Analysis.{Analysis}
 use Rattle.flow_graph.specs.declared.edge.Edge.{Edge}
 use Rattle.flow_graph.specs.declared.edge.Edge.TheVariants.{Step, Call, Ret}
 use Rattle.flow_graph.specs.Paths.{Shape, IsEdge}
@@ -145,6 +147,10 @@ part_read {edges = edges} {key = key} {value = value} {starts = starts} are k fr
 -- the view of a form's links
 abbrev seen_in : MayForm → Bool → LinkedProgram
 seen_in form backward = record { program = form.program; backward = backward }
+
+-- the form of a program and an analysis
+abbrev pub form_of : Program → Analysis → MayForm
+form_of program analysis = record { program = program; analysis = analysis }
 
 -- what holds of the program and the direction of a form holds of its links
 pub seen : (form : MayForm) (backward : Bool) (now : LinkedProgram) → backward ≡ is_backward form.analysis

@@ -4,13 +4,13 @@ use Rattle.flow_graph.specs.Directions.{goes_backward}
 use Rattle.flow_graph.specs.Points.{point_count}
 use Rattle.flow_links.specs.LinkLists.{AreStepsFrom}
 use Rattle.flow_links.specs.Shapes.{LinkedProgram, directed_shape}
-use Rattle.flow_links.proofs.groups.ListLemmas.{part_read, seen, unseen, steps_are}
+use Rattle.flow_links.proofs.groups.ListLemmas.{form_of, part_read, seen, unseen, steps_are}
 use Rattle.flow_links.proofs.links.Links.steps_from.Goals as goal
 
 pub returns : goal.returns
 returns c =
     let tables = c.self.invariant in
-    let form = c.self.inside.problem.value in
+    let form = form_of c.self.inside.program.value c.self.inside.analysis in
     let low = unseen form (goes_backward c.self.inside.direction) c.args.self.now tables.same_direction c.self.view_is
     (λ (l : LinkedProgram). c.args.point < point_count l.program) c.requires in
     let part = part_read tables.steps_are c.args.point c.index-from.result.now c.index-to.result.now c.deref.result.now low c.index-from.ensures
@@ -23,7 +23,8 @@ returns c =
 pub index-from-requires : goal.index-from-requires
 index-from-requires c =
     let tables = c.self.invariant in
-    let low = unseen c.self.inside.problem.value (goes_backward c.self.inside.direction) c.args.self.now tables.same_direction c.self.view_is
+    let form = form_of c.self.inside.program.value c.self.inside.analysis in
+    let low = unseen form (goes_backward c.self.inside.direction) c.args.self.now tables.same_direction c.self.view_is
     (λ (l : LinkedProgram). c.args.point < point_count l.program) c.requires in
     let long = tables.steps_are.start_count in
     let len = c.self.inside.steps.starts.ok.0 in
@@ -32,7 +33,8 @@ index-from-requires c =
 pub index-to-requires : goal.index-to-requires
 index-to-requires c =
     let tables = c.self.invariant in
-    let low = unseen c.self.inside.problem.value (goes_backward c.self.inside.direction) c.args.self.now tables.same_direction c.self.view_is
+    let form = form_of c.self.inside.program.value c.self.inside.analysis in
+    let low = unseen form (goes_backward c.self.inside.direction) c.args.self.now tables.same_direction c.self.view_is
     (λ (l : LinkedProgram). c.args.point < point_count l.program) c.requires in
     let long = tables.steps_are.start_count in
     let len = c.self.inside.steps.starts.ok.0 in

@@ -16,7 +16,8 @@ invariant_of-result c =
     lists.steps.starts.items lists.steps.items.items
     lists.calls.starts.items lists.calls.items.items lists.callers.starts.items lists.callers.items.items lists.sites.starts.items
     lists.sites.items.items
-    orders.points orders.procedures) (sym c.of.ensures) record {
+    orders.points orders.procedures)
+    (sym (λ i. record { program = (c.of.ensures ∙ c.program.ensures) i; analysis = c.analysis.ensures i })) record {
       same_direction = c.direction.ensures;
       few = c.points.ensures.few;
       numbered = range.numbered;
