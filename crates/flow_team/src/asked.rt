@@ -73,7 +73,7 @@ fn group_start(bits: u32, word: u32) -> u32
 // Sees to it that a word is among those that were solved last: of the words from one up to another this is known.
 fn solve_to<'a, 'g, 'p>(
     solver: &'a Solver<'g, 'p>,
-    routes: &'a Routes<'g, 'p>,
+    routes: &'a Routes,
     words: &mut SliceWords,
     solved: (u32, u32),
     word: u32,
@@ -240,7 +240,7 @@ impl<'g, 'p> AskedWords<'g, 'p> {
         board: &WordBoard<AskedWords<'g, 'p>>,
         pass: &mut Pass<AskedWords<'g, 'p>>,
         solver: &Solver<'g, 'p>,
-        routes: &Routes<'g, 'p>,
+        routes: &Routes,
         words: &mut SliceWords,
         solved: (u32, u32),
         j: u32,
@@ -270,7 +270,7 @@ impl<'g, 'p> AskedWords<'g, 'p> {
         board: &WordBoard<AskedWords<'g, 'p>>,
         pass: &mut Pass<AskedWords<'g, 'p>>,
         solver: &Solver<'g, 'p>,
-        routes: &Routes<'g, 'p>,
+        routes: &Routes,
         words: SliceWords,
         from: u32,
         until: u32,

@@ -14,7 +14,7 @@ use std::marker::Model;
 pub(crate) struct DirectionSolvers<'g, 'p> {
     some: Solver<'g, 'p>,
     every: Solver<'g, 'p>,
-    routes: Routes<'g, 'p>,
+    routes: Routes,
 }
 
 impl<'g, 'p> Model for DirectionSolvers<'g, 'p> {
@@ -86,7 +86,7 @@ impl<'g, 'p> DirectionSolvers<'g, 'p> {
     }
 
     /// The edges and paths of both.
-    pub(crate) fn routes(&self) -> &Routes<'g, 'p>
+    pub(crate) fn routes(&self) -> &Routes
         ensures some { result.now ≡ direction_of (form_of self.now.program self.now.some) }
         ensures every { result.now ≡ direction_of (form_of self.now.program self.now.every) }
     {

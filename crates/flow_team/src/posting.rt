@@ -113,7 +113,7 @@ impl<W: Wanted> TakeWords for Posting<'_, W> {
 /// Solves the words of a slice, and posts them on a board for so many points, from the first on.
 pub(crate) fn post_slice_words<'a, 'g, 'p, W: Wanted>(
     solver: &'a Solver<'g, 'p>,
-    routes: &'a Routes<'g, 'p>,
+    routes: &'a Routes,
     slice: &mut SliceWords,
     board: &WordBoard<W>,
     pass: &mut Pass<W>,

@@ -28,7 +28,7 @@ use std::marker::Model;
 /// The sets of an analysis of a graph, in its may form, at all points, and the solver that finds them.
 pub struct GraphSets<'g, 'p> {
     solver: Solver<'g, 'p>,
-    routes: Routes<'g, 'p>,
+    routes: Routes,
 }
 
 impl<'g, 'p> Model for GraphSets<'g, 'p> {

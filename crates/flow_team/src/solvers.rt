@@ -117,7 +117,7 @@ impl<'g, 'p> GraphSolvers<'g, 'p> {
     }
 
     /// The edges and paths by which an analysis is solved.
-    pub(crate) fn routes(&self, analysis: Analysis) -> &Routes<'g, 'p>
+    pub(crate) fn routes(&self, analysis: Analysis) -> &Routes
         ensures { result.now ≡ direction_of (form_of self.now analysis) }
     {
         match analysis {

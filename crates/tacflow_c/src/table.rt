@@ -124,7 +124,7 @@ impl TakeWords for Filling<'_, '_> {
 // Solves a slice's words, and puts them into those of the layout's points.
 fn put_slice<'a, 'g, 'p>(
     solver: &'a Solver<'g, 'p>,
-    routes: &'a Routes<'g, 'p>,
+    routes: &'a Routes,
     slice: &mut SliceWords,
     full: &Row,
     layout: Layout,
@@ -158,7 +158,7 @@ fn put_flags(paths: &[bool], from: u32, flags: &mut [u8])
 fn put_solved<'a, 'g, 'p>(
     alloc: Global,
     solver: &'a Solver<'g, 'p>,
-    routes: &'a Routes<'g, 'p>,
+    routes: &'a Routes,
     points: (u32, u32),
     bits: (u32, u32),
     flags: &mut [u8],
