@@ -1,10 +1,11 @@
-// Each call on rows and cuts that takes memory, as `refusal_probes` has it.
+// Each call on rows and cuts that takes memory, as `test_support` has it.
 
 use bit_rows::{Cut, CutFault, OutOfMemory, Row, Rows};
-use refusal_probes::{Refused, again, named};
 use std::alloc::Global;
 use std::process::Abort;
 use std::test::Fail;
+use test_support::again;
+use test_support::refusal_probes::{Refused, named};
 
 // Rows of three words.
 fn empty_row(alloc: Global, refused: &mut Refused) -> Result<Row, OutOfMemory> {

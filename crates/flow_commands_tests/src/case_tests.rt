@@ -1,13 +1,13 @@
 // Values by hand: tables and reports of small programs, and programs at the limits.
 
 use crate::tacflow_tests::{check, check_all, check_by, check_refused, told};
-use failing_streams::blank_page;
 use flow_commands::Show;
 use std::process::Abort;
 use std::test::Fail;
 use std::thread::Threads;
-use worked_programs::series::{live_of_prints, numbered, prints};
-use worked_programs::{
+use test_support::failing_streams::blank_page;
+use test_support::worked_programs::series::{live_of_prints, numbered, prints};
+use test_support::worked_programs::{
     ALONE, adds_to_itself, both_branches, call_between, call_each_other, called_twice,
     callee_loops, calls_main, counts, no_bits, no_end, not_called, prints_behind_itself,
     reads_behind_calls, recursion, refused, set_twice, smallest, two_callees,

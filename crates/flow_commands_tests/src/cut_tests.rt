@@ -1,13 +1,13 @@
 // Texts that are cut short, and single bytes that are no text.
 
 use crate::tacflow_tests::{check, check_by, told};
-use failing_streams::blank_page;
 use flow_commands::Show;
 use std::alloc::Global;
 use std::process::Abort;
 use std::test::Fail;
 use std::thread::Threads;
-use worked_programs::{ALONE, recursion, spacing};
+use test_support::failing_streams::blank_page;
+use test_support::worked_programs::{ALONE, recursion, spacing};
 
 // Whether one line that tells a refusal at a place was written.
 fn is_refusal(told: &[u8]) -> bool {

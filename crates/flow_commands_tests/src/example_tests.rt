@@ -3,7 +3,7 @@
 use crate::tacflow_tests::check_by;
 use flow_commands::Show;
 use std::test::Fail;
-use worked_programs::{ALONE, factorial, remarks};
+use test_support::worked_programs::{ALONE, factorial, remarks};
 
 // Each text, its report, and one of its tables.
 const EXAMPLES: &[(&str, &str, Show, &str)] = &[

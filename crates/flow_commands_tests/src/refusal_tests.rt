@@ -1,17 +1,18 @@
-// Each call of `tacflow` that takes memory, as `refusal_probes` has it.
+// Each call of `tacflow` that takes memory, as `test_support` has it.
 
 use crate::answers::check_same;
 use crate::tacflow_tests::{ALL_WORDS, NAME, check_options, named_by, run_to_page};
 use clap::error::ErrorKind;
-use failing_streams::blank_page;
 use flow_commands::{Options, Show};
 use flow_runs::{Fault, fault_line};
-use refusal_probes::{again, all_or_nothing, named};
 use std::process::Abort;
 use std::test::Fail;
 use std::thread::Threads;
 use tac_reader::{Refusal, RefusalKind};
-use worked_programs::{both_branches, call_between, recursion};
+use test_support::failing_streams::blank_page;
+use test_support::refusal_probes::named;
+use test_support::worked_programs::{both_branches, call_between, recursion};
+use test_support::{again, all_or_nothing};
 
 // What is shown of each program.
 const RECURSION_SHOWN: &[(Show, &str)] = &[

@@ -2,7 +2,6 @@
 
 use crate::answers::{check_fault, check_same, check_team};
 use clap::error;
-use failing_streams::{Page, Pieces, blank_page};
 use flow_commands::{Options, Show, run};
 use flow_graph::GraphFault;
 use flow_runs::{Fault, OutOfMemory, fault_line};
@@ -12,9 +11,10 @@ use std::process::Abort;
 use std::test::Fail;
 use std::thread::Threads;
 use tac_reader::{Refusal, RefusalKind};
+use test_support::failing_streams::{Page, Pieces, blank_page};
+use test_support::worked_programs::series::{numbered, repeated};
+use test_support::worked_programs::{ALONE, TEAMS, listed, recursion, refused, small, smallest};
 use text_pieces::{FromRead, ToWrite};
-use worked_programs::series::{numbered, repeated};
-use worked_programs::{ALONE, TEAMS, listed, recursion, refused, small, smallest};
 
 /// The program's name, which its lines begin with.
 pub(crate) const NAME: &str = "tacflow";

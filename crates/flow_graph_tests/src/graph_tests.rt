@@ -1,6 +1,6 @@
 use crate::answers::{Question, Row, check_rows};
 use std::test::Fail;
-use worked_programs::{no_end, recursion};
+use test_support::worked_programs::{no_end, recursion};
 
 const THREE_CALLEES: &str =
     "proc main\ncall p | q | r\ncall q | p\nend\nproc p\nend\nproc q\nend\nproc r\nend\n";

@@ -1,7 +1,7 @@
 use crate::answers::{Question, Row, check_rows};
 use flow_graph::Analysis;
 use std::test::Fail;
-use worked_programs::adds_to_itself;
+use test_support::worked_programs::adds_to_itself;
 
 /// A statement of each kind.
 const EACH_KIND: &str =

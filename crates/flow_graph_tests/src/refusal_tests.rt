@@ -1,16 +1,17 @@
-// Each call on a graph that takes memory, as `refusal_probes` has it.
+// Each call on a graph that takes memory, as `test_support` has it.
 
 ghost use Rattle.std.specs.Prelude.{◌≡◌, length};
 ghost use Rattle.flow_graph.specs.Points.{point_count};
 
 use crate::answers::{Question, marks, write_answer, write_edges, write_flags, write_frame};
 use flow_graph::{Analysis, Graph, OutOfMemory, Problem};
-use refusal_probes::{Refused, again, named};
 use std::alloc::Global;
 use std::process::Abort;
 use std::test::Fail;
 use tac_reader::{Program, read};
-use worked_programs::recursion;
+use test_support::again;
+use test_support::refusal_probes::{Refused, named};
+use test_support::worked_programs::recursion;
 
 /// The calls.
 #[derive(Clone, Copy)]

@@ -15,8 +15,8 @@ use std::test::Fail;
 use std::thread::Threads;
 use tac_reader::{Program, read};
 use team_probes::{BITS_OF_TWO_GROUPS, Cutting, Recorder, WORKERS, sums, table_by, told_again};
-use worked_programs::callee_loops;
-use worked_programs::series::prints;
+use test_support::worked_programs::callee_loops;
+use test_support::worked_programs::series::prints;
 
 /// An analysis, a point, a word of its set, and what the word is.
 pub type Asked = (Analysis, u32, u32, u64);

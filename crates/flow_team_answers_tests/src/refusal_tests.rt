@@ -1,11 +1,11 @@
-// What is left where memory is refused on the way to an answer, as `refusal_probes` has it.
+// What is left where memory is refused on the way to an answer, as `test_support` has it.
 
 use crate::ask_tests::{CALLEE_LOOPS_ASKING, Order, Way, check, wanted_lines};
 use std::process::Abort;
 use std::test::Fail;
 use std::thread::Threads;
 use team_probes::Recorder;
-use worked_programs::callee_loops;
+use test_support::worked_programs::callee_loops;
 
 // The answers that are found in a way to what is asked of the program whose callee loops.
 fn check_way<R: Threads + Sync + Abort + AllocGlobal>(rt: &R, way: Way<'_>) -> Result<(), Fail> {

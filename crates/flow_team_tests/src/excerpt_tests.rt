@@ -8,7 +8,7 @@ use std::process::Abort;
 use std::test::Fail;
 use std::thread::Threads;
 use team_probes::{RECURSIVE_REACH, lines_before};
-use worked_programs::{callee_loops, no_end, recursion};
+use test_support::worked_programs::{callee_loops, no_end, recursion};
 
 /// An analysis at the points from one on and before another, by so many workers.
 #[derive(Clone, Copy)]

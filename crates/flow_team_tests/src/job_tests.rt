@@ -15,8 +15,8 @@ use std::process::Abort;
 use std::test::Fail;
 use std::thread::{Threads, join};
 use team_probes::{RECURSIVE_REACH, Recorder, lines, printed, slices};
-use worked_programs::recursion;
-use worked_programs::series::prints;
+use test_support::worked_programs::recursion;
+use test_support::worked_programs::series::prints;
 
 // Two slices of the recursive program's reaching definitions are worked, a slice for each, with what is seen on the way: the definitions
 // at the beginning and at line 2, which are in the first two slices.

@@ -9,7 +9,7 @@ use std::sync::atomic::Ordering;
 use std::test::Fail;
 use std::thread::Threads;
 use team_probes::{Meeting, RECURSIVE_REACH, lines, slices_at};
-use worked_programs::recursion;
+use test_support::worked_programs::recursion;
 
 // The lines of reaching definitions, in two slices by two workers.
 #[derive(Clone, Copy)]

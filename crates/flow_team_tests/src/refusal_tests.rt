@@ -1,4 +1,4 @@
-// What is left where memory is refused on the way, as `refusal_probes` has it.
+// What is left where memory is refused on the way, as `test_support` has it.
 
 ghost use Rattle.std.specs.Prelude.{IfOk};
 ghost use Rattle.flow_team.specs.Tables.{IsTableOf};
@@ -9,14 +9,14 @@ use crate::job_tests::{closed, opened};
 use crate::questions::{Question, check};
 use flow_graph::{Analysis, Graph};
 use flow_team::{GraphSets, Job, OpenGate, OutOfMemory, Table, TeamFault, analyse};
-use refusal_probes::refusal_of;
 use slice_board::{Pass, Wanted};
 use std::alloc::Global;
 use std::process::Abort;
 use std::test::Fail;
 use std::thread::Threads;
 use team_probes::{RECURSIVE_REACH, Recorder, lines, slices, told_again};
-use worked_programs::recursion;
+use test_support::refusal_probes::refusal_of;
+use test_support::worked_programs::recursion;
 
 // Where the last slice that was claimed is the one that was not finished, which of the three it is.
 fn left_slice(gate: &Recorder) -> &'static str {

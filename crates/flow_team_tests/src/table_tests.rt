@@ -11,8 +11,8 @@ use team_probes::{
     BITS_OF_TWO_GROUPS, Cutting, RECURSIVE_REACH, WORKERS, lines, printed, summed, sums, table_by,
     words,
 };
-use worked_programs::series::prints;
-use worked_programs::{
+use test_support::worked_programs::series::prints;
+use test_support::worked_programs::{
     adds_to_itself, both_branches, called_twice, callee_loops, calls_main, no_bits, no_end,
     not_called, reads_behind_calls, recursion, smallest,
 };

@@ -12,8 +12,8 @@ use std::thread::Threads;
 use team_probes::{
     Crowd, Cutting, Ledger, RECURSIVE_REACH, Recorder, WORKERS, lines, printed, slices, table_by,
 };
-use worked_programs::recursion;
-use worked_programs::series::prints;
+use test_support::worked_programs::recursion;
+use test_support::worked_programs::series::prints;
 
 // The lines of live variables by 64 workers, each slice of which was claimed once and finished once, by the same worker.
 fn noted_lines<R: Threads + Sync>(

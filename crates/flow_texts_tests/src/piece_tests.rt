@@ -2,7 +2,6 @@
 
 ghost use Rattle.flow_team.specs.Tables.{IsTableOf};
 
-use failing_streams::{Page, page_of};
 use flow_graph::{Analysis, Graph};
 use flow_team::{OpenGate, Table};
 use flow_texts::{TableText, table_of, table_text};
@@ -11,8 +10,9 @@ use std::process::Abort;
 use std::test::Fail;
 use std::thread::Threads;
 use tac_reader::{Program, read};
+use test_support::failing_streams::{Page, page_of};
+use test_support::worked_programs::series::numbered;
 use text_pieces::{ToWrite, deliver};
-use worked_programs::series::numbered;
 
 // The line of a point of a program of so many assignments in a row, each of another variable: what is not
 // assigned before it has its value of the beginning, and what is, that of its line.

@@ -1,4 +1,4 @@
-// Each call on tables, reports and their texts that takes memory, as `refusal_probes` has it.
+// Each call on tables, reports and their texts that takes memory, as `test_support` has it.
 
 ghost use Rattle.std.specs.Prelude.{◌≡◌, IfOk};
 ghost use Rattle.flow_team.specs.Tables.{IsTableOf};
@@ -10,14 +10,15 @@ use flow_team::{OpenGate, Table};
 use flow_texts::{
     ReportAnswers, ReportText, TableText, Tables, report, report_here, table_of, table_text,
 };
-use refusal_probes::{Refused, again, named};
 use std::alloc::Global;
 use std::process::Abort;
 use std::test::Fail;
 use std::thread::Threads;
 use tac_reader::{Program, read};
+use test_support::again;
+use test_support::refusal_probes::{Refused, named};
+use test_support::worked_programs::recursion;
 use text_pieces::whole_text;
-use worked_programs::recursion;
 
 // What is written in the end.
 #[derive(Clone, Copy)]

@@ -4,7 +4,6 @@ ghost use Rattle.std.specs.Prelude.{◌<◌, length, IfSome};
 ghost use Rattle.flow_texts.specs.code.Reported.{TellReport};
 ghost use Rattle.flow_views.specs.ShownTables.{AreShownTables};
 
-use failing_streams::{Page, blank_page};
 use flow_graph::Graph;
 use flow_team::OpenGate;
 use flow_texts::ReportAnswers;
@@ -14,8 +13,9 @@ use std::process::Abort;
 use std::test::Fail;
 use std::thread::Threads;
 use tac_reader::{Program, read};
+use test_support::failing_streams::{Page, blank_page};
+use test_support::worked_programs::{factorial, remarks};
 use text_pieces::{ToWrite, deliver};
-use worked_programs::{factorial, remarks};
 
 // Which text.
 #[derive(Clone, Copy)]

@@ -1,4 +1,4 @@
-// Each call of links and of the solver that takes memory, as `refusal_probes` has it.
+// Each call of links and of the solver that takes memory, as `test_support` has it.
 
 ghost use Rattle.std.specs.Prelude.{◌≡◌, ◌≤◌, IfOk};
 ghost use Rattle.flow_graph.specs.Universes.{bits as bits_of};
@@ -8,12 +8,13 @@ use bit_rows::Rows;
 use flow_graph::{Analysis, Graph, OutOfMemory, Problem};
 use flow_links::Links;
 use gk_solve::{Routes, SliceWords, Solver, solve, solve_counted};
-use refusal_probes::{Refused, again, named};
 use std::alloc::Global;
 use std::process::Abort;
 use std::test::Fail;
 use tac_reader::{Program, read};
-use worked_programs::recursion;
+use test_support::again;
+use test_support::refusal_probes::{Refused, named};
+use test_support::worked_programs::recursion;
 
 /// The calls.
 #[derive(Clone, Copy)]

@@ -2,8 +2,8 @@ use crate::tables::{Question, check};
 use flow_graph::Analysis;
 use std::process::Abort;
 use std::test::Fail;
-use worked_programs::series::{live_of_prints, prints};
-use worked_programs::{
+use test_support::worked_programs::series::{live_of_prints, prints};
+use test_support::worked_programs::{
     adds_to_itself, both_branches, call_each_other, called_twice, callee_loops, calls_main, counts,
     no_bits, no_end, not_called, prints_behind_itself, reads_behind_calls, recursion, set_twice,
     smallest, two_callees,

@@ -1,10 +1,11 @@
-// Each call on orders, sets of points and groups of places that takes memory, as `refusal_probes` has it.
+// Each call on orders, sets of points and groups of places that takes memory, as `test_support` has it.
 
 use flow_graph::OutOfMemory;
-use refusal_probes::{Refused, again, named};
 use std::alloc::Global;
 use std::process::Abort;
 use std::test::Fail;
+use test_support::again;
+use test_support::refusal_probes::{Refused, named};
 use work_list::{Marks, Order, group};
 
 // The order in which these points are listed.

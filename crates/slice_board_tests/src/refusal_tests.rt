@@ -1,14 +1,15 @@
-// A board that is opened where memory is refused, as `refusal_probes` has it.
+// A board that is opened where memory is refused, as `test_support` has it.
 
 ghost use Rattle.std.specs.Prelude.{IfOk};
 ghost use Rattle.slice_board.specs.Boards.{IsOf};
 
 use crate::many_tests::{Nothing, closes, drain, open};
 use bit_rows::CutFault;
-use refusal_probes::{Refused, again, named};
 use slice_board::{Board, Pass};
 use std::alloc::Global;
 use std::test::Fail;
+use test_support::again;
+use test_support::refusal_probes::{Refused, named};
 
 fn opened_again(
     alloc: Global,

@@ -6,8 +6,8 @@ use std::process::Abort;
 use tac_reader::{
     Label, Limits, OutOfMemory, Program, ReadFault, Span, Stmt, listing, read, read_within,
 };
-use worked_programs::spacing::TEXT as SPACING;
-use worked_programs::{listed, recursion, refused, smallest};
+use test_support::worked_programs::spacing::TEXT as SPACING;
+use test_support::worked_programs::{listed, recursion, refused, smallest};
 
 /// Every statement form.
 const FORMS: &[u8] =

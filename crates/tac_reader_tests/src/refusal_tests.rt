@@ -1,6 +1,5 @@
-// Each call of the reader that takes memory, as `refusal_probes` has it.
+// Each call of the reader that takes memory, as `test_support` has it.
 
-use refusal_probes::{Refused, again, named};
 use std::alloc::Global;
 use std::process::Abort;
 use std::test::Fail;
@@ -8,7 +7,9 @@ use tac_reader::{
     Op, Operand, OutOfMemory, Program, ReadFault, listing, read, write_binary_expression,
     write_unary_expression,
 };
-use worked_programs::recursion;
+use test_support::again;
+use test_support::refusal_probes::{Refused, named};
+use test_support::worked_programs::recursion;
 
 /// The one comparison, since each that is written out is proved again.
 fn check(rt: &impl Abort, got: &[u8], want: &str) {

@@ -1,8 +1,8 @@
 // Calls that were refused memory, made once more.
 
 use flow_team::TeamFault;
-use refusal_probes::refusal_of;
 use std::test::Fail;
+use test_support::refusal_probes::refusal_of;
 
 /// What a call that was refused tells the second time, where it is not refused again: the test then fails by the call's name.
 pub fn told_again(lines: Option<String>, want: &str, call: &'static str) -> Result<String, Fail> {

@@ -2,12 +2,12 @@
 
 ghost use Rattle.std.specs.Prelude.{◌<◌};
 
-use failing_streams::{blank_page, page_of};
 use std::alloc::Global;
 use std::io;
 use std::io::Write;
 use std::process::Abort;
 use std::test::Fail;
+use test_support::failing_streams::{blank_page, page_of};
 use text_pieces::{Bytes, Pieces, ToWrite, deliver};
 
 // Notes how many bytes each call brings, and takes them all.

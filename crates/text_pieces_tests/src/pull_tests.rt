@@ -1,10 +1,10 @@
 // Texts that are pulled into a block that grows.
 
-use failing_streams::Pieces;
 use std::alloc::Global;
 use std::io::ErrorKind;
 use std::process::Abort;
 use std::test::Fail;
+use test_support::failing_streams::Pieces;
 use text_pieces::{FromRead, OutOfMemory, Source, pull_all};
 
 // A text whose bytes tell which block they came into.

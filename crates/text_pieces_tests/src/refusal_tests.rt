@@ -1,12 +1,13 @@
-// Each call on bytes that takes memory, as `refusal_probes` has it.
+// Each call on bytes that takes memory, as `test_support` has it.
 
-use failing_streams::{Pieces, blank_page};
-use refusal_probes::{all_or_nothing, named};
 use std::io::ErrorKind;
 use std::process::Abort;
 use std::test::Fail;
+use test_support::all_or_nothing;
+use test_support::failing_streams::{Pieces, blank_page};
+use test_support::refusal_probes::named;
+use test_support::worked_programs::recursion;
 use text_pieces::{Bytes, FromRead, Source, ToWrite, TransferFault, deliver, pull_all};
-use worked_programs::recursion;
 
 const BYTES: &[u8] = b"abcdefghijk";
 

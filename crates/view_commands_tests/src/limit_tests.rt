@@ -1,7 +1,6 @@
 // Values by hand: texts and programs that are refused within the standard limits and shown within the large ones.
 
 use crate::tacview_tests::{Asked, GRAPH, LINES, NONE, REPORT, check_by};
-use failing_streams::Pieces;
 use flow_runs::OutOfMemory;
 use std::alloc::Global;
 use std::io::ErrorKind;
@@ -9,9 +8,10 @@ use std::process::Abort;
 use std::test::Fail;
 use std::thread::Threads;
 use tac_program::Limits;
+use test_support::failing_streams::Pieces;
+use test_support::worked_programs::series::{numbered, repeated};
+use test_support::worked_programs::{ALONE, smallest};
 use view_commands::Format;
-use worked_programs::series::{numbered, repeated};
-use worked_programs::{ALONE, smallest};
 
 const LARGE_REPORT: Asked<'static> = Asked {
     limits: Limits::Large,

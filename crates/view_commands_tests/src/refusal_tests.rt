@@ -1,17 +1,17 @@
-// Runs of `tacview` where memory is refused, as `refusal_probes` has it.
+// Runs of `tacview` where memory is refused, as `test_support` has it.
 
 use crate::tacview_tests::{
     Asked, F_GRAPH, GRAPH, GRAPH_OF_F, LINES, REPORT, SMALL_GRAPH, SMALL_LINES, options,
     run_to_page,
 };
-use failing_streams::blank_page;
 use flow_runs::Fault;
-use refusal_probes::all_or_nothing;
 use std::process::Abort;
 use std::test::Fail;
 use std::thread::Threads;
+use test_support::all_or_nothing;
+use test_support::failing_streams::blank_page;
+use test_support::worked_programs::{TEAMS, call_between, recursion, small};
 use view_commands::Options;
-use worked_programs::{TEAMS, call_between, recursion, small};
 
 // The answer to a text.
 fn check_view<R: Threads + Sync + Abort + AllocGlobal>(

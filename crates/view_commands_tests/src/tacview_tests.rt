@@ -1,7 +1,6 @@
 // `tacview`'s values by hand: what small texts are told, what words name, and what faults of devices leave.
 
 use clap::error;
-use failing_streams::{Page, Pieces, blank_page};
 use flow_graph::GraphFault;
 use flow_runs::Fault;
 use flow_views::Chosen;
@@ -11,9 +10,10 @@ use std::process::Abort;
 use std::test::Fail;
 use std::thread::Threads;
 use tac_program::Limits;
+use test_support::failing_streams::{Page, Pieces, blank_page};
+use test_support::worked_programs::{ALONE, TEAMS, call_between, recursion, small};
 use text_pieces::{FromRead, ToWrite};
 use view_commands::{Format, Options, Progress, Terminal, line_of, run};
-use worked_programs::{ALONE, TEAMS, call_between, recursion, small};
 
 pub(crate) const NONE: Chosen = Chosen {
     reach: false,

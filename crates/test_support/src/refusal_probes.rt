@@ -1,7 +1,6 @@
 //! What tests of refused memory share. With ample memory such a test ends as all others. Where a request is refused (`checks/refused`),
 //! the call that met it is made once more and has to give what is known by hand, or has written nothing; then the test fails by the
 //! call's name. There is no third: one that fails by want of memory met it before its calls, behind them, or twice.
-#![tactic(auto)]
 
 use std::test::Fail;
 
@@ -47,7 +46,7 @@ macro_rules! all_or_nothing {
             }
             Err($refusal) => {
                 assert!($rt; $taken.is_empty());
-                Err($crate::refusal_of($name))
+                Err($crate::refusal_probes::refusal_of($name))
             }
             Err(_) => Err(std::test::Fail::from("another fault")),
         }

@@ -1,6 +1,5 @@
 //! Programs that several tests work through: each stands here once, with what is known of it. All values are by hand: the definitions
 //! of `docs/ANALYSES.md` were followed from point to point, and none is what a program of this repository wrote.
-#![tactic(auto)]
 
 pub mod listed;
 pub mod refused;

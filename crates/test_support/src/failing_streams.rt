@@ -1,5 +1,4 @@
 //! A reader and a writer for tests: they give and take as much at a time as they are told to, and fail where they are told to.
-#![tactic(auto)]
 
 use std::alloc::Global;
 use std::io;

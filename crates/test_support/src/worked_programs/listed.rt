@@ -1,6 +1,6 @@
 //! Texts in several layouts, and their listings.
 
-use crate::spacing;
+use super::spacing;
 
 /// Texts and their listings, by hand.
 pub const LAYOUTS: &[(&[u8], &str)] = &[
