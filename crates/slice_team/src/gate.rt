@@ -1,6 +1,5 @@
 // What is called around the work and between the steps of a worker.
-ghost use Rattle.std.specs.Prelude.{◌<◌};
-ghost use Rattle.slice_board.specs.Passes.{times};
+ghost use Rattle.slice_team.specs.Teams.{HasFinished};
 
 use slice_board::{Pass, Wanted};
 
@@ -18,9 +17,9 @@ pub trait Gate: Sync {
     /// A worker drew the slice, and has not yet begun to solve it.
     fn claimed(&self, worker: u32, slice: u32);
 
-    /// The worker finished the slice, with this pass.
+    /// The worker finished the slice, one of the board of this pass, with this pass.
     fn finished<W: Wanted>(&self, worker: u32, slice: u32, pass: &Pass<W>)
-        requires { 0 < times slice pass.now.finished };
+        requires { HasFinished pass.now slice };
 }
 
 /// The gate that holds nobody.

@@ -6,6 +6,7 @@ mod gate;
 mod joined_gate;
 mod slice_job;
 mod solve;
+mod team;
 mod workers;
 
 pub use gate::{Gate, OpenGate};
@@ -13,4 +14,5 @@ pub use joined_gate::JoinedGate;
 pub use slice_job::SliceJob;
 pub use solve::Solve;
 pub use std::alloc::AllocError as OutOfMemory;
+pub use team::{Team, are_in_range};
 pub use workers::{run_here, run_workers};

@@ -7,7 +7,7 @@ returns-in-Some-clause-some g c =
     let is : Some c.in-Some.slice ≡ c.args.pass.now.held = sym c.in-Some.is ∙ c.held.ensures.value in (
       c.in-Some.ensures.there (about_board c.args.self.now) c.requires.about,
       record {
-        was_held = λ held same. (cc (is, same), refl);
+        was_held = λ held same. (cc (is, same), record { claimed = refl; found = refl; next = refl });
         drawn = λ none. cc (is, none);
       },
     )
