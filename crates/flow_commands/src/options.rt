@@ -1,9 +1,9 @@
 // What the program is asked to do.
 
 ghost use Rattle.std.specs.Prelude.{◌≡◌, ◌≤◌, ◌↔◌, IsSome, IfSome};
-ghost use Rattle.flow_team.specs.Ranges.{AreInRange};
+ghost use Rattle.slice_team.specs.Ranges.{AreInRange};
 
-use flow_runs::are_in_range;
+use flow_team::are_in_range;
 
 /// What is written.
 #[derive(Clone, Copy, Debug, PartialEq, Eq)]

@@ -14,12 +14,22 @@ ghost use Rattle.flow_commands.specs.Runs.{IsShown, needs_graph as kind_needs_gr
 use crate::options::{Options, Show};
 use flow_graph::{Analysis, Graph};
 use flow_runs::{Fault, Shown, graph_of, push_report, push_text};
-use flow_team::{OpenGate, Table};
+use flow_team::{OpenGate, Table, Team};
 use flow_texts::{TableText, table_of};
 use std::alloc::Global;
 use std::thread::Threads;
 use tac_program::{Limits, Program, listing};
 use text_pieces::{Bytes, Sink};
+
+// Who works: the options' team, of which nobody is told.
+fn team_of<R>(rt: &R, options: Options) -> Team<'_, R, OpenGate> {
+    Team {
+        rt,
+        gate: &OpenGate,
+        workers: options.workers,
+        cut: options.cut,
+    }
+}
 
 // Writes a table of a graph. It is not owned here, so that no way out drops it.
 fn push_table<K: Sink>(
@@ -55,8 +65,8 @@ fn table_of_graph<R: Threads + Sync, K: Sink>(
     ensures fault { IfErr result (OfProgram (λ _. ⊥) ⊥) }
     ensures faults { K.faults sink.new ≡ K.faults sink.old + write_faults_in result }
 {
-    let (workers, cut) = (options.workers, options.cut);
-    let table = table_of(rt, alloc, graph, analysis, workers, cut, &OpenGate)?;
+    let team = team_of(rt, options);
+    let table = table_of(&team, alloc, graph, analysis)?;
     push_table(alloc, graph, &table, sink)
 }
 
@@ -98,8 +108,7 @@ fn show_report<R: Threads + Sync, K: Sink>(
     ensures faults { K.faults sink.new ≡ K.faults sink.old + write_faults_in result }
 {
     let graph = graph_of(alloc, program, Limits::Standard)?;
-    let (workers, cut) = (options.workers, options.cut);
-    push_report(rt, alloc, &graph, workers, cut, &OpenGate, sink)
+    push_report(&team_of(rt, options), alloc, &graph, sink)
 }
 
 impl Shown for Options {

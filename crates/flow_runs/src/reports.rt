@@ -2,7 +2,6 @@
 
 ghost use Rattle.std.specs.Prelude.{◌≡◌, ◌+◌, ◌-◌, ◌^◌, ◌<◌, IfErr, OnOk, true};
 ghost use Rattle.std.specs.Thread.{IsSync};
-ghost use Rattle.flow_team.specs.Ranges.{AreInRange};
 ghost use Rattle.flow_texts.specs.Reports.{IsReport, ListsSafely};
 ghost use Rattle.flow_texts.specs.code.Reported.{TellReport};
 ghost use Rattle.flow_runs.specs.Faults.{Delivers, OfProgram, write_faults_in};
@@ -10,7 +9,7 @@ ghost use Rattle.flow_runs.specs.Faults.{Delivers, OfProgram, write_faults_in};
 use crate::fault::Fault;
 use crate::parts::push_text;
 use flow_graph::Graph;
-use flow_team::Gate;
+use flow_team::{Gate, Team};
 use flow_texts::{ReportAnswers, ReportText};
 use std::alloc::Global;
 use std::thread::Threads;
@@ -34,30 +33,26 @@ fn push_answers<K: Sink>(
     push_text(alloc, &text, sink)
 }
 
-/// Pushes the report of a graph and nothing else, and flushes. What it tells is found by so many workers, in slices of so many bits, which the
-/// gate is told of, with no tables; it is the same for all of these.
+/// Pushes the report of a graph and nothing else, and flushes. What it tells is found by a team, with no tables; it is the same for every
+/// team.
 ///
-/// The conditions: 1 to 64 workers, and 1 to 4,096 bits; the sink's count of faults is below `u32::MAX`.
+/// The condition: the sink's count of faults is below `u32::MAX`.
 ///
-/// - `OutOfMemory`: memory was refused, or of a program beyond the standard limits some 2^26 words or more are asked. Nothing was pushed.
+/// - `OutOfMemory`: memory was refused. Nothing was pushed.
 /// - `Write`: a push or the flush was answered by a fault. A beginning of the report was pushed.
 pub fn push_report<R: Threads + Sync, G: Gate, K: Sink>(
-    rt: &R,
+    team: &Team<'_, R, G>,
     alloc: Global,
     graph: &Graph<'_>,
-    workers: u32,
-    cut: u32,
-    gate: &G,
     sink: &mut K,
 ) -> Result<(), Fault>
     requires threads { IsSync R.row }
-    requires range { AreInRange workers cut }
     requires below { K.faults sink.old < 2 ^ 32 - 1 }
     ensures delivers { Delivers (λ out. IsReport graph.now out × ListsSafely graph.now out) (K.contents sink.old) (K.contents sink.new) result }
     ensures flushed { OnOk result (K.flushed sink.new ≡ true) }
     ensures fault { IfErr result (OfProgram (λ _. ⊥) ⊥) }
     ensures faults { K.faults sink.new ≡ K.faults sink.old + write_faults_in result }
 {
-    let answers = ReportAnswers::of(rt, alloc, graph, workers, cut, gate)?;
+    let answers = ReportAnswers::of(team, alloc, graph)?;
     push_answers(alloc, graph, &answers, sink)
 }

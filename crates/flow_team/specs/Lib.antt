@@ -2,7 +2,6 @@ pub mod AllTables
 pub mod Asks
 pub mod Excerpts
 pub mod Laws
-pub mod Ranges
 pub mod Sets
 pub mod Tables
 pub mod code

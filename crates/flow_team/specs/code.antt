@@ -3,3 +3,4 @@ pub mod Directions
 pub mod Excerpts
 pub mod Posting
 pub mod Complements
+pub mod Cuts

@@ -1,6 +1,5 @@
 // What is asked of a graph, and what solves it.
-ghost use Rattle.std.specs.Prelude.{◌≡◌, ℕ, ◌+◌, ◌*◌, ◌/◌, ◌^◌, ◌<◌, ◌≤◌, ◌↔◌, true, false, Some, length, slice_get, slice_index, IfOk, IfErr};
-ghost use Rattle.std.specs.Prelude.{IfSome, IfNone};
+ghost use Rattle.std.specs.Prelude.{◌≡◌, ℕ, ◌-◌, ◌*◌, ◌^◌, ◌<◌, ◌≤◌, ◌↔◌, true, false, Some, length, slice_get, slice_index, IfOk, IfErr};
 ghost use Rattle.bit_rows.specs.RowSet.{contains};
 ghost use Rattle.bit_rows.specs.RowTable.{set_at};
 ghost use Rattle.flow_graph.specs.Universes.{bits as bits_of};
@@ -10,16 +9,19 @@ ghost use Rattle.slice_board.specs.Boards.{IsOf};
 ghost use Rattle.flow_team.specs.Asks.{AreAsksOf, IsAnswerTo};
 ghost use Rattle.flow_team.specs.Sets.{IsInMaySet};
 ghost use Rattle.slice_team.specs.Teams.{PostsMore};
-ghost use Rattle.flow_team.specs.code.Boards.{AreDone, AreTold, Arranges, IsAmong, IsArranged, IsAskBoard, IsWanted, NoneOf};
+ghost use Rattle.flow_team.specs.code.Boards.{AreDone, AreTold, Arranges, IsArranged, IsAskBoard, IsWanted};
 ghost use Rattle.flow_team.specs.code.Boards.{ordered};
+ghost use Rattle.flow_team.specs.code.Cuts.{AreAlike};
 ghost use Rattle.flow_team.specs.code.Directions.{form_of};
+ghost use Rattle.flow_team.specs.declared.ask.Ask.{Ask as AskValue};
 
 use crate::OutOfMemory;
 use crate::ask::Ask;
 use crate::complemented_words::complement_mask;
+use crate::plan::SlicePlan;
 use crate::solvers::GraphSolvers;
 use flow_graph::Analysis;
-use gk_solve::{Routes, SliceWords, Solver};
+use gk_solve::{Routes, SliceWords, Solver, words_at_once};
 use slice_board::{Pass, PostedWords, Wanted, WordBoard};
 use slice_team::Solve;
 use std::alloc::Global;
@@ -57,20 +59,8 @@ impl<'g, 'p> Wanted for AskedWords<'g, 'p> {
     ghost wants = { IsWanted };
 }
 
-// The first of the words that are solved together with a word: eight where there are more than 64, else four.
-fn group_start(bits: u32, word: u32) -> u32
-    ensures low { result ≤ word }
-    ensures short { (bits + 63) / 64 ≤ 64 → word < result + 4 }
-    ensures long { 64 < (bits + 63) / 64 → word < result + 8 }
-{
-    if bits.div_ceil(64) > 64 {
-        word / 8 * 8
-    } else {
-        word / 4 * 4
-    }
-}
-
-// Sees to it that a word is among those that were solved last: of the words from one up to another this is known.
+// Sees to it that a word is among those that were solved last: of the words from one up to another this is known. Words are solved in whole
+// groups, counted from the first.
 fn solve_to<'a, 'g, 'p>(
     solver: &'a Solver<'g, 'p>,
     routes: &'a Routes,
@@ -87,7 +77,9 @@ fn solve_to<'a, 'g, 'p>(
     if solved.0 <= word && word < solved.1 {
         return solved;
     }
-    let from = group_start(solver.problem().bits(), word);
+    let bits = solver.problem().bits();
+    let at_once = words_at_once(words.points(), bits.div_ceil(64));
+    let from = word / at_once * at_once;
     let until = solver.solve_from(routes, words, from);
     (from, until)
 }
@@ -119,38 +111,37 @@ impl<'g, 'p> AskedWords<'g, 'p> {
         self.asks[place as usize]
     }
 
-    // Whether one of the asks from one up to another in that order is of an analysis.
-    fn asks_some(&self, analysis: Analysis, from: u32, until: u32) -> bool
-        requires { until ≤ length self.now.order }
-        ensures { result ≡ false → NoneOf self.now.order from until analysis }
+    /// How many asks there are.
+    pub(crate) fn count(&self) -> u32
+        ensures count { result ≡ length self.now.order }
+        ensures few { 64 * result < 2 ^ 32 }
     {
-        for j in from..until {
-            if self.ask(j).analysis == analysis {
-                return true;
-            }
-        }
-        false
+        self.places.len() as u32
     }
 
-    // All memory in which an analysis is solved, where one of the asks from one up to another in that order is of it.
-    fn memory(
-        &self,
-        alloc: Global,
-        analysis: Analysis,
-        from: u32,
-        until: u32,
-    ) -> Result<Option<SliceWords>, OutOfMemory>
-        requires until { until ≤ length self.now.order }
-        ensures some { IfOk result (λ r. IfSome r (AreTold (form_of self.now.program analysis) 0 0)) }
-        ensures none { IfOk result (λ r. IfNone r (NoneOf self.now.order from until analysis)) }
+    /// Whether a slice of this plan begins at the ask of a number in that order: where the analysis or the slice's words change.
+    pub(crate) fn begins_slice(&self, plan: SlicePlan, j: u32) -> bool
+        requires first { 0 < j }
+        requires there { j < length self.now.order }
+        ensures { result ≡ false → AreAlike self.now.order (j - 1) j }
     {
-        if !self.asks_some(analysis, from, until) {
-            return Ok(None);
+        let before = self.ask(j - 1);
+        let here = self.ask(j);
+        if before.analysis != here.analysis {
+            return true;
         }
+        let bits = self.solvers.solver(here.analysis).problem().bits();
+        let width = plan.slice_words(bits);
+        before.word / width != here.word / width
+    }
+
+    // All memory in which an analysis is solved.
+    fn memory(&self, alloc: Global, analysis: Analysis) -> Result<SliceWords, OutOfMemory>
+        ensures { IfOk result (AreTold (form_of self.now.program analysis) 0 0) }
+    {
         let solver = self.solvers.solver(analysis);
         let routes = self.solvers.routes(analysis);
-        let words = solver.slice(alloc, routes, 0, solver.problem().bits())?;
-        Ok(Some(words))
+        solver.slice(alloc, routes, 0, solver.problem().bits())
     }
 
     // The answer to the ask of a number in that order, of what was posted of it: complemented where the analysis is over every path.
@@ -158,7 +149,7 @@ impl<'g, 'p> AskedWords<'g, 'p> {
         requires there { j < length self.now.order }
         requires one { length posted.now.flags ≡ 1 }
         requires rows { (point bit : ℕ) → (contains (set_at posted.now point) bit ≡ true) ↔ IsWanted self.now point bit }
-        ensures { (ask : Ask) → slice_get self.now.order j ≡ Some ask → IsAnswerTo self.now.program ask result }
+        ensures { (ask : AskValue) → slice_get self.now.order j ≡ Some ask → IsAnswerTo self.now.program ask result }
     {
         let ask = self.ask(j);
         let bits = self.solvers.solver(ask.analysis).problem().bits();
@@ -171,7 +162,7 @@ impl<'g, 'p> AskedWords<'g, 'p> {
         requires rows { (point bit : ℕ) → (contains (set_at posted.now point) bit ≡ true) ↔ IsWanted self.now point bit }
         requires count { length words.old ≡ length self.now.asks }
         ensures count { length words.new ≡ length self.now.asks }
-        ensures answered { (q : ℕ) (ask : Ask) → slice_get self.now.asks q ≡ Some ask → IsAnswerTo self.now.program ask (slice_index words.new q) }
+        ensures answered { (q : ℕ) (ask : AskValue) → slice_get self.now.asks q ≡ Some ask → IsAnswerTo self.now.program ask (slice_index words.new q) }
     {
         for j in 0..self.places.len() {
             let word = self.answer(posted, j as u32);
@@ -239,85 +230,29 @@ impl<'g, 'p> AskedWords<'g, 'p> {
         &self,
         board: &WordBoard<AskedWords<'g, 'p>>,
         pass: &mut Pass<AskedWords<'g, 'p>>,
-        solver: &Solver<'g, 'p>,
-        routes: &Routes,
         words: &mut SliceWords,
         solved: (u32, u32),
         j: u32,
     ) -> (u32, u32)
         requires on { IsAskBoard self.now board.now }
         requires of { IsOf board.now pass.old }
-        requires program { solver.now.program ≡ self.now.program }
-        requires routes { routes.now ≡ direction_of solver.now }
         requires there { j < length self.now.order }
-        requires told { AreTold solver.now solved.0 solved.1 words.old }
+        requires told { (ask : AskValue) → slice_get self.now.order j ≡ Some ask
+            → AreTold (form_of self.now.program ask.analysis) solved.0 solved.1 words.old }
         ensures more { PostsMore pass.old pass.new }
-        ensures told { AreTold solver.now result.0 result.1 words.new }
-        ensures done { AreDone self.now (IsAmong self.now.order j (j + 1) solver.now.analysis) pass.new.posted }
+        ensures told { (ask : AskValue) → slice_get self.now.order j ≡ Some ask
+            → AreTold (form_of self.now.program ask.analysis) result.0 result.1 words.new }
+        ensures done { AreDone self.now (λ q. q ≡ j) pass.new.posted }
     {
         let ask = self.ask(j);
-        if ask.analysis != solver.problem().analysis() {
-            return solved;
-        }
+        let solver = self.solvers.solver(ask.analysis);
+        let routes = self.solvers.routes(ask.analysis);
         let solved = solve_to(solver, routes, words, solved, ask.word);
         self.post_word(board, pass, &*words, j, ask);
         solved
     }
 
-    // Posts the words of the asks of an analysis from one ask up to another.
-    fn post_asks(
-        &self,
-        board: &WordBoard<AskedWords<'g, 'p>>,
-        pass: &mut Pass<AskedWords<'g, 'p>>,
-        solver: &Solver<'g, 'p>,
-        routes: &Routes,
-        words: SliceWords,
-        from: u32,
-        until: u32,
-    )
-        requires on { IsAskBoard self.now board.now }
-        requires of { IsOf board.now pass.old }
-        requires program { solver.now.program ≡ self.now.program }
-        requires routes { routes.now ≡ direction_of solver.now }
-        requires until { until ≤ length self.now.order }
-        requires told { AreTold solver.now 0 0 words }
-        ensures more { PostsMore pass.old pass.new }
-        ensures done { AreDone self.now (IsAmong self.now.order from until solver.now.analysis) pass.new.posted }
-    {
-        let mut words = words;
-        let mut solved = (0, 0);
-        'asks: for j in from..until {
-            solved = self.post_ask(board, pass, solver, routes, &mut words, solved, j);
-        }
-    }
-
-    // The same where there may be none.
-    fn post_part(
-        &self,
-        board: &WordBoard<AskedWords<'g, 'p>>,
-        pass: &mut Pass<AskedWords<'g, 'p>>,
-        analysis: Analysis,
-        words: Option<SliceWords>,
-        from: u32,
-        until: u32,
-    )
-        requires on { IsAskBoard self.now board.now }
-        requires of { IsOf board.now pass.old }
-        requires until { until ≤ length self.now.order }
-        requires some { IfSome words (AreTold (form_of self.now.program analysis) 0 0) }
-        requires none { IfNone words (NoneOf self.now.order from until analysis) }
-        ensures more { PostsMore pass.old pass.new }
-        ensures done { AreDone self.now (IsAmong self.now.order from until analysis) pass.new.posted }
-    {
-        let Some(words) = words else {
-            return;
-        };
-        let solver = self.solvers.solver(analysis);
-        let routes = self.solvers.routes(analysis);
-        self.post_asks(board, pass, solver, routes, words, from, until);
-    }
-
-    // Solves what is asked from one ask up to another, and posts it. All memory is taken first.
+    // Solves what is asked from one ask up to another, all of one analysis, and posts it. All memory is taken first.
     fn post_range(
         &self,
         alloc: Global,
@@ -328,19 +263,19 @@ impl<'g, 'p> AskedWords<'g, 'p> {
     ) -> Result<(), OutOfMemory>
         requires on { IsAskBoard self.now board.now }
         requires of { IsOf board.now pass.old }
+        requires some { from < until }
         requires until { until ≤ length self.now.order }
+        requires one { (j : ℕ) → from ≤ j → j < until → AreAlike self.now.order from j }
         ensures more { PostsMore pass.old pass.new }
         ensures done { IfOk result (λ _. AreDone self.now (λ j. (from ≤ j) × (j < until)) pass.new.posted) }
         ensures refused { IfErr result (λ _. pass.new ≡ pass.old) }
     {
-        let reached = self.memory(alloc, Analysis::Reach, from, until)?;
-        let lived = self.memory(alloc, Analysis::Live, from, until)?;
-        let had = self.memory(alloc, Analysis::Avail, from, until)?;
-        let ahead = self.memory(alloc, Analysis::Busy, from, until)?;
-        self.post_part(board, pass, Analysis::Reach, reached, from, until);
-        self.post_part(board, pass, Analysis::Live, lived, from, until);
-        self.post_part(board, pass, Analysis::Avail, had, from, until);
-        self.post_part(board, pass, Analysis::Busy, ahead, from, until);
+        let first = self.ask(from);
+        let mut words = self.memory(alloc, first.analysis)?;
+        let mut solved = (0, 0);
+        'asks: for j in from..until {
+            solved = self.post_ask(board, pass, &mut words, solved, j);
+        }
         Ok(())
     }
 }

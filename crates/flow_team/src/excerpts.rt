@@ -6,7 +6,6 @@ ghost use Rattle.flow_graph.specs.Points.{point_count};
 ghost use Rattle.flow_graph.specs.Universes.{bits as bits_of};
 ghost use Rattle.slice_board.specs.Boards.{IsOf, fresh_pass};
 ghost use Rattle.flow_team.specs.Excerpts.{IsTableAt};
-ghost use Rattle.flow_team.specs.Ranges.{AreInRange};
 ghost use Rattle.flow_team.specs.code.Excerpts.{HasFlagsFrom, IsInExcerpt, IsExcerptBoard};
 
 use crate::OutOfMemory;
@@ -16,7 +15,7 @@ use crate::tables::even_cut;
 use bit_rows::Cut;
 use flow_graph::{Analysis, Graph};
 use slice_board::{Pass, PostedWords, Unfinished, Wanted, WordBoard};
-use slice_team::{Gate, SliceJob, Solve, run_workers};
+use slice_team::{Gate, SliceJob, Solve, Team, run_workers};
 use std::alloc::Global;
 use std::marker::Model;
 use std::thread::Threads;
@@ -144,27 +143,23 @@ fn closed_table<'g, 'p>(
 /// What [`table_of`](crate::table_of) tells, at the points from one on and before another alone: it takes memory for these points' words and
 /// no others. Of the points before them the table says that there is no path and no bit.
 ///
-/// The conditions: the points are of the graph, 1 to 64 workers, and 1 to 4,096 bits. Fails only where memory runs out.
+/// The condition: the points are of the graph. Fails only where memory runs out.
 pub fn table_at<'g, 'p, R: Threads + Sync, G: Gate>(
-    rt: &R,
+    team: &Team<'_, R, G>,
     alloc: Global,
     graph: &'g Graph<'p>,
     analysis: Analysis,
     from: u32,
     until: u32,
-    workers: u32,
-    cut: u32,
-    gate: &G,
 ) -> Result<Table, OutOfMemory>
     requires ordered { from ≤ until }
     requires there { until ≤ point_count graph.now }
-    requires range { AreInRange workers cut }
     ensures analysis { IfOk result (λ table. table.analysis ≡ analysis) }
     ensures table { IfOk result (IsTableAt graph.now from until) }
 {
     let excerpt = ExcerptSets::of(alloc, graph, analysis, from, until)?;
-    let slices = even_cut(alloc, graph.bits(analysis), cut)?;
+    let slices = even_cut(alloc, graph.bits(analysis), team.cut)?;
     let (job, pass) = on_board(alloc, excerpt, slices)?;
-    let pass = run_workers(rt, alloc, &job, gate, workers, pass)?;
+    let pass = run_workers(team, alloc, &job, pass)?;
     closed_table(job, pass)
 }

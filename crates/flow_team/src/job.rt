@@ -6,7 +6,7 @@ ghost use Rattle.slice_board.specs.Boards.{IsOf, IsPlace, CountsOnce, fresh_pass
 ghost use Rattle.slice_board.specs.Passes.{IsLogged, joined, logged_word, times};
 ghost use Rattle.flow_team.specs.Sets.{IsInMaySet};
 ghost use Rattle.flow_team.specs.Tables.{IsTableOf};
-ghost use Rattle.slice_team.specs.Teams.{Works, Idles, Holds};
+ghost use Rattle.slice_team.specs.Teams.{Works, Idles, Holds, IsDrained};
 
 use crate::OutOfMemory;
 use crate::sets::GraphSets;
@@ -14,7 +14,7 @@ use crate::table::Table;
 use bit_rows::Cut;
 use flow_graph::{Analysis, Graph};
 use slice_board::{Pass, Unfinished, WordBoard};
-use slice_team::{Gate, SliceJob, run_workers};
+use slice_team::{Gate, SliceJob, Team, run_workers};
 use std::alloc::Global;
 use std::marker::Model;
 use std::thread::Threads;
@@ -141,19 +141,18 @@ impl<'g, 'p> Job<'g, 'p> {
         self.slices.work(alloc, pass, worker, gate)
     }
 
-    /// Has so many workers work, each on a thread and with a pass of its own, until no slice is left, and answers the pass of all.
+    /// Has a team work, each worker on a thread and with a pass of its own, until no slice is left, and answers the pass of all: each slice
+    /// that was drawn is finished. Fails only where a worker was refused memory.
     pub(crate) fn run<R: Threads + Sync, G: Gate>(
         &self,
-        rt: &R,
+        team: &Team<'_, R, G>,
         alloc: Global,
-        gate: &G,
-        workers: u32,
         pass: Pass<GraphSets<'g, 'p>>,
     ) -> Result<Pass<GraphSets<'g, 'p>>, OutOfMemory>
-        requires pass { IsOf self.now pass }
-        ensures { IfOk result (IsOf self.now) }
+        requires { IsOf self.now pass }
+        ensures { IfOk result (IsDrained self.now) }
     {
-        run_workers(rt, alloc, &self.slices, gate, workers, pass)
+        run_workers(team, alloc, &self.slices, pass)
     }
 
     /// The table of the analysis, where every slice is finished. Else all is handed back, with how many slices are finished.

@@ -8,14 +8,13 @@ ghost use Rattle.flow_team.specs.code.Directions.{form_of};
 
 use crate::OutOfMemory;
 use crate::answers::Answers;
-use crate::arrange::groups_for;
 use crate::ask::Ask;
 use crate::asked_job::{answers_of, asked_job};
 use crate::direction::DirectionSolvers;
 use crate::halves::{Half, side_by_side};
 use flow_graph::{Analysis, Graph};
 use gk_solve::{Routes, Solver};
-use slice_team::{Gate, run_here, run_workers};
+use slice_team::{Gate, Team, run_here, run_workers};
 use std::alloc::Global;
 use std::marker::Model;
 use std::thread::Threads;
@@ -67,15 +66,14 @@ impl Drop for GraphSolvers<'_, '_> {
 
 impl<'g, 'p> GraphSolvers<'g, 'p> {
     /// The solvers of a graph, made side by side where there are several workers. Fails only where memory runs out.
-    pub fn of<R: Threads + Sync>(
-        rt: &R,
+    pub fn of<R: Threads + Sync, G>(
+        team: &Team<'_, R, G>,
         alloc: Global,
         graph: &'g Graph<'p>,
-        workers: u32,
     ) -> Result<Self, OutOfMemory>
         ensures { IfOk result (λ solvers. solvers ≡ graph.now) }
     {
-        if workers <= 1 {
+        if team.workers == 1 {
             return GraphSolvers::of_here(alloc, graph);
         }
         let forward = Finding {
@@ -88,7 +86,7 @@ impl<'g, 'p> GraphSolvers<'g, 'p> {
             some: Analysis::Live,
             every: Analysis::Busy,
         };
-        let (forward, backward) = side_by_side(rt, alloc, forward, backward);
+        let (forward, backward) = side_by_side(team.rt, alloc, forward, backward);
         Ok(GraphSolvers {
             forward: forward?,
             backward: backward?,
@@ -126,6 +124,11 @@ impl<'g, 'p> GraphSolvers<'g, 'p> {
         }
     }
 
+    /// How many points there are.
+    pub(crate) fn points(&self) -> u32 {
+        self.forward.some().problem().points()
+    }
+
     /// The path flags of both directions. Fails only where memory runs out.
     pub(crate) fn flags(&self, alloc: Global) -> Result<(Vec<bool>, Vec<bool>), OutOfMemory>
         ensures forward { IfOk result (λ r. HasPathFlags (form_of self.now Reach) r.0.items) }
@@ -136,19 +139,16 @@ impl<'g, 'p> GraphSolvers<'g, 'p> {
         Ok((forward, backward))
     }
 
-    /// The words that are asked, found by so many workers in slices of so many bits, as [`answer`](crate::answer) has it, and the solvers for
-    /// what is asked next.
+    /// The words that are asked, found by a team in slices of its width, as [`answer`](crate::answer) has it, and the solvers for what is
+    /// asked next.
     ///
     /// The conditions: each ask is of the graph's program, and there are fewer than 2^26. Fails only where memory runs out, and then the
     /// solvers are gone.
     pub fn answer<R: Threads + Sync, G: Gate>(
         self,
-        rt: &R,
+        team: &Team<'_, R, G>,
         alloc: Global,
         asks: Vec<Ask>,
-        cut: u32,
-        workers: u32,
-        gate: &G,
     ) -> Result<(Answers, Self), OutOfMemory>
         requires asks { AreAsksOf self asks.items }
         requires few { 64 * length asks.items < 2 ^ 32 }
@@ -156,8 +156,8 @@ impl<'g, 'p> GraphSolvers<'g, 'p> {
         ensures answers { IfOk result (λ r. AreAnswers self.entry r.0) }
         ensures solvers { IfOk result (λ r. r.1 ≡ self.entry) }
     {
-        let (job, pass) = asked_job(alloc, self, asks, groups_for(cut))?;
-        let pass = run_workers(rt, alloc, &job, gate, workers, pass)?;
+        let (job, pass) = asked_job(alloc, self, asks, team.cut)?;
+        let pass = run_workers(team, alloc, &job, pass)?;
         answers_of(alloc, job, pass)
     }
 

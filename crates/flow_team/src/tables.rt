@@ -1,19 +1,17 @@
 ghost use Rattle.std.specs.Prelude.{◌≡◌, ◌<◌, IfOk};
 ghost use Rattle.flow_team.specs.Tables.{IsTableOf};
-ghost use Rattle.flow_team.specs.Ranges.{AreInRange};
 ghost use Rattle.flow_team.specs.AllTables.{AreTablesOf};
 
 use crate::OutOfMemory;
-use crate::fault::TeamFault;
 use crate::table::Table;
-use crate::team::analyse;
+use crate::team::worked_table;
 use bit_rows::{Cut, CutFault};
 use flow_graph::{Analysis, Graph};
-use slice_team::{Gate, OpenGate};
+use slice_team::{Gate, Team};
 use std::alloc::Global;
 use std::thread::Threads;
 
-/// So many bits in slices of one width. The condition: 1 to 4,096 bits a slice. Fails only where memory runs out.
+/// So many bits in slices of one width. The condition: a slice has a bit. Fails only where memory runs out.
 pub(crate) fn even_cut(alloc: Global, bits: u32, cut: u32) -> Result<Cut, OutOfMemory>
     requires { 0 < cut }
     ensures { IfOk result (λ slices. slices.bits ≡ bits) }
@@ -25,28 +23,18 @@ pub(crate) fn even_cut(alloc: Global, bits: u32, cut: u32) -> Result<Cut, OutOfM
     }
 }
 
-/// The table of an analysis, by so many workers, in slices of so many bits, which the gate is told of.
-///
-/// The condition: 1 to 64 workers, and 1 to 4,096 bits. Fails only where memory runs out.
+/// The table of an analysis, by a team, in slices of its width. Fails only where memory runs out.
 pub fn table_of<R: Threads + Sync, G: Gate>(
-    rt: &R,
+    team: &Team<'_, R, G>,
     alloc: Global,
     graph: &Graph<'_>,
     analysis: Analysis,
-    workers: u32,
-    cut: u32,
-    gate: &G,
 ) -> Result<Table, OutOfMemory>
-    requires { AreInRange workers cut }
     ensures analysis { IfOk result (λ table. table.analysis ≡ analysis) }
     ensures table { IfOk result (IsTableOf graph.now) }
 {
-    let slices = even_cut(alloc, graph.bits(analysis), cut)?;
-    match analyse(rt, alloc, graph, analysis, slices, workers, gate) {
-        Ok(table) => Ok(table),
-        Err(TeamFault::OutOfMemory) => Err(OutOfMemory),
-        Err(TeamFault::BadWorkers) => unreachable!(),
-    }
+    let slices = even_cut(alloc, graph.bits(analysis), team.cut)?;
+    worked_table(team, alloc, graph, analysis, slices)
 }
 
 /// The tables of the four analyses of one program.
@@ -62,23 +50,18 @@ pub struct Tables {
 }
 
 impl Tables {
-    /// The tables of a graph, by so many workers, in slices of so many bits.
-    ///
-    /// The condition: 1 to 64 workers, and 1 to 4,096 bits. Fails only where memory runs out.
-    pub fn of<R: Threads + Sync>(
-        rt: &R,
+    /// The tables of a graph, by a team, in slices of its width. Fails only where memory runs out.
+    pub fn of<R: Threads + Sync, G: Gate>(
+        team: &Team<'_, R, G>,
         alloc: Global,
         graph: &Graph<'_>,
-        workers: u32,
-        cut: u32,
     ) -> Result<Tables, OutOfMemory>
-        requires { AreInRange workers cut }
         ensures { IfOk result (AreTablesOf graph.now) }
     {
-        let reach = table_of(rt, alloc, graph, Analysis::Reach, workers, cut, &OpenGate)?;
-        let live = table_of(rt, alloc, graph, Analysis::Live, workers, cut, &OpenGate)?;
-        let avail = table_of(rt, alloc, graph, Analysis::Avail, workers, cut, &OpenGate)?;
-        let busy = table_of(rt, alloc, graph, Analysis::Busy, workers, cut, &OpenGate)?;
+        let reach = table_of(team, alloc, graph, Analysis::Reach)?;
+        let live = table_of(team, alloc, graph, Analysis::Live)?;
+        let avail = table_of(team, alloc, graph, Analysis::Avail)?;
+        let busy = table_of(team, alloc, graph, Analysis::Busy)?;
         Ok(Tables {
             reach,
             live,

@@ -11,7 +11,7 @@ ghost use Rattle.flow_texts.specs.code.Busy.{ArePoints, AreRounds, AsksRound, ro
 use crate::OutOfMemory;
 use crate::busy_words::BusyWords;
 use flow_graph::{Analysis, Graph};
-use flow_team::{Answers, Ask, slices_of, words_at_once};
+use flow_team::{Answers, Ask, SlicePlan};
 use std::alloc::Global;
 
 // For each worker, of which two are taken to be there at least, a round asks for so many words: more than two such shares no program within
@@ -43,17 +43,6 @@ fn round_width(tests: u32, workers: u32) -> u32
 {
     let groups = WORKER_WORDS * workers.max(2) / SOLVED_WORDS / tests.max(1);
     SOLVED_WORDS * groups.max(1)
-}
-
-/// So many bits, rounded up to those that are solved at once: a slice that cut them would solve them again.
-pub(crate) fn whole_groups(graph: &Graph<'_>, cut: u32) -> u32 {
-    let words = graph.bits(Analysis::Busy).div_ceil(64);
-    let solved = 64 * words_at_once(graph.points(), words);
-    if cut < u32::MAX - solved {
-        cut.div_ceil(solved) * solved
-    } else {
-        cut
-    }
 }
 
 // Asks for so many words from one on of the tests' sets.
@@ -110,15 +99,21 @@ impl BusyRounds {
         })
     }
 
-    /// How many slices the rounds behind the next one have, which are cut into so many bits.
-    pub(crate) fn slices_behind(&self, graph: &Graph<'_>, cut: u32) -> u32
+    /// How many slices of a plan the rounds behind the next one have.
+    pub(crate) fn slices_behind(&self, graph: &Graph<'_>, plan: SlicePlan) -> u32
         requires { 0 < self.now.width }
     {
         if self.tests.is_empty() {
             return 0;
         }
-        let rounds = self.start() / self.width;
-        rounds.saturating_mul(slices_of(self.width, whole_groups(graph, cut)))
+        let bits = graph.bits(Analysis::Busy);
+        let mut slices = 0u32;
+        for round in 0..self.start() / self.width {
+            let from = round.saturating_mul(self.width);
+            let until = from.saturating_add(self.width);
+            slices = slices.saturating_add(plan.slices(bits, from, until));
+        }
+        slices
     }
 
     // The first word of the next round.

@@ -2,18 +2,18 @@
 
 ghost use Rattle.std.specs.Prelude.{◌≡◌, ℕ, suc, ◌*◌, ◌^◌, ◌<◌, ◌≤◌, Some, length, slice_get, slice_index, IfOk, MatchOption};
 ghost use Rattle.flow_team.specs.Asks.{AreAnswers, AreAsksOf, flags_of};
-ghost use Rattle.flow_team.specs.Ranges.{AreInRange};
+ghost use Rattle.slice_team.specs.Ranges.{AreInRange};
 ghost use Rattle.flow_team.specs.AllTables.{AreTablesOf};
 ghost use Rattle.flow_texts.specs.code.Busy.{AreRounds};
 ghost use Rattle.flow_texts.specs.code.Reported.{AreBegun, TellReport, TellRest, reported_in};
 ghost use Rattle.flow_texts.specs.code.Told.{facts_in};
 
 use crate::OutOfMemory;
-use crate::busy_rounds::{BusyRounds, whole_groups};
+use crate::busy_rounds::BusyRounds;
 use crate::busy_words::{BusyWord, BusyWords};
 use crate::report_asks::{PointAsks, ReportAsks, report_asks};
 use flow_graph::{Analysis, Graph};
-use flow_team::{Answers, Ask, Gate, GraphSolvers, JoinedGate, Tables};
+use flow_team::{Answers, Ask, Gate, GraphSolvers, JoinedGate, SlicePlan, Tables, Team};
 use std::alloc::Global;
 use std::marker::Model;
 use std::thread::Threads;
@@ -21,12 +21,11 @@ use std::thread::Threads;
 // The widest slices that may be.
 const WIDEST: u32 = 4_096;
 
-// How wide the slices of so many workers are. One shares nothing, and each slice takes memory anew.
-fn width_for(workers: u32, cut: u32) -> u32
-    requires { AreInRange workers cut }
-    ensures { AreInRange workers result }
+// How wide the slices of a team are. One worker shares nothing, and each slice takes memory anew.
+fn width_for<R, G>(team: &Team<'_, R, G>) -> u32
+    ensures { AreInRange team.now.workers result }
 {
-    if workers == 1 { WIDEST } else { cut }
+    if team.workers == 1 { WIDEST } else { team.cut }
 }
 
 // What is asked of a graph first.
@@ -85,16 +84,13 @@ impl Begun {
     }
 }
 
-// Asks workers for a round.
-fn round_by_workers<'g, 'p, R: Threads + Sync, G: Gate>(
-    rt: &R,
+// Asks a team for a round.
+fn round_by_team<'g, 'p, R: Threads + Sync, G: Gate>(
+    team: &Team<'_, R, G>,
     alloc: Global,
     graph: &'g Graph<'p>,
     solvers: GraphSolvers<'g, 'p>,
     rounds: &mut BusyRounds,
-    workers: u32,
-    cut: u32,
-    gate: &G,
 ) -> Result<GraphSolvers<'g, 'p>, OutOfMemory>
     requires rounds { AreRounds graph.now rounds.old.tests.items rounds.old }
     requires solvers { solvers ≡ graph.now }
@@ -104,21 +100,18 @@ fn round_by_workers<'g, 'p, R: Threads + Sync, G: Gate>(
 {
     let mut asks = Vec::new(alloc);
     rounds.ask(graph, &mut asks)?;
-    let (answers, solvers) = solvers.answer(rt, alloc, asks, cut, workers, gate)?;
+    let (answers, solvers) = solvers.answer(team, alloc, asks)?;
     rounds.put(graph, &answers, 0)?;
     Ok(solvers)
 }
 
-// Asks workers for all rounds that are left.
-fn rest_by_workers<'g, 'p, R: Threads + Sync, G: Gate>(
-    rt: &R,
+// Asks a team for all rounds that are left.
+fn rest_by_team<'g, 'p, R: Threads + Sync, G: Gate>(
+    team: &Team<'_, R, G>,
     alloc: Global,
     graph: &'g Graph<'p>,
     solvers: GraphSolvers<'g, 'p>,
     rounds: &mut BusyRounds,
-    workers: u32,
-    cut: u32,
-    gate: &G,
 ) -> Result<(), OutOfMemory>
     requires rounds { AreRounds graph.now rounds.old.tests.items rounds.old }
     requires solvers { solvers ≡ graph.now }
@@ -127,7 +120,7 @@ fn rest_by_workers<'g, 'p, R: Threads + Sync, G: Gate>(
 {
     let mut solvers = solvers;
     while rounds.until > 0 {
-        solvers = round_by_workers(rt, alloc, graph, solvers, rounds, workers, cut, gate)?;
+        solvers = round_by_team(team, alloc, graph, solvers, rounds)?;
     }
     Ok(())
 }
@@ -273,51 +266,47 @@ impl ReportAnswers {
         }
     }
 
-    // What is asked first, and all rounds behind it, answered by workers.
-    fn by_workers<R: Threads + Sync, G: Gate>(
-        rt: &R,
+    // What is asked first, and all rounds behind it, answered by a team.
+    fn by_team<R: Threads + Sync, G: Gate>(
+        team: &Team<'_, R, G>,
         alloc: Global,
         graph: &Graph<'_>,
         asks: Vec<Ask>,
         begun: Begun,
-        workers: u32,
-        cut: u32,
-        gate: &G,
     ) -> Result<ReportAnswers, OutOfMemory>
-        requires begun { AreBegun graph.now asks.items begun }
-        requires range { AreInRange workers cut }
+        requires { AreBegun graph.now asks.items begun }
         ensures { IfOk result (TellReport graph.now) }
     {
-        let solvers = GraphSolvers::of(rt, alloc, graph, workers)?;
-        let (answers, solvers) = solvers.answer(rt, alloc, asks, cut, workers, gate)?;
+        let solvers = GraphSolvers::of(team, alloc, graph)?;
+        let (answers, solvers) = solvers.answer(team, alloc, asks)?;
         let (answers, places, mut rounds) = begun.told(alloc, graph, answers)?;
-        let cut = whole_groups(graph, cut);
-        rest_by_workers(rt, alloc, graph, solvers, &mut rounds, workers, cut, gate)?;
+        rest_by_team(team, alloc, graph, solvers, &mut rounds)?;
         Ok(ReportAnswers::told(answers, places, rounds))
     }
 
-    /// What a report asks of a graph, answered by so many workers, in slices of so many bits, which the gate is told of. By one worker they
-    /// are 4,096 bits wide. Of very busy expressions the words that have a bit are kept, and some 2^19 words for each worker are asked for
-    /// at a time.
-    ///
-    /// The condition: 1 to 64 workers, and 1 to 4,096 bits. Fails only where memory runs out.
+    /// What a report asks of a graph, answered by a team, in slices of its width; by one worker they are 4,096 bits wide. Of very busy
+    /// expressions the words that have a bit are kept, and some 2^19 words for each worker are asked for at a time. Fails only where memory
+    /// runs out.
     pub fn of<R: Threads + Sync, G: Gate>(
-        rt: &R,
+        team: &Team<'_, R, G>,
         alloc: Global,
         graph: &Graph<'_>,
-        workers: u32,
-        cut: u32,
-        gate: &G,
     ) -> Result<ReportAnswers, OutOfMemory>
-        requires { AreInRange workers cut }
         ensures { IfOk result (TellReport graph.now) }
     {
-        let cut = width_for(workers, cut);
-        let (asks, begun) = begin(alloc, graph, workers)?;
-        let gate = JoinedGate::new(gate, begun.rounds.slices_behind(graph, cut));
-        let told = ReportAnswers::by_workers(rt, alloc, graph, asks, begun, workers, cut, &gate);
+        let cut = width_for(team);
+        let (asks, begun) = begin(alloc, graph, team.workers)?;
+        let plan = SlicePlan::of(graph.points(), cut);
+        let gate = JoinedGate::new(team.gate, begun.rounds.slices_behind(graph, plan));
+        let joined = Team {
+            rt: team.rt,
+            gate: &gate,
+            workers: team.workers,
+            cut,
+        };
+        let answers = ReportAnswers::by_team(&joined, alloc, graph, asks, begun);
         gate.end();
-        told
+        answers
     }
 
     /// What a report asks of a graph, answered on the calling thread. Fails as [`of`](ReportAnswers::of) does.

@@ -1,6 +1,6 @@
 // How many slices what a report asks is cut into.
 
-ghost use Rattle.flow_team.specs.Ranges.{AreInRange};
+ghost use Rattle.slice_team.specs.Ranges.{AreInRange};
 
 use flow_graph::Graph;
 use flow_texts::ReportAnswers;

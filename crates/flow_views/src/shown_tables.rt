@@ -2,7 +2,6 @@
 
 ghost use Rattle.std.specs.Prelude.{◌≡◌, ◌<◌, ◌≤◌, None, Some, length, IfOk, IfSome, MatchOption};
 ghost use Rattle.flow_graph.specs.Points.{point_count};
-ghost use Rattle.flow_team.specs.Ranges.{AreInRange};
 ghost use Rattle.flow_views.specs.ShownTables.{AreShownTables, IsTableShown, end_shown, first_shown};
 ghost use Rattle.flow_views.specs.code.ShownProgram.{is_chosen, shown_table};
 
@@ -10,7 +9,7 @@ use crate::OutOfMemory;
 use crate::shown::{Numbers, points_of};
 use crate::view::{Chosen, View};
 use flow_graph::{Analysis, Graph};
-use flow_team::{Gate, Table, table_at};
+use flow_team::{Gate, Table, Team, table_at};
 use std::alloc::Global;
 use std::thread::Threads;
 
@@ -68,17 +67,13 @@ fn shown_points(graph: &Graph<'_>, procedure: Option<u32>) -> Numbers
 
 // The table of an analysis at the points that are shown, where its facts are chosen.
 fn table_if<R: Threads + Sync, G: Gate>(
-    rt: &R,
+    team: &Team<'_, R, G>,
     alloc: Global,
     graph: &Graph<'_>,
     view: View,
     analysis: Analysis,
-    workers: u32,
-    cut: u32,
-    gate: &G,
 ) -> Result<Option<Table>, OutOfMemory>
-    requires range { AreInRange workers cut }
-    requires procedure { IfSome view.procedure (λ procedure. procedure < length graph.now.procedure_names) }
+    requires { IfSome view.procedure (λ procedure. procedure < length graph.now.procedure_names) }
     ensures { IfOk result (IsTableShown graph.now analysis view.procedure (is_chosen view.facts analysis)) }
 {
     if !is_chosen(view.facts, analysis) {
@@ -88,32 +83,28 @@ fn table_if<R: Threads + Sync, G: Gate>(
     let _ = graph.points();
     let points = shown_points(graph, view.procedure);
     let (from, until) = (points.first, points.end);
-    let table = table_at(rt, alloc, graph, analysis, from, until, workers, cut, gate)?;
+    let table = table_at(team, alloc, graph, analysis, from, until)?;
     Ok(Some(table))
 }
 
 impl ShownTables {
-    /// The tables of what is shown of a graph, by so many workers, in slices of so many bits, which the gate is told of. They take memory
-    /// for the words of the points that are shown alone.
+    /// The tables of what is shown of a graph, by a team, in slices of its width. They take memory for the words of the points that are shown
+    /// alone.
     ///
-    /// The conditions: 1 to 64 workers, 1 to 4,096 bits, and the procedure that is shown is there. Fails only where memory runs out.
+    /// The condition: the procedure that is shown is there. Fails only where memory runs out.
     pub fn of<R: Threads + Sync, G: Gate>(
-        rt: &R,
+        team: &Team<'_, R, G>,
         alloc: Global,
         graph: &Graph<'_>,
         view: View,
-        workers: u32,
-        cut: u32,
-        gate: &G,
     ) -> Result<ShownTables, OutOfMemory>
-        requires range { AreInRange workers cut }
-        requires procedure { IfSome view.procedure (λ procedure. procedure < length graph.now.procedure_names) }
+        requires { IfSome view.procedure (λ procedure. procedure < length graph.now.procedure_names) }
         ensures { IfOk result (AreShownTables graph.now view) }
     {
-        let reach = table_if(rt, alloc, graph, view, Analysis::Reach, workers, cut, gate)?;
-        let live = table_if(rt, alloc, graph, view, Analysis::Live, workers, cut, gate)?;
-        let avail = table_if(rt, alloc, graph, view, Analysis::Avail, workers, cut, gate)?;
-        let busy = table_if(rt, alloc, graph, view, Analysis::Busy, workers, cut, gate)?;
+        let reach = table_if(team, alloc, graph, view, Analysis::Reach)?;
+        let live = table_if(team, alloc, graph, view, Analysis::Live)?;
+        let avail = table_if(team, alloc, graph, view, Analysis::Avail)?;
+        let busy = table_if(team, alloc, graph, view, Analysis::Busy)?;
         Ok(ShownTables {
             reach,
             live,

@@ -6,8 +6,6 @@ ghost use Rattle.tac_lines.specs.LineFaults.{number_of_kind};
 use std::fmt;
 use thiserror::Error;
 
-/// Memory was refused.
-
 /// Why a text is refused. `docs/LANGUAGE.md` has the place of each.
 #[derive(Clone, Copy, Debug, PartialEq, Eq)]
 pub enum RefusalKind {

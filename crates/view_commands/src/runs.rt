@@ -24,7 +24,7 @@ use text_pieces::{Sink, Source};
 ///
 /// - `Refused`: the text is no program within the limits. `Graph`: it is one, but has too many points (21) or bits (22) for them.
 ///   `NoProcedure`: it is one, but no procedure of it has the name that the options ask for.
-/// - `OutOfMemory`: memory was refused, or within the large limits a report asks some 2^26 words or more.
+/// - `OutOfMemory`: memory was refused.
 /// - `Read`: a pull was answered by a fault. `Write`: a push or the flush was; a beginning of what
 ///   is to be shown was pushed. After every other fault nothing was.
 pub fn run<R: Threads + Sync, S: Source, K: Sink>(

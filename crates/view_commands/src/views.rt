@@ -16,6 +16,7 @@ use crate::options::{Format, Options};
 use crate::progress::Progress;
 use flow_graph::Graph;
 use flow_runs::{Fault, OutOfMemory, Shown, graph_of, push_report, push_text};
+use flow_team::Team;
 use flow_texts::ReportAnswers;
 use flow_views::{DotText, JsonText, ShownTables, View};
 use std::alloc::Global;
@@ -60,31 +61,26 @@ fn view_of(program: &Program, options: &Options) -> Result<View, Fault>
 
 // What texts of a graph are made of: the tables of what is shown, and the answers to what a report asks.
 fn tables_and_answers<R: Threads + Sync>(
-    rt: &R,
+    team: &Team<'_, R, Progress>,
     alloc: Global,
     graph: &Graph<'_>,
     view: View,
-    options: &Options,
-    gate: &Progress,
 ) -> Result<(ShownTables, ReportAnswers), OutOfMemory>
     requires threads { IsSync R.row }
     requires there { IfSome view.procedure (λ number. number < length graph.now.procedure_names) }
     ensures { IfOk result (λ made. AreShownTables graph.now view made.0 × TellReport graph.now made.1) }
 {
-    let (workers, cut) = (options.workers, options.cut);
-    let tables = ShownTables::of(rt, alloc, graph, view, workers, cut, gate)?;
-    let answers = ReportAnswers::of(rt, alloc, graph, workers, cut, gate)?;
+    let tables = ShownTables::of(team, alloc, graph, view)?;
+    let answers = ReportAnswers::of(team, alloc, graph)?;
     Ok((tables, answers))
 }
 
 // Writes the graph for Graphviz.
 fn push_dot<R: Threads + Sync, K: Sink>(
-    rt: &R,
+    team: &Team<'_, R, Progress>,
     alloc: Global,
     graph: &Graph<'_>,
     view: View,
-    options: &Options,
-    gate: &Progress,
     sink: &mut K,
 ) -> Result<(), Fault>
     requires threads { IsSync R.row }
@@ -95,19 +91,17 @@ fn push_dot<R: Threads + Sync, K: Sink>(
     ensures fault { IfErr result (OfProgram (λ _. ⊥) ⊥) }
     ensures faults { K.faults sink.new ≡ K.faults sink.old + write_faults_in result }
 {
-    let (tables, answers) = tables_and_answers(rt, alloc, graph, view, options, gate)?;
+    let (tables, answers) = tables_and_answers(team, alloc, graph, view)?;
     let text = DotText::of(alloc, graph, &tables, &answers, view)?;
     push_text(alloc, &text, sink)
 }
 
 // Writes the lines of JSON.
 fn push_json<R: Threads + Sync, K: Sink>(
-    rt: &R,
+    team: &Team<'_, R, Progress>,
     alloc: Global,
     graph: &Graph<'_>,
     view: View,
-    options: &Options,
-    gate: &Progress,
     sink: &mut K,
 ) -> Result<(), Fault>
     requires threads { IsSync R.row }
@@ -118,19 +112,18 @@ fn push_json<R: Threads + Sync, K: Sink>(
     ensures fault { IfErr result (OfProgram (λ _. ⊥) ⊥) }
     ensures faults { K.faults sink.new ≡ K.faults sink.old + write_faults_in result }
 {
-    let (tables, answers) = tables_and_answers(rt, alloc, graph, view, options, gate)?;
+    let (tables, answers) = tables_and_answers(team, alloc, graph, view)?;
     let text = JsonText::of(alloc, graph, &tables, &answers, view)?;
     push_text(alloc, &text, sink)
 }
 
 // Writes what the options ask for of a graph. A report wants no tables.
 fn view_of_graph<R: Threads + Sync, K: Sink>(
-    rt: &R,
+    team: &Team<'_, R, Progress>,
     alloc: Global,
     graph: &Graph<'_>,
     view: View,
     options: &Options,
-    gate: &Progress,
     sink: &mut K,
 ) -> Result<(), Fault>
     requires threads { IsSync R.row }
@@ -141,11 +134,10 @@ fn view_of_graph<R: Threads + Sync, K: Sink>(
     ensures fault { IfErr result (OfProgram (λ _. ⊥) ⊥) }
     ensures faults { K.faults sink.new ≡ K.faults sink.old + write_faults_in result }
 {
-    let (workers, cut) = (options.workers, options.cut);
     match options.format {
-        Format::Dot => push_dot(rt, alloc, graph, view, options, gate, sink),
-        Format::Json => push_json(rt, alloc, graph, view, options, gate, sink),
-        Format::Report => push_report(rt, alloc, graph, workers, cut, gate, sink),
+        Format::Dot => push_dot(team, alloc, graph, view, sink),
+        Format::Json => push_json(team, alloc, graph, view, sink),
+        Format::Report => push_report(team, alloc, graph, sink),
     }
 }
 
@@ -169,7 +161,13 @@ fn show_view<R: Threads + Sync, K: Sink>(
     ensures faults { K.faults sink.new ≡ K.faults sink.old + write_faults_in result }
 {
     let graph = graph_of(alloc, program, options.limits)?;
-    view_of_graph(rt, alloc, &graph, view, options, gate, sink)
+    let team = Team {
+        rt,
+        gate,
+        workers: options.workers,
+        cut: options.cut,
+    };
+    view_of_graph(&team, alloc, &graph, view, options, sink)
 }
 
 /// What options ask for, and the gate that is told of the slices of the work.

@@ -4,7 +4,7 @@ use mathlib.Core.Logic.{dite}
 use native.Mathlib.Decide.{ℕ_discrete}
 use Rattle.bit_rows.specs.Words.{has_bit}
 use Rattle.flow_team.specs.code.Directions.{form_of}
-use Rattle.flow_team.specs.code.Boards.{AreDone, Asked, IsAmong, IsWanted, NoneOf}
+use Rattle.flow_team.specs.code.Boards.{AreDone, Asked, IsWanted}
 use Rattle.flow_team.specs.declared.ask.Ask.{Ask}
 use Rattle.flow_graph.specs.Universes.{bits}
 use Rattle.flow_graph.specs.declared.analysis.Analysis.{Analysis}
@@ -54,46 +54,10 @@ module _ (asked : Asked) where
   done_still done old new posts all bit want at =
       subst (λ (pass : PassState _). IsLogged pass.posted 0 bit) (sym posts.same) (marked_still old.posted posts.more 0 bit (all bit want at))
 
-  -- one ask more of an analysis
-  pub done_more : {T : Type 0} → (analysis : Analysis) (from q : ℕ) (old new : PassState T) → PostsMore old new
-      → AreDone asked (IsAmong asked.order from q analysis) old.posted → AreDone asked (IsAmong asked.order q (q + 1) analysis) new.posted
-      → AreDone asked (IsAmong asked.order from (q + 1) analysis) new.posted
-  done_more analysis from q old new posts before here bit want at = dite (ℕ_discrete (bit / 64) q)
-      (λ same. here bit want (omega (arith, same), omega (arith, same), at.2))
-      (λ apart. done_still (IsAmong asked.order from q analysis) old new posts before bit want (at.0, omega (arith, apart, at.1), at.2))
-
-  -- an ask of another analysis
-  pub done_other : {T : Type 0} → (analysis : Analysis) (from until : ℕ) (pass : PassState T) → NoneOf asked.order from until analysis
-      → AreDone asked (IsAmong asked.order from until analysis) pass.posted
-  done_other analysis from until pass none bit want at = absurd (none (bit / 64) want.ask at.0 at.1 want.there (at.2 want.ask want.there))
-
-  -- the asks of all four
-  among : (from until q : ℕ) (ask : Ask) (analysis : Analysis) → slice_get asked.order q ≡ Some ask → ask.analysis ≡ analysis → from ≤ q → q < until
-      → IsAmong asked.order from until analysis q
-  among from until q ask analysis there is low high = (
-    low,
-    high,
-    λ other here.
-        let both : Some other ≡ Some ask = sym here ∙ there in
-        let same : other ≡ ask = cc both in
-        ap (λ (a : Ask). a.analysis) same ∙ is,
-  )
-
-  all_of : (from until : ℕ) (marks : List LoggedWord) → ((analysis : Analysis) → AreDone asked (IsAmong asked.order from until analysis) marks)
-      → AreDone asked (λ q. (from ≤ q) × (q < until)) marks
-  all_of from until marks each bit want at =
-      each want.ask.analysis bit want (among from until (bit / 64) want.ask want.ask.analysis want.there refl at.0 at.1)
-
-  pub done_all : {T : Type 0} → (from until : ℕ) (first second third last : PassState T) → PostsMore first second → PostsMore second third
-      → PostsMore third last
-      → AreDone asked (IsAmong asked.order from until Reach) first.posted → AreDone asked (IsAmong asked.order from until Live) second.posted
-      → AreDone asked (IsAmong asked.order from until Avail) third.posted → AreDone asked (IsAmong asked.order from until Busy) last.posted
-      → AreDone asked (λ q. (from ≤ q) × (q < until)) last.posted
-  done_all from until first second third last a b c reach live avail busy = all_of from until last.posted each
-    where
-      each : (analysis : Analysis) → AreDone asked (IsAmong asked.order from until analysis) last.posted
-      each Reach = done_still (IsAmong asked.order from until Reach) third last c
-          (done_still (IsAmong asked.order from until Reach) second third b (done_still (IsAmong asked.order from until Reach) first second a reach))
-      each Live = done_still (IsAmong asked.order from until Live) third last c (done_still (IsAmong asked.order from until Live) second third b live)
-      each Avail = done_still (IsAmong asked.order from until Avail) third last c avail
-      each Busy = busy
+  -- one ask more
+  pub done_more : {T : Type 0} → (from q : ℕ) (old new : PassState T) → PostsMore old new
+      → AreDone asked (λ j. (from ≤ j) × (j < q)) old.posted → AreDone asked (λ j. j ≡ q) new.posted
+      → AreDone asked (λ j. (from ≤ j) × (j < q + 1)) new.posted
+  done_more from q old new posts before here bit want at = dite (ℕ_discrete (bit / 64) q)
+      (λ same. here bit want same)
+      (λ apart. done_still (λ j. (from ≤ j) × (j < q)) old new posts before bit want (at.0, omega (arith, apart, at.1)))

@@ -36,17 +36,17 @@ order_send = search (crosses, sendable) depth 60
 order_sync : IsSync Order.the_row
 order_sync = search (crosses, sendable) depth 60
 
-links_send : (g p : NamedLft) → IsSend (Links.the_row g p)
-links_send g p = search (order_send, crosses, sendable) depth 60 fits 5000
+links_send : IsSend Links.the_row
+links_send = search (order_send, crosses, sendable) depth 60 fits 5000
 
-links_sync : (g p : NamedLft) → IsSync (Links.the_row g p)
-links_sync g p = search (order_sync, crosses, sendable) depth 60 fits 5000
+links_sync : IsSync Links.the_row
+links_sync = search (order_sync, crosses, sendable) depth 60 fits 5000
 
-routes_send : (g p : NamedLft) → IsSend (Routes.the_row g p)
-routes_send g p = search (links_send, crosses, sendable) depth 60
+routes_send : IsSend Routes.the_row
+routes_send = search (links_send, crosses, sendable) depth 60
 
-routes_sync : (g p : NamedLft) → IsSync (Routes.the_row g p)
-routes_sync g p = search (links_sync, crosses, sendable) depth 60
+routes_sync : IsSync Routes.the_row
+routes_sync = search (links_sync, crosses, sendable) depth 60
 
 solver_send : (g p : NamedLft) → IsSend (Solver.the_row g p)
 solver_send g p = search (problem_send, crosses, sendable) depth 60 fits 5000

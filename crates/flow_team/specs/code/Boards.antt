@@ -1,12 +1,12 @@
 -- How asks stand to their board, and how far they are posted.
-use Rattle.std.specs.Prelude.{◌≡◌, ◌≢◌, ℕ, ◌+◌, ◌*◌, ◌/◌, ◌%◌, ◌^◌, ◌<◌, ◌≤◌, List, Some, length, map, slice_get, slice_index, slice_index_or}
+use Rattle.std.specs.Prelude.{◌≡◌, ℕ, ◌+◌, ◌*◌, ◌/◌, ◌%◌, ◌^◌, ◌<◌, ◌≤◌, List, Some, length, map, slice_get, slice_index, slice_index_or}
 use Rattle.flow_graph.specs.Points.{point_count}
 use Rattle.flow_graph.specs.Problems.{MayForm}
 use Rattle.flow_graph.specs.Universes.{bits}
-use Rattle.flow_graph.specs.declared.analysis.Analysis.{Analysis}
 use Rattle.flow_graph.specs.declared.analysis.Analysis.TheVariants.{Reach, Live, Avail, Busy}
 use Rattle.flow_team.specs.Asks.{AreAsksOf, IsAnswerTo}
 use Rattle.flow_team.specs.Sets.{IsInMaySet}
+use Rattle.flow_team.specs.code.Cuts.{AreApart}
 use Rattle.flow_team.specs.code.Directions.{Pair, form_of}
 use Rattle.flow_team.specs.declared.ask.Ask.{Ask}
 use Rattle.gk_solve.specs.Solved.{HasPathFlags, IsSliceOf, SliceTable, TellWords}
@@ -62,19 +62,12 @@ pub record IsWanted (asked : Asked) (point bit : ℕ) : Type 0 where
   pub there : slice_get asked.order (bit / 64) ≡ Some ask
   pub some : IsInMaySet (form_of asked.program ask.analysis) ask.point (64 * ask.word + bit % 64)
 
--- The board wants what is asked: it has one point, and a word for each ask.
+-- The board wants what is asked: it has one point, a word for each ask, and slices of asks of one analysis.
 pub record IsAskBoard (asked : Asked) (board : BoardState Asked) : Type 0 where
   pub wanted : board.wanted ≡ asked
   pub one : board_points board ≡ 1
   pub words : board.cut.bits ≡ 64 * length asked.order
-
--- the ask is one of so many, and of the analysis
-abbrev pub IsAmong : List Ask → ℕ → ℕ → Analysis → ℕ → Type 0
-IsAmong asks from until analysis q = (from ≤ q) × (q < until) × ((ask : Ask) → slice_get asks q ≡ Some ask → ask.analysis ≡ analysis)
-
--- No ask from one up to another is of the analysis.
-abbrev pub NoneOf : List Ask → ℕ → ℕ → Analysis → Type 0
-NoneOf asks from until analysis = (q : ℕ) (ask : Ask) → from ≤ q → q < until → slice_get asks q ≡ Some ask → ask.analysis ≢ analysis
+  pub apart : AreApart asked.order board.cut
 
 -- What is wanted of the asks that are done is posted.
 abbrev pub AreDone : Asked → (ℕ → Type 0) → List LoggedWord → Type 0

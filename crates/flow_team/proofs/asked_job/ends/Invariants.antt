@@ -1,5 +1,9 @@
-use Rattle.flow_team.proofs.asks.Ends.{EndTo}
+use Rattle.std.proofs.Common.{◌<◌, length}
+use Rattle.flow_team.specs.code.Cuts.{EndTo}
 use Rattle.flow_team.proofs.asked_job.ends.Given as goal
 
-abbrev pub invariant-loop-key : goal.invariant-loop-key
-invariant-loop-key l = EndTo l.count l.last l.ends.items
+abbrev pub invariant-loop-j : goal.invariant-loop-j
+invariant-loop-j l = record {
+  first : 0 < l.j;
+  ends : EndTo l.asked.order (length l.asked.order) l.j l.ends.items;
+}

@@ -1,4 +1,5 @@
-use Rattle.std.proofs.Common.{◌≡◌, ◌/◌, length, rules, arith}
+use Rattle.std.proofs.Common.{◌≡◌, ◌/◌, length, rules, arith, subst, sym}
+use Rattle.flow_team.specs.code.Cuts.{AreApart}
 use Rattle.std.proofs.lemmas.Option.{slice_get_within}
 use Rattle.flow_team.proofs.threads.Sent.{asked_cross}
 use Rattle.flow_team.proofs.asked_job.on_board.Goals as goal
@@ -19,4 +20,12 @@ pub open-requires-clause-within : goal.open-requires-clause-within
 open-requires-clause-within c = λ point bit want.
     let there = slice_get_within c.args.asked.order (bit / 64) want.ask want.there in
     let one : length c.in_ok-flags.flags.items ≡ 1 = search rules in
-    (omega (arith, want.only, one), omega (arith, there, c.requires))
+    (omega (arith, want.only, one), omega (arith, there, c.requires.bits))
+
+pub on_board-requires-after_bounds : goal.on_board-requires-after_bounds
+on_board-requires-after_bounds c = λ κs lives. record {
+  wanted = c.in_ok-board.ensures.wanted;
+  one = search rules;
+  words = search rules;
+  apart = subst (AreApart c.args.asked.order) (sym c.in_ok-board.ensures.cut) c.requires.apart;
+}
