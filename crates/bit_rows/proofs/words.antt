@@ -1,2 +1,3 @@
+pub mod MaskBits
 pub mod WordBits
 pub mod WordLaws

@@ -2,6 +2,7 @@
 ghost use Rattle.std.specs.Prelude.{◌≡◌, ◌-◌, ◌^◌, ◌<◌, ◌≤◌, ◌&&◌, ◌||◌, not, length, MatchBool};
 ghost use Rattle.bit_rows.specs.Words.{word_count, range_mask, IsTrimmed, CombinesPlaces, MapsPlaces, SamePlaces, AddsPlaces};
 
+use crate::masks::{word_within, words_for};
 use std::simd::prelude::*;
 
 /// How many words hold the bits `lo..hi`.
@@ -9,30 +10,7 @@ pub(crate) fn words_needed(lo: u32, hi: u32) -> usize
     requires { lo ≤ hi }
     ensures { result ≡ word_count lo hi }
 {
-    (hi as usize).div_ceil(64) - (lo / 64) as usize
-}
-
-// The word whose lowest `count` bits are 1.
-fn low_ones(count: u64) -> u64
-    requires { count ≤ 64 }
-    ensures { result ≡ 2 ^ count - 1 }
-{
-    if count == 64 {
-        u64::MAX
-    } else {
-        (1 << count) - 1
-    }
-}
-
-/// Word `w` of the set of all bits in `lo..hi`.
-pub(crate) fn mask_of_range(lo: u32, hi: u32, w: u32) -> u64
-    requires { lo ≤ hi }
-    ensures { result ≡ range_mask lo hi w }
-{
-    let start = 64 * u64::from(w);
-    let high = u64::from(hi).saturating_sub(start).min(64);
-    let low = u64::from(lo).saturating_sub(start).min(64);
-    low_ones(high) - low_ones(low)
+    (words_for(hi) - lo / 64) as usize
 }
 
 /// Clears what stands outside `lo..hi` in the words of a row over that range.
@@ -45,9 +23,9 @@ pub(crate) fn trim(words: &mut [u64], lo: u32, hi: u32)
     let Some(last) = words.len().checked_sub(1) else {
         return;
     };
-    words[0] &= mask_of_range(lo, hi, first);
+    words[0] &= word_within(lo, hi, first);
     if last > 0 {
-        words[last] &= mask_of_range(lo, hi, first + last as u32);
+        words[last] &= word_within(lo, hi, first + last as u32);
     }
 }
 

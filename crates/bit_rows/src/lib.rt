@@ -4,10 +4,12 @@
 
 mod all_rows;
 mod kernels;
+mod masks;
 mod one_row;
 mod slicing;
 
 pub use all_rows::Rows;
+pub use masks::{complement_within, low_ones, word_below, word_within, words_for};
 pub use one_row::Row;
 pub use slicing::{Cut, CutFault};
 pub use std::alloc::AllocError as OutOfMemory;

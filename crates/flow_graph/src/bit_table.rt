@@ -5,6 +5,7 @@ ghost use Rattle.bit_rows.specs.Words.{has_bit};
 ghost use Rattle.flow_graph.specs.code.BitTables.{HasRow, IsBlank, table_has};
 
 use crate::OutOfMemory;
+use bit_rows::words_for;
 use std::alloc::Global;
 
 /// A block of rows of bits. Bit `b` of a row stands in its word `b / 64`, at place `b % 64`.
@@ -25,7 +26,7 @@ impl BitTable {
         requires bits { bits ≤ 512 }
         ensures { IfOk result (λ t. IsBlank rows bits t.words.items t.width) }
     {
-        let width = (bits as usize).div_ceil(64);
+        let width = words_for(bits) as usize;
         let mut words = Vec::new(alloc);
         words.resize(rows as usize * width, 0)?;
         Ok(BitTable {

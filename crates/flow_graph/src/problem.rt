@@ -19,9 +19,8 @@ use crate::edge::Edge;
 use crate::effect::{Effect, KeptEffect};
 use crate::effects::{bit_variables, dependent_words, effects, put_dependence};
 use crate::graph::Graph;
-use crate::words::{
-    full_word, generated, generates, is_either, killed, kills, own_word, word_mark,
-};
+use crate::words::{generated, generates, is_either, killed, kills, own_word, word_mark};
+use bit_rows::word_below;
 use std::alloc::Global;
 use std::marker::Model;
 use tac_program::Program;
@@ -298,7 +297,7 @@ impl<'g, 'p> Problem<'g, 'p> {
         let effect = self.effect(point);
         let own = own_word(effect, word);
         let touched = self.touched_word(effect.written, word, table);
-        generated(self.analysis, own, touched) & full_word(self.bits(), word)
+        generated(self.analysis, own, touched) & word_below(self.bits(), word)
     }
 
     /// The bits that the step of the statement at a point kills, by words, by a table that has the word.
@@ -312,7 +311,7 @@ impl<'g, 'p> Problem<'g, 'p> {
         let effect = self.effect(point);
         let own = own_word(effect, word);
         let touched = self.touched_word(effect.written, word, table);
-        killed(self.analysis, own, touched) & full_word(self.bits(), word)
+        killed(self.analysis, own, touched) & word_below(self.bits(), word)
     }
 
     /// Whether the step of the statement at a point generates a bit.
@@ -344,7 +343,7 @@ impl<'g, 'p> Problem<'g, 'p> {
         ensures { (k : ℕ) → k < 64 → has_bit result k ≡ may_boundary self.now (64 * word + k) }
     {
         match self.analysis {
-            Analysis::Reach => full_word(self.graph.program().variables(), word),
+            Analysis::Reach => word_below(self.graph.program().variables(), word),
             Analysis::Live => 0,
             Analysis::Avail => u64::MAX,
             Analysis::Busy => u64::MAX,
@@ -355,7 +354,7 @@ impl<'g, 'p> Problem<'g, 'p> {
     pub fn boundary_word(&self, word: u32) -> u64
         ensures { IsWordOfTest (may_boundary self.now) (bits_of self.now.program self.now.analysis) word result }
     {
-        self.boundary_places(word) & full_word(self.bits(), word)
+        self.boundary_places(word) & word_below(self.bits(), word)
     }
 
     /// Whether a bit holds where the problem begins.

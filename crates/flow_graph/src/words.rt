@@ -7,18 +7,6 @@ ghost use Rattle.flow_graph.specs.code.Effects.{effect_owns, gen_from, kill_from
 use crate::analysis::Analysis;
 use crate::effect::Effect;
 
-/// The word of the bits below `bits`.
-pub(crate) fn full_word(bits: u32, word: u32) -> u64
-    ensures { (k : ℕ) → k < 64 → has_bit result k ≡ nat_lt (64 * word + k) bits }
-{
-    let count = u64::from(bits).saturating_sub(64 * u64::from(word));
-    if count < 64 {
-        (1 << count) - 1
-    } else {
-        u64::MAX
-    }
-}
-
 /// The word of a single bit, or of none.
 fn mark_word(mark: Option<u32>, word: u32) -> u64
     ensures { (k : ℕ) → k < 64 → has_bit result k ≡ marks mark (64 * word + k) }

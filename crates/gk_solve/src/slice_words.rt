@@ -17,6 +17,7 @@ use crate::group_frame::GroupFrame;
 use crate::routes::Routes;
 use crate::solution::solve_group;
 use crate::summary::Summary;
+use bit_rows::words_for;
 use flow_graph::{BitTable, Problem};
 use flow_links::Links;
 use std::alloc::Global;
@@ -189,7 +190,7 @@ fn width_for(points: u32, lo: u32, hi: u32) -> Width
     ensures four { result ≡ Four → words_at_once points (words_between lo hi) ≡ 4 }
     ensures eight { result ≡ Eight → words_at_once points (words_between lo hi) ≡ 8 }
 {
-    let words = hi.div_ceil(64).saturating_sub(lo / 64);
+    let words = words_for(hi).saturating_sub(lo / 64);
     if words <= 1 {
         return Width::One;
     }
@@ -279,7 +280,7 @@ fn group_end(width: Width, points: u32, lo: u32, hi: u32, word: u32) -> u32
     ensures most { result ≤ word + words_at_once points (words_between lo hi) }
     ensures whole { lo / 64 ≤ word → 64 * result < hi → result ≡ word + words_at_once points (words_between lo hi) }
 {
-    let left = hi.div_ceil(64) - word;
+    let left = words_for(hi) - word;
     word + left.min(count(width))
 }
 

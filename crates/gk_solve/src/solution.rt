@@ -13,26 +13,8 @@ use crate::group::kept_and_made;
 use crate::group_frame::GroupFrame;
 use crate::lanes::{common_words, new_or_kept};
 use crate::summary::Summary;
+use bit_rows::word_within;
 use work_list::Marks;
-
-// The word of the bits below a limit.
-fn word_below(limit: u32, word: u32) -> u64
-    ensures { (k : ℕ) → k < 64 → has_bit result k ≡ nat_lt (64 * word + k) limit }
-{
-    let count = u64::from(limit).saturating_sub(64 * u64::from(word));
-    if count < 64 {
-        (1 << count) - 1
-    } else {
-        u64::MAX
-    }
-}
-
-// The bits of a word that lie within `lo..hi`.
-fn word_within(lo: u32, hi: u32, word: u32) -> u64
-    ensures { (k : ℕ) → k < 64 → (has_bit result k ≡ true) ↔ ((lo ≤ 64 * word + k) × (64 * word + k < hi)) }
-{
-    !word_below(lo, word) & word_below(hi, word)
-}
 
 // The bits of a group's words that lie within `lo..hi`.
 fn words_within<const W: usize>(frame: &GroupFrame, lo: u32, hi: u32) -> [u64; W]

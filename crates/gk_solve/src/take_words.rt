@@ -7,6 +7,7 @@ ghost use Rattle.gk_solve.specs.Tables.Groups.{AreEffectWords};
 use crate::count::CountSteps;
 use crate::routes::Routes;
 use crate::slice_words::SliceWords;
+use bit_rows::words_for;
 use flow_graph::Problem;
 
 /// What takes the words of a slice as they are solved: rows, a board that workers share, a caller's memory.
@@ -51,7 +52,7 @@ pub(crate) fn solve_each<'a, 'g, 'p, T: TakeWords, C: CountSteps>(
     let _ = problem.root();
     let (lo, hi) = slice.range();
     let mut word = lo / 64;
-    'words: while word < hi.div_ceil(64) {
+    'words: while word < words_for(hi) {
         word = slice.solve_from(problem, routes, effects, word, followed);
         taker.take_words(problem, &*slice);
     }

@@ -5,7 +5,7 @@ ghost use Rattle.flow_graph.specs.Points.{point_count};
 ghost use Rattle.flow_graph.specs.Universes.{bits as bits_of};
 ghost use Rattle.gk_solve.specs.Solved.{direction_of};
 
-use bit_rows::{Cut, Rows};
+use bit_rows::{Cut, Rows, words_for};
 use flow_graph::{Analysis, Expr, Graph, OutOfMemory, Problem};
 use gk_solve::{Routes, Solver, solve};
 use std::alloc::Global;
@@ -147,7 +147,7 @@ fn words_agree<'a, 'g, 'p>(
 {
     let (lo, hi) = (rows.lo(), rows.hi());
     let mut slice = solver.slice(alloc, routes, lo, hi)?;
-    let end = hi.div_ceil(64);
+    let end = words_for(hi);
     let mut word = lo / 64;
     let mut agree = true;
     'groups: while word < end {

@@ -6,6 +6,7 @@ ghost use Rattle.work_list.specs.Tables.MarkWords.{AreFull, is_marked_in};
 
 use crate::OutOfMemory;
 use crate::order::{Order, Ranks};
+use bit_rows::{low_ones, words_for};
 use std::alloc::Global;
 use std::marker::Model;
 
@@ -124,7 +125,7 @@ fn fill_words(words: &mut [u64], bits: usize)
 {
     words.fill(u64::MAX);
     if bits % 64 != 0 {
-        words[bits / 64] = (1 << (bits % 64)) - 1;
+        words[bits / 64] = low_ones((bits % 64) as u32);
     }
 }
 
@@ -133,10 +134,10 @@ impl Marks {
     pub fn none(alloc: Global, order: &Order) -> Result<Marks, OutOfMemory>
         ensures { IfOk result (λ marks. marks ≡ replicate (length order.now) false) }
     {
-        let points = order.points() as usize;
+        let points = order.points();
         Ok(Marks {
             order: order.copy(alloc)?,
-            words: vec![in alloc; 0u64; points.div_ceil(64)]?,
+            words: vec![in alloc; 0u64; words_for(points) as usize]?,
             next: 0,
             part: Ranks::none(),
             whole: Ranks::none(),

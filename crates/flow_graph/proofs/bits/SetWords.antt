@@ -28,20 +28,6 @@ word_of_bit n word k within same = by_case (cases_eq k (n % 64))
 pub word_of_another : (n word k : ℕ) → k < 64 → (n / 64 ≡ word → ⊥) → has_bit 0 k ≡ nat_eq (64 * word + k) n
 word_of_another n word k within other = has_bit-zero k ∙ sym (ne_eqb (64 * word + k) n (λ e. other (omega arith)))
 
--- the word of all bits below a number
-pub low_word : (bits word count k : ℕ) → k < 64 → count ≡ bits - 64 * word → count < 64
-    → has_bit (1 * 2 ^ count % 2 ^ 64 - 1) k ≡ nat_lt (64 * word + k) bits
-unfolding has_bit
-low_word bits word count k within is few = ap (λ m. has_bit (m - 1) k) (one_shl count 64 few) ∙ by_case (cases_lt k count)
-  where
-    by_case : (k < count) ⊎ (count ≤ k) → has_bit (2 ^ count - 1) k ≡ nat_lt (64 * word + k) bits
-    by_case (inl below) = ap (λ x. eqb x 1) (bit_at_ones count k below) ∙ sym (lt-ltb (64 * word + k) bits (omega arith))
-    by_case (inr above) = ap (λ x. eqb x 1) (bit_at_ones_above count k above) ∙ sym (le-ltb (64 * word + k) bits (omega arith))
-
-pub whole_word : (bits word k : ℕ) → k < 64 → 64 ≤ bits - 64 * word → has_bit (2 ^ 64 - 1) k ≡ nat_lt (64 * word + k) bits
-unfolding has_bit
-whole_word bits word k within many = ap (λ x. eqb x 1) (bit_at_ones 64 k within) ∙ sym (lt-ltb (64 * word + k) bits (omega arith))
-
 -- a bit that is set in a block of words
 module _ (words : List ℕ) (width row bit word : ℕ) (there : HasRow words width row) (inside : bit / 64 < width)
     (found : word ≡ get_or words (row * width + bit / 64) word) where

@@ -1,8 +1,8 @@
 -- The words of a slice: the bits within it, and the solution at a point
 use Rattle.std.proofs.Common.{◌≡◌, ◌<◌, ◌≤◌, ◌+◌, ◌*◌, ◌⊎◌, ◌↔◌, inl, inr, ◌&&◌, not, length, get_or, true, Bool, ℕ, List, [], arith, sym, ◌∙◌, ap}
-use Rattle.std.proofs.Common.{nat_lt, take, drop, ◌++◌}
+use Rattle.std.proofs.Common.{nat_le, nat_lt, take, drop, ◌++◌}
 use Rattle.std.proofs.lemmas.Grind.{common_steps}
-use Rattle.std.proofs.lemmas.Bool.{cases_lt, lt-ltb, ltb-true, le-ltb, false≢true, and_parts, and_from}
+use Rattle.std.proofs.lemmas.Bool.{lt-ltb, ltb-true, le-leb, leb-true, and_parts, and_from}
 use Rattle.bit_rows.specs.Words.{has_bit}
 use Rattle.flow_links.specs.Shapes.{directed_shape}
 use Rattle.summary_equations.specs.Equations.{IsInSolution}
@@ -12,17 +12,12 @@ use Rattle.gk_solve.specs.Tables.Solutions.{AreInSlice, IsSolutionAt}
 use Rattle.gk_solve.specs.declared.group_frame.GroupFrame.{GroupFrame}
 use Rattle.gk_solve.specs.declared.summary.Summary.{Summary}
 
--- a place that is not below the first limit, and below the second
-pub within_bit : (below above : Bool) (n lo hi : ℕ) → below ≡ nat_lt n lo → above ≡ nat_lt n hi
-    → ((not below && above) ≡ true) ↔ ((lo ≤ n) × (n < hi))
-within_bit below above n lo hi is_below is_above = (
-  λ has. let parts = and_parts (not below) above has in (at_least (cases_lt n lo) parts.0, ltb-true n hi (sym is_above ∙ parts.1)),
-  λ h. and_from (not below) above (ap not (is_below ∙ le-ltb n lo h.0)) (is_above ∙ lt-ltb n hi h.1),
+-- a place that is 1 where a bit is at least the first limit and below the second
+pub within_bit : (bit : Bool) (n lo hi : ℕ) → bit ≡ (nat_le lo n && nat_lt n hi) → (bit ≡ true) ↔ ((lo ≤ n) × (n < hi))
+within_bit bit n lo hi is = (
+  λ has. let parts = and_parts (nat_le lo n) (nat_lt n hi) (sym is ∙ has) in (leb-true lo n parts.0, ltb-true n hi parts.1),
+  λ h. is ∙ and_from (nat_le lo n) (nat_lt n hi) (le-leb lo n h.0) (lt-ltb n hi h.1),
 )
-  where
-    at_least : (n < lo) ⊎ (lo ≤ n) → not below ≡ true → lo ≤ n
-    at_least (inl less) past = absurd (false≢true (sym (ap not (is_below ∙ lt-ltb n lo less)) ∙ past))
-    at_least (inr most) past = most
 
 -- the solution at a point, from exact tables
 module _ (width : ℕ) (frame : GroupFrame) (is : IsGroupFrame width frame) {W : ℕ} (table : List (Summary W)) (brought : List (List ℕ))

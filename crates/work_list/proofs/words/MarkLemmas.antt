@@ -2,7 +2,7 @@
 use Rattle.std.proofs.Common.{◌≡◌, ◌≢◌, ◌<◌, ◌≤◌, ◌+◌, ◌-◌, ◌*◌, ◌/◌, ◌%◌, ◌^◌, inl, inr, length, get_or, set, replicate, true, false, Bool, ℕ}
 use Rattle.std.proofs.Common.{List, arith, sym, ◌∙◌, subst, ap, nat_eq, eq-eqb}
 use Rattle.std.proofs.lemmas.Bool.{cases_eq, cases_lt, and_parts}
-use Rattle.std.proofs.lemmas.Nat.{and_le_l, one_shl}
+use Rattle.std.proofs.lemmas.Nat.{and_le_l}
 use Rattle.std.proofs.lemmas.List.{length-replicate, get_or-replicate, get_or_past, get_or_default, get_or-set_same, get_or-set_other, get_or-map}
 use Rattle.std.proofs.lemmas.List.{length-map, ext_get_or}
 use Rattle.std.proofs.Math.ListN.{length-set}
@@ -228,16 +228,15 @@ module _ (words : List ℕ) (bits : ℕ) (ones : (k : ℕ) → k < length words 
   full_whole whole = ((λ x low. one_below x (omega arith)), (λ x high. none_above x (omega arith)))
 
   at_last : (x : ℕ) → bits / 64 < length words → x / 64 ≡ bits / 64
-      → is_marked_in (set words (bits / 64) (1 * 2 ^ (bits % 64) % 2 ^ 64 - 1)) x ≡ has_bit (2 ^ (bits % 64) - 1) (x % 64)
+      → is_marked_in (set words (bits / 64) (2 ^ (bits % 64) - 1)) x ≡ has_bit (2 ^ (bits % 64) - 1) (x % 64)
   unfolding is_marked_in
   at_last x within same =
-      ap (λ n. has_bit (get_or (set words (bits / 64) (1 * 2 ^ (bits % 64) % 2 ^ 64 - 1)) n 0) (x % 64)) same
-      ∙ (ap (λ w. has_bit w (x % 64)) (get_or-set_same words (bits / 64) (1 * 2 ^ (bits % 64) % 2 ^ 64 - 1) 0 within)
-      ∙ ap (λ n. has_bit (n - 1) (x % 64)) (one_shl (bits % 64) 64 (omega arith)))
+      ap (λ n. has_bit (get_or (set words (bits / 64) (2 ^ (bits % 64) - 1)) n 0) (x % 64)) same
+      ∙ ap (λ w. has_bit w (x % 64)) (get_or-set_same words (bits / 64) (2 ^ (bits % 64) - 1) 0 within)
 
-  elsewhere : (x : ℕ) → x / 64 ≢ bits / 64 → is_marked_in (set words (bits / 64) (1 * 2 ^ (bits % 64) % 2 ^ 64 - 1)) x ≡ is_marked_in words x
+  elsewhere : (x : ℕ) → x / 64 ≢ bits / 64 → is_marked_in (set words (bits / 64) (2 ^ (bits % 64) - 1)) x ≡ is_marked_in words x
   unfolding is_marked_in
-  elsewhere x apart = ap (λ w. has_bit w (x % 64)) (get_or-set_other words (bits / 64) (x / 64) (1 * 2 ^ (bits % 64) % 2 ^ 64 - 1) 0 apart)
+  elsewhere x apart = ap (λ w. has_bit w (x % 64)) (get_or-set_other words (bits / 64) (x / 64) (2 ^ (bits % 64) - 1) 0 apart)
 
   in_mask : (i : ℕ) → i < bits % 64 → has_bit (2 ^ (bits % 64) - 1) i ≡ true
   unfolding has_bit
@@ -247,7 +246,7 @@ module _ (words : List ℕ) (bits : ℕ) (ones : (k : ℕ) → k < length words 
   unfolding has_bit
   past_mask i high = ap (λ b. nat_eq b 1) (bit_at_ones_above (bits % 64) i high)
 
-  pub full_part : bits % 64 ≢ 0 → AreFull bits (set words (bits / 64) (1 * 2 ^ (bits % 64) % 2 ^ 64 - 1))
+  pub full_part : bits % 64 ≢ 0 → AreFull bits (set words (bits / 64) (2 ^ (bits % 64) - 1))
   full_part part =
       let within : bits / 64 < length words = omega arith in (
         (λ x low. elim (cases_eq (x / 64) (bits / 64)) [

@@ -61,7 +61,7 @@ returns g c =
       arith,
       c.words.invariant.high,
       c.words-test.false,
-      c.div_ceil.ensures,
+      c.words_for.ensures,
       c.range-lo.ensures.1,
     ) in
     subst (g.T.TakeWords.has c.args.taker.now c.words.taker c.args.problem.now c.args.slice.now.lo c.args.slice.now.hi) end c.words.invariant.has

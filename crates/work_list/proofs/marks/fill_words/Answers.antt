@@ -1,5 +1,6 @@
-use Rattle.std.proofs.Common.{◌≡◌, ◌<◌, ◌-◌, ◌^◌, ℕ, List, length, get_or, replicate, ap, ◌∙◌, arith}
+use Rattle.std.proofs.Common.{◌≡◌, ◌<◌, ◌-◌, ◌/◌, ◌^◌, ℕ, List, length, get_or, set, replicate, ap, subst, sym, ◌∙◌, arith}
 use Rattle.std.proofs.lemmas.List.{length-replicate, get_or-replicate}
+use Rattle.work_list.specs.Tables.MarkWords.{AreFull}
 use Rattle.work_list.proofs.words.MarkLemmas.{full_whole, full_part}
 use Rattle.work_list.proofs.marks.fill_words.Goals as goal
 
@@ -15,8 +16,9 @@ returns-then-bits-ne0 c =
     let same : length c.fill.new.self ≡ length c.args.words.now = c.fill.ensures.len in
     let room = c.requires.0 in
     let full = c.requires.1 in
-    full_part c.fill.new.self c.args.bits (ones c.fill.new.self (length c.args.words.now) is) (omega (arith, room, same)) (omega (arith, full, same))
-    c.if-bits-ne0.true
+    subst (λ v. AreFull c.args.bits (set c.fill.new.self (c.args.bits / 64) v)) (sym c.low_ones.ensures.value)
+    (full_part c.fill.new.self c.args.bits (ones c.fill.new.self (length c.args.words.now) is) (omega (arith, room, same)) (omega (arith, full, same))
+    c.if-bits-ne0.true)
 
 pub returns-else-bits-ne0 : goal.returns-else-bits-ne0
 returns-else-bits-ne0 c =

@@ -8,7 +8,7 @@ use Rattle.flow_graph.proofs.bit_table.BitTable.blank.Goals as goal
 pub returns : goal.returns
 returns c =
     let new : List ℕ = c.resize.new.self.items in
-    let width : ℕ = c.div_ceil-width.result in
+    let width : ℕ = c.words_for-width.result in
     let new_len : vec_len c.resize.new.self ≡ length new = search rules in
     let count : length new ≡ c.args.rows * width = sym new_len ∙ c.in_ok-resize.ensures.len in
     let by_index = c.in_ok-resize.ensures.by_index in

@@ -11,7 +11,7 @@ returns-in-Reach c k within =
     let form : MayForm = c.args.self.now in
     let analysis : Reach ≡ form.analysis = sym c.in-Reach.is ∙ ap (λ (f : MayForm). f.analysis) c.self.view_is in
     let program : c.program.result.now ≡ form.program = c.program.ensures ∙ ap (λ (f : MayForm). f.program) c.self.view_is in
-    c.full_word.ensures k within
+    c.word_below.ensures k within
     ∙ ap (nat_lt (64 * c.args.word + k)) (c.variables.ensures ∙ ap (λ (p : Program). length p.variable_names) program)
     ∙ dummies_come_first form.program (64 * c.args.word + k)
     ∙ ap (λ a. may_boundary (record { program = form.program; analysis = a }) (64 * c.args.word + k)) analysis

@@ -7,6 +7,6 @@ use Rattle.flow_graph.proofs.problem.Problem.boundary_word.Goals as goal
 pub returns : goal.returns
 returns c =
     let form : MayForm = c.args.self.now in
-    is_word (may_boundary form) (bits form.program form.analysis) c.args.word c.boundary_places.result c.full_word.result
+    is_word (may_boundary form) (bits form.program form.analysis) c.args.word c.boundary_places.result c.word_below.result
     (λ k within below. c.boundary_places.ensures k within)
-    (λ k within. c.full_word.ensures k within ∙ ap (nat_lt (64 * c.args.word + k)) c.bits.ensures.count)
+    (λ k within. c.word_below.ensures k within ∙ ap (nat_lt (64 * c.args.word + k)) c.bits.ensures.count)

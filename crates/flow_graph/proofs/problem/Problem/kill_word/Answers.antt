@@ -11,8 +11,8 @@ returns c =
     let form : MayForm = c.args.self.now in
     let effect : Effect = c.effect-effect.result in
     let known : IsEffect form.program form.analysis c.args.point effect = c.effect-effect.ensures in
-    word_of_kills form c.args.point c.args.word effect known c.own_word-own.result c.touched_word-touched.result c.killed.result c.full_word.result
+    word_of_kills form c.args.point c.args.word effect known c.own_word-own.result c.touched_word-touched.result c.killed.result c.word_below.result
     c.own_word-own.ensures c.touched_word-touched.ensures
-    (λ k within. c.full_word.ensures k within ∙ ap (nat_lt (64 * c.args.word + k)) c.bits.ensures.count)
+    (λ k within. c.word_below.ensures k within ∙ ap (nat_lt (64 * c.args.word + k)) c.bits.ensures.count)
     (λ k within. c.killed.ensures k within
     ∙ ap (λ (f : MayForm). kill_from f.analysis (has_bit c.own_word-own.result k) (has_bit c.touched_word-touched.result k)) c.self.view_is)

@@ -1,6 +1,5 @@
 use Rattle.std.proofs.Common.{◌≡◌, ◌<◌, ◌≤◌, ◌+◌, ◌*◌, ℕ, List, length, get_or, replicate, false, arith, ap, subst, sym, ◌∙◌}
 use Rattle.work_list.specs.Tables.MarkWords.{AreMarkWords}
-use Rattle.std.proofs.lemmas.Grind.{div_ceil_times}
 use Rattle.std.proofs.lemmas.List.{length-replicate, get_or-replicate}
 use Rattle.work_list.proofs.words.MarkLemmas.{blank, blank_marks}
 use Rattle.work_list.proofs.marks.Marks.none.Goals as goal
@@ -15,19 +14,18 @@ pub invariant_of-result : goal.invariant_of-result
 invariant_of-result c =
     let is = c.in_ok-vec.ensures.items_if_clones_equal (λ y e. e) in
     let words : List ℕ = c.in_ok-vec.field-0.items in
-    let same : length words ≡ c.div_ceil.result = ap length is ∙ length-replicate c.div_ceil.result 0 in
-    let bounds = div_ceil_times c.points-points.result 64 (omega arith) in
-    let enough : c.points-points.result ≤ 64 * length words = let low = bounds.0 in let up = c.div_ceil.ensures in omega (arith, low, up, same) in
-    let full : 64 * length words < c.points-points.result + 64 = let high = bounds.1 in let up = c.div_ceil.ensures in
-    omega (arith, high, up, same) in
+    let same : length words ≡ c.words_for.result = ap length is ∙ length-replicate c.words_for.result 0 in
+    let up = c.words_for.ensures in
+    let enough : c.points-points.result ≤ 64 * length words = omega (arith, up, same) in
+    let full : 64 * length words < c.points-points.result + 64 = omega (arith, up, same) in
     let few = c.points-points.ensures.order.few in
     let made = c.points-points.ensures.count in
     let count : c.points-points.result ≡ length c.in_ok-copy.field-0 = c.points-points.ensures.count ∙ ap length (sym c.in_ok-copy.ensures) in
     subst (λ n. AreMarkWords n words) count
-    (blank words c.points-points.result (omega (arith, few, made)) enough full (zeros words c.div_ceil.result is))
+    (blank words c.points-points.result (omega (arith, few, made)) enough full (zeros words c.words_for.result is))
 
 pub returns : goal.returns
 returns c =
     let is = c.in_ok-vec.ensures.items_if_clones_equal (λ y e. e) in
-    blank_marks c.in_ok-vec.field-0.items c.in_ok-copy.field-0 (zeros c.in_ok-vec.field-0.items c.div_ceil.result is)
+    blank_marks c.in_ok-vec.field-0.items c.in_ok-copy.field-0 (zeros c.in_ok-vec.field-0.items c.words_for.result is)
     ∙ ap (λ order. replicate (length order) false) c.in_ok-copy.ensures
