@@ -1,4 +1,5 @@
 pub mod Analyses
+pub mod AnalysisNumbers
 pub mod Directions
 pub mod Edges
 pub mod Examples

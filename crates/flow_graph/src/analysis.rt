@@ -1,5 +1,7 @@
-ghost use Rattle.std.specs.Prelude.{◌≡◌};
+ghost use Rattle.std.specs.Prelude.{◌≡◌, ◌<◌, ◌↔◌, Contains, Some, slice_get};
+ghost use Rattle.std.specs.List.{filter};
 ghost use Rattle.flow_graph.specs.Analyses.{is_backward, is_must};
+ghost use Rattle.flow_graph.specs.AnalysisNumbers.{analysis_number, goes};
 ghost use Rattle.flow_graph.specs.Directions.{goes_backward, is_intersection};
 
 /// Which way an analysis goes (Aho et al. 9.2): along the edges from the beginning of `main`, or against them from its end.
@@ -31,7 +33,37 @@ pub enum Analysis {
     Busy,
 }
 
+impl Direction {
+    /// The analyses that go this way, in the order of their numbers.
+    pub fn analyses(self) -> &'static [Analysis]
+        ensures list { result.now ≡ filter (goes (goes_backward self)) Analysis.ALL }
+        ensures each { (analysis : Analysis) → Contains result.now analysis ↔ (is_backward analysis ≡ goes_backward self) }
+    {
+        match self {
+            Direction::Forward => &[Analysis::Reach, Analysis::Avail],
+            Direction::Backward => &[Analysis::Live, Analysis::Busy],
+        }
+    }
+}
+
 impl Analysis {
+    /// All analyses, in the order of their numbers.
+    pub const ALL: [Analysis; 4] = [
+        Analysis::Reach,
+        Analysis::Live,
+        Analysis::Avail,
+        Analysis::Busy,
+    ];
+
+    /// The analysis's place in [`ALL`](Analysis::ALL).
+    pub fn number(self) -> usize
+        ensures number { result ≡ analysis_number self }
+        ensures place { slice_get Self.ALL result ≡ Some self }
+        ensures below { result < 4 }
+    {
+        self as usize
+    }
+
     /// Which way the analysis goes.
     pub fn direction(self) -> Direction
         ensures { goes_backward result ≡ is_backward self }

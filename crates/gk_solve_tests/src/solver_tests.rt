@@ -6,13 +6,6 @@ use std::process::Abort;
 use std::test::Fail;
 use tac_reader::{Program, ReadFault, read};
 
-const ANALYSES: &[Analysis] = &[
-    Analysis::Reach,
-    Analysis::Live,
-    Analysis::Avail,
-    Analysis::Busy,
-];
-
 /// A program that is hard on a solver, of some 300 points.
 #[derive(Clone, Copy)]
 enum Hard {
@@ -208,8 +201,8 @@ fn check_table<R: Abort + AllocGlobal>(rt: &R, text: &str, analysis: Analysis) -
 fn check_tables<R: Abort + AllocGlobal>(rt: &R, hard: Hard) -> Result<(), Fail> {
     let mut text = String::new(rt.alloc());
     write_program(&mut text, hard)?;
-    for analysis in ANALYSES {
-        check_table(rt, text.as_str(), *analysis)?;
+    for analysis in Analysis::ALL {
+        check_table(rt, text.as_str(), analysis)?;
     }
     Ok(())
 }
