@@ -54,7 +54,7 @@ CALLS = {
         *("ReportText::of", "report", "report_here"),
     },
     "gk_solve_tests": {
-        *("Links::of", "Routes::of", "Solver::of", "Solver::flags", "Solver::solve", "Solver::slice", "solve", "solve_counted"),
+        *("Links::of", "Routes::of", "Solver::of", "Solver::flags", "Solver::slice", "solve", "solve_slice", "solve_counted"),
         *("Order::of, or its list", "Marks::none", "group"),
     },
     "slice_board_tests": {"Board::open, its rows or its cut"},

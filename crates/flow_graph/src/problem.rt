@@ -78,6 +78,13 @@ impl<'g, 'p> Problem<'g, 'p> {
         })
     }
 
+    /// The graph.
+    pub fn graph(&self) -> &'g Graph<'p>
+        ensures { result.now ≡ self.now.program }
+    {
+        self.graph
+    }
+
     /// The program.
     pub fn program(&self) -> &'p Program
         ensures { result.now ≡ self.now.program }

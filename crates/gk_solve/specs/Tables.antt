@@ -2,7 +2,6 @@
 pub mod Brought
 pub mod Flags
 pub mod Groups
-pub mod Rows
 pub mod SliceTables
 pub mod Solutions
 pub mod Visits

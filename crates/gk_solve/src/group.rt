@@ -14,7 +14,6 @@ ghost use Rattle.gk_solve.specs.Tables.Groups.{IsSummaryCallSettled, IsSummarySe
 ghost use Rattle.gk_solve.specs.Tables.Groups.{room_of_summary};
 ghost use Rattle.gk_solve.specs.Tables.Words.{HasBit, IsKept, IsMade, step_statement};
 
-use crate::count::CountSteps;
 use crate::effects::across_step;
 use crate::group_frame::GroupFrame;
 use crate::lanes::{added_words, common_words, new_or_kept};
@@ -130,12 +129,11 @@ fn visit_call<const W: usize>(
 
 // Goes over the steps from a point with a path.
 #[inline(always)]
-fn visit_steps<const W: usize, C: CountSteps>(
+fn visit_steps<const W: usize>(
     frame: &GroupFrame,
     table: &mut [Summary<W>],
     dirty: &mut Marks,
     at: u32,
-    followed: &mut C,
 )
     requires frame { IsGroupFrame W frame.now }
     requires count { length table.now ≡ point_count frame.now.links.now.program }
@@ -149,7 +147,6 @@ fn visit_steps<const W: usize, C: CountSteps>(
 {
     let links = frame.links;
     let steps = links.steps_from(at);
-    followed.count(steps.len());
     for to in steps {
         visit_step(frame, table, dirty, at, *to);
     }
@@ -257,12 +254,11 @@ fn visit_callers<const W: usize>(
 
 // Goes over the edges that wait for a point.
 #[inline(always)]
-fn visit_point<const W: usize, C: CountSteps>(
+fn visit_point<const W: usize>(
     frame: &GroupFrame,
     table: &mut [Summary<W>],
     dirty: &mut Marks,
     at: u32,
-    followed: &mut C,
 )
     requires frame { IsGroupFrame W frame.now }
     requires count { length table.now ≡ point_count frame.now.links.now.program }
@@ -274,7 +270,7 @@ fn visit_point<const W: usize, C: CountSteps>(
         → IsSummarySettled (group_of frame.now W) frame.now.paths.now table.new dirty.new edge }
 {
     if frame.paths[at as usize] {
-        visit_steps(frame, table, dirty, at, followed);
+        visit_steps(frame, table, dirty, at);
         visit_calls(frame, table, dirty, at);
         visit_callers(frame, table, dirty, at);
     }
@@ -303,12 +299,11 @@ fn begin_summaries<const W: usize>(frame: &GroupFrame, table: &mut [Summary<W>])
     }
 }
 
-/// Finds what is kept up to each point and made before it, at the points with a path. Counts the steps that are followed.
-pub(crate) fn kept_and_made<const W: usize, C: CountSteps>(
+/// Finds what is kept up to each point and made before it, at the points with a path.
+pub(crate) fn kept_and_made<const W: usize>(
     frame: &GroupFrame,
     table: &mut [Summary<W>],
     dirty: &mut Marks,
-    followed: &mut C,
 )
     requires frame { IsGroupFrame W frame.now }
     requires count { length table.now ≡ point_count frame.now.links.now.program }
@@ -322,6 +317,6 @@ pub(crate) fn kept_and_made<const W: usize, C: CountSteps>(
     begin_summaries(frame, table);
     dirty.mark_all();
     'visits: while let Some(at) = dirty.take() {
-        visit_point(frame, table, dirty, at as u32, followed);
+        visit_point(frame, table, dirty, at as u32);
     }
 }

@@ -2,7 +2,6 @@
 #![tactic(auto)]
 
 mod bring;
-mod count;
 mod effects;
 mod enter;
 mod group;
@@ -10,7 +9,6 @@ mod group_frame;
 mod lanes;
 mod reach;
 mod routes;
-mod row_words;
 mod slice_words;
 mod solution;
 mod solver;
@@ -19,6 +17,6 @@ mod take_words;
 
 pub use routes::Routes;
 pub use slice_words::{SliceWords, words_at_once};
-pub use solver::{Solver, solve, solve_counted};
+pub use solver::Solver;
 pub use std::alloc::AllocError as OutOfMemory;
 pub use take_words::TakeWords;

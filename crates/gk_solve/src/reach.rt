@@ -10,7 +10,6 @@ ghost use Rattle.work_list.specs.Marks.{AreClear};
 ghost use Rattle.gk_solve.specs.Tables.Flags.{IsFlagged, AreSound, AreExactly, IsCallSettled, IsReachClosedAt, ReachSpreads};
 ghost use Rattle.gk_solve.specs.Tables.Visits.{IsSettled};
 
-use crate::count::CountSteps;
 use flow_graph::Edge;
 use flow_links::{CallLink, Links};
 use work_list::Marks;
@@ -36,13 +35,7 @@ fn reach_point(links: &Links, flags: &mut [bool], dirty: &mut Marks, at: u32)
 }
 
 // Goes over the steps from a reached point.
-fn visit_steps<C: CountSteps>(
-    links: &Links,
-    flags: &mut [bool],
-    dirty: &mut Marks,
-    at: u32,
-    followed: &mut C,
-)
+fn visit_steps(links: &Links, flags: &mut [bool], dirty: &mut Marks, at: u32)
     requires count { length flags.now ≡ point_count links.now.program }
     requires dirty_count { length dirty.now ≡ point_count links.now.program }
     requires within { at < point_count links.now.program }
@@ -51,7 +44,6 @@ fn visit_steps<C: CountSteps>(
     ensures flagged { (y : ℕ) → IsEdge (directed_shape links.now) (Step at y) → IsFlagged flags.new y }
 {
     let steps = links.steps_from(at);
-    followed.count(steps.len());
     for to in steps {
         reach_point(links, flags, dirty, *to);
     }
@@ -93,13 +85,7 @@ fn visit_calls(links: &Links, flags: &mut [bool], dirty: &mut Marks, at: u32)
 }
 
 // Goes over the edges from a point.
-fn visit_point<C: CountSteps>(
-    links: &Links,
-    flags: &mut [bool],
-    dirty: &mut Marks,
-    at: u32,
-    followed: &mut C,
-)
+fn visit_point(links: &Links, flags: &mut [bool], dirty: &mut Marks, at: u32)
     requires count { length flags.now ≡ point_count links.now.program }
     requires dirty_count { length dirty.now ≡ point_count links.now.program }
     requires within { at < point_count links.now.program }
@@ -109,7 +95,7 @@ fn visit_point<C: CountSteps>(
         → IsSettled (IsReachClosedAt (directed_shape links.now) links.now.backward) source_of flags.new dirty.new edge }
 {
     if flags[at as usize] {
-        visit_steps(links, flags, dirty, at, followed);
+        visit_steps(links, flags, dirty, at);
         visit_calls(links, flags, dirty, at);
     }
 }
@@ -129,13 +115,8 @@ fn grow_entries(links: &Links, flags: &mut [bool], dirty: &mut Marks)
     }
 }
 
-/// Sets the flag of each point that is reached inside its procedure. No flag is set before. Counts the steps that are followed.
-pub(crate) fn reached<C: CountSteps>(
-    links: &Links,
-    flags: &mut [bool],
-    dirty: &mut Marks,
-    followed: &mut C,
-)
+/// Sets the flag of each point that is reached inside its procedure. No flag is set before.
+pub(crate) fn reached(links: &Links, flags: &mut [bool], dirty: &mut Marks)
     requires count { length flags.now ≡ point_count links.now.program }
     requires dirty_count { length dirty.now ≡ point_count links.now.program }
     requires none { (x : ℕ) → IsFlagged flags.now x → ⊥ }
@@ -146,6 +127,6 @@ pub(crate) fn reached<C: CountSteps>(
     let _ = links.points();
     grow_entries(links, flags, dirty);
     'visits: while let Some(at) = dirty.take() {
-        visit_point(links, flags, dirty, at as u32, followed);
+        visit_point(links, flags, dirty, at as u32);
     }
 }

@@ -7,7 +7,6 @@ ghost use Rattle.summary_equations.specs.Equations.{Entered, Reached, HasFlag};
 ghost use Rattle.gk_solve.specs.Tables.Flags.{AreExactly, ArePathFlags};
 
 use crate::OutOfMemory;
-use crate::count::{CountSteps, Uncounted};
 use crate::enter::entered;
 use crate::reach::reached;
 use flow_graph::Problem;
@@ -22,6 +21,7 @@ use work_list::Marks;
 pub struct Routes {
     links: Links,
     paths: Vec<bool>,
+    visits: u64,
 }
 
 impl Model for Routes {
@@ -39,23 +39,23 @@ impl Model for Routes {
 impl Drop for Routes {
     // By hand: a caller that gives routes up then makes one call.
     fn drop(self) {
-        let Routes { links: _, paths: _ } = self;
+        let Routes {
+            links: _,
+            paths: _,
+            visits: _,
+        } = self;
     }
 }
 
-// The points that are reached.
-fn reached_points<C: CountSteps>(
-    alloc: Global,
-    links: &Links,
-    followed: &mut C,
-) -> Result<Vec<bool>, OutOfMemory>
+// The points that are reached, and how often one was visited to find them.
+fn reached_points(alloc: Global, links: &Links) -> Result<(Vec<bool>, u64), OutOfMemory>
     ensures { IfOk result
-        (λ flags. (length flags.items ≡ point_count links.now.program) × AreExactly (Reached (directed_shape links.now)) flags.items) }
+        (λ found. (length found.0.items ≡ point_count links.now.program) × AreExactly (Reached (directed_shape links.now)) found.0.items) }
 {
     let mut flags = vec![in alloc; false; links.points() as usize]?;
     let mut dirty = Marks::none(alloc, links.order())?;
-    reached(links, flags.as_mut_slice(), &mut dirty, followed);
-    Ok(flags)
+    reached(links, flags.as_mut_slice(), &mut dirty);
+    Ok((flags, dirty.taken()))
 }
 
 // The procedures that are entered.
@@ -110,16 +110,13 @@ fn paths_by_reached(
     path_flags(alloc, links, reached, entered.as_slice())
 }
 
-// The flag of each point.
-fn paths_of<C: CountSteps>(
-    alloc: Global,
-    links: &Links,
-    followed: &mut C,
-) -> Result<Vec<bool>, OutOfMemory>
-    ensures { IfOk result (λ flags. ArePathFlags (directed_shape links.now) (point_count links.now.program) flags.items) }
+// The flag of each point, and how often one was visited to find those that are reached.
+fn paths_of(alloc: Global, links: &Links) -> Result<(Vec<bool>, u64), OutOfMemory>
+    ensures { IfOk result (λ found. ArePathFlags (directed_shape links.now) (point_count links.now.program) found.0.items) }
 {
-    let reached = reached_points(alloc, links, followed)?;
-    paths_by_reached(alloc, links, reached.as_slice())
+    let (reached, visits) = reached_points(alloc, links)?;
+    let paths = paths_by_reached(alloc, links, reached.as_slice())?;
+    Ok((paths, visits))
 }
 
 impl Routes {
@@ -127,20 +124,18 @@ impl Routes {
     pub fn of(alloc: Global, problem: &Problem<'_, '_>) -> Result<Self, OutOfMemory>
         ensures { IfOk result (λ routes. routes ≡ record { program = problem.now.program; backward = is_backward problem.now.analysis }) }
     {
-        Routes::counted(alloc, problem, &mut Uncounted)
+        let links = Links::of(alloc, problem)?;
+        let (paths, visits) = paths_of(alloc, &links)?;
+        Ok(Routes {
+            links,
+            paths,
+            visits,
+        })
     }
 
-    /// The same. Counts the steps that are followed to find the points that are reached.
-    pub(crate) fn counted<C: CountSteps>(
-        alloc: Global,
-        problem: &Problem<'_, '_>,
-        followed: &mut C,
-    ) -> Result<Self, OutOfMemory>
-        ensures { IfOk result (λ routes. routes ≡ record { program = problem.now.program; backward = is_backward problem.now.analysis }) }
-    {
-        let links = Links::of(alloc, problem)?;
-        let paths = paths_of(alloc, &links, followed)?;
-        Ok(Routes { links, paths })
+    /// How often a point was visited to find the paths. No contract speaks of it.
+    pub fn visits(&self) -> u64 {
+        self.visits
     }
 
     /// Whether some valid path leads to a point.
@@ -159,7 +154,7 @@ impl Routes {
     }
 
     /// For each point whether some valid path leads to it.
-    pub(crate) fn paths(&self) -> &[bool]
+    pub fn paths(&self) -> &[bool]
         ensures { ArePathFlags (directed_shape self.now) (point_count self.now.program) result.now }
     {
         self.paths.as_slice()

@@ -11,7 +11,6 @@ ghost use Rattle.gk_solve.specs.Tables.Widths.{width_of};
 ghost use Rattle.gk_solve.specs.declared.slice_words.Width.TheVariants.{One, Four, Eight};
 
 use crate::OutOfMemory;
-use crate::count::CountSteps;
 use crate::effects::with_bit;
 use crate::group_frame::GroupFrame;
 use crate::routes::Routes;
@@ -292,6 +291,11 @@ impl SliceWords {
         self.dirty.points()
     }
 
+    /// How often a point was visited so far to find what is kept and made. No contract speaks of it.
+    pub fn visits(&self) -> u64 {
+        self.dirty.taken()
+    }
+
     /// The bits of the slice: from one up to another.
     pub(crate) fn range(&self) -> (u32, u32)
         ensures { (result.0 ≡ self.now.lo) × (result.1 ≡ self.now.hi) }
@@ -337,13 +341,12 @@ impl SliceWords {
     }
 
     // Solves the words from one on, as many as a slice solves at once, or to its end.
-    fn solve_group_from<'a, 'g, 'p, C: CountSteps>(
+    fn solve_group_from<'a, 'g, 'p>(
         &mut self,
         problem: &'a Problem<'g, 'p>,
         routes: &'a Routes,
         effects: &'a [u64],
         word: u32,
-        followed: &mut C,
     )
         requires slice { IsSliceOf problem.now self.old }
         requires routes { routes.now ≡ direction_of problem.now }
@@ -376,7 +379,6 @@ impl SliceWords {
                 &mut self.dirty,
                 &mut self.callers,
                 range,
-                followed,
             ),
             Width::Four => solve_group(
                 &frame,
@@ -385,7 +387,6 @@ impl SliceWords {
                 &mut self.dirty,
                 &mut self.callers,
                 range,
-                followed,
             ),
             Width::Eight => solve_group(
                 &frame,
@@ -394,19 +395,17 @@ impl SliceWords {
                 &mut self.dirty,
                 &mut self.callers,
                 range,
-                followed,
             ),
         }
     }
 
     /// Solves the words from one on, as many as a slice solves at once, or to its end, and answers the word after the last.
-    pub(crate) fn solve_from<'a, 'g, 'p, C: CountSteps>(
+    pub(crate) fn solve_from<'a, 'g, 'p>(
         &mut self,
         problem: &'a Problem<'g, 'p>,
         routes: &'a Routes,
         effects: &'a [u64],
         word: u32,
-        followed: &mut C,
     ) -> u32
         requires slice { IsSliceOf problem.now self.old }
         requires routes { routes.now ≡ direction_of problem.now }
@@ -423,7 +422,7 @@ impl SliceWords {
             → result ≡ word + words_at_once self.old.points (words_between self.old.lo self.old.hi) }
         ensures solved { AreSolved problem.now self.new }
     {
-        self.solve_group_from(problem, routes, effects, word, followed);
+        self.solve_group_from(problem, routes, effects, word);
         self.until
     }
 }

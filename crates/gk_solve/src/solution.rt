@@ -8,7 +8,6 @@ ghost use Rattle.gk_solve.specs.Tables.Groups.{AreCompleteSummaries, AreSoundSum
 ghost use Rattle.gk_solve.specs.Tables.Solutions.{AreInSlice, AreSliceSolutions, IsSolutionAt};
 
 use crate::bring::brought;
-use crate::count::CountSteps;
 use crate::group::kept_and_made;
 use crate::group_frame::GroupFrame;
 use crate::lanes::{common_words, new_or_kept};
@@ -84,15 +83,14 @@ fn put_solutions<const W: usize>(
     }
 }
 
-/// Solves a group of words: the solution's bits of a range stand in the place of what is made. Counts the steps that are followed.
-pub(crate) fn solve_group<const W: usize, C: CountSteps>(
+/// Solves a group of words: the solution's bits of a range stand in the place of what is made.
+pub(crate) fn solve_group<const W: usize>(
     frame: &GroupFrame,
     table: &mut [Summary<W>],
     brought_words: &mut [[u64; W]],
     dirty: &mut Marks,
     callers: &mut Marks,
     range: (u32, u32),
-    followed: &mut C,
 )
     requires frame { IsGroupFrame W frame.now }
     requires count { length table.now ≡ point_count frame.now.links.now.program }
@@ -103,7 +101,7 @@ pub(crate) fn solve_group<const W: usize, C: CountSteps>(
     ensures dirty { length dirty.new ≡ length dirty.old }
     ensures callers { length callers.new ≡ length callers.old }
 {
-    kept_and_made(frame, table, dirty, followed);
+    kept_and_made(frame, table, dirty);
     brought(frame, table, brought_words, callers);
     put_solutions(frame, table, brought_words, range.0, range.1);
 }

@@ -4,7 +4,6 @@ ghost use Rattle.flow_graph.specs.Problems.{MayForm};
 ghost use Rattle.gk_solve.specs.Solved.{AreMeetWords, AreSolved, IsSliceOf, direction_of};
 ghost use Rattle.gk_solve.specs.Tables.Groups.{AreEffectWords};
 
-use crate::count::CountSteps;
 use crate::routes::Routes;
 use crate::slice_words::SliceWords;
 use bit_rows::words_for;
@@ -33,13 +32,12 @@ pub trait TakeWords {
 }
 
 /// Solves the words of a slice, and has them taken.
-pub(crate) fn solve_each<'a, 'g, 'p, T: TakeWords, C: CountSteps>(
+pub(crate) fn solve_each<'a, 'g, 'p, T: TakeWords>(
     problem: &'a Problem<'g, 'p>,
     routes: &'a Routes,
     effects: &'a [u64],
     slice: &mut SliceWords,
     taker: &mut T,
-    followed: &mut C,
 )
     requires routes { routes.now ≡ direction_of problem.now }
     requires effects { AreEffectWords problem.now effects.now }
@@ -53,7 +51,7 @@ pub(crate) fn solve_each<'a, 'g, 'p, T: TakeWords, C: CountSteps>(
     let (lo, hi) = slice.range();
     let mut word = lo / 64;
     'words: while word < words_for(hi) {
-        word = slice.solve_from(problem, routes, effects, word, followed);
+        word = slice.solve_from(problem, routes, effects, word);
         taker.take_words(problem, &*slice);
     }
 }

@@ -7,7 +7,8 @@ ghost use Rattle.gk_solve.specs.Solved.{IsSliceOf, direction_of};
 use bit_rows::Rows;
 use flow_graph::{Analysis, Graph, OutOfMemory, Problem};
 use flow_links::Links;
-use gk_solve::{Routes, SliceWords, Solver, solve, solve_counted};
+use flow_rows::{solve, solve_counted, solve_slice};
+use gk_solve::{Routes, SliceWords, Solver};
 use std::alloc::Global;
 use std::process::Abort;
 use std::test::Fail;
@@ -186,8 +187,8 @@ fn told_of_solver<'g, 'p>(
         _ => {
             let rows = again!(
                 *refused,
-                "Solver::solve",
-                solver.solve(alloc, routes, 0, bits)
+                "solve_slice",
+                solve_slice(alloc, solver, routes, 0, bits)
             );
             write_rows(text, &rows)
         }

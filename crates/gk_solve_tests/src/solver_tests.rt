@@ -1,6 +1,6 @@
 use crate::tables::{Question, answer, check};
 use flow_graph::{Analysis, Graph, GraphFault, OutOfMemory, Problem};
-use gk_solve::solve_counted;
+use flow_rows::solve_counted;
 use std::alloc::Global;
 use std::process::Abort;
 use std::test::Fail;
@@ -215,17 +215,17 @@ fn hard_programs(rt: HostRuntime) -> Result<(), Fail> {
     Ok(())
 }
 
-/// How many steps are followed to solve a text's program for reaching definitions: for the flags alone, and with all its bits; none
+/// How often a point is visited to solve a text's program for reaching definitions: for the flags alone, and with all its bits; none
 /// is told of a text that has no graph.
-fn steps_followed(alloc: Global, text: &[u8]) -> Result<Option<(u64, u64)>, OutOfMemory> {
+fn visits(alloc: Global, text: &[u8]) -> Result<Option<(u64, u64)>, OutOfMemory> {
     match read(alloc, text) {
-        Ok(program) => steps_of_program(alloc, &program),
+        Ok(program) => visits_of_program(alloc, &program),
         Err(ReadFault::OutOfMemory) => Err(OutOfMemory),
         Err(_) => Ok(None),
     }
 }
 
-fn steps_of_program(alloc: Global, program: &Program) -> Result<Option<(u64, u64)>, OutOfMemory> {
+fn visits_of_program(alloc: Global, program: &Program) -> Result<Option<(u64, u64)>, OutOfMemory> {
     match Graph::build(alloc, program) {
         Ok(graph) => {
             let problem = Problem::of(alloc, &graph, Analysis::Reach)?;
@@ -249,14 +249,14 @@ enum Onward {
     Relays,
 }
 
-/// Programs, and how many steps they have.
+/// Programs, and how many points they have: one for each statement, and one for each procedure's end.
 const ONWARD: &[(Onward, u32)] = &[
-    (Onward::Line, 100),
-    (Onward::Blocks(1), 302),
-    (Onward::Blocks(149), 302),
-    (Onward::Blocks(7), 302),
-    (Onward::Blocks(77), 302),
-    (Onward::Relays, 50),
+    (Onward::Line, 101),
+    (Onward::Blocks(1), 303),
+    (Onward::Blocks(149), 303),
+    (Onward::Blocks(7), 303),
+    (Onward::Blocks(77), 303),
+    (Onward::Relays, 98),
 ];
 
 fn write_line(text: &mut String) -> Result<(), OutOfMemory> {
@@ -306,20 +306,20 @@ fn write_onward(text: &mut String, onward: Onward) -> Result<(), OutOfMemory> {
     }
 }
 
-fn check_steps<R: Abort + AllocGlobal>(rt: &R, onward: Onward, steps: u32) -> Result<(), Fail> {
+fn check_visits<R: Abort + AllocGlobal>(rt: &R, onward: Onward, points: u32) -> Result<(), Fail> {
     let mut text = String::new(rt.alloc());
     write_onward(&mut text, onward)?;
-    let followed = steps_followed(rt.alloc(), text.as_bytes())?;
-    let steps = u64::from(steps);
-    assert_eq!(rt; followed, Some((steps, 2 * steps)));
+    let visits = visits(rt.alloc(), text.as_bytes())?;
+    let points = u64::from(points);
+    assert_eq!(rt; visits, Some((points, 2 * points)));
     Ok(())
 }
 
-/// However a text is laid out: without loops and recursion each step is followed once for the flags, and once for a group of words.
+/// However a text is laid out: without loops and recursion each point is visited once for the flags, and once for a group of words.
 #[test]
-fn each_step_is_followed_once(rt: HostRuntime) -> Result<(), Fail> {
-    for (onward, steps) in ONWARD {
-        check_steps(&rt, *onward, *steps)?;
+fn each_point_is_visited_once(rt: HostRuntime) -> Result<(), Fail> {
+    for (onward, points) in ONWARD {
+        check_visits(&rt, *onward, *points)?;
     }
     Ok(())
 }
@@ -337,35 +337,35 @@ fn write_loops(text: &mut String, depth: u32) -> Result<(), OutOfMemory> {
     text.push_str("end\n")
 }
 
-/// Depths of loops, with how many steps there are, since a test has two and each other statement one, and how many are followed at most:
-/// for the flags each once, and for a group of words each at most twice more than there are loops around one another.
+/// Depths of loops, with how many points there are, since each loop has four statements, and how often one is visited at most: for the
+/// flags each once, and for a group of words each at most twice more than there are loops around one another.
 const LOOPS: &[(u32, u64, u64)] = &[
-    (0, 0, 0),
+    (0, 1, 3),
     (1, 5, 20),
-    (2, 10, 50),
-    (10, 50, 650),
-    (100, 500, 51_500),
+    (2, 9, 45),
+    (10, 41, 533),
+    (100, 401, 41_303),
 ];
 
 fn check_loops<R: Abort + AllocGlobal>(
     rt: &R,
     depth: u32,
-    steps: u64,
+    points: u64,
     most: u64,
 ) -> Result<(), Fail> {
     let mut text = String::new(rt.alloc());
     write_loops(&mut text, depth)?;
-    let followed = steps_followed(rt.alloc(), text.as_bytes())?;
-    let (for_flags, for_all) = followed.expect(rt, "a graph");
-    assert_eq!(rt; for_flags, steps);
+    let visits = visits(rt.alloc(), text.as_bytes())?;
+    let (for_flags, for_all) = visits.expect(rt, "a graph");
+    assert_eq!(rt; for_flags, points);
     assert!(rt; for_all <= most);
     Ok(())
 }
 
 #[test]
 fn loops_are_gone_over_as_deep_as_they_lie(rt: HostRuntime) -> Result<(), Fail> {
-    for (depth, steps, most) in LOOPS {
-        check_loops(&rt, *depth, *steps, *most)?;
+    for (depth, points, most) in LOOPS {
+        check_loops(&rt, *depth, *points, *most)?;
     }
     Ok(())
 }
@@ -400,14 +400,17 @@ fn write_waiting(text: &mut String) -> Result<(), OutOfMemory> {
 fn what_leads_to_no_exit_waits(rt: HostRuntime) -> Result<(), Fail> {
     let mut text = String::new(rt.alloc());
     write_waiting(&mut text)?;
-    let followed = steps_followed(rt.alloc(), text.as_bytes())?;
-    let (for_flags, for_all) = followed.expect(&rt, "a graph");
-    let each = u64::from(BEHIND) + 1;
-    let others = 6;
-    let once = u64::from(WAITING) * (each + others);
-    assert_eq!(rt; for_flags, once);
-    let most = u64::from(WAITING) * (2 * each + u64::from(WAITING) * others);
-    assert!(rt; for_all <= once + most);
+    let visits = visits(rt.alloc(), text.as_bytes())?;
+    let (for_flags, for_all) = visits.expect(&rt, "a graph");
+    let procedures = u64::from(WAITING);
+    let (main, waiting, others) = (2, u64::from(BEHIND) + 2, 6);
+    let points = main + procedures * (waiting + others);
+    // A call is visited once more for each exit that it waits for: of the chain one, of those that wait for eight all of them.
+    let exits = 1 + procedures * (1 + 8);
+    assert!(rt; points <= for_flags);
+    assert!(rt; for_flags <= points + exits);
+    let most = procedures * main + procedures * (2 * waiting + procedures * others);
+    assert!(rt; for_all <= for_flags + most);
     Ok(())
 }
 
@@ -432,15 +435,19 @@ fn write_called(text: &mut String) -> Result<(), OutOfMemory> {
 }
 
 /// They all call one another, and the caller's end is reached before those of its callees. It is gone over behind them all the same, so
-/// that no step is followed more than twice: once more when what is made came round.
+/// that a point is visited twice: once more when what is made came round.
 #[test]
 fn callees_come_first_though_their_ends_come_late(rt: HostRuntime) -> Result<(), Fail> {
     let mut text = String::new(rt.alloc());
     write_called(&mut text)?;
-    let followed = steps_followed(rt.alloc(), text.as_bytes())?;
-    let (for_flags, for_all) = followed.expect(&rt, "a graph");
-    let once = u64::from(CALLED) * 3 + 2;
-    assert_eq!(rt; for_flags, once);
-    assert!(rt; for_all <= once + 2 * once);
+    let visits = visits(rt.alloc(), text.as_bytes())?;
+    let (for_flags, for_all) = visits.expect(&rt, "a graph");
+    let called = u64::from(CALLED);
+    let points = 2 + 3 + (2 * called + 1) + 3 * called;
+    // A call is visited once more for the exit that it waits for.
+    let calls = 2 + 2 * called;
+    assert!(rt; points <= for_flags);
+    assert!(rt; for_flags <= points + calls);
+    assert!(rt; for_all <= for_flags + 2 * points);
     Ok(())
 }

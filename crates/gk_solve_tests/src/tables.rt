@@ -7,7 +7,8 @@ ghost use Rattle.gk_solve.specs.Solved.{direction_of};
 
 use bit_rows::{Cut, Rows, words_for};
 use flow_graph::{Analysis, Expr, Graph, OutOfMemory, Problem};
-use gk_solve::{Routes, Solver, solve};
+use flow_rows::{solve, solve_slice};
+use gk_solve::{Routes, Solver};
 use std::alloc::Global;
 use std::process::Abort;
 use std::test::Fail;
@@ -175,7 +176,7 @@ fn add_slice<'g, 'p>(
     requires ordered { lo ≤ hi }
     requires within { hi ≤ bits_of solver.now.program solver.now.analysis }
 {
-    let rows = solver.solve(alloc, routes, lo, hi)?;
+    let rows = solve_slice(alloc, solver, routes, lo, hi)?;
     let agree = words_agree(alloc, solver, routes, &rows)?;
     slices.push(rows)?;
     Ok(agree)

@@ -20,6 +20,7 @@ pub struct Marks {
     next: usize,
     part: Ranks,
     whole: Ranks,
+    taken: u64,
 }
 
 impl Model for Marks {
@@ -42,6 +43,7 @@ impl Drop for Marks {
             next: _,
             part: _,
             whole: _,
+            taken: _,
         } = self;
     }
 }
@@ -141,6 +143,7 @@ impl Marks {
             next: 0,
             part: Ranks::none(),
             whole: Ranks::none(),
+            taken: 0,
         })
     }
 
@@ -149,6 +152,11 @@ impl Marks {
         ensures { result ≡ length self.now }
     {
         self.order.points()
+    }
+
+    /// How often a point was taken so far: what a solver's work is told by. No contract speaks of it.
+    pub fn taken(&self) -> u64 {
+        self.taken
     }
 
     /// Whether a point is in the set.
@@ -215,6 +223,7 @@ impl Marks {
         };
         let point = self.order.point_at(rank);
         self.words[rank / 64] &= !(1 << (rank % 64));
+        self.taken = self.taken.saturating_add(1);
         self.go_behind(rank);
         Some(point)
     }

@@ -17,12 +17,12 @@ unflagged_closed shape backward flags (Call site x y) never = λ flagged through
 unflagged_closed shape backward flags (Ret site x y) never = tt
 
 pub visits-smaller : goal.visits-smaller
-visits-smaller g c = visit_falls c.visits.flags c.visits.dirty c.visit_point.new.flags c.take.new.self c.visit_point.new.dirty c.in-Some.at
+visits-smaller c = visit_falls c.visits.flags c.visits.dirty c.visit_point.new.flags c.take.new.self c.visit_point.new.dirty c.in-Some.at
     c.in-Some.ensures.0
     c.in-Some.ensures.1 c.visit_point.ensures.spreads
 
 pub returns : goal.returns
-returns g c x = (
+returns c x = (
   c.visits.invariant.sound x,
   all_reached c.points.ensures.numbered c.visits.flags
       (all_closed (IsReachClosedAt (directed_shape c.args.links.now) c.args.links.now.backward) (directed_shape c.args.links.now)
@@ -31,7 +31,7 @@ returns g c x = (
 )
 
 pub visits-init : goal.visits-init
-visits-init g c =
+visits-init c =
     let spreads = c.grow_entries.ensures.spreads in
     record {
       count = spreads.count ∙ c.requires.dirty_count;
@@ -42,7 +42,7 @@ visits-init g c =
     }
 
 pub visits-preserved : goal.visits-preserved
-visits-preserved g c =
+visits-preserved c =
     let spreads = c.visit_point.ensures.spreads in
     record {
       count = spreads.count ∙ (ap length c.in-Some.ensures.1 ∙ (length-set c.visits.dirty c.in-Some.at false ∙ c.visits.invariant.count));

@@ -10,7 +10,7 @@ use Rattle.gk_solve.specs.Tables.Visits.{IsSettled}
 use Rattle.gk_solve.proofs.reach.reached.Given as goal
 
 abbrev pub invariant-visits : goal.invariant-visits
-invariant-visits g l = record {
+invariant-visits l = record {
   count : length l.dirty ≡ point_count l.links.program;
   settled : (edge : Edge) → IsEdge (directed_shape l.links) edge
       → IsSettled (IsReachClosedAt (directed_shape l.links) l.links.backward) source_of l.flags l.dirty edge;
@@ -19,4 +19,4 @@ invariant-visits g l = record {
 }
 
 abbrev pub decreases-visits : goal.decreases-visits
-decreases-visits g l = (length l.dirty + 1) * unset_flags l.flags + mark_count l.dirty
+decreases-visits l = (length l.dirty + 1) * unset_flags l.flags + mark_count l.dirty

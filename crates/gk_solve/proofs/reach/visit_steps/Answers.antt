@@ -9,7 +9,7 @@ use Rattle.gk_solve.proofs.visits.Visits.{spreads_more, place_more}
 use Rattle.gk_solve.proofs.reach.visit_steps.Goals as goal
 
 pub reach_point-requires : goal.reach_point-requires
-reach_point-requires g c =
+reach_point-requires c =
     let list = c.steps_from-steps.result.now in
     let k = c.loop-to.to-index in
     let are = c.steps_from-steps.ensures in
@@ -22,13 +22,13 @@ reach_point-requires g c =
     }
 
 pub loop-to-preserved : goal.loop-to-preserved
-loop-to-preserved g c = record {
+loop-to-preserved c = record {
   spreads = spreads_more flags_on _ _ _ _ _ _ c.loop-to.invariant.spreads c.reach_point.ensures.spreads;
   done = place_more (λ j. IsFlagged c.reach_point.new.flags (get_or c.steps_from-steps.result.now j 0)) c.loop-to.to-index
       (λ j below. c.reach_point.ensures.spreads.grows _ (c.loop-to.invariant.done j below)) c.reach_point.ensures.flagged;
 }
 
 pub returns-clause-flagged : goal.returns-clause-flagged
-returns-clause-flagged g c y there =
+returns-clause-flagged c y there =
     each_listed (IsFlagged c.loop-to.flags) c.steps_from-steps.result.now 0 c.loop-to.to-index (omega arith) c.loop-to.invariant.done y
     ((c.steps_from-steps.ensures.listed y).1 there)

@@ -8,14 +8,14 @@ use Rattle.gk_solve.proofs.slices.Slices.{written_over}
 use Rattle.gk_solve.proofs.routes.reached_points.Goals as goal
 
 pub reached-requires-clause-none : goal.reached-requires-clause-none
-reached-requires-clause-none g c =
+reached-requires-clause-none c =
     none_flagged c.as_mut_slice.result.now _ (c.as_mut_slice.ensures.value ∙ c.in_ok-flags.ensures.items_if_clones_equal (λ y same. same))
 
 pub reached-requires-clause-clear : goal.reached-requires-clause-clear
-reached-requires-clause-clear g c x = ap (λ (l : List Bool). get_or l x false) c.in_ok-dirty.ensures ∙ unset _ x
+reached-requires-clause-clear c x = ap (λ (l : List Bool). get_or l x false) c.in_ok-dirty.ensures ∙ unset _ x
 
 pub returns : goal.returns
-returns g c =
+returns c =
     let flags = c.in_ok-flags.flags in
     let shape = directed_shape c.args.links.now in
     let count : length c.reached.new.flags ≡ length flags.items = c.reached.auto.flags ∙ ap length c.as_mut_slice.ensures.value in

@@ -14,7 +14,7 @@ use Rattle.gk_solve.proofs.words.SolvedWords.{solved_by_frame}
 use Rattle.gk_solve.proofs.slice_words.SliceWords.solve_group_from.Goals as goal
 
 pub returns-in-One-clause-solved : goal.returns-in-One-clause-solved
-returns-in-One-clause-solved g c =
+returns-in-One-clause-solved c =
     let form = c.args.problem.now in
     let frame = c.group_frame-frame.result in
     let width : c.count-width.result ≡ 1 = c.count-width.ensures ∙ ap width_of c.in-One.is in
@@ -51,7 +51,7 @@ returns-in-One-clause-solved g c =
     (omega (arith, c.group_end-until.ensures.fits, fits)) (omega (arith, points, c.solve_group.ensures.dirty)) c.solve_group.ensures.solutions
 
 pub returns-in-Four-clause-solved : goal.returns-in-Four-clause-solved
-returns-in-Four-clause-solved g c =
+returns-in-Four-clause-solved c =
     let form = c.args.problem.now in
     let frame = c.group_frame-frame.result in
     let width : c.count-width.result ≡ 4 = c.count-width.ensures ∙ ap width_of c.in-Four.is in
@@ -88,7 +88,7 @@ returns-in-Four-clause-solved g c =
     (omega (arith, c.group_end-until.ensures.fits, fits)) (omega (arith, points, c.solve_group-in-Four.ensures.dirty)) c.solve_group-in-Four.ensures.solutions
 
 pub returns-in-Eight-clause-solved : goal.returns-in-Eight-clause-solved
-returns-in-Eight-clause-solved g c =
+returns-in-Eight-clause-solved c =
     let form = c.args.problem.now in
     let frame = c.group_frame-frame.result in
     let width : c.count-width.result ≡ 8 = c.count-width.ensures ∙ ap width_of c.in-Eight.is in

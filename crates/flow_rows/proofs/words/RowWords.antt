@@ -14,9 +14,10 @@ use Rattle.flow_graph.specs.WellFormed.{IsWellFormed}
 use Rattle.flow_graph.specs.Points.{point_count}
 use Rattle.flow_links.specs.Shapes.{LinkedProgram, directed_shape}
 use Rattle.summary_equations.specs.Equations.{HasFlag, IsInSolution}
-use Rattle.gk_solve.specs.Solved.{AreSolved, IsLeastSolution, IsMeetOverPaths, SliceTable, direction_of, word_at}
+use Rattle.gk_solve.specs.Solved.{AreSolved, SliceTable, direction_of, word_at}
 use Rattle.gk_solve.specs.Tables.Flags.{ArePathFlags, IsFlagged}
-use Rattle.gk_solve.specs.Tables.Rows.{IsInWords, IsPut, TellsBelow}
+use Rattle.flow_rows.specs.Solutions.{IsLeastSolution, IsMeetOverPaths}
+use Rattle.flow_rows.specs.code.Rows.{IsInWords, IsPut, TellsBelow}
 use Rattle.summary_equations.proofs.paths.Meet.{solution_is_meet}
 
 -- the words of the next point, put into its row

@@ -1,8 +1,8 @@
 use Rattle.std.proofs.Common.{◌<◌, ◌+◌, arith, subst, sym}
 use Rattle.bit_rows.specs.RowTable.{RowTable}
-use Rattle.gk_solve.specs.Tables.Rows.{IsInWords, IsPut}
-use Rattle.gk_solve.proofs.words.RowWords.{masks_are, put_more}
-use Rattle.gk_solve.proofs.row_words.put_words.Goals as goal
+use Rattle.flow_rows.specs.code.Rows.{IsInWords, IsPut}
+use Rattle.flow_rows.proofs.words.RowWords.{masks_are, put_more}
+use Rattle.flow_rows.proofs.filling.put_words.Goals as goal
 
 pub loop-point-preserved : goal.loop-point-preserved
 loop-point-preserved c =

@@ -1,12 +1,17 @@
-// Solved words put into rows.
+// Rows as what takes solved words.
 ghost use Rattle.std.specs.Prelude.{◌≡◌, ◌*◌, length};
 ghost use Rattle.flow_graph.specs.Points.{point_count};
-ghost use Rattle.gk_solve.specs.Tables.Rows.{AreWithin, IsInWords, IsPut, TellsBelow};
+ghost use Rattle.flow_rows.specs.code.Rows.{AreWithin, IsInWords, IsPut, TellsBelow};
 
-use crate::slice_words::SliceWords;
-use crate::take_words::TakeWords;
 use bit_rows::Rows;
 use flow_graph::Problem;
+use gk_solve::{SliceWords, TakeWords};
+
+/// Rows that get the words of a slice as these are solved.
+#[derive(Drop)]
+pub(crate) struct Filling {
+    pub(crate) rows: Rows,
+}
 
 // Puts the words of a slice that were solved last into rows.
 fn put_words(slice: &SliceWords, rows: &mut Rows)
@@ -23,12 +28,13 @@ fn put_words(slice: &SliceWords, rows: &mut Rows)
     }
 }
 
-impl TakeWords for Rows {
-    ghost is_ready = { λ rows form lo hi. (length rows.flags ≡ point_count form.program) × (rows.lo ≡ lo) × (rows.hi ≡ hi) };
+impl TakeWords for Filling {
+    ghost is_ready = { λ filling form lo hi.
+        (length filling.rows.flags ≡ point_count form.program) × (filling.rows.lo ≡ lo) × (filling.rows.hi ≡ hi) };
 
-    ghost has = { λ _ rows form lo hi word. TellsBelow form (64 * word) lo hi rows };
+    ghost has = { λ _ filling form lo hi word. TellsBelow form (64 * word) lo hi filling.rows };
 
     fn take_words(&mut self, _problem: &Problem<'_, '_>, slice: &SliceWords) {
-        put_words(slice, self);
+        put_words(slice, &mut self.rows);
     }
 }

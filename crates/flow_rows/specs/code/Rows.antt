@@ -6,7 +6,8 @@ use Rattle.bit_rows.specs.Words.{has_bit}
 use Rattle.flow_graph.specs.Problems.{may_shape, may_transfer, MayForm}
 use Rattle.flow_graph.specs.Points.{point_count}
 use Rattle.summary_equations.specs.Equations.{HasFlag, IsInSolution}
-use Rattle.gk_solve.specs.Solved.{SliceTable, TellsSlice, word_at}
+use Rattle.gk_solve.specs.Solved.{SliceTable, word_at}
+use Rattle.flow_rows.specs.Solutions.{TellsSlice}
 
 -- The rows have got the bits of a family, as far as they lie within their range; all else is as it was.
 pub record IsPut (Bit : ℕ → ℕ → Type 0) (old new : RowTable) : Type 0 where

@@ -4,9 +4,9 @@ use Rattle.bit_rows.specs.RowTable.{blank_table}
 use Rattle.flow_graph.specs.Points.{point_count}
 use Rattle.flow_links.specs.Shapes.{directed_shape}
 use Rattle.gk_solve.specs.Tables.Flags.{ArePathFlags}
-use Rattle.gk_solve.specs.Tables.Rows.{TellsBelow}
-use Rattle.gk_solve.proofs.words.RowWords.{blank_tells}
-use Rattle.gk_solve.proofs.solver.blank_rows.Goals as goal
+use Rattle.flow_rows.specs.code.Rows.{TellsBelow}
+use Rattle.flow_rows.proofs.words.RowWords.{blank_tells}
+use Rattle.flow_rows.proofs.rows.blank_rows.Goals as goal
 
 pub returns : goal.returns
 returns c =
