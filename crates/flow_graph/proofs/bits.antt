@@ -1,10 +1,6 @@
-pub mod Boundaries
+pub mod Added
 pub mod DefinitionRanges
 pub mod Dummies
-pub mod EffectSteps
-pub mod EffectWords
 pub mod ExpressionEquality
-pub mod MayWords
 pub mod Noted
-pub mod OwnBits
-pub mod SetWords
+pub mod WordTests

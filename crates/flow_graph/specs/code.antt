@@ -1,7 +1,4 @@
-pub mod BitTables
-pub mod Effects
 pub mod Evaluated
-pub mod KeptEffects
 pub mod Labels
 pub mod NumberLists
 pub mod PointTables

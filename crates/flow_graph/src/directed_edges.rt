@@ -1,4 +1,4 @@
-// The edges of a may form.
+// The edges of a graph, in the direction of an analysis.
 
 ghost use Rattle.std.specs.Prelude.{◌≡◌, ◌++◌, IfOk, OnOk, map};
 ghost use Rattle.flow_graph.specs.Edges.{edges as edges_of};
@@ -60,25 +60,28 @@ fn put_all<E: EdgeList>(edges: &mut E, graph: &Graph<'_>) -> Result<(), OutOfMem
     Ok(())
 }
 
-/// All edges of a graph, in the order of the points that they leave in it, as the analysis follows them.
-pub(crate) fn directed_edges(
-    alloc: Global,
-    graph: &Graph<'_>,
-    analysis: Analysis,
-) -> Result<Vec<Edge>, OutOfMemory>
-    ensures { IfOk result (λ edges. edges.items ≡ (may_shape graph.now analysis).edges) }
-{
-    // Most points are left by one edge. With as many places again for what tests and calls add, the list does not move.
-    let mut edges = Vec::with_capacity(alloc, graph.points() as usize * 2)?;
-    match analysis.direction() {
-        Direction::Forward => {
-            put_all(&mut edges, graph)?;
-            Ok(edges)
-        }
-        Direction::Backward => {
-            let mut list = ReversedEdges { edges };
-            put_all(&mut list, graph)?;
-            Ok(list.edges)
+impl Graph<'_> {
+    /// All edges, in the order of the points that they leave in the graph, as an analysis follows them: each reversed where it goes
+    /// backwards. Fails only where memory runs out.
+    pub fn directed_edges(
+        &self,
+        alloc: Global,
+        analysis: Analysis,
+    ) -> Result<Vec<Edge>, OutOfMemory>
+        ensures { IfOk result (λ edges. edges.items ≡ (may_shape self.now analysis).edges) }
+    {
+        // Most points are left by one edge. With as many places again for what tests and calls add, the list does not move.
+        let mut edges = Vec::with_capacity(alloc, self.points() as usize * 2)?;
+        match analysis.direction() {
+            Direction::Forward => {
+                put_all(&mut edges, self)?;
+                Ok(edges)
+            }
+            Direction::Backward => {
+                let mut list = ReversedEdges { edges };
+                put_all(&mut list, self)?;
+                Ok(list.edges)
+            }
         }
     }
 }

@@ -5,12 +5,9 @@
 #![tactic(auto)]
 
 mod analysis;
-mod bit_table;
 mod directed_edges;
 mod edge;
 mod edge_list;
-mod effect;
-mod effects;
 pub mod examples;
 mod expression;
 mod fault;
@@ -20,20 +17,18 @@ mod leads;
 mod number_lists;
 mod place;
 mod points;
-mod problem;
 pub mod program_laws;
 mod sites;
 mod succ;
 mod universes;
 mod walk;
-mod words;
 
 pub use analysis::{Analysis, Direction, Join};
-pub use bit_table::BitTable;
 pub use edge::Edge;
 pub use expression::Expr;
 pub use fault::GraphFault;
 pub use graph::Graph;
 pub use place::Place;
-pub use problem::Problem;
 pub use std::alloc::AllocError as OutOfMemory;
+pub use universes::target;
+pub use walk::Walk;

@@ -10,7 +10,7 @@ use tac_program::{Program, Stmt};
 /// A walk over the points of a program. It keeps the statements of the procedure where it stands, so that no point has to
 /// be looked up.
 #[derive(Drop)]
-pub(crate) struct Walk<'p> {
+pub struct Walk<'p> {
     program: &'p Program,
     procedure: usize,
     statements: &'p [Stmt],
@@ -45,7 +45,7 @@ fn statements(program: &Program, procedure: usize) -> &[Stmt]
 
 impl<'p> Walk<'p> {
     /// A walk that stands at the first point.
-    pub(crate) fn new(program: &'p Program) -> Self
+    pub fn new(program: &'p Program) -> Self
         ensures { result ≡ record { program = program.now; point = 0 } }
     {
         Walk {
@@ -57,7 +57,7 @@ impl<'p> Walk<'p> {
     }
 
     /// The statement before which the point stands, or none at a procedure's end, and the walk at the next point.
-    pub(crate) fn step(self) -> (Option<&'p Stmt>, Self)
+    pub fn step(self) -> (Option<&'p Stmt>, Self)
         requires { self.point < point_count self.program }
         ensures stmt { option_copied result.0 ≡ statement_at self.entry.program self.entry.point }
         ensures next { result.1 ≡ record self.entry { point = self.entry.point + 1 } }

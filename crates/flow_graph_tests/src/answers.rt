@@ -3,7 +3,8 @@
 ghost use Rattle.std.specs.Prelude.{◌≡◌, ◌<◌, ◌^◌, length, IfOk};
 ghost use Rattle.flow_graph.specs.Points.{point_count};
 
-use flow_graph::{Analysis, Edge, Graph, GraphFault, OutOfMemory, Problem};
+use flow_graph::{Analysis, Edge, Graph, GraphFault, OutOfMemory};
+use gen_kill::Problem;
 use std::alloc::Global;
 use std::process::Abort;
 use std::test::Fail;

@@ -4,7 +4,8 @@ ghost use Rattle.std.specs.Prelude.{◌≡◌, length};
 ghost use Rattle.flow_graph.specs.Points.{point_count};
 
 use crate::answers::{Question, marks, write_answer, write_edges, write_flags, write_frame};
-use flow_graph::{Analysis, Graph, OutOfMemory, Problem};
+use flow_graph::{Analysis, Graph, OutOfMemory};
+use gen_kill::Problem;
 use std::alloc::Global;
 use std::process::Abort;
 use std::test::Fail;

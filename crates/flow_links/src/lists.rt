@@ -11,7 +11,8 @@ use crate::keys::{key_count, places};
 use crate::link::{CallLink, SiteLink};
 use crate::list_kind::ListKind;
 use crate::values::{links, sites, sources, targets};
-use flow_graph::{Edge, Problem};
+use flow_graph::Edge;
+use gen_kill::Problem;
 use std::alloc::Global;
 use work_list::Groups;
 

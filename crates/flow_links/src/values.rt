@@ -7,7 +7,8 @@ ghost use Rattle.flow_links.specs.Tables.EdgeLists.{AreEdges, call_link, call_so
 
 use crate::OutOfMemory;
 use crate::link::{CallLink, SiteLink};
-use flow_graph::{Direction, Edge, Problem};
+use flow_graph::{Direction, Edge};
+use gen_kill::Problem;
 use std::alloc::Global;
 
 // The point to which a step leads.

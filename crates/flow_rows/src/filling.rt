@@ -4,7 +4,7 @@ ghost use Rattle.flow_graph.specs.Points.{point_count};
 ghost use Rattle.flow_rows.specs.code.Rows.{AreWithin, IsInWords, IsPut, TellsBelow};
 
 use bit_rows::Rows;
-use flow_graph::Problem;
+use gen_kill::Problem;
 use gk_solve::{SliceWords, TakeWords};
 
 /// Rows that get the words of a slice as these are solved.

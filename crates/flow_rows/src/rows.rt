@@ -8,7 +8,7 @@ ghost use Rattle.flow_rows.specs.code.Rows.{TellsBelow};
 use crate::OutOfMemory;
 use crate::filling::Filling;
 use bit_rows::Rows;
-use flow_graph::Problem;
+use gen_kill::Problem;
 use gk_solve::{Routes, Solver};
 use std::alloc::Global;
 

@@ -9,7 +9,7 @@ use crate::OutOfMemory;
 use crate::group_frame::GroupFrame;
 use crate::lanes::{across_word, unkilled_word};
 use crate::summary::Summary;
-use flow_graph::Problem;
+use gen_kill::Problem;
 use std::alloc::Global;
 
 /// The word with one more bit.

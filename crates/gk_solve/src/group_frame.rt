@@ -1,5 +1,5 @@
-use flow_graph::{BitTable, Problem};
 use flow_links::Links;
+use gen_kill::{BitTable, Problem};
 
 /// A problem and what is found of it once, for a group of words side by side.
 #[derive(Drop)]

@@ -3,7 +3,7 @@ ghost use Rattle.std.specs.Prelude.{◌≡◌, ◌+◌, ◌-◌, ◌*◌, ◌/�
 ghost use Rattle.bit_rows.specs.Words.{has_bit};
 ghost use Rattle.flow_graph.specs.Points.{point_count};
 ghost use Rattle.flow_graph.specs.Universes.{bits as bits_of};
-ghost use Rattle.flow_graph.specs.code.Effects.{IsDependence};
+ghost use Rattle.gen_kill.specs.code.Effects.{IsDependence};
 ghost use Rattle.flow_links.specs.Shapes.{directed_shape};
 ghost use Rattle.gk_solve.specs.Solved.{AreSolved, IsSliceOf, direction_of, word_at, words_at_once, words_between};
 ghost use Rattle.gk_solve.specs.Tables.Groups.{AreEffectWords, IsGroupFrame};
@@ -17,8 +17,8 @@ use crate::routes::Routes;
 use crate::solution::solve_group;
 use crate::summary::Summary;
 use bit_rows::words_for;
-use flow_graph::{BitTable, Problem};
 use flow_links::Links;
+use gen_kill::{BitTable, Problem};
 use std::alloc::Global;
 use std::marker::Model;
 use work_list::Marks;

@@ -10,7 +10,7 @@ use crate::effects::effect_words;
 use crate::routes::Routes;
 use crate::slice_words::{SliceWords, slice_words};
 use crate::take_words::{TakeWords, solve_each};
-use flow_graph::Problem;
+use gen_kill::Problem;
 use std::alloc::Global;
 use std::marker::Model;
 

@@ -7,7 +7,7 @@ ghost use Rattle.gk_solve.specs.Tables.Groups.{AreEffectWords};
 use crate::routes::Routes;
 use crate::slice_words::SliceWords;
 use bit_rows::words_for;
-use flow_graph::Problem;
+use gen_kill::Problem;
 
 /// What takes the words of a slice as they are solved: rows, a board that workers share, a caller's memory.
 pub trait TakeWords {

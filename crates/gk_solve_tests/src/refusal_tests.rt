@@ -5,9 +5,10 @@ ghost use Rattle.flow_graph.specs.Universes.{bits as bits_of};
 ghost use Rattle.gk_solve.specs.Solved.{IsSliceOf, direction_of};
 
 use bit_rows::Rows;
-use flow_graph::{Analysis, Graph, OutOfMemory, Problem};
+use flow_graph::{Analysis, Graph, OutOfMemory};
 use flow_links::Links;
 use flow_rows::{solve, solve_counted, solve_slice};
+use gen_kill::Problem;
 use gk_solve::{Routes, SliceWords, Solver};
 use std::alloc::Global;
 use std::process::Abort;

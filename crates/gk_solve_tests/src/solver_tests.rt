@@ -1,6 +1,7 @@
 use crate::tables::{Question, answer, check};
-use flow_graph::{Analysis, Graph, GraphFault, OutOfMemory, Problem};
+use flow_graph::{Analysis, Graph, GraphFault, OutOfMemory};
 use flow_rows::solve_counted;
+use gen_kill::Problem;
 use std::alloc::Global;
 use std::process::Abort;
 use std::test::Fail;

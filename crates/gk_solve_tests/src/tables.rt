@@ -6,8 +6,9 @@ ghost use Rattle.flow_graph.specs.Universes.{bits as bits_of};
 ghost use Rattle.gk_solve.specs.Solved.{direction_of};
 
 use bit_rows::{Cut, Rows, words_for};
-use flow_graph::{Analysis, Expr, Graph, OutOfMemory, Problem};
+use flow_graph::{Analysis, Expr, Graph, OutOfMemory};
 use flow_rows::{solve, solve_slice};
+use gen_kill::Problem;
 use gk_solve::{Routes, Solver};
 use std::alloc::Global;
 use std::process::Abort;

@@ -7,7 +7,7 @@ use Rattle.flow_graph.specs.declared.edge.Edge.TheVariants.{Step, Call, Ret}
 use Rattle.flow_graph.specs.Analyses.{is_backward}
 use Rattle.flow_graph.specs.Points.{point_count}
 use Rattle.flow_graph.specs.Problems.{MayForm}
-use Rattle.flow_graph.specs.code.Effects.{IsDependence}
+use Rattle.gen_kill.specs.code.Effects.{IsDependence}
 use Rattle.summary_equations.specs.Equations.{HasFlag}
 use Rattle.flow_graph.specs.Paths.{Shape, Transfer, IsEdge}
 use Rattle.work_list.specs.Marks.{IsMarked}

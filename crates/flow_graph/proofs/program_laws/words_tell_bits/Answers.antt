@@ -1,4 +1,4 @@
-use Rattle.flow_graph.proofs.bits.MayWords.{words_tell_bits, words_are_their_bits}
+use Rattle.flow_graph.proofs.bits.WordTests.{words_tell_bits, words_are_their_bits}
 use Rattle.flow_graph.proofs.program_laws.words_tell_bits.Goals as goal
 
 pub returns-clause-bits : goal.returns-clause-bits

@@ -2,7 +2,7 @@ use Rattle.std.proofs.Common.{◌≡◌, ◌+◌, ◌∷◌, [], ◌++◌, ℕ, 
 use Rattle.std.specs.List.{range_with_len}
 use Rattle.flow_graph.specs.Universes.{definition_at, dummies}
 use Rattle.flow_graph.proofs.lists.Ranges.{flat_map-range_more}
-use Rattle.flow_graph.proofs.bits.OwnBits.{added}
+use Rattle.flow_graph.proofs.bits.Added.{added}
 use Rattle.flow_graph.proofs.universes.definitions.Goals as goal
 use Rattle.flow_graph.proofs.universes.definitions.Goals.{in-Some+in_ok-push-in-Some, in-None}
 

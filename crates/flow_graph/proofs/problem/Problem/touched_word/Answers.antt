@@ -1,9 +1,0 @@
-use Rattle.std.proofs.Common.{◌+◌, ◌*◌, false, option_map, unwrap_or, sym, ap, ◌∙◌}
-use Rattle.bit_rows.proofs.words.WordBits.{has_bit-zero}
-use Rattle.flow_graph.specs.code.Effects.{depends}
-use Rattle.flow_graph.proofs.problem.Problem.touched_word.Goals as goal
-
-pub returns-in-None : goal.returns-in-None
-returns-in-None c k within below =
-    has_bit-zero k ∙ ap (λ o. unwrap_or (option_map (λ x. depends c.args.self.now.program c.args.self.now.analysis x (64 * c.args.word + k)) o) false)
-    (sym c.in-None.is)

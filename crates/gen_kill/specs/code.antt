@@ -1,0 +1,3 @@
+pub mod BitTables
+pub mod Effects
+pub mod KeptEffects
