@@ -5,7 +5,8 @@ ghost use Rattle.gk_solve.specs.Solved.{HasPathFlags, direction_of};
 ghost use Rattle.flow_team.specs.code.Directions.{form_of};
 
 use crate::OutOfMemory;
-use flow_graph::{Analysis, Graph, Problem};
+use flow_graph::{Analysis, Graph};
+use gen_kill::Problem;
 use gk_solve::{Routes, Solver};
 use std::alloc::Global;
 use std::marker::Model;

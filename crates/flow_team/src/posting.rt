@@ -5,7 +5,7 @@ ghost use Rattle.slice_board.specs.Boards.{IsOf, IsPlace, board_points};
 ghost use Rattle.flow_team.specs.code.Posting.{CanPost, HasPosted, IsPosted, TellPoint};
 ghost use Rattle.slice_team.specs.Teams.{PostsMore};
 
-use flow_graph::Problem;
+use gen_kill::Problem;
 use gk_solve::{Routes, SliceWords, Solver, TakeWords};
 use slice_board::{Pass, Wanted, WordBoard};
 

@@ -12,7 +12,8 @@ ghost use Rattle.tacflow_c.specs.Statuses.{AreInRange, HasRoom};
 ghost use Rattle.tacflow_c.specs.code.Flags.{AreNumbers};
 
 use bit_rows::Row;
-use flow_graph::{Analysis, Graph, Join, OutOfMemory, Problem};
+use flow_graph::{Analysis, Graph, Join, OutOfMemory};
+use gen_kill::Problem;
 use gk_solve::{Routes, SliceWords, Solver, TakeWords};
 use std::alloc::Global;
 

@@ -5,7 +5,7 @@ use denote.Param.Send.{IsSend, IsSync, sendable}
 use Rattle.std.proofs.Crossing.{crosses}
 use Rattle.tac_program.specs.contracts.program.Program as Program
 use Rattle.flow_graph.specs.contracts.graph.Graph as Graph
-use Rattle.flow_graph.specs.contracts.problem.Problem as Problem
+use Rattle.gen_kill.specs.contracts.problem.Problem as Problem
 use Rattle.flow_links.specs.contracts.links.Links as Links
 use Rattle.gk_solve.specs.contracts.routes.Routes as Routes
 use Rattle.gk_solve.specs.contracts.solver.Solver as Solver
