@@ -1,2 +1,1 @@
-pub mod SliceWidths
 pub mod Slices

@@ -14,9 +14,11 @@ mod solution;
 mod solver;
 mod summary;
 mod take_words;
+mod word_tables;
 
 pub use routes::Routes;
-pub use slice_words::{SliceWords, words_at_once};
+pub use slice_words::SliceWords;
 pub use solver::Solver;
 pub use std::alloc::AllocError as OutOfMemory;
 pub use take_words::TakeWords;
+pub use word_tables::words_at_once;

@@ -7,15 +7,12 @@ ghost use Rattle.gen_kill.specs.code.Effects.{IsDependence};
 ghost use Rattle.flow_links.specs.Shapes.{directed_shape};
 ghost use Rattle.gk_solve.specs.Solved.{AreSolved, IsSliceOf, direction_of, word_at, words_at_once, words_between};
 ghost use Rattle.gk_solve.specs.Tables.Groups.{AreEffectWords, IsGroupFrame};
-ghost use Rattle.gk_solve.specs.Tables.Widths.{width_of};
-ghost use Rattle.gk_solve.specs.declared.slice_words.Width.TheVariants.{One, Four, Eight};
 
 use crate::OutOfMemory;
 use crate::effects::with_bit;
 use crate::group_frame::GroupFrame;
 use crate::routes::Routes;
-use crate::solution::solve_group;
-use crate::summary::Summary;
+use crate::word_tables::Tables;
 use bit_rows::words_for;
 use flow_links::Links;
 use gen_kill::{BitTable, Problem};
@@ -23,33 +20,13 @@ use std::alloc::Global;
 use std::marker::Model;
 use work_list::Marks;
 
-// A slice of more words is long, and solves eight at once: twice as many for some more work.
-const LONG: u32 = 64;
-
-// So does one at more points that has more than four words. No program within the standard limits has as many.
-const MANY_POINTS: u32 = 16_384;
-
-/// How many words a slice solves at once: one where it has no more, and eight where it is long, or has many points.
-#[derive(Clone, Copy)]
-pub(crate) enum Width {
-    One,
-    Four,
-    Eight,
-}
-
 /// All working memory in which the words of a slice are solved, and the words that were solved last.
 pub struct SliceWords {
     lo: u32,
     hi: u32,
     from: u32,
     until: u32,
-    width: Width,
-    one: Vec<Summary<1>>,
-    one_brought: Vec<[u64; 1]>,
-    four: Vec<Summary<4>>,
-    four_brought: Vec<[u64; 4]>,
-    eight: Vec<Summary<8>>,
-    eight_brought: Vec<[u64; 8]>,
+    tables: Tables,
     dirty: Marks,
     callers: Marks,
     variables: u32,
@@ -75,13 +52,7 @@ impl Drop for SliceWords {
             hi: _,
             from: _,
             until: _,
-            width: _,
-            one: _,
-            one_brought: _,
-            four: _,
-            four_brought: _,
-            eight: _,
-            eight_brought: _,
+            tables: _,
             dirty: _,
             callers: _,
             variables: _,
@@ -139,24 +110,6 @@ fn group_frame<'a, 'g, 'p>(
     }
 }
 
-// The tables of so many points and procedures.
-fn blank_tables<const W: usize>(
-    alloc: Global,
-    points: usize,
-    procedures: usize,
-) -> Result<(Vec<Summary<W>>, Vec<[u64; W]>), OutOfMemory>
-    requires { W ≤ 8 }
-    ensures { IfOk result (λ tables. (length tables.0.items ≡ points) × (length tables.1.items ≡ procedures)) }
-{
-    let blank = Summary {
-        kept: [0; W],
-        made: [0; W],
-    };
-    let table = vec![in alloc; blank; points]?;
-    let brought = vec![in alloc; [0; W]; procedures]?;
-    Ok((table, brought))
-}
-
 // The marks of points, and those of procedures.
 fn marks(alloc: Global, links: &Links) -> Result<(Marks, Marks), OutOfMemory>
     ensures { IfOk result (λ marks. (length marks.0 ≡ point_count links.now.program) × (length marks.1 ≡ (directed_shape links.now).procedures)) }
@@ -164,65 +117,6 @@ fn marks(alloc: Global, links: &Links) -> Result<(Marks, Marks), OutOfMemory>
     let points = Marks::none(alloc, links.order())?;
     let procedures = Marks::none(alloc, links.call_order())?;
     Ok((points, procedures))
-}
-
-// Whether a slice of so many words at so many points solves eight at once.
-fn solves_eight(points: u32, words: u32) -> bool
-    ensures { result ≡ (nat_lt 64 words || (nat_lt 16384 points && nat_lt 4 words)) }
-{
-    words > LONG || (points > MANY_POINTS && words > 4)
-}
-
-/// How many words a slice of so many words solves at once, at so many points: eight where it has more than 64, or more than four at more
-/// than 16,384 points, which no program within the standard limits has; else four. A slice of one word solves that one.
-pub fn words_at_once(points: u32, words: u32) -> u32
-    ensures number { result ≡ words_at_once points words }
-    ensures range { (4 ≤ result) × (result ≤ 8) }
-{
-    if solves_eight(points, words) { 8 } else { 4 }
-}
-
-// How many words a slice of the bits `lo..hi` at so many points solves at once.
-fn width_for(points: u32, lo: u32, hi: u32) -> Width
-    requires { lo ≤ hi }
-    ensures one { result ≡ One → hi ≤ 64 * (lo / 64) + 64 }
-    ensures four { result ≡ Four → words_at_once points (words_between lo hi) ≡ 4 }
-    ensures eight { result ≡ Eight → words_at_once points (words_between lo hi) ≡ 8 }
-{
-    let words = words_for(hi).saturating_sub(lo / 64);
-    if words <= 1 {
-        return Width::One;
-    }
-    if solves_eight(points, words) {
-        Width::Eight
-    } else {
-        Width::Four
-    }
-}
-
-// So many words.
-fn count(width: Width) -> u32
-    ensures { result ≡ width_of width }
-{
-    match width {
-        Width::One => 1,
-        Width::Four => 4,
-        Width::Eight => 8,
-    }
-}
-
-// How many tables of each width there are: one, of the width that is used.
-fn tables(width: Width) -> (usize, usize, usize)
-    ensures one { width ≡ One → result.0 ≡ 1 }
-    ensures four { width ≡ Four → result.1 ≡ 1 }
-    ensures eight { width ≡ Eight → result.2 ≡ 1 }
-    ensures most { (result.0 ≤ 1) × (result.1 ≤ 1) × (result.2 ≤ 1) }
-{
-    match width {
-        Width::One => (1, 0, 0),
-        Width::Four => (0, 1, 0),
-        Width::Eight => (0, 0, 1),
-    }
 }
 
 // All working memory of a slice.
@@ -238,28 +132,16 @@ pub(crate) fn slice_words(
         × (slice.variables ≡ length problem.now.program.variable_names) × (slice.lo ≡ lo) × (slice.hi ≡ hi)) }
 {
     let links = routes.links();
-    let width = width_for(links.points(), lo, hi);
-    let points = links.points() as usize;
-    let procedures = links.procedures() as usize;
-    let (ones, fours, eights) = tables(width);
-    let (one, one_brought) = blank_tables(alloc, ones * points, ones * procedures)?;
-    let (four, four_brought) = blank_tables(alloc, fours * points, fours * procedures)?;
-    let (eight, eight_brought) = blank_tables(alloc, eights * points, eights * procedures)?;
+    let tables = Tables::of(alloc, links.points(), links.procedures(), lo, hi)?;
     let (dirty, callers) = marks(alloc, links)?;
     let variables = problem.variables();
-    let dependence = problem.no_dependence(alloc, count(width))?;
+    let dependence = problem.no_dependence(alloc, tables.width())?;
     Ok(SliceWords {
         lo,
         hi,
         from: lo / 64,
         until: lo / 64,
-        width,
-        one,
-        one_brought,
-        four,
-        four_brought,
-        eight,
-        eight_brought,
+        tables,
         dirty,
         callers,
         variables,
@@ -268,19 +150,17 @@ pub(crate) fn slice_words(
 }
 
 // The word behind those that a slice of this width solves at once, from one on.
-fn group_end(width: Width, points: u32, lo: u32, hi: u32, word: u32) -> u32
-    requires one { width ≡ One → hi ≤ 64 * (lo / 64) + 64 }
-    requires four { width ≡ Four → words_at_once points (words_between lo hi) ≡ 4 }
-    requires eight { width ≡ Eight → words_at_once points (words_between lo hi) ≡ 8 }
+fn group_end(width: u32, hi: u32, word: u32) -> u32
+    requires some { 0 < width }
+    requires narrow { width ≤ 8 }
     requires word { 64 * word < hi }
     ensures more { word < result }
     ensures last { 64 * result < hi + 64 }
-    ensures fits { result ≤ word + width_of width }
-    ensures most { result ≤ word + words_at_once points (words_between lo hi) }
-    ensures whole { lo / 64 ≤ word → 64 * result < hi → result ≡ word + words_at_once points (words_between lo hi) }
+    ensures fits { result ≤ word + width }
+    ensures whole { 64 * result < hi → result ≡ word + width }
 {
     let left = words_for(hi) - word;
-    word + left.min(count(width))
+    word + left.min(width)
 }
 
 impl SliceWords {
@@ -318,10 +198,10 @@ impl SliceWords {
         ensures { result ≡ word_at self.now point word }
     {
         let w = (word - self.from) as usize;
-        match self.width {
-            Width::One => self.one[point as usize].made[w],
-            Width::Four => self.four[point as usize].made[w],
-            Width::Eight => self.eight[point as usize].made[w],
+        match &self.tables {
+            Tables::One(tables) => tables.points[point as usize].made[w],
+            Tables::Four(tables) => tables.points[point as usize].made[w],
+            Tables::Eight(tables) => tables.points[point as usize].made[w],
         }
     }
 
@@ -333,10 +213,10 @@ impl SliceWords {
         ensures words { (w : ℕ) → w < length result.1.now → slice_index result.1.now w ≡ word_at self.now point (result.0 + w) }
     {
         let count = (self.until - self.from) as usize;
-        match self.width {
-            Width::One => (self.from, &self.one[point as usize].made[..count]),
-            Width::Four => (self.from, &self.four[point as usize].made[..count]),
-            Width::Eight => (self.from, &self.eight[point as usize].made[..count]),
+        match &self.tables {
+            Tables::One(tables) => (self.from, &tables.points[point as usize].made[..count]),
+            Tables::Four(tables) => (self.from, &tables.points[point as usize].made[..count]),
+            Tables::Eight(tables) => (self.from, &tables.points[point as usize].made[..count]),
         }
     }
 
@@ -365,37 +245,22 @@ impl SliceWords {
         // Its contract tells that there are few bits.
         let _ = problem.bits();
         problem.put_dependence(word, &mut self.dependence);
-        let width = count(self.width);
+        let width = self.tables.width();
         let frame = group_frame(problem, routes, effects, &self.dependence, word, width);
         let range = (self.lo, self.hi);
-        let until = group_end(self.width, self.dirty.points(), self.lo, self.hi, word);
+        let until = group_end(width, self.hi, word);
         self.from = word;
         self.until = until;
-        match self.width {
-            Width::One => solve_group(
-                &frame,
-                self.one.as_mut_slice(),
-                self.one_brought.as_mut_slice(),
-                &mut self.dirty,
-                &mut self.callers,
-                range,
-            ),
-            Width::Four => solve_group(
-                &frame,
-                self.four.as_mut_slice(),
-                self.four_brought.as_mut_slice(),
-                &mut self.dirty,
-                &mut self.callers,
-                range,
-            ),
-            Width::Eight => solve_group(
-                &frame,
-                self.eight.as_mut_slice(),
-                self.eight_brought.as_mut_slice(),
-                &mut self.dirty,
-                &mut self.callers,
-                range,
-            ),
+        match &mut self.tables {
+            Tables::One(tables) => {
+                tables.solve(&frame, &mut self.dirty, &mut self.callers, range);
+            }
+            Tables::Four(tables) => {
+                tables.solve(&frame, &mut self.dirty, &mut self.callers, range);
+            }
+            Tables::Eight(tables) => {
+                tables.solve(&frame, &mut self.dirty, &mut self.callers, range);
+            }
         }
     }
 

@@ -1,15 +1,35 @@
--- How many words a slice solves at once.
-use Rattle.std.specs.Prelude.{ℕ}
-use Rattle.gk_solve.specs.declared.slice_words.Width.{Width}
-use Rattle.gk_solve.specs.declared.slice_words.Width.TheVariants.{One, Four, Eight}
+-- The tables of a slice, of three widths.
+use Rattle.std.specs.Prelude.{◌≡◌, ◌<◌, ◌≤◌, ◌+◌, ◌*◌, ◌/◌, ℕ, List, length, map}
+use Rattle.gk_solve.specs.Solved.{words_at_once, words_between}
+use Rattle.gk_solve.specs.declared.word_tables.Tables.{Tables}
+use Rattle.gk_solve.specs.declared.word_tables.Tables.TheVariants.{One, Four, Eight}
 
-abbrev pub width_of : Width → ℕ
-width_of One = 1
-width_of Four = 4
-width_of Eight = 8
+-- how many words are solved at once
+abbrev pub width_of : Tables → ℕ
+width_of (One tables) = 1
+width_of (Four tables) = 4
+width_of (Eight tables) = 8
 
--- of three, what stands for the width
-abbrev pub by_width : {A : Type 0} → A → A → A → Width → A
-by_width one four eight One = one
-by_width one four eight Four = four
-by_width one four eight Eight = eight
+-- of how many points they are, and of how many procedures
+abbrev pub points_of : Tables → ℕ
+points_of (One tables) = length tables.points.items
+points_of (Four tables) = length tables.points.items
+points_of (Eight tables) = length tables.points.items
+
+abbrev pub procedures_of : Tables → ℕ
+procedures_of (One tables) = length tables.procedures.items
+procedures_of (Four tables) = length tables.procedures.items
+procedures_of (Eight tables) = length tables.procedures.items
+
+-- the solved words of each point: they stand in the place of what is made
+abbrev pub made_words : Tables → List (List ℕ)
+made_words (One tables) = map (λ summary. summary.made) tables.points.items
+made_words (Four tables) = map (λ summary. summary.made) tables.points.items
+made_words (Eight tables) = map (λ summary. summary.made) tables.points.items
+
+-- They have a place for each point and procedure, and as many words at once as a slice of these bits solves, or fewer where it has no second.
+pub record AreTablesOf (points procedures lo hi : ℕ) (tables : Tables) : Type 0 where
+  pub points_are : points_of tables ≡ points
+  pub procedures_are : procedures_of tables ≡ procedures
+  pub most : width_of tables ≤ words_at_once points (words_between lo hi)
+  pub whole : width_of tables < words_at_once points (words_between lo hi) → hi ≤ 64 * (lo / 64) + 64
