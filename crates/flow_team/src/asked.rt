@@ -20,6 +20,7 @@ use crate::ask::Ask;
 use crate::complemented_words::complement_mask;
 use crate::plan::SlicePlan;
 use crate::solvers::GraphSolvers;
+use bit_rows::words_for;
 use flow_graph::Analysis;
 use gk_solve::{Routes, SliceWords, Solver, words_at_once};
 use slice_board::{Pass, PostedWords, Wanted, WordBoard};
@@ -78,7 +79,7 @@ fn solve_to<'a, 'g, 'p>(
         return solved;
     }
     let bits = solver.problem().bits();
-    let at_once = words_at_once(words.points(), bits.div_ceil(64));
+    let at_once = words_at_once(words.points(), words_for(bits));
     let from = word / at_once * at_once;
     let until = solver.solve_from(routes, words, from);
     (from, until)
@@ -294,6 +295,6 @@ impl<'g, 'p> Solve<AskedWords<'g, 'p>> for AskedWords<'g, 'p> {
         // Its contract tells that the slices lie within the bits.
         let _ = cut.slices();
         let (lo, hi) = cut.range(slice);
-        self.post_range(alloc, board, pass, lo / 64, hi.div_ceil(64))
+        self.post_range(alloc, board, pass, lo / 64, words_for(hi))
     }
 }

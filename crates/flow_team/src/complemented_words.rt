@@ -1,10 +1,11 @@
 // The words of a closed board, as a table's sets.
-ghost use Rattle.std.specs.Prelude.{◌≡◌, ℕ, ◌+◌, ◌-◌, ◌*◌, ◌^◌, ◌<◌, ◌≤◌, ◌&&◌, false, nat_lt, [], length, slice_index_or};
+ghost use Rattle.std.specs.Prelude.{◌≡◌, ℕ, ◌+◌, ◌*◌, ◌<◌, ◌≤◌, ◌&&◌, false, nat_lt, [], length, slice_index_or};
 ghost use Rattle.bit_rows.specs.RowTable.{flag_at};
 ghost use Rattle.bit_rows.specs.Words.{has_bit};
 ghost use Rattle.flow_graph.specs.Directions.{is_intersection};
 ghost use Rattle.flow_team.specs.code.Complements.{members_of, complemented_table};
 
+use bit_rows::word_below;
 use flow_graph::Join;
 use slice_board::PostedWords;
 use std::marker::Model;
@@ -27,27 +28,13 @@ impl Model for ComplementedWords {
     ghost view = { λ t. complemented_table (is_intersection t.join) t.posted };
 }
 
-// The word whose lowest `count` places are 1.
-fn low_ones(count: u64) -> u64
-    requires { count ≤ 64 }
-    ensures { result ≡ 2 ^ count - 1 }
-{
-    if count == 64 {
-        u64::MAX
-    } else {
-        (1 << count) - 1
-    }
-}
-
 /// By what a word's places are complemented: where the join is the intersection, those of its bits.
 pub(crate) fn complement_mask(bits: u32, join: Join, word: u32) -> u64
     ensures { (k : ℕ) → k < 64 → has_bit result k ≡ (is_intersection join && nat_lt (64 * word + k) bits) }
 {
     match join {
         Join::Union => 0,
-        Join::Intersection => {
-            low_ones(u64::from(bits).saturating_sub(64 * u64::from(word)).min(64))
-        }
+        Join::Intersection => word_below(bits, word),
     }
 }
 

@@ -2,6 +2,7 @@
 ghost use Rattle.std.specs.Prelude.{◌≡◌, ◌+◌, ◌/◌, ◌<◌, ◌≤◌};
 ghost use Rattle.gk_solve.specs.Solved.{words_at_once as at_once_of};
 
+use bit_rows::words_for;
 use gk_solve::words_at_once;
 
 /// How asks are cut into slices, at so many points: a slice has asks of one analysis, in as many words as were asked for, rounded up to
@@ -19,7 +20,7 @@ impl SlicePlan {
     pub fn of(points: u32, cut: u32) -> SlicePlan {
         SlicePlan {
             points,
-            words: cut.div_ceil(64),
+            words: words_for(cut),
         }
     }
 
@@ -28,7 +29,7 @@ impl SlicePlan {
         ensures number { result ≡ at_once_of self.now.points ((bits + 63) / 64) }
         ensures range { (4 ≤ result) × (result ≤ 8) }
     {
-        words_at_once(self.points, bits.div_ceil(64))
+        words_at_once(self.points, words_for(bits))
     }
 
     /// How many words of an analysis of so many bits a slice has at most: whole groups, and one at least.

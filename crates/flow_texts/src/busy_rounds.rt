@@ -10,6 +10,7 @@ ghost use Rattle.flow_texts.specs.code.Busy.{ArePoints, AreRounds, AsksRound, ro
 
 use crate::OutOfMemory;
 use crate::busy_words::BusyWords;
+use bit_rows::words_for;
 use flow_graph::{Analysis, Graph};
 use flow_team::{Answers, Ask, SlicePlan};
 use std::alloc::Global;
@@ -90,7 +91,7 @@ impl BusyRounds {
     {
         let width = round_width(tests.len() as u32, workers);
         let busy = BusyWords::empty(alloc, tests.len())?;
-        let until = graph.bits(Analysis::Busy).div_ceil(64);
+        let until = words_for(graph.bits(Analysis::Busy));
         Ok(BusyRounds {
             tests,
             busy,

@@ -10,6 +10,7 @@ ghost use Rattle.flow_texts.specs.code.Runs.{IsRunBefore};
 ghost use Rattle.text_pieces.specs.Pieces.{CanWrite, Writes, outlet};
 ghost use Rattle.flow_texts.specs.Tables.{listed};
 
+use bit_rows::words_for;
 use flow_team::Table;
 use text_pieces::{Pieces, Sink, TextBlock};
 
@@ -147,7 +148,7 @@ fn write_words<K: Sink>(
         end: 0,
         others: false,
     };
-    for at in 0..bits.div_ceil(64) {
+    for at in 0..words_for(bits) {
         let first = 64 * at;
         let end = first + (bits - first).min(64);
         run = write_word(out, texts, table.word(point, at), first, end, run);

@@ -17,6 +17,7 @@ use crate::parts::{
 };
 use crate::table::put_facts;
 use crate::text::{graph_of, program_of};
+use bit_rows::words_for;
 use flow_graph::{Analysis, Graph};
 use std::alloc::Global;
 use tac_program::Limits;
@@ -145,7 +146,7 @@ fn check_table(
         return Err(Fault::BadRange);
     }
     let rows = (until - from) as usize;
-    let count = (hi.div_ceil(64) - lo / 64) as usize;
+    let count = (words_for(hi) - lo / 64) as usize;
     if flags != rows || words != rows * count {
         return Err(Fault::BadRoom);
     }

@@ -11,7 +11,7 @@ ghost use Rattle.tacflow_c.specs.code.Filled.{AreFilled, CanFill, IsRowFilled};
 ghost use Rattle.tacflow_c.specs.Statuses.{AreInRange, HasRoom};
 ghost use Rattle.tacflow_c.specs.code.Flags.{AreNumbers};
 
-use bit_rows::Row;
+use bit_rows::{Row, words_for};
 use flow_graph::{Analysis, Graph, Join, OutOfMemory};
 use gen_kill::Problem;
 use gk_solve::{Routes, SliceWords, Solver, TakeWords};
@@ -178,7 +178,7 @@ fn put_solved<'a, 'g, 'p>(
     let mut slice = solver.slice(alloc, routes, lo, hi)?;
     put_flags(&paths, from, flags);
     let first = lo / 64;
-    let end = hi.div_ceil(64);
+    let end = words_for(hi);
     let layout = Layout {
         from,
         until,

@@ -22,14 +22,6 @@ pub has_bit-xor : (a b i : ℕ) → has_bit (bit_xor a b) i ≡ complemented (ha
 unfolding has_bit
 has_bit-xor a b i = ap (λ x. eqb x 1) (bit_at_xor a b i) ∙ odd (bit_at a i) (bit_at b i) (bit_at-lt a i) (bit_at-lt b i)
 
--- the lowest places of a word
-pub has_bit-low_ones : (bits word k : ℕ) → k < 64 → has_bit (2 ^ (min (bits - 64 * word) 64) - 1) k ≡ nat_lt (64 * word + k) bits
-unfolding has_bit
-has_bit-low_ones bits word k small = elim (cases_lt (64 * word + k) bits) [
-  | inl below ↦ ap (λ x. eqb x 1) (bit_at_ones (min (bits - 64 * word) 64) k (omega (arith, below, small))) ∙ sym (lt-ltb (64 * word + k) bits below)
-  | inr past ↦ ap (λ x. eqb x 1) (bit_at_ones_above (min (bits - 64 * word) 64) k (omega (arith, past))) ∙ sym (le-ltb (64 * word + k) bits past)
-]
-
 -- What a complemented place tells: whether a bit of a table is there, which is what some path has, or for a must analysis what none has.
 module _ (Table Some : Type 0) (b bits : ℕ) where
   may_place : (set flips : Bool) → (Table ↔ Some) → flips ≡ false → (set ≡ true) ↔ ((0 ≤ b) × (b < bits) × Some)

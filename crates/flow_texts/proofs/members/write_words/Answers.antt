@@ -1,5 +1,4 @@
 use Rattle.std.proofs.Common.{◌≡◌, ℕ, ◌+◌, ◌*◌, ◌<◌, false, min, ◌∙◌, subst, arith}
-use Rattle.std.proofs.lemmas.Grind.{div_ceil_times}
 use Rattle.flow_texts.specs.code.Members.{Named, chosen}
 use Rattle.flow_texts.specs.code.Runs.{IsRunBefore}
 use Rattle.text_pieces.specs.Pieces.{Outlet, outlet}
@@ -12,7 +11,7 @@ pub write_word-run-requires : goal.write_word-run-requires
 write_word-run-requires g c κs within =
     let first : ℕ = 64 * c.loop-at.at in
     let below : first < c.args.bits =
-    omega (arith, c.div_ceil-at-end.ensures, c.loop-at-test.true, (div_ceil_times c.args.bits 64 (omega arith)).1) in
+    omega (arith, c.words_for-at-end.ensures, c.loop-at-test.true) in
     let here : min c.args.bits first ≡ first = omega (arith, below) in (
       within,
       (
@@ -41,7 +40,7 @@ loop-at-preserved g c =
     let at : Pieces _ → Outlet = outlet g.K.Sink in
     let first : ℕ = 64 * c.loop-at.at in
     let below : first < c.args.bits =
-    omega (arith, c.div_ceil-at-end.ensures, c.loop-at-test.true, (div_ceil_times c.args.bits 64 (omega arith)).1) in
+    omega (arith, c.words_for-at-end.ensures, c.loop-at-test.true) in
     let there : first + c.min.result ≡ min c.args.bits (64 * (c.loop-at.at + 1)) = omega (arith, below, c.min.ensures) in
     record {
       after = subst (λ p. IsRunBefore g.member p next.first next.end) there c.write_word-run.ensures.after;
@@ -56,7 +55,7 @@ returns g c =
     let set : Named = chosen c.args.texts.now.texts g.member in
     let at : Pieces _ → Outlet = outlet g.K.Sink in
     let all : min c.args.bits (64 * c.loop-at.at) ≡ c.args.bits =
-    omega (arith, c.div_ceil-at-end.ensures, c.loop-at-test.false, (div_ceil_times c.args.bits 64 (omega arith)).0) in
+    omega (arith, c.words_for-at-end.ensures, c.loop-at-test.false) in
     let last : IsRunBefore g.member c.args.bits run.first run.end =
     subst (λ p. IsRunBefore g.member p run.first run.end) all c.loop-at.invariant.after in
     wrote-first c.args.texts.now.between set false run.first c.args.bits (at c.args.out.now) (at c.loop-at.out) (at c.write_run.new.out)

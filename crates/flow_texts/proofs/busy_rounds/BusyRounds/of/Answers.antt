@@ -1,5 +1,4 @@
 use Rattle.std.proofs.Common.{rules, ◌≡◌, ◌∙◌, ◌+◌, ◌*◌, ◌^◌, ◌<◌, ◌≤◌, ℕ, length, refl, sym, subst, arith}
-use Rattle.std.proofs.lemmas.Grind.{div_ceil_times}
 use Rattle.flow_graph.specs.Universes.{bits}
 use Rattle.flow_graph.specs.declared.analysis.Analysis.TheVariants.{Busy}
 use Rattle.flow_texts.specs.code.Busy.{AreBusy}
@@ -10,10 +9,9 @@ use Rattle.flow_texts.proofs.busy_rounds.BusyRounds.of.Goals as goal
 pub returns : goal.returns
 returns c =
     let program : Program = c.args.graph.now in
-    let until : ℕ = c.div_ceil-until.result in
-    let times = div_ceil_times c.bits.result 64 (omega arith) in
-    let high : 64 * until < bits program Busy + 64 = omega (arith, c.div_ceil-until.ensures, c.bits.ensures.count, times.0, times.1) in
-    let low : bits program Busy ≤ 64 * until = omega (arith, c.div_ceil-until.ensures, c.bits.ensures.count, times.0, times.1) in
+    let until : ℕ = c.words_for-until.result in
+    let high : 64 * until < bits program Busy + 64 = omega (arith, c.words_for-until.ensures, c.bits.ensures.count) in
+    let low : bits program Busy ≤ 64 * until = omega (arith, c.words_for-until.ensures, c.bits.ensures.count) in
     let count : c.len.result ≡ length c.args.tests.items = search rules in
     record {
       same = refl;
