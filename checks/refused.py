@@ -62,11 +62,13 @@ CALLS = {
     "text_pieces_tests": {"deliver", "pull_all", "pull_all, a longer block"},
     "view_commands_tests": {"run of tacview"},
 }
-# The same of single tests of a job of three slices: by one worker each slice is left in some run, by two some slice is.
+# The same of single tests of a job of three slices, or of four: by one worker each slice is left in some run, by two some slice is.
 CALLS_OF_TESTS = {
     "a_refused_call_goes_on": {f"Job::work of slice {slice}" for slice in range(3)},
     "one_worker_is_refused": {f"analyse, which leaves slice {slice}" for slice in range(3)},
     "two_workers_are_refused": {"analyse, which leaves (slice [012]|a slice before the last)"},
+    "one_leaves_a_slice": {f"answer, which leaves slice {slice}" for slice in range(4)},
+    "two_leave_a_slice": {"answer, which leaves (slice [0-3]|a slice before the last)"},
 }
 # How a test ends that answers a fault; a wrong assertion ends by a signal.
 FAILED = 101

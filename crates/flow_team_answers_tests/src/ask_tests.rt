@@ -14,18 +14,20 @@ use std::process::Abort;
 use std::test::Fail;
 use std::thread::Threads;
 use tac_reader::{Program, read};
-use team_probes::{BITS_OF_TWO_GROUPS, Cutting, Recorder, WORKERS, sums, table_by, told_again};
+use team_probes::{
+    BITS_OF_TWO_GROUPS, Cutting, Meeting, Recorder, WORKERS, left_by, sums, table_by, told_again,
+};
 use test_support::worked_programs::callee_loops;
 use test_support::worked_programs::series::prints;
 
-/// An analysis, a point, a word of its set, and what the word is.
-pub type Asked = (Analysis, u32, u32, u64);
+// An analysis, a point, a word of its set, and what the word is.
+type Asked = (Analysis, u32, u32, u64);
 
-/// What is asked, and at which points each analysis has no path.
+// What is asked, and at which points each analysis has no path.
 #[derive(Clone, Copy)]
-pub struct Asking {
-    pub rows: &'static [Asked],
-    pub pathless: &'static str,
+struct Asking {
+    rows: &'static [Asked],
+    pathless: &'static str,
 }
 
 const ALL_PATHS: &str = "reach without:\nlive without:\navail without:\nbusy without:\n";
@@ -33,8 +35,8 @@ const ALL_PATHS: &str = "reach without:\nlive without:\navail without:\nbusy wit
 const CALLEE_LOOPS_PATHLESS: &str =
     "reach without: 1 2 4\nlive without: 0 3\navail without: 1 2 4\nbusy without: 0 3\n";
 
-/// All words of the program whose callee loops.
-pub const CALLEE_LOOPS_ASKS: &[Asked] = &[
+// All words of the program whose callee loops.
+const CALLEE_LOOPS_ASKS: &[Asked] = &[
     (Analysis::Reach, 0, 0, 7),
     (Analysis::Reach, 1, 0, 0),
     (Analysis::Reach, 2, 0, 0),
@@ -57,8 +59,8 @@ pub const CALLEE_LOOPS_ASKS: &[Asked] = &[
     (Analysis::Busy, 4, 0, 1),
 ];
 
-/// The same, and its paths.
-pub const CALLEE_LOOPS_ASKING: Asking = Asking {
+// The same, and its paths.
+const CALLEE_LOOPS_ASKING: Asking = Asking {
     rows: CALLEE_LOOPS_ASKS,
     pathless: CALLEE_LOOPS_PATHLESS,
 };
@@ -68,7 +70,7 @@ const NOTHING: Asking = Asking {
     pathless: CALLEE_LOOPS_PATHLESS,
 };
 
-/// Of 65 sums: 65 expressions, 66 variables (`x` is the first), and 131 definitions (66 dummies, then those of `x`). One word twice.
+// Of 65 sums: 65 expressions, 66 variables (`x` is the first), and 131 definitions (66 dummies, then those of `x`). One word twice.
 const SUMS_65: Asking = Asking {
     rows: &[
         (Analysis::Avail, 0, 0, 0),
@@ -105,7 +107,7 @@ const SUMS_65: Asking = Asking {
     pathless: ALL_PATHS,
 };
 
-/// Of 64 sums: 64 expressions, 65 variables and 129 definitions.
+// Of 64 sums: 64 expressions, 65 variables and 129 definitions.
 const SUMS_64: Asking = Asking {
     rows: &[
         (Analysis::Avail, 0, 0, 0),
@@ -127,7 +129,7 @@ const SUMS_64: Asking = Asking {
     pathless: ALL_PATHS,
 };
 
-/// Of 65 prints: 65 variables, and as many dummies, which reach every point.
+// Of 65 prints: 65 variables, and as many dummies, which reach every point.
 const PRINTS_65: Asking = Asking {
     rows: &[
         (Analysis::Live, 0, 0, u64::MAX),
@@ -143,7 +145,7 @@ const PRINTS_65: Asking = Asking {
     pathless: ALL_PATHS,
 };
 
-/// Of 64 prints: one word each.
+// Of 64 prints: one word each.
 const PRINTS_64: Asking = Asking {
     rows: &[
         (Analysis::Live, 0, 0, u64::MAX),
@@ -155,7 +157,7 @@ const PRINTS_64: Asking = Asking {
     pathless: ALL_PATHS,
 };
 
-/// Of 330 sums: words of expressions on both sides of a group's border.
+// Of 330 sums: words of expressions on both sides of a group's border.
 const SUMS_OF_TWO_GROUPS: Asking = Asking {
     rows: &[
         (Analysis::Avail, 200, 3, 255),
@@ -173,9 +175,9 @@ const SUMS_OF_TWO_GROUPS: Asking = Asking {
     pathless: ALL_PATHS,
 };
 
-/// The order in which the rows are asked.
+// The order in which the rows are asked.
 #[derive(Clone, Copy)]
-pub enum Order {
+enum Order {
     AsWritten,
     Backwards,
     Shuffled,
@@ -300,8 +302,8 @@ fn answer_lines(alloc: Global, graph: &Graph<'_>, answers: &Answers) -> Result<S
     Ok(text)
 }
 
-/// What they are by hand.
-pub fn wanted_lines(alloc: Global, asking: Asking, order: Order) -> Result<String, OutOfMemory> {
+// What they are by hand.
+fn wanted_lines(alloc: Global, asking: Asking, order: Order) -> Result<String, OutOfMemory> {
     let rows = asking.rows;
     let mut text = String::new(alloc);
     text.push_str(asking.pathless)?;
@@ -327,6 +329,21 @@ fn lines_of_team<R: Threads + Sync, G: Gate>(
     match answer(rt, alloc, graph, asks, cut, workers, gate) {
         Ok(answers) => Ok(Some(answer_lines(alloc, graph, &answers)?)),
         Err(_) => Ok(None),
+    }
+}
+
+// The same. Where the call was refused, the failure tells which slice it left.
+fn lines_or_left<R: Threads + Sync>(
+    rt: &R,
+    alloc: Global,
+    graph: &Graph<'_>,
+    asked: (&[Asked], Order),
+    workers: u32,
+    gate: &Recorder,
+) -> Result<String, Fail> {
+    match lines_of_team(rt, alloc, graph, asked, (64, workers), gate)? {
+        Some(lines) => Ok(lines),
+        None => Err(left_by("answer", gate)),
     }
 }
 
@@ -383,23 +400,24 @@ fn lines_of_tables<R: Threads + Sync>(
     lines_out_of(alloc, graph, asks, (&reach, &avail), (&live, &busy))
 }
 
-// The lines of the second answers of solvers that were asked before, of which so many are kept. The gate is told of four slices and of four
-// behind them.
-fn lines_again<R: Threads + Sync>(
+// The lines of the second answers of solvers that were asked before, of which so many are kept, by so many workers. The gate is told of four
+// slices and of four behind them.
+fn lines_again<R: Threads + Sync, G: Gate>(
     rt: &R,
     alloc: Global,
     graph: &Graph<'_>,
     asked: (&[Asked], Order),
-    kept: usize,
-    gate: &Recorder,
+    how: (usize, u32),
+    gate: &G,
 ) -> Result<String, Fail> {
     let (rows, order) = asked;
+    let (kept, workers) = how;
     let first = asks_of(alloc, graph, rows, order)?;
     let again = asks_of(alloc, graph, rows, order)?;
-    let solvers = GraphSolvers::of(rt, alloc, graph, 2)?;
+    let solvers = GraphSolvers::of(rt, alloc, graph, workers)?;
     let gate = JoinedGate::new(gate, 4);
-    let (_answers, solvers) = solvers.answer(rt, alloc, first, 64, 2, &gate)?;
-    let (mut answers, _solvers) = solvers.answer(rt, alloc, again, 64, 2, &gate)?;
+    let (_answers, solvers) = solvers.answer(rt, alloc, first, 64, workers, &gate)?;
+    let (mut answers, _solvers) = solvers.answer(rt, alloc, again, 64, workers, &gate)?;
     gate.end();
     if answers.count() < kept {
         return Err(Fail::new("too few answers"));
@@ -417,12 +435,27 @@ pub enum Way<'a> {
         workers: u32,
         gate: &'a Recorder,
     },
+    /// By so many workers. Where they are refused memory, the failure tells which slice they left.
+    TeamOrLeft {
+        workers: u32,
+        gate: &'a Recorder,
+    },
+    /// By so many workers who have to meet.
+    Meeting {
+        workers: u32,
+        gate: &'a Meeting,
+    },
     /// On the calling thread.
     Here,
     /// By solvers that were asked before, of whose answers so many are kept.
     Again {
         kept: usize,
         gate: &'a Recorder,
+    },
+    /// By solvers that were asked before, by so many workers who have to meet each time.
+    MeetingAgain {
+        workers: u32,
+        gate: &'a Meeting,
     },
     /// Out of tables.
     OfTables,
@@ -431,9 +464,9 @@ pub enum Way<'a> {
 // The call that is made.
 fn call_of(way: Way<'_>) -> &'static str {
     match way {
-        Way::Team { .. } => "answer",
+        Way::Team { .. } | Way::TeamOrLeft { .. } | Way::Meeting { .. } => "answer",
         Way::Here => "answer_here",
-        Way::Again { .. } => "GraphSolvers::answer",
+        Way::Again { .. } | Way::MeetingAgain { .. } => "GraphSolvers::answer",
         Way::OfTables => "Answers::of_tables",
     }
 }
@@ -450,8 +483,20 @@ fn lines_by<R: Threads + Sync>(
         Way::Team { cut, workers, gate } => {
             lines_of_team(rt, alloc, graph, asked, (cut, workers), gate)
         }
+        Way::TeamOrLeft { workers, gate } => {
+            Ok(Some(lines_or_left(rt, alloc, graph, asked, workers, gate)?))
+        }
+        Way::Meeting { workers, gate } => {
+            lines_of_team(rt, alloc, graph, asked, (64, workers), gate)
+        }
         Way::Here => lines_here(alloc, graph, asked),
-        Way::Again { kept, gate } => Ok(Some(lines_again(rt, alloc, graph, asked, kept, gate)?)),
+        Way::Again { kept, gate } => {
+            Ok(Some(lines_again(rt, alloc, graph, asked, (kept, 2), gate)?))
+        }
+        Way::MeetingAgain { workers, gate } => {
+            let how = (asked.0.len(), workers);
+            Ok(Some(lines_again(rt, alloc, graph, asked, how, gate)?))
+        }
         Way::OfTables => lines_of_tables(rt, alloc, graph, asked),
     }
 }
@@ -484,8 +529,8 @@ fn told_of_program<R: Threads + Sync>(
     told_of_graph(rt, alloc, &graph, asked, way, want)
 }
 
-/// The answers to what is asked of a text's program are what is wanted, found in this way.
-pub fn check<R: Threads + Sync + Abort + AllocGlobal>(
+// The answers to what is asked of a text's program are what is wanted, found in this way.
+fn check<R: Threads + Sync + Abort + AllocGlobal>(
     rt: &R,
     text: &str,
     asked: (&[Asked], Order),
@@ -498,7 +543,17 @@ pub fn check<R: Threads + Sync + Abort + AllocGlobal>(
     Ok(())
 }
 
-/// Cuts, and how many slices the asks are in.
+/// The answers that are found in a way to what is asked of the program whose callee loops.
+pub fn check_way<R: Threads + Sync + Abort + AllocGlobal>(
+    rt: &R,
+    way: Way<'_>,
+) -> Result<(), Fail> {
+    let want = wanted_lines(rt.alloc(), CALLEE_LOOPS_ASKING, Order::AsWritten)?;
+    let asked = (CALLEE_LOOPS_ASKING.rows, Order::AsWritten);
+    check(rt, callee_loops::TEXT, asked, way, want.as_str())
+}
+
+// Cuts, and how many slices the asks are in.
 type Slices = (u32, u32);
 
 // The answers by a number of workers; the gate is told of each slice once.

@@ -5,4 +5,6 @@
 #[cfg(test)]
 mod ask_tests;
 #[cfg(test)]
+mod overlap_tests;
+#[cfg(test)]
 mod refusal_tests;

@@ -1,51 +1,64 @@
-// That workers run at the same time, and that the standard helpers which may start them do.
+// That all workers of a team run at the same time.
 
 use crate::questions::{Question, check};
 use flow_graph::{Analysis, Graph};
-use flow_team::analyse;
 use std::alloc::Global;
 use std::process::Abort;
-use std::sync::atomic::Ordering;
 use std::test::Fail;
 use std::thread::Threads;
-use team_probes::{Meeting, RECURSIVE_REACH, lines, slices_at};
+use team_probes::{Cutting, Meeting, RECURSIVE_REACH, lines, printed, table_by};
 use test_support::worked_programs::recursion;
+use test_support::worked_programs::series::prints;
 
-// The lines of reaching definitions, in two slices by two workers.
+// The lines of a table by workers who all have to meet.
 #[derive(Clone, Copy)]
-struct Overlapping<'a> {
+struct AllAtOnce<'a> {
+    how: (Analysis, Cutting, u32),
     gate: &'a Meeting,
 }
 
-impl<'a> Question for Overlapping<'a> {
+impl<'a> Question for AllAtOnce<'a> {
     fn answer<R: Threads + Sync + Abort>(
         &self,
         rt: &R,
         alloc: Global,
         graph: &Graph<'_>,
     ) -> Result<String, Fail> {
-        let cut = slices_at(alloc, graph, Analysis::Reach, &[1])?;
-        match analyse(rt, alloc, graph, Analysis::Reach, cut, 2, self.gate) {
-            Ok(table) => Ok(lines(alloc, graph, &table)?),
-            Err(_) => Err(Fail::new("refused")),
-        }
+        let table = table_by(rt, alloc, graph, self.how, self.gate)?;
+        Ok(lines(alloc, graph, &table)?)
     }
 }
 
-#[test]
-fn two_workers_overlap(rt: HostRuntime) -> Result<(), Fail> {
-    let gate = Meeting::new();
-    check(
-        &rt,
-        recursion::TEXT,
-        &Overlapping { gate: &gate },
-        RECURSIVE_REACH,
-        (0, 2),
-    )?;
-    assert!(rt; gate.met(), "no other slice was claimed meanwhile");
-    let (claimed_by, finished_by) = gate.workers();
-    assert!(rt; claimed_by[0] != claimed_by[1], "one worker claimed both");
-    assert_eq!(rt; finished_by, claimed_by);
-    assert_eq!(rt; gate.finishes.load(Ordering::SeqCst), 2);
+// All workers met, and their numbers are these bits.
+fn check_meeting<R: Threads + Sync + Abort + AllocGlobal>(
+    rt: &R,
+    text: &str,
+    want: &str,
+    how: (Analysis, Cutting, u32),
+    numbers: u64,
+) -> Result<(), Fail> {
+    let (_, _, workers) = how;
+    let gate = Meeting::new(workers);
+    let question = AllAtOnce { how, gate: &gate };
+    check(rt, text, &question, want, (0, workers))?;
+    assert_eq!(rt;
+        (gate.met(), gate.met_by()),
+        (1, numbers),
+        "{workers} workers"
+    );
     Ok(())
+}
+
+#[test]
+fn two_workers_run_at_once(rt: HostRuntime) -> Result<(), Fail> {
+    let how = (Analysis::Reach, Cutting::At(&[1]), 2);
+    check_meeting(&rt, recursion::TEXT, RECURSIVE_REACH, how, 3)
+}
+
+#[test]
+fn all_workers_run_at_once(rt: HostRuntime) -> Result<(), Fail> {
+    let text = prints(rt.alloc(), 70)?;
+    let want = printed(rt.alloc(), 70)?;
+    let how = (Analysis::Live, Cutting::Even(1), 64);
+    check_meeting(&rt, text.as_str(), want.as_str(), how, u64::MAX)
 }

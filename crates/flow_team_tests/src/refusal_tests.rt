@@ -14,26 +14,8 @@ use std::alloc::Global;
 use std::process::Abort;
 use std::test::Fail;
 use std::thread::Threads;
-use team_probes::{RECURSIVE_REACH, Recorder, lines, slices, told_again};
-use test_support::refusal_probes::refusal_of;
+use team_probes::{RECURSIVE_REACH, Recorder, left_by, lines, slices, told_again};
 use test_support::worked_programs::recursion;
-
-// Where the last slice that was claimed is the one that was not finished, which of the three it is.
-fn left_slice(gate: &Recorder) -> &'static str {
-    let (claimed, finished, _, _) = gate.told();
-    match (claimed, finished) {
-        (1, 0) => "analyse, which leaves slice 0",
-        (3, 1) => "analyse, which leaves slice 1",
-        (7, 3) => "analyse, which leaves slice 2",
-        _ => {
-            if claimed == finished {
-                "analyse, which leaves no slice"
-            } else {
-                "analyse, which leaves a slice before the last"
-            }
-        }
-    }
-}
 
 // The lines of reaching definitions, in three slices by so many workers.
 #[derive(Clone, Copy)]
@@ -60,7 +42,7 @@ impl<'a> Question for ByWorkers<'a> {
             self.gate,
         ) {
             Ok(table) => Ok(lines(alloc, graph, &table)?),
-            Err(TeamFault::OutOfMemory) => Err(refusal_of(left_slice(self.gate))),
+            Err(TeamFault::OutOfMemory) => Err(left_by("analyse", self.gate)),
             Err(TeamFault::BadWorkers) => Err(Fail::new("workers that are refused")),
         }
     }

@@ -10,7 +10,7 @@ use std::process::Abort;
 use std::test::Fail;
 use std::thread::Threads;
 use team_probes::{
-    Crowd, Cutting, Ledger, RECURSIVE_REACH, Recorder, WORKERS, lines, printed, slices, table_by,
+    Cutting, Ledger, RECURSIVE_REACH, Recorder, WORKERS, lines, printed, slices, table_by,
 };
 use test_support::worked_programs::recursion;
 use test_support::worked_programs::series::prints;
@@ -81,38 +81,6 @@ fn many_workers_on_one_slice(rt: HostRuntime) -> Result<(), Fail> {
 #[test]
 fn many_workers_on_many_slices(rt: HostRuntime) -> Result<(), Fail> {
     check_prints(&rt, rt.alloc(), 1, 70)
-}
-
-// The lines of live variables by 64 workers, each held at its first slice until all have one.
-#[derive(Clone, Copy)]
-struct AllAtOnce<'a> {
-    gate: &'a Crowd,
-}
-
-impl<'a> Question for AllAtOnce<'a> {
-    fn answer<R: Threads + Sync + Abort>(
-        &self,
-        rt: &R,
-        alloc: Global,
-        graph: &Graph<'_>,
-    ) -> Result<String, Fail> {
-        let how = (Analysis::Live, Cutting::Even(1), 64);
-        let table = table_by(rt, alloc, graph, how, self.gate)?;
-        Ok(lines(alloc, graph, &table)?)
-    }
-}
-
-#[test]
-fn all_workers_run_at_once(rt: HostRuntime) -> Result<(), Fail> {
-    let alloc = rt.alloc();
-    let text = prints(alloc, 70)?;
-    let want = printed(alloc, 70)?;
-    let gate = Crowd::new(alloc, 70)?;
-    let question = AllAtOnce { gate: &gate };
-    check(&rt, text.as_str(), &question, want.as_str(), (70, 64))?;
-    assert!(rt; gate.all_came(), "a worker gave up waiting for the others");
-    assert_eq!(rt; gate.faults(), 0);
-    Ok(())
 }
 
 // The fault that tells that so many workers are refused.

@@ -2,6 +2,8 @@
 #![tactic(auto)]
 
 #[cfg(test)]
+mod overlap_tests;
+#[cfg(test)]
 mod piece_tests;
 #[cfg(test)]
 mod refusal_tests;

@@ -1,12 +1,13 @@
 // Gates that note what is called.
 
+ghost use Rattle.std.specs.Prelude.{◌<◌};
+
 use flow_team::{Gate, OutOfMemory};
 use slice_board::{Pass, Wanted};
 use std::alloc::Global;
 use std::sync::atomic::{AtomicBool, AtomicU32, AtomicU64, Ordering};
 
-/// Notes of the slices below 64 which were claimed and finished, how often each was called, and by which workers; and what was told
-/// before and after.
+/// Notes of the slices below 64 which were claimed and finished, how often each was called, and what was told before and after.
 #[derive(Drop)]
 pub struct Recorder {
     pub begun: AtomicU32,
@@ -15,7 +16,6 @@ pub struct Recorder {
     pub finished: AtomicU64,
     pub claims: AtomicU32,
     pub finishes: AtomicU32,
-    pub workers: AtomicU64,
 }
 
 impl Recorder {
@@ -28,7 +28,6 @@ impl Recorder {
             finished: AtomicU64::new(0),
             claims: AtomicU32::new(0),
             finishes: AtomicU32::new(0),
-            workers: AtomicU64::new(0),
         }
     }
 
@@ -63,10 +62,9 @@ impl Gate for Recorder {
         self.ended.store(finishes, Ordering::SeqCst);
     }
 
-    fn claimed(&self, worker: u32, slice: u32) {
+    fn claimed(&self, _worker: u32, slice: u32) {
         self.claimed.fetch_or(1 << (slice % 64), Ordering::SeqCst);
         self.claims.fetch_add(1, Ordering::SeqCst);
-        self.workers.fetch_or(1 << (worker % 64), Ordering::SeqCst);
     }
 
     fn finished<W: Wanted>(&self, _worker: u32, slice: u32, _pass: &Pass<W>) {
@@ -75,73 +73,64 @@ impl Gate for Recorder {
     }
 }
 
-/// How often a gate that waits looks for the other.
+/// How often a gate that waits looks for the others.
 const TURNS: u32 = 200_000_000;
 
-/// Holds each of the slices 0 and 1 once it is claimed, until the other is claimed too.
+/// A team all of whose workers have to meet, in each job that they are given: the first slices of a job, as many as there are workers, are
+/// held once they are claimed, until all of them are.
 #[derive(Drop)]
 pub struct Meeting {
-    pub begun: [AtomicBool; 2],
-    pub missed: AtomicBool,
-    pub claimed_by: [AtomicU32; 2],
-    pub finished_by: [AtomicU32; 2],
-    pub finishes: AtomicU32,
+    workers: u32,
+    claims: AtomicU32,
+    missed: AtomicBool,
+    claimed_by: AtomicU64,
+    ghost some: { 0 < workers },
 }
 
-// No worker.
-const NOBODY: u32 = 99;
-
 impl Meeting {
-    /// A gate that no slice came to yet.
-    pub fn new() -> Meeting {
+    /// A gate to which none of so many workers came yet.
+    pub fn new(workers: u32) -> Meeting {
         Meeting {
-            begun: [AtomicBool::new(false), AtomicBool::new(false)],
+            workers: workers.max(1),
+            claims: AtomicU32::new(0),
             missed: AtomicBool::new(false),
-            claimed_by: [AtomicU32::new(NOBODY), AtomicU32::new(NOBODY)],
-            finished_by: [AtomicU32::new(NOBODY), AtomicU32::new(NOBODY)],
-            finishes: AtomicU32::new(0),
+            claimed_by: AtomicU64::new(0),
         }
     }
 
-    /// Whether both slices were claimed, and neither gave up waiting for the other.
-    pub fn met(&self) -> bool {
-        self.begun[0].load(Ordering::SeqCst)
-            && self.begun[1].load(Ordering::SeqCst)
-            && !self.missed.load(Ordering::SeqCst)
+    /// In how many jobs all workers met: in none, where one gave up waiting for the others.
+    pub fn met(&self) -> u32 {
+        if self.missed.load(Ordering::SeqCst) {
+            0
+        } else {
+            self.claims.load(Ordering::SeqCst) / self.workers
+        }
     }
 
-    /// The workers who claimed each slice, and those who finished it.
-    pub fn workers(&self) -> ([u32; 2], [u32; 2]) {
-        (
-            [
-                self.claimed_by[0].load(Ordering::SeqCst),
-                self.claimed_by[1].load(Ordering::SeqCst),
-            ],
-            [
-                self.finished_by[0].load(Ordering::SeqCst),
-                self.finished_by[1].load(Ordering::SeqCst),
-            ],
-        )
+    /// The numbers of the workers who met, as bits.
+    pub fn met_by(&self) -> u64 {
+        self.claimed_by.load(Ordering::SeqCst)
     }
 }
 
 impl Gate for Meeting {
     fn claimed(&self, worker: u32, slice: u32) {
-        let mine = usize::from(slice != 0);
-        self.claimed_by[mine].store(worker, Ordering::SeqCst);
-        self.begun[mine].store(true, Ordering::SeqCst);
+        if slice >= self.workers {
+            return;
+        }
+        self.claimed_by
+            .fetch_or(1 << (worker % 64), Ordering::SeqCst);
+        let job = self.claims.fetch_add(1, Ordering::SeqCst) / self.workers;
+        let all = job.saturating_add(1).saturating_mul(self.workers);
         for _ in 0..TURNS {
-            if self.begun[1 - mine].load(Ordering::SeqCst) {
+            if self.claims.load(Ordering::SeqCst) >= all {
                 return;
             }
         }
         self.missed.store(true, Ordering::SeqCst);
     }
 
-    fn finished<W: Wanted>(&self, worker: u32, slice: u32, _pass: &Pass<W>) {
-        self.finished_by[usize::from(slice != 0)].store(worker, Ordering::SeqCst);
-        self.finishes.fetch_add(1, Ordering::SeqCst);
-    }
+    fn finished<W: Wanted>(&self, _worker: u32, _slice: u32, _pass: &Pass<W>) {}
 }
 
 /// Notes of so many slices: a claim counts 1 and the worker's number in the upper half, a finish counts 65,536 and takes the worker's
@@ -198,52 +187,5 @@ impl Gate for Ledger {
 
     fn finished<W: Wanted>(&self, worker: u32, slice: u32, _pass: &Pass<W>) {
         self.note(slice, 65_536u64.wrapping_sub(u64::from(worker) << 32));
-    }
-}
-
-/// Holds each of 64 workers at its first slice until all have claimed one.
-#[derive(Drop)]
-pub struct Crowd {
-    ledger: Ledger,
-    here: AtomicU64,
-    missed: AtomicBool,
-}
-
-impl Crowd {
-    /// A gate that no worker came to yet.
-    pub fn new(alloc: Global, slices: u32) -> Result<Crowd, OutOfMemory> {
-        let ledger = Ledger::new(alloc, slices)?;
-        Ok(Crowd {
-            ledger,
-            here: AtomicU64::new(0),
-            missed: AtomicBool::new(false),
-        })
-    }
-
-    /// Whether all 64 workers claimed a slice, and none gave up waiting for the others.
-    pub fn all_came(&self) -> bool {
-        self.here.load(Ordering::SeqCst) == u64::MAX && !self.missed.load(Ordering::SeqCst)
-    }
-
-    /// How many slices were not claimed once and finished once by the same worker.
-    pub fn faults(&self) -> u32 {
-        self.ledger.faults()
-    }
-}
-
-impl Gate for Crowd {
-    fn claimed(&self, worker: u32, slice: u32) {
-        self.ledger.claimed(worker, slice);
-        self.here.fetch_or(1 << (worker % 64), Ordering::SeqCst);
-        for _ in 0..TURNS {
-            if self.here.load(Ordering::SeqCst) == u64::MAX {
-                return;
-            }
-        }
-        self.missed.store(true, Ordering::SeqCst);
-    }
-
-    fn finished<W: Wanted>(&self, worker: u32, slice: u32, pass: &Pass<W>) {
-        self.ledger.finished(worker, slice, pass);
     }
 }

@@ -6,8 +6,8 @@ mod gates;
 mod tables;
 mod texts;
 
-pub use again::told_again;
-pub use gates::{Crowd, Ledger, Meeting, Recorder};
+pub use again::{left_by, told_again};
+pub use gates::{Ledger, Meeting, Recorder};
 pub use tables::{BITS_OF_TWO_GROUPS, Cutting, WORKERS, table_by};
 pub use texts::{
     RECURSIVE_REACH, lines, lines_before, printed, slices, slices_at, summed, sums, words,
