@@ -7,7 +7,7 @@ ghost use Rattle.flow_team.specs.Tables.{IsTableOf};
 
 use flow_graph::{Analysis, Graph, OutOfMemory};
 use flow_team::{
-    Answers, Ask, Gate, GraphSolvers, JoinedGate, OpenGate, Table, answer, answer_here,
+    Answers, Ask, Gate, GraphSolvers, JoinedGate, OpenGate, Table, Team, answer, answer_here,
 };
 use std::alloc::Global;
 use std::process::Abort;
@@ -414,10 +414,16 @@ fn lines_again<R: Threads + Sync, G: Gate>(
     let (kept, workers) = how;
     let first = asks_of(alloc, graph, rows, order)?;
     let again = asks_of(alloc, graph, rows, order)?;
-    let solvers = GraphSolvers::of(rt, alloc, graph, workers)?;
     let gate = JoinedGate::new(gate, 4);
-    let (_answers, solvers) = solvers.answer(rt, alloc, first, 64, workers, &gate)?;
-    let (mut answers, _solvers) = solvers.answer(rt, alloc, again, 64, workers, &gate)?;
+    let team = Team {
+        rt,
+        gate: &gate,
+        workers: workers.clamp(1, 64),
+        cut: 64,
+    };
+    let solvers = GraphSolvers::of(&team, alloc, graph)?;
+    let (_answers, solvers) = solvers.answer(&team, alloc, first)?;
+    let (mut answers, _solvers) = solvers.answer(&team, alloc, again)?;
     gate.end();
     if answers.count() < kept {
         return Err(Fail::new("too few answers"));

@@ -2,7 +2,7 @@
 
 use crate::questions::{Question, check};
 use flow_graph::{Analysis, Graph};
-use flow_team::{OpenGate, OutOfMemory, table_at};
+use flow_team::{OpenGate, OutOfMemory, Team, table_at};
 use std::alloc::Global;
 use std::process::Abort;
 use std::test::Fail;
@@ -29,17 +29,19 @@ pub fn lines_of_excerpt<R: Threads + Sync>(
     if excerpt.until < excerpt.from || graph.points() < excerpt.until {
         return Ok(None);
     }
-    let workers = excerpt.workers.clamp(1, 64);
-    let Ok(table) = table_at(
+    let team = Team {
         rt,
+        gate: &OpenGate,
+        workers: excerpt.workers.clamp(1, 64),
+        cut: 1,
+    };
+    let Ok(table) = table_at(
+        &team,
         alloc,
         graph,
         excerpt.analysis,
         excerpt.from,
         excerpt.until,
-        workers,
-        1,
-        &OpenGate,
     ) else {
         return Ok(None);
     };

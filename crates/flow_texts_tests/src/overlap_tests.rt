@@ -1,8 +1,9 @@
 // That all workers find at the same time what a report asks.
 
-ghost use Rattle.flow_team.specs.Ranges.{AreInRange};
+ghost use Rattle.slice_team.specs.Ranges.{AreInRange};
 
 use flow_graph::Graph;
+use flow_team::Team;
 use flow_texts::{ReportAnswers, ReportText};
 use std::alloc::Global;
 use std::process::Abort;
@@ -23,7 +24,13 @@ fn report_by<R: Threads + Sync>(
 ) -> Result<Vec<u8>, Fail>
     requires { AreInRange workers 64 }
 {
-    let answers = ReportAnswers::of(rt, alloc, graph, workers, 64, gate)?;
+    let team = Team {
+        rt,
+        gate,
+        workers,
+        cut: 64,
+    };
+    let answers = ReportAnswers::of(&team, alloc, graph)?;
     let text = ReportText::of(alloc, graph, &answers)?;
     Ok(whole_text(alloc, &text)?)
 }

@@ -3,13 +3,14 @@
 ghost use Rattle.flow_team.specs.Tables.{IsTableOf};
 
 use flow_graph::{Analysis, Graph};
-use flow_team::{OpenGate, Table};
+use flow_team::Table;
 use flow_texts::{TableText, table_of, table_text};
 use std::alloc::Global;
 use std::process::Abort;
 use std::test::Fail;
 use std::thread::Threads;
 use tac_reader::{Program, read};
+use team_probes::alone;
 use test_support::failing_streams::{Page, page_of};
 use test_support::worked_programs::series::numbered;
 use text_pieces::{ToWrite, deliver};
@@ -62,7 +63,7 @@ fn texts_of_graph<R: Threads + Sync>(
     graph: &Graph<'_>,
     page: &mut Page,
 ) -> Result<(bool, Vec<u8>), Fail> {
-    let table = table_of(rt, alloc, graph, Analysis::Reach, 1, 64, &OpenGate)?;
+    let table = table_of(&alone(rt), alloc, graph, Analysis::Reach)?;
     texts_of_table(alloc, graph, &table, page)
 }
 

@@ -6,7 +6,7 @@ ghost use Rattle.flow_team.specs.AllTables.{AreTablesOf};
 ghost use Rattle.flow_texts.specs.code.Reported.{TellReport};
 
 use flow_graph::{Analysis, Graph};
-use flow_team::{OpenGate, Table};
+use flow_team::Table;
 use flow_texts::{
     ReportAnswers, ReportText, TableText, Tables, report, report_here, table_of, table_text,
 };
@@ -15,6 +15,7 @@ use std::process::Abort;
 use std::test::Fail;
 use std::thread::Threads;
 use tac_reader::{Program, read};
+use team_probes::alone;
 use test_support::again;
 use test_support::refusal_probes::{Refused, named};
 use test_support::worked_programs::recursion;
@@ -43,7 +44,7 @@ fn reaching_table<R: Threads + Sync>(
     Ok(again!(
         *refused,
         "table_of",
-        table_of(rt, alloc, graph, Analysis::Reach, 1, 1, &OpenGate)
+        table_of(&alone(rt), alloc, graph, Analysis::Reach)
     ))
 }
 
@@ -77,7 +78,7 @@ fn four_tables<R: Threads + Sync>(
 ) -> Result<Tables, Fail>
     ensures { IfOk result (AreTablesOf graph.now) }
 {
-    Ok(again!(*refused, "Tables::of", Tables::of(rt, alloc, graph, 1, 1)))
+    Ok(again!(*refused, "Tables::of", Tables::of(&alone(rt), alloc, graph)))
 }
 
 fn answers_of_tables(
@@ -107,7 +108,7 @@ fn answers_of_graph<R: Threads + Sync>(
     Ok(again!(
         *refused,
         "ReportAnswers::of",
-        ReportAnswers::of(rt, alloc, graph, 1, 1, &OpenGate)
+        ReportAnswers::of(&alone(rt), alloc, graph)
     ))
 }
 

@@ -3,6 +3,7 @@
 ghost use Rattle.slice_team.specs.Ranges.{AreInRange};
 
 use flow_graph::Graph;
+use flow_team::Team;
 use flow_texts::ReportAnswers;
 use std::alloc::Global;
 use std::test::Fail;
@@ -17,7 +18,13 @@ fn claims<R: Threads + Sync>(rt: &R, alloc: Global, text: &str, workers: u32) ->
     let program = read(alloc, text.as_bytes())?;
     let graph = Graph::build(alloc, &program)?;
     let gate = Recorder::new();
-    let _answers = ReportAnswers::of(rt, alloc, &graph, workers, 64, &gate)?;
+    let team = Team {
+        rt,
+        gate: &gate,
+        workers,
+        cut: 64,
+    };
+    let _answers = ReportAnswers::of(&team, alloc, &graph)?;
     let (_, _, claims, _) = gate.told();
     Ok(claims)
 }

@@ -5,7 +5,7 @@ ghost use Rattle.flow_texts.specs.code.Reported.{TellReport};
 ghost use Rattle.flow_views.specs.ShownTables.{AreShownTables};
 
 use flow_graph::Graph;
-use flow_team::OpenGate;
+use flow_team::{OpenGate, Team};
 use flow_texts::ReportAnswers;
 use flow_views::{Chosen, DotText, JsonText, ShownTables, View};
 use std::alloc::Global;
@@ -59,7 +59,13 @@ fn write_graph<R: Threads + Sync>(
     procedure: u32,
     page: &mut Page,
 ) -> Result<bool, Fail> {
-    let answers = ReportAnswers::of(rt, alloc, graph, 1, 64, &OpenGate)?;
+    let team = Team {
+        rt,
+        gate: &OpenGate,
+        workers: 1,
+        cut: 64,
+    };
+    let answers = ReportAnswers::of(&team, alloc, graph)?;
     let count = graph.program().procs().len();
     let view = View {
         facts,
@@ -69,7 +75,7 @@ fn write_graph<R: Threads + Sync>(
             None
         },
     };
-    let tables = ShownTables::of(rt, alloc, graph, view, 1, 64, &OpenGate)?;
+    let tables = ShownTables::of(&team, alloc, graph, view)?;
     write_view(alloc, graph, &tables, &answers, format, view, page)
 }
 

@@ -2,10 +2,20 @@
 
 ghost use Rattle.std.specs.Prelude.{◌<◌};
 
-use flow_team::{Gate, OutOfMemory};
+use flow_team::{Gate, OpenGate, OutOfMemory, Team};
 use slice_board::{Pass, Wanted};
 use std::alloc::Global;
 use std::sync::atomic::{AtomicBool, AtomicU32, AtomicU64, Ordering};
+
+/// One worker, who takes a bit at a time and tells nobody.
+pub fn alone<R>(rt: &R) -> Team<'_, R, OpenGate> {
+    Team {
+        rt,
+        gate: &OpenGate,
+        workers: 1,
+        cut: 1,
+    }
+}
 
 /// Notes of the slices below 64 which were claimed and finished, how often each was called, and what was told before and after.
 #[derive(Drop)]

@@ -7,7 +7,7 @@ mod tables;
 mod texts;
 
 pub use again::{left_by, told_again};
-pub use gates::{Ledger, Meeting, Recorder};
+pub use gates::{Ledger, Meeting, Recorder, alone};
 pub use tables::{BITS_OF_TWO_GROUPS, Cutting, WORKERS, table_by};
 pub use texts::{
     RECURSIVE_REACH, lines, lines_before, printed, slices, slices_at, summed, sums, words,
