@@ -4,7 +4,6 @@ ghost use Rattle.flow_team.specs.code.Boards.{Arranges, ordered};
 
 use crate::OutOfMemory;
 use crate::ask::Ask;
-use flow_graph::Analysis;
 use std::alloc::Global;
 use work_list::group;
 
@@ -17,13 +16,7 @@ fn key_of(ask: Ask, words: u32) -> u32
     requires most { words ≤ 2 ^ 16 }
     ensures { result < 4 * words }
 {
-    let first = match ask.analysis {
-        Analysis::Reach => 0,
-        Analysis::Live => words,
-        Analysis::Avail => 2 * words,
-        Analysis::Busy => 3 * words,
-    };
-    first + ask.word.min(words - 1)
+    ask.analysis.number() as u32 * words + ask.word.min(words - 1)
 }
 
 // How many words are told apart in each analysis.
