@@ -1,6 +1,6 @@
 // Loops over words, and the masks that keep a row's bits within its range.
-ghost use Rattle.std.specs.Prelude.{◌≡◌, ◌-◌, ◌^◌, ◌<◌, ◌≤◌, ◌&&◌, ◌||◌, not, length, MatchBool};
-ghost use Rattle.bit_rows.specs.Words.{word_count, range_mask, IsTrimmed, CombinesPlaces, MapsPlaces, SamePlaces, AddsPlaces};
+ghost use Rattle.std.specs.Prelude.{◌≡◌, ◌-◌, ◌≤◌, ◌&&◌, ◌||◌, not, length, MatchBool};
+ghost use Rattle.bit_rows.specs.Words.{word_count, IsTrimmed, CombinesPlaces, MapsPlaces, SamePlaces, AddsPlaces};
 
 use crate::masks::{word_within, words_for};
 use std::simd::prelude::*;

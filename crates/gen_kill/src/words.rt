@@ -1,6 +1,6 @@
 // Words of sets of bits.
 
-ghost use Rattle.std.specs.Prelude.{◌≡◌, ◌+◌, ◌*◌, ◌<◌, ℕ, nat_lt, ◌||◌, ◌/◌, ◌%◌, true};
+ghost use Rattle.std.specs.Prelude.{◌≡◌, ◌+◌, ◌*◌, ◌<◌, ℕ, ◌||◌, ◌/◌, ◌%◌, true};
 ghost use Rattle.bit_rows.specs.Words.{has_bit};
 ghost use Rattle.gen_kill.specs.code.Effects.{effect_owns, gen_from, kill_from, marks};
 

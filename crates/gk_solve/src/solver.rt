@@ -1,5 +1,5 @@
 // The solver: a problem, and what is found of it once.
-ghost use Rattle.std.specs.Prelude.{◌≡◌, ◌+◌, ◌*◌, ◌/◌, ◌<◌, ◌≤◌, ◌↔◌, ◌⊎◌, true, IfOk};
+ghost use Rattle.std.specs.Prelude.{◌≡◌, ◌+◌, ◌*◌, ◌/◌, ◌<◌, ◌≤◌, IfOk};
 ghost use Rattle.flow_graph.specs.Problems.{MayForm};
 ghost use Rattle.flow_graph.specs.Universes.{bits as bits_of};
 ghost use Rattle.gk_solve.specs.Solved.{AreMeetWords, AreSolved, HasPathFlags, IsSliceOf, direction_of, words_at_once, words_between};

@@ -1,5 +1,5 @@
 // The tables in which the words of a slice are solved.
-ghost use Rattle.std.specs.Prelude.{◌≡◌, ◌+◌, ◌<◌, ◌≤◌, ◌&&◌, ◌||◌, IfOk, length, nat_lt};
+ghost use Rattle.std.specs.Prelude.{◌≡◌, ◌≤◌, ◌&&◌, ◌||◌, IfOk, length, nat_lt};
 ghost use Rattle.flow_graph.specs.Points.{point_count};
 ghost use Rattle.flow_links.specs.Shapes.{directed_shape};
 ghost use Rattle.gk_solve.specs.Solved.{words_at_once};
@@ -83,7 +83,8 @@ impl<const W: usize> WordTables<W> {
         requires procedures { length self.old.procedures.items ≡ (directed_shape frame.now.links.now).procedures }
         requires dirty { length dirty.now ≡ point_count frame.now.links.now.program }
         requires callers { length callers.now ≡ (directed_shape frame.now.links.now).procedures }
-        ensures solutions { AreSliceSolutions (group_of frame.now W) frame.now.first (point_count frame.now.links.now.program) range.0 range.1 self.new.points.items }
+        ensures solutions { AreSliceSolutions (group_of frame.now W) frame.now.first (point_count frame.now.links.now.program) range.0 range.1
+            self.new.points.items }
         ensures count { length self.new.points.items ≡ length self.old.points.items }
         ensures procedures { length self.new.procedures.items ≡ length self.old.procedures.items }
         ensures dirty { length dirty.new ≡ length dirty.old }

@@ -1,6 +1,6 @@
 -- Words of the bits below a limit and within a range.
-use Rattle.std.proofs.Common.{◌≡◌, ℕ, ◌+◌, ◌-◌, ◌*◌, ◌^◌, ◌<◌, ◌≤◌, min, Bool, not, ◌&&◌, eqb, nat_le, nat_lt, inl, inr, sym, ap, ap₂, ◌∙◌, w64, bit_and}
-use Rattle.std.proofs.Common.{arith}
+use Rattle.std.proofs.Common.{◌≡◌, ℕ, ◌+◌, ◌-◌, ◌*◌, ◌^◌, ◌<◌, ◌≤◌, min, Bool, not, ◌&&◌, eqb, nat_le, nat_lt, inl, inr, sym, ap, ap₂, ◌∙◌}
+use Rattle.std.proofs.Common.{w64, bit_and, arith}
 use Rattle.std.specs.Int.{bit_not}
 use Rattle.std.specs.Int.Bits.{and_lt}
 use Rattle.std.proofs.Math.Bool.{and-true}

@@ -1,5 +1,5 @@
 -- The words of a slice: the bits within it, and the solution at a point
-use Rattle.std.proofs.Common.{◌≡◌, ◌<◌, ◌≤◌, ◌+◌, ◌*◌, ◌⊎◌, ◌↔◌, inl, inr, ◌&&◌, not, length, get_or, true, Bool, ℕ, List, [], arith, sym, ◌∙◌, ap}
+use Rattle.std.proofs.Common.{◌≡◌, ◌<◌, ◌≤◌, ◌+◌, ◌*◌, ◌↔◌, inl, inr, ◌&&◌, length, get_or, true, Bool, ℕ, List, [], arith, sym, ◌∙◌, ap}
 use Rattle.std.proofs.Common.{nat_le, nat_lt, take, drop, ◌++◌}
 use Rattle.std.proofs.lemmas.Grind.{common_steps}
 use Rattle.std.proofs.lemmas.Bool.{lt-ltb, ltb-true, le-leb, leb-true, and_parts, and_from}

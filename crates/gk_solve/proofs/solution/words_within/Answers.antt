@@ -1,4 +1,4 @@
-use Rattle.std.proofs.Common.{◌+◌, ◌*◌, ℕ, get_or, arith}
+use Rattle.std.proofs.Common.{◌+◌, ◌*◌, get_or, arith}
 use Rattle.bit_rows.specs.Words.{has_bit}
 use Rattle.gk_solve.proofs.slices.Slices.{within_bit}
 use Rattle.gk_solve.proofs.solution.words_within.Goals as goal
