@@ -1,6 +1,6 @@
 use Rattle.std.proofs.Common.{◌≡◌}
 use Rattle.flow_texts.specs.code.Busy.{AreRounds}
-use Rattle.flow_texts.proofs.report_answers.rest_by_workers.Given as goal
+use Rattle.flow_texts.proofs.report_answers.rest_by_team.Given as goal
 
 abbrev pub invariant-loop-rounds : goal.invariant-loop-rounds
 invariant-loop-rounds g l = record {

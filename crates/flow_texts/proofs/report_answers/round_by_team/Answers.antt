@@ -3,7 +3,7 @@ use Rattle.flow_team.specs.Asks.{AreAsksOf}
 use Rattle.flow_texts.specs.code.Busy.{round_start}
 use Rattle.tac_program.specs.Programs.{Program}
 use Rattle.flow_texts.proofs.busy.Rounds.{alone, none_asked}
-use Rattle.flow_texts.proofs.report_answers.round_by_workers.Goals as goal
+use Rattle.flow_texts.proofs.report_answers.round_by_team.Goals as goal
 
 pub answer-requires-clause-asks : goal.answer-requires-clause-asks
 answer-requires-clause-asks g c = λ κs lives.
