@@ -19,7 +19,6 @@ EXCEPTIONS: dict[str, str] = {  # what needs neither a caller nor an edit, each 
     "bit_rows: Row::minus": "its proof names each step; row_minus_is_and turns what it calls",
     "bit_rows: Row::lo": "a field, which its clause names",
     "bit_rows: Rows::lo": "a field, which its clause names",
-    "flow_team: analyse": "analyse_refuses_all turns team_of, which it asks first",
 }
 NOTHING_RUNS = re.compile(r"[/_](laws|examples)\.rt$")
 NOT_CALLS = re.compile(r"//.*|\buse [^;]*;")  # comments, and what is brought in
