@@ -119,9 +119,10 @@ class Calls:
         self.build.use(extra)
         for procedure in procedures:
             for number, parameter in enumerate(procedure.parameters):
-                if parameter is None:
+                value = values[number] if number < len(values) and not is_mixed else Value()
+                if parameter is None:  # it is volatile, and reads its argument all the same
+                    self.build.use(value.reads)
                     continue
                 self.flush_variable(parameter)
-                value = values[number] if number < len(values) and not is_mixed else Value()
                 self.build.use(value.reads[1:])
                 self.build.set(parameter, value.reads[:1], role="argument")
