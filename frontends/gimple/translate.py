@@ -22,6 +22,7 @@ UNARY = {"negate_expr": "-", "bit_not_expr": "~", "truth_not_expr": "!"}
 COPIES = {"var_decl", "parm_decl", "result_decl", "ssa_name", "integer_cst", "real_cst", "string_cst", "addr_expr", "mem_ref",
           "component_ref", "array_ref", "bit_field_ref", "realpart_expr", "imagpart_expr", "view_convert_expr", "constructor",
           "complex_cst", "vector_cst"}
+HALVES = ("realpart_expr", "imagpart_expr")
 NUMBER = re.compile(r"-?\d+")
 SIMPLE = {"predict", "nop", "debug"}
 DAMAGE = (ValueError, IndexError, AttributeError, TypeError)
@@ -43,6 +44,7 @@ class Translator(Calls, Jumps):
         self.pending = Pending()
         self.kept = {}
         self.evaluations = {}
+        self.halves = {}
         self.labels = self.own_labels = Labels()
         self.anywhere = None
         self.statement = None
@@ -209,6 +211,8 @@ class Translator(Calls, Jumps):
             self.pass_over_scaling(words)
         elif words[0] in self.evaluations and (operation == "negate_expr" or operation == "plus_expr" and not self.reads_of(words[1:])):
             self.evaluations[target] = self.evaluations[words[0]]
+        if operation == "complex_expr" and self.keeps_half(target, words):
+            return
         element = self.element(words[0]) if operation == "array_ref" else None
         values = [] if element else [self.value(word) for word in words]
         if element:
@@ -217,8 +221,25 @@ class Translator(Calls, Jumps):
             operator, parts, reads = self.expression(operation, values)
         start = len(self.procedure.steps)
         self.store(target, operator, parts, reads)
+        if operation in HALVES and operands.is_temporary(target):
+            self.halves[target] = operands.parse(words[0]).base
         for step in self.procedure.steps[start:]:
             step.is_element = bool(element)
+
+    def keeps_half(self, target, words):
+        """Whether one half of a complex number is its own older one: then the other half alone is written, as a part is."""
+        kept = [word for word in words if self.halves.get(word) == target]
+        if len(kept) != 1:
+            return False
+        variable = self.world.variable(self.file, self.procedure, target)
+        if variable is None or self.pending.values.get(kept[0]) != Value((variable,)):
+            return False  # it was written since
+        self.pending.take(kept[0])
+        self.flush_variable(variable)
+        reads = [read for word in words if word != kept[0] for read in self.value(word).reads]
+        self.build.use(reads[1:])
+        self.build.set(variable, reads[:1], weak=True)
+        return True
 
     def pass_over_scaling(self, words):
         """What gcc multiplied or negated, and added a constant to, to add it to a pointer was not evaluated by the source."""
