@@ -5,10 +5,11 @@ import re
 import subprocess
 from dataclasses import dataclass
 
+from gimple import inputs, symbols
 from gimple.faults import Refusal
 
-ASKED = ["-O0", "-g0", "-ftoplevel-reorder", "-fdump-tree-lower-raw-lineno-uid", "-fdump-tree-ssa-lineno-uid-blocks", "-fdump-ipa-cgraph",
-         "-fdump-tree-original"]
+ASKED = ["-O0", "-g0", "-fdump-tree-lower-raw-lineno-uid", "-fdump-tree-ssa-lineno-uid-blocks",
+         "-fdump-ipa-cgraph", "-fdump-tree-original"]
 # Options with a word behind them: those that go to gcc, and those that are left out, since what gcc writes is not wanted.
 WITH_WORD = frozenset("""-I -D -U -include -isystem -iquote -idirafter -imacros -isysroot -iprefix -iwithprefix -iwithprefixbefore
 -imultilib -std -Xpreprocessor -Xassembler -A --param -B -L -l -T -u -z -e -Xlinker -arch -specs --sysroot -framework""".split())
@@ -70,12 +71,28 @@ def following(word, rest):
     return found
 
 
-def run_gcc(given, folder):
-    """Has gcc dump a file's code into a new folder; answers the path of the dump, or None where there is no function."""
-    gcc = os.environ.get("GCC", "gcc")
+def run_gcc(given: Input, folder: str) -> str | None:
+    """Has gcc dump a file's code into a new folder.
+
+    Answers the path of the dump, or None where there is no function.
+    """
     os.mkdir(folder)
-    command = [gcc, "-S", "-o", os.path.join(folder, "out.s"), "-w", *given.options, *ASKED, "-aux-info", os.path.join(folder, "c.aux"), "-MMD",
-               "-MF", os.path.join(folder, "c.sources"), "-dumpdir", folder + "/", "-dumpbase", "c", given.file]
+    dump_into(given, folder, "-ftoplevel-reorder")
+    for table in dumps_in(folder, ".cgraph"):
+        if symbols.loses_section(inputs.read_text(table)):
+            # what such a variable leads to is told where gcc keeps all, and then not which it would keep by itself
+            os.rename(table, os.path.join(folder, "c.reordered"))
+            dump_into(given, folder, "-fno-toplevel-reorder")
+    return next(iter(dumps_in(folder, ".lower")), None)
+
+
+def dump_into(given: Input, folder: str, order: str) -> None:
+    """Runs gcc for a file's dumps in a folder."""
+    gcc = os.environ.get("GCC", "gcc")
+    command = [gcc, "-S", "-o", os.path.join(folder, "out.s"), "-w", *given.options, *ASKED, order,
+               "-aux-info", os.path.join(folder, "c.aux"),
+               "-MMD", "-MF", os.path.join(folder, "c.sources"),
+               "-dumpdir", folder + "/", "-dumpbase", "c", given.file]
     try:
         done = subprocess.run(command, cwd=given.directory, capture_output=True, text=True, errors="surrogateescape", check=False)
     except OSError as fault:
@@ -84,5 +101,8 @@ def run_gcc(given, folder):
         told = done.stderr.strip().splitlines()
         first = next((line for line in told if "error" in line), told[0] if told else f"status {done.returncode}")
         raise Refusal(f"gcc failed: {first}", given.shown(given.file))
-    dumps = [name for name in os.listdir(folder) if name.endswith(".lower")]
-    return os.path.join(folder, dumps[0]) if dumps else None
+
+
+def dumps_in(folder: str, ending: str) -> list[str]:
+    """The paths of the dumps of a kind in a folder."""
+    return [os.path.join(folder, name) for name in os.listdir(folder) if name.endswith(ending)]

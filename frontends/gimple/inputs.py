@@ -38,7 +38,9 @@ def read_file(path, name=None, shown=str):
     stem = match["stem"]
     text = read_text(path)
     known = symbols.Symbols()
-    symbols.read_table(read_text(beside(path, stem, ".cgraph", "-fdump-ipa-cgraph")), known)
+    first = glob.glob(glob.escape(stem) + ".reordered")
+    kept = symbols.kept_in(read_text(first[0])) if first else None
+    symbols.read_table(read_text(beside(path, stem, ".cgraph", "-fdump-ipa-cgraph")), known, kept)
     symbols.read_blocks(read_text(beside(path, stem, ".ssa", "-fdump-tree-ssa-lineno-uid-blocks")), known)
     for other in glob.glob(glob.escape(stem) + "*.aux"):
         symbols.read_definitions(read_text(other), known, shown)

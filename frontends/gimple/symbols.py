@@ -12,6 +12,7 @@ DEFINED_NAME = re.compile(r"([A-Za-z_$][\w$]*) \(")
 ORIGINAL = re.compile(r";; Function (\S+) \(|[ (]\(void\) ([A-Za-z_$][\w$]*)[;,)]")
 NO_SUCCESSOR = re.compile(r"\n;;    succ:[ ]*\n")
 ENDLESS = re.compile(rf"(?:\S+ = )?({operands.DECLARED}) \(")
+IN_SECTION = re.compile(r"^\S.*((?:\n .*)*?\n  Visibility:.* section:.*)", re.MULTILINE)
 TABLES = (".init_array", ".preinit_array", ".fini_array", ".ctors", ".dtors")
 
 
@@ -48,19 +49,27 @@ class Symbols:
     definitions: dict = field(default_factory=dict)
     cast_away: set = field(default_factory=set)
     sources: list = field(default_factory=list)
-
-    def starts_by_table(self):
-        """Whether some variable stands in a table of functions that the system calls by itself."""
-        return any(symbol.section.startswith(TABLES) for symbol in self.by_name.values())
+    starts_by_table: bool = False
 
 
-def read_table(text, symbols):
-    """Reads `-fdump-ipa-cgraph`: the first symbol table of it."""
+def loses_section(text: str) -> bool:
+    """Whether a table has a variable in a section that gcc takes out, so that it tells not what it leads to."""
+    parts = IN_SECTION.findall(text) if " section:" in text else []
+    return any("\n  Type: variable definition\n" in part for part in parts)
+
+
+def read_table(text: str, symbols: Symbols, kept: frozenset[str] | None = None) -> None:
+    """Reads `-fdump-ipa-cgraph`: the first symbol table of it.
+
+    kept: the variables that gcc keeps though nothing names them, where this table has all as kept.
+    """
     orders = {}
     aliases = []
     for section in sections_in(text):
         head = SYMBOL.match(section[0])
         symbol = symbol_in(head, section[1:])
+        if kept is not None:
+            symbol.is_kept = symbol.linkage in kept
         orders[head["order"]] = symbol
         for line in section:
             if line.startswith("  Referring:") and "(addr)" in line:
@@ -71,10 +80,17 @@ def read_table(text, symbols):
                 aliases.append((symbol, alias[1]))
         if not symbol.is_function and (symbol.is_kept or symbol.section):
             symbols.addressed.add(symbol.name)
+            symbols.starts_by_table |= symbol.section.startswith(TABLES)
         if not LOCAL_STATIC.search(symbol.linkage):
             symbols.by_name[symbol.name] = symbol
     for symbol, order in aliases:
         symbol.alias_of = orders[order].name if order in orders else None
+
+
+def kept_in(text: str) -> frozenset[str]:
+    """The variables of a table that gcc keeps though nothing names them."""
+    found = [symbol_in(SYMBOL.match(section[0]), section[1:]) for section in sections_in(text)]
+    return frozenset(symbol.linkage for symbol in found if symbol.is_kept and not symbol.is_function)
 
 
 def sections_in(text):

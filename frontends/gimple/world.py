@@ -115,7 +115,7 @@ class World:
             procedure = self.defined(file, symbol.name) if symbol.is_function else None
             if procedure is None:
                 continue
-            if symbol.is_addressed or procedure.function.is_kept:
+            if symbol.is_addressed or symbol.section or procedure.function.is_kept:
                 self.addressed_procedures[procedure] = None
             if symbol.is_public and not self.is_whole:
                 self.visible[procedure] = None
@@ -230,7 +230,7 @@ class World:
                     self.take_all(file)
                 else:
                     self.take_uses(file, procedure)
-        if any(file.symbols.starts_by_table() for file in self.files):
+        if any(file.symbols.starts_by_table for file in self.files):
             self.own_starts.update(self.addressed_procedures)
 
     def take_uses(self, file, procedure):
