@@ -4,9 +4,9 @@ import re
 
 from gimple.code import Variable
 
+from .expressions import Operand, canonical
 from .macros import Macros
 from .remark import Note, Remark
-from .sources import canonical
 from .traces import Traces
 from .written import part_named
 
@@ -70,7 +70,8 @@ class Findings:
     def plain_expression(self, step):
         """A step's expression by the source's names, '' where some operand has none."""
         parts = [self.name(part) if isinstance(part, Variable) else part.text for part in step.operands]
-        return canonical(step.operator, [(part, True) for part in parts], step.is_element) if all(parts) else ""
+        operands = [Operand(part, True) for part in parts]
+        return canonical(step.operator, operands, step.is_element) if all(parts) else ""
 
     def holds(self, claim, told):
         """Whether each copy that is reached has what is told, and at least one is."""
@@ -187,7 +188,8 @@ class Findings:
         """An expression of a procedure's as its source has it, '' where it stands there in no form."""
         if self.shows_all:
             return self.plain_expression(step)
-        operands = [(part.source, True) if isinstance(part, Variable) else (part.text, False) for part in step.operands]
+        operands = [Operand(part.source, True) if isinstance(part, Variable)
+                    else Operand(part.text, False) for part in step.operands]
         place = step.origin.place
         macros = self.macros[procedure.function.file]
         return self.sources.get(place.file).expression_at(place.line, place.column, step.operator, operands, step.is_element, macros)

@@ -2,11 +2,32 @@
 
 import re
 
+from .expressions import value_of
+
 DEFINED = re.compile(r"^[ \t]*#[ \t]*define[ \t]+([A-Za-z_$][\w$]*)((?:\\\r?\n|.)*)", re.MULTILINE)
+DEEPEST = 8
 NAME = re.compile(r"[A-Za-z_$][\w$]*")
 COMPARING = ("<", ">", "=", "!")
 # How gcc's operators may be written.
 WRITTEN = {"+": ("+", "-"), "-": ("-", "+"), **dict.fromkeys(("<", ">", "<=", ">=", "==", "!="), COMPARING)}
+
+
+ENUMERATION = re.compile(r"\benum\b[^{};()]*\{([^{}]*)\}")
+COMMENT = re.compile(r"/\*.*?\*/|//[^\n]*", re.DOTALL)
+
+
+def enumerators_in(text: str) -> dict[str, int | None]:
+    """The enumerators that a source defines, each with its value, None where it is not known."""
+    found: dict[str, int | None] = {}
+    for inside in ENUMERATION.findall(text):
+        value: int | None = -1
+        for entry in COMMENT.sub("", inside).split(","):
+            name, equals, given = (part.strip() for part in entry.partition("="))
+            known = value_of(given) if equals else value + 1 if value is not None else None
+            value = known if isinstance(known, int) else None
+            if name:
+                found[name] = None if name in found else value
+    return found
 
 
 def macros_in(text):
@@ -33,6 +54,23 @@ class Macros:
                 texts[name] = "".join(self.sources.get(file).macros().get(name, "") for file in self.files)
                 waiting += NAME.findall(texts[name])
         return "".join(texts.values())
+
+    def value_of(self, name: str) -> int | None:
+        """The value of a macro or an enumerator that is a plain number, None where it is not known."""
+        if name == "NULL":
+            return 0
+        for _ in range(DEEPEST):
+            sources = [self.sources.get(file) for file in self.files]
+            text = COMMENT.sub("", "".join(source.macros().get(name, "") for source in sources))
+            if not text:
+                values = {source.enumerators()[name] for source in sources
+                          if name in source.enumerators()}
+                return values.pop() if len(values) == 1 else None
+            name = text.strip(" \t()")
+            known = value_of(name)
+            if known is not None or not NAME.fullmatch(name):
+                return known if isinstance(known, int) else None
+        return None
 
     def may_write(self, name, operator, is_element):
         """Whether a macro of this name has an operator in its text."""

@@ -1,0 +1,41 @@
+/* An expression is named as it is written, and not as one that stands near it. */
+/* options: --whole */
+#define LOW 1
+#define FLAGS (LOW | 4)
+enum colour { RED, GREEN = 3, BLUE };
+
+int printf(const char *, ...);
+
+static unsigned remainders(unsigned p0, unsigned g0)
+{
+    unsigned mixed = g0 & p0;
+    unsigned odd = p0 % 2;
+    unsigned both = g0 & p0;    /* expect: 'g0 & p0' is already computed */
+    unsigned again = p0 % 2;    /* expect: 'p0 % 2' is already computed */
+    odd += p0 % 2;          /* expect: 'p0 % 2' is already computed */
+    odd += p0 & LOW;        /* expect: 'p0 & LOW' is already computed */
+    unsigned part = p0 / 8, rest = p0 % 8;
+    part += p0 / 8;         /* expect: 'p0 / 8' is already computed */
+    return mixed + odd + both + again + part + rest;
+}
+
+static int constants(int c, int other, double d)
+{
+    int first = c == 'a' && other == 'b';
+    if (c == 'a' && first)  /* expect: 'c & FLAGS' is very busy */
+        first += c & FLAGS;
+    int flagged = c & FLAGS;
+    flagged += c & FLAGS;   /* expect: 'c & FLAGS' is already computed */
+    int shade = other + GREEN;
+    shade += other + BLUE;
+    shade += other + GREEN; /* expect: 'other + GREEN' is already computed */
+    double half = d * 0.5, whole = d * 2.0;
+    half += d * 0.5;        /* expect: 'd * 0.5' is already computed */
+    return first + flagged + shade + (half > whole);
+}
+
+int main(int argc, char **argv)
+{
+    printf("%d %d\n", constants(argc, argc + 1, argc), RED);
+    return remainders(argc, argc + 3);
+}
