@@ -2,8 +2,16 @@
 
 import random
 
-HEAD = """int printf(const char *, ...);
+HEAD = """#include <setjmp.h>
+#ifndef KEPT
+#define KEPT
+#endif
+#define LOW 1
+#define MASK 7
+int printf(const char *, ...);
 void exit(int);
+typedef enum { DARK = 1, PALE = 3, LIGHT } shade;
+struct thin { unsigned char small; volatile unsigned seen; };
 struct pair { unsigned first, second; unsigned cells[4]; };
 union either { unsigned number; unsigned char bytes[4]; };
 static unsigned g0 = 1, g1 = 2, g2 = 3, g3, g4;
@@ -13,6 +21,12 @@ static struct pair box;
 static union either mixed;
 static unsigned *aim = &g4;
 static int fuel = FUEL;
+static jmp_buf place;
+static void hook0(void), hook1(void);
+typedef void (*hook)(void);
+static const hook entry0 __attribute__((section("ents") KEPT)) = hook0;
+static const hook entry1 __attribute__((section("ents") KEPT)) = hook1;
+extern const hook __start_ents[], __stop_ents[];
 """
 STOP = """static void stop(unsigned n) __attribute__((noreturn));
 static void stop(unsigned n)
@@ -25,8 +39,50 @@ static void leave(unsigned *n)
     g3 = g3 + *n;
 }
 """
+HOOKS = """static void hook0(void)
+{
+    g2 = g2 ^ box.second;
+}
+static void hook1(void)
+{
+    g3 = 5;
+    table[1] = g3 + g1;
+}
+static void run_hooks(void)
+{
+    for (const hook *at = __start_ents; at < __stop_ents; at++)
+        (*at)();
+}
+"""
+# Parameters of each kind: how they are declared, what of them is read, and what is given for them.
+TAKEN = [
+    ("unsigned {}", "{}", "{expression}"),
+    ("volatile unsigned {}", "{}", "{expression}"),
+    ("const unsigned {}", "{}", "{name}"),
+    ("register unsigned {}", "{}", "{name}"),
+    ("unsigned {} __attribute__((unused))", "3", "{name}"),
+    ("volatile unsigned {}", "5", "{name}"),
+    ("unsigned char {}", "{}", "{expression}"),
+    ("volatile short {}", "{}", "{name}"),
+    ("long long {}", "{}", "{expression}"),
+    ("volatile double {}", "(unsigned){}", "({name} & 255)"),
+    ("double {}", "(unsigned){}", "({name} & 255)"),
+    ("_Bool {}", "{}", "{name} & 4"),
+    ("volatile _Bool {}", "{}", "{name} & 2"),
+    ("volatile shade {}", "{}", "{name} & PALE"),
+    ("struct pair {}", "{0}.first + {0}.cells[1]", "{pair}"),
+    ("volatile struct pair {}", "{}.second", "{pair}"),
+    ("struct thin {}", "{0}.small + {0}.seen", "slim"),
+    ("struct thin {}", "{}.small", "slim"),
+    ("volatile union either {}", "{}.number", "mixed"),
+    ("unsigned *{}", "*{}", "{target}"),
+    ("unsigned *volatile {}", "*{}", "{target}"),
+    ("_Complex double {}", "(unsigned)__real__ {}", "wave"),
+    ("volatile _Complex double {}", "(unsigned)__imag__ {}", "wave"),
+]
 GLOBALS = ["g0", "g1", "g2", "g3", "g4", "public0"]
 OPERATORS = ["+", "-", "*", "&", "|", "^"]
+CONSTANTS = ["1", "2", "4", "8", "3", "LOW", "MASK", "PALE", "LIGHT", "'a'", "'\\n'", "010", "0x1fu"]
 COMPARISONS = ["<", ">", "<=", ">=", "==", "!="]
 
 
@@ -37,6 +93,7 @@ class Program:
         self.random = random.Random(seed)
         self.count = self.random.randint(2, 5)
         self.addressed = self.random.sample(range(self.count), k=min(2, self.count))
+        self.takers = [Taker(self, number) for number in range(self.random.randint(2, 4))]
         self.functions = [Function(self, number) for number in range(self.count)]
 
     def text(self):
@@ -45,8 +102,10 @@ class Program:
         prototypes = "".join(f"static unsigned f{number}(unsigned p0, unsigned p1);\n" for number in range(self.count))
         calls = ", ".join(f"f{number}" for number in self.addressed)
         tables = f"static unsigned (*const actions[])(unsigned, unsigned) = {{ {calls} }};\n"
-        bodies = "\n".join(function.text() for function in self.functions)
-        return f"{head}{prototypes}{tables}/* functions */\n{STOP}\n{bodies}\n{self.main_text()}"
+        prototypes += "".join(taker.heading() + ";\n" for taker in self.takers)
+        bodies = "\n".join(function.text() for function in [*self.takers, *self.functions])
+        parts = [f"{head}{prototypes}{tables}/* functions */", STOP, HOOKS, bodies, self.main_text()]
+        return "\n".join(parts)
 
     def main_text(self):
         """The function main, which looks at some of the globals in the end."""
@@ -54,8 +113,38 @@ class Program:
         calls = "".join(f"    sum = sum * 3 + f{self.random.randrange(self.count)}({self.random.randint(0, 9)}, (unsigned)argc);\n"
                         for _ in range(self.random.randint(1, 4)))
         shows = "".join(f"    printf(\"{name} %u\\n\", {name});\n" for name in shown)
-        return (f"int main(int argc, char **argv)\n{{\n    unsigned sum = 0;\n{calls}{shows}"
+        return (f"int main(int argc, char **argv)\n{{\n    unsigned sum = 0;\n{calls}    run_hooks();\n{shows}"
                 f"    printf(\"%u %u\\n\", sum, table[sum & 7]);\n    return 0;\n}}\n")
+
+
+class Taker:
+    """A function that takes parameters of many kinds, reads some, and may be left by a jump."""
+
+    def __init__(self, program: Program, number: int) -> None:
+        self.random = program.random
+        self.name = f"t{number}"
+        self.kinds = [self.random.choice(TAKEN) for _ in range(self.random.randint(1, 6))]
+        self.jumps = self.random.random() < 0.2
+
+    def heading(self) -> str:
+        """The function's heading."""
+        names = [kind[0].format(f"a{at}") for at, kind in enumerate(self.kinds)]
+        return f"static unsigned {self.name}({', '.join(names)})"
+
+    def text(self) -> str:
+        """The function's text."""
+        values = [f"({kind[1].format(f'a{at}')})" for at, kind in enumerate(self.kinds)]
+        jump = "    if (setjmp(place) != 0)\n        return 1;\n" if self.jumps else ""
+        return f"{self.heading()}\n{{\n{jump}    return {' + 3 * '.join(values)};\n}}\n"
+
+    def call(self, function: "Function") -> str:
+        """A call of it from a function."""
+        choices = {"name": function.simple, "expression": function.expression,
+                   "target": function.target,
+                   "pair": lambda: self.random.choice(["duo", "box"])}
+        given = [kind[2].format(**{name: choice() for name, choice in choices.items()})
+                 for kind in self.kinds]
+        return f"{self.name}({', '.join(given)})"
 
 
 class Function:
@@ -66,7 +155,7 @@ class Function:
         self.random = program.random
         self.name = f"f{number}"
         self.locals = [f"v{count}" for count in range(self.random.randint(2, 5))]
-        self.names = [*self.locals, "p0", "p1", *GLOBALS]
+        self.names = [*self.locals, "p0", "p1", "late", *GLOBALS]
         self.usual = [f"{self.random.choice(self.names)} {self.random.choice(OPERATORS)} {self.random.choice(self.names)}"
                       for _ in range(3)]
         self.labels = 0
@@ -81,9 +170,13 @@ class Function:
         self.put(f"return {self.expression()};", 1)
         names = "".join(f"    unsigned {name} = {self.first_value()};\n" for name in self.locals)
         counters = "".join(f"    int k{number};\n" for number in range(self.counters))
+        late = ("    struct thin slim;\n    _Complex double wave;\n    unsigned late, row[3];\n"
+                "    slim.small = p1;\n    slim.seen = p0;\n    __real__ wave = p0 & 63;\n"
+                "    __imag__ wave = p1 & 63;\n    row[0] = p0;\n    row[1] = p1;\n"
+                "    row[2] = 3;\n    late = row[1];\n")
         guarded = "    unsigned kept __attribute__((cleanup(leave))) = p0;\n" if self.random.random() < 0.25 else ""
         return (f"static unsigned {self.name}(unsigned p0, unsigned p1)\n{{\n{names}{counters}    unsigned local[4] = {{ 1, 2, p0, 4 }};\n"
-                f"    struct pair duo = {{ p1, 2, {{ 1 }} }};\n    unsigned *where = {self.target()};\n{guarded}"
+                f"    struct pair duo = {{ p1, 2, {{ 1 }} }};\n    unsigned *where = {self.target()};\n{guarded}{late}"
                 + "\n".join(self.lines) + "\n}\n")
 
     def put(self, line, depth):
@@ -98,6 +191,10 @@ class Function:
         """What a pointer may point to."""
         return "&" + self.random.choice([*self.locals, "g3", "g4", "table[3]", "local[1]", "duo.second", "box.first"])
 
+    def simple_name(self) -> str:
+        """A variable."""
+        return self.random.choice(self.names)
+
     def simple(self):
         """A variable or a number."""
         return self.random.choice([*self.names, str(self.random.randint(0, 50))])
@@ -109,7 +206,8 @@ class Function:
             return self.simple()
         index = self.random.choice(self.names)
         return self.random.choice([f"table[{index} & 7]", f"local[{index} & 3]", "duo.first", "duo.second", "box.second", "duo.cells[1]",
-                                   "*where", "*aim", "mixed.number", "mixed.bytes[2]", "(unsigned)fuel"])
+                                   "*where", "*aim", "mixed.number", "mixed.bytes[2]", "(unsigned)fuel",
+                                   "row[0]", "row[2]", "(unsigned)__real__ wave", "slim.small"])
 
     def expression(self, depth=0):
         """An expression."""
@@ -120,8 +218,11 @@ class Function:
             return f"{self.operand()} {self.random.choice(OPERATORS)} {self.operand()}"
         if kind < 0.82:
             return f"{self.operand()} / ({self.operand()} | 1)"
-        if kind < 0.88:
+        if kind < 0.86:
             return f"{self.operand()} {self.random.choice(['<<', '>>'])} {self.random.randint(0, 7)}"
+        if kind < 0.90:
+            sign = self.random.choice(["%", "/", "&", "+", "-", "*"])
+            return f"{self.simple_name()} {sign} {self.random.choice(CONSTANTS)}"
         if kind < 0.94 and depth == 0:
             return f"({self.test()} ? {self.expression(1)} : {self.expression(1)})"
         return self.random.choice(["-", "~", "!"]) + self.simple()
@@ -141,7 +242,8 @@ class Function:
             return self.random.choice([*self.locals, *self.locals, "p0", "p1", *GLOBALS])
         index = self.random.choice(self.names)
         return self.random.choice([f"table[{index} & 7]", f"local[{index} & 3]", "duo.first", "duo.cells[2]", "box.first", "box.cells[1]",
-                                   "*where", "*aim", "mixed.number", "mixed.bytes[1]"])
+                                   "*where", "*aim", "mixed.number", "mixed.bytes[1]", "row[0]", "row[1]", "late",
+                                   "slim.small", "duo.second", "box.second"])
 
     def block(self, depth, count, loops):
         """Some statements."""
@@ -164,6 +266,10 @@ class Function:
     def call(self, depth, loops):
         """A call, by name or through the table."""
         del loops
+        if self.random.random() < 0.5:
+            target = self.random.choice([*self.locals, "g1", "g2", "late"])
+            self.put(f"{target} = {self.random.choice(self.program.takers).call(self)};", depth)
+            return
         name = self.random.choice([f"f{self.random.randrange(self.program.count)}"] * 3 + [f"actions[p0 % {len(self.program.addressed)}]"])
         target = f"{self.random.choice([*self.locals, 'g1', 'g2'])} = " if self.random.random() < 0.8 else ""
         self.put(f"{target}{name}({self.expression()}, {self.simple()});", depth)

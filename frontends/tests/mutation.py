@@ -7,12 +7,15 @@ computed is compared with what it gave the last time, and one that is very busy 
 import re
 
 from gimple import operands
-from gimple.code import Variable
+from gimple.code import Number, Procedure, Step, Variable
 from gimple.dump import statements_in
 
 HEADER = re.compile(r";; Function (?P<name>\S+) \(.*decl_uid=(?P<uid>\d+)")
-UNTURNED = re.compile(r"VIEW_CONVERT|BIT_FIELD|FRAME|CHAIN|REALPART|IMAGPART|COMPLEX|_Complex|__builtin_va|\.VA_ARG|MEM ?[<\[]"
+UNTURNED = re.compile(r"VIEW_CONVERT|BIT_FIELD|FRAME|CHAIN|__builtin_va|\.VA_ARG|MEM ?[<\[]"
                       r"|<retval>|\bMIN|\bMAX|\bABS|__asm|\*\.LC|= \"|\{[^}C]")
+HALF = re.compile(r"\b(REAL|IMAG)PART_EXPR <([^<>]*)>")
+WHOLE = re.compile(r"\bCOMPLEX_EXPR <([^<>]*), ([^<>]*)>")
+SOURCE_NAME = re.compile(r"(?<![\w.'\\])[A-Za-z_]\w*")
 NAME = re.compile(rf"(?<![\w$])(?P<declared>{operands.DECLARED})|(?<![\w$.])(?P<temporary>{operands.TEMPORARY})|\b0B\b")
 GUARD = "unsigned *guard{0} __attribute__((cleanup(leave_guard))) = {1};"
 CHANGED = 0x5a
@@ -43,7 +46,7 @@ class Body:
     def declared(plain):
         """How many lines are declarations."""
         for count, line in enumerate(plain):
-            if line.startswith("static "):
+            if line.startswith("static ") or "(*" in line and line.endswith(";") and " = " not in line:
                 raise CanNotTurn(line)
             is_declaration = line.endswith(";") and re.search(r"D\.\d+(\[\d+\])*;$", line) and " = " not in line
             if not is_declaration or line.startswith(("goto ", "return ")):
@@ -94,7 +97,8 @@ class Body:
         """A text with names that C takes."""
         parts = operands.STRING.split(text)
         strings = [*operands.STRING.findall(text), ""]
-        return "".join(NAME.sub(self.named, part) + string for part, string in zip(parts, strings))
+        named = "".join(NAME.sub(self.named, part) + string for part, string in zip(parts, strings))
+        return re.sub(r"\bcomplex double\b", "_Complex double", named)
 
     def named(self, found):
         """A name of gcc's as C takes it."""
@@ -112,6 +116,8 @@ class Body:
         plain = plain.replace(" [return slot optimization]", "").replace(" [tail call]", "")
         if UNTURNED.search(plain):
             raise CanNotTurn(plain)
+        plain = HALF.sub(lambda found: f"(__{found[1].lower()}__ {found[2]})", plain)
+        plain = WHOLE.sub(r"__builtin_complex ((double)(\1), (double)(\2))", plain)
         if plain.startswith("<"):
             return re.sub(r"<D\.(\d+)>:", r"L\1:;", plain)
         if "= {CLOBBER" in plain:
@@ -150,8 +156,9 @@ class Body:
 class Changes:
     """What is added to the bodies of one program."""
 
-    def __init__(self, world, bodies, written, facts):
+    def __init__(self, world, bodies, written, facts, shown):
         self.world = world
+        self.named = shown
         self.bodies = bodies
         self.facts = facts
         self.declared = {variable: declared for (_, declared), variable in world.locals.items()}
@@ -159,7 +166,7 @@ class Changes:
         self.once = [note for note in written.notes if note[1].origin and note[2].is_once and note[1].kind == "set"]
         self.never = {number for number, told in facts.items() if ("never_reached", "") in told}
         self.before, self.after, self.top, self.globals = {}, {}, {}, []
-        self.counts = dict.fromkeys(("dead", "never", "computed", "busy"), 0)
+        self.counts = dict.fromkeys(("dead", "never", "computed", "busy", "unset", "named"), 0)
         self.copies = {}
         for number, step, procedure in [*self.notes, *self.once]:
             self.copies.setdefault((step.origin, step.slot), []).append((number, step, procedure))
@@ -170,6 +177,8 @@ class Changes:
             self.overwrite()
         if "never" in kinds:
             self.trap()
+        if "unset" in kinds:
+            self.trap_unset()
         self.compare(kinds)
 
     def body_of(self, procedure):
@@ -204,18 +213,45 @@ class Changes:
             self.before.setdefault(statement, []).append("__builtin_trap();")
             self.counts["never"] += 1
 
+    def trap_unset(self) -> None:
+        """Ends the program where a local is surely unset: the programs read none."""
+        for origin, slot in list(self.copies):
+            reached = [copy for copy in self.copies[origin, slot] if copy[0] not in self.never]
+            if reached and all(self.has_unset(number, step) for number, step, _ in reached):
+                self.before.setdefault(origin, []).append("__builtin_trap();")
+                self.counts["unset"] += 1
+
+    def has_unset(self, number: int, step: Step) -> bool:
+        """Whether a line reads a local that is surely unset."""
+        return any(("unset", part.name) in self.facts.get(number, ()) for part in step.surely_unset)
+
+    def check_name(self, step: Step, procedure: Procedure, form: str) -> None:
+        """Compares an expression as the source has it with gcc's form of it."""
+        shown = self.named(step, procedure)
+        if not shown:
+            return
+        names = {part.source: self.name_of(part, procedure) for part in step.reads()}
+        text = SOURCE_NAME.sub(lambda found: names.get(found.group(), found.group()), shown)
+        self.before.setdefault(step.origin, []).append(
+            f"if (({text}) != ({form})) __builtin_trap();")
+        self.counts["named"] += 1
+
+    def name_of(self, part: Variable | Number, procedure: Procedure) -> str:
+        """An operand as C, '' where it has no name in the procedure."""
+        if not isinstance(part, Variable):
+            is_wide = part.text.isdigit() and 1 << 31 <= int(part.text) < 1 << 32
+            return self.body_of(procedure).name_all(part.text) + "u" * is_wide
+        if part.owner is None:
+            return part.source
+        if part.owner is procedure and part in self.declared:
+            return self.body_of(procedure).own[self.declared[part]]
+        return ""
+
     def shown(self, step, procedure):
         """An expression as C, None where a variable has no name in the procedure."""
-        names = []
-        for part in step.operands:
-            if not isinstance(part, Variable):
-                names.append(self.body_of(procedure).name_all(part.text))
-            elif part.owner is None and part.source:
-                names.append(part.source)
-            elif part.owner is procedure and part in self.declared:
-                names.append(self.body_of(procedure).own[self.declared[part]])
-            else:
-                return None
+        names = [self.name_of(part, procedure) for part in step.operands]
+        if not all(names):
+            return None
         if step.is_element:
             return f"{names[0]}[{names[1]}]"
         return f"({step.operator}{names[0]})" if len(names) == 1 else f"({names[0]} {step.operator} {names[1]})"
@@ -228,6 +264,9 @@ class Changes:
                 evaluations.setdefault(step.expression, {}).setdefault((step.origin, procedure), step)
         for number, (text, places) in enumerate(evaluations.items()):
             shown = {key: self.shown(step, key[1]) if self.body_of(key[1]) else None for key, step in places.items()}
+            for (_, procedure), step in places.items() if "named" in kinds else ():
+                if self.body_of(procedure) and self.shown(step, procedure):
+                    self.check_name(step, procedure, self.shown(step, procedure))
             if None not in shown.values():
                 self.compare_one(text, places, shown, number, kinds)
 
