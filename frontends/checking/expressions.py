@@ -91,7 +91,8 @@ def candidates(text: str, operator: str, operands: list[Operand], is_element: bo
         return
     for form in forms_of(operator, first, others[0]):
         yield from binary(text, form, meaning)
-        if form.sign in "+-" and agrees("1", form.second, form.is_taken_away, meaning):
+        is_step = form.sign in ("+", "-") and form.first.is_name and not form.second.is_name
+        if is_step and agrees("1", form.second, form.is_taken_away, meaning):
             yield from stepped(text, form)
 
 

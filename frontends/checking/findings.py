@@ -2,7 +2,8 @@
 
 import re
 
-from gimple.code import Variable
+from gimple.code import Procedure, Step, Variable
+from gimple.translate import COPIES
 
 from .expressions import Operand, canonical
 from .macros import Macros
@@ -11,6 +12,8 @@ from .traces import Traces
 from .written import part_named
 
 WORD = re.compile(r"[A-Za-z_$][\w$]*")
+# What stands at the place of a statement that makes a variable's value of its older one.
+COUNTING = re.compile(r"\+\+|--|(?:[-+*/%&|^]|<<|>>)=")
 SHOWN_ROLES = ("plain", "test", "result")
 PLAIN_VALUES = frozenset(["0", "0B", "0.0", "{}", '""', "0.0e+0", "0x0"])
 
@@ -35,6 +38,7 @@ class Findings:
         self.traces = Traces()
         self.remarks = {}
         self.tried = set()
+        self.texts = set()
         told = {line[1].origin.place for line in [*self.lines, *self.lines_once] if line[0] in facts}
         self.by_claim = self.gather(line for line in [*self.lines, *self.lines_once] if line[1].origin.place in told)
         self.take_all()
@@ -96,6 +100,7 @@ class Findings:
                 elif kind == "busy" and line[1].role == "test":
                     self.take_busy(line, name)
         self.take_unset()
+        self.take_copies()
         self.take_never_reached()
         self.take_never_called()
 
@@ -107,8 +112,10 @@ class Findings:
 
     def put(self, key, remark):
         """Keeps a remark unless a comment silences it."""
-        if not self.sources.get(remark.file).is_silenced(remark.kind, remark.line):
-            self.remarks.setdefault(key, remark)
+        text = remark.file, remark.line, remark.column, remark.text
+        if key not in self.remarks and text not in self.texts and not self.sources.get(remark.file).is_silenced(remark.kind, remark.line):
+            self.remarks[key] = remark
+            self.texts.add(text)
 
     def take_dead(self, line):
         """An assignment whose value nobody reads."""
@@ -119,14 +126,57 @@ class Findings:
             return
         if not self.holds(claim, lambda copy: self.has_fact(copy, "dead", copy[1].variable.name)):
             return
-        if self.is_meant(procedure, step.variable) or not self.holds_for_macro(step):
+        if self.is_meant(procedure, step.variable) or not self.holds_for_macro(step) or not self.is_chain(step):
             return
-        kind = "dead-initial" if all(self.is_plain_initial(copy[1]) for copy in self.by_claim[claim]) else "dead"
+        if step.variable.whole and self.is_dead_whole((claim[0], "dead", step.variable.whole.source)):
+            return
+        kind = self.kind_of_dead(claim, procedure)
         shown = part_named(step) or name
         text = f"initial value of '{shown}' is dead" if kind == "dead-initial" else f"assignment to '{shown}' is dead"
         notes = () if step.variable.owner is not procedure else tuple(
             Note(place.file, place.line, place.column, "overwritten here") for place in self.traces.overwritten(procedure, step))
         self.put(claim, self.remark(line, kind, text, notes))
+
+    def is_dead_whole(self, claim) -> bool:
+        """Whether the whole of a part is told as dead at its place."""
+        return claim in self.by_claim and self.holds(claim, lambda copy: self.has_fact(copy, "dead", copy[1].variable.name))
+
+    def kind_of_dead(self, claim, procedure: Procedure) -> str:
+        """Of which kind a dead assignment is."""
+        steps = [copy[1] for copy in self.by_claim[claim]]
+        if all(self.is_plain_initial(step) for step in steps):
+            return "dead-initial"
+        own = [copy[1] for copy in self.by_claim[claim] if copy[2] is procedure]
+        is_last = own and all(self.is_last_of_run(procedure, step) for step in own)
+        return "dead-last" if is_last else "dead"
+
+    def is_last_of_run(self, procedure: Procedure, step: Step) -> bool:
+        """Whether a value is counted on from one that was set by a statement of the same form."""
+        if step.variable.is_addressed or not self.counts_on(step):
+            return False
+        form = step.origin.kind, step.origin.words[0]
+        return any(other.origin and (other.origin.kind, other.origin.words[0]) == form and self.counts_on(other)
+                   for other in self.traces.set_before(procedure, step))
+
+    def counts_on(self, step: Step) -> bool:
+        """Whether a statement sets a variable to what it makes of its older value."""
+        statement = step.origin
+        if statement.kind not in ("assign", "call") or not statement.place:
+            return False
+        if statement.words[1] in statement.words[2:]:
+            return statement.words[0] not in COPIES
+        source, place = self.sources.get(statement.place.file), statement.place
+        return bool(COUNTING.match(source.behind(place.line, place.column)))
+
+    def is_chain(self, step: Step) -> bool:
+        """Whether a chained assignment is one in the source, as `y = 0` in `x = y = 0`; so is what is not chained."""
+        if step.chained is None:
+            return True
+        place = step.chained
+        source = self.sources.get(place.file)
+        text = source.behind(place.line, place.column) + source.line(place.line + 1) + source.line(place.line + 2)
+        name = r"\s*".join(map(re.escape, re.findall(r"\w+|\S", part_named(step) or step.variable.source)))
+        return bool(re.match(rf"(?:\w+\s*)?=[\s(]*{name}\s*=(?!=)", text))
 
     def holds_for_macro(self, step):
         """Whether an assignment is no macro's, or all of this macro's in its file to variables of this name are dead.
@@ -149,7 +199,7 @@ class Findings:
         behind = self.sources.get(statement.place.file).behind(statement.place.line, statement.place.column)
         word = WORD.match(behind)
         is_callee = word and statement.kind == "call" and statement.words[0].startswith(word.group() + "D.")
-        return "" if not word or is_callee or word.group() == step.variable.source else word.group()
+        return "" if not word or is_callee or word.group() == whole_name(step.variable) else word.group()
 
     def is_meant(self, procedure, variable):
         """Whether the source says that a variable need not be read."""
@@ -157,18 +207,19 @@ class Findings:
         if function is None or variable.owner is not procedure:
             return False
         file = self.files[function.file]
-        if (function.name, variable.source) in file.symbols.cast_away:
+        if (function.name, whole_name(variable)) in file.symbols.cast_away:
             return True
         name, first, last = self.span_of(procedure)
-        return self.sources.get(name).is_marked_unused(variable.source, first, last)
+        return self.sources.get(name).is_marked_unused(whole_name(variable), first, last)
 
     def is_plain_initial(self, step):
         """Whether an assignment is a declaration's `= 0` or the like."""
-        if not has_plain_value(step):
-            return False
         place = step.origin.place
         behind = self.sources.get(place.file).behind(place.line, place.column)
-        return behind.startswith(step.variable.source)
+        if step.variable.whole:
+            name = re.escape(step.variable.whole.source)
+            return bool(re.match(rf"{name}\s*(?:\[[^]]*\]\s*)*=", behind))
+        return has_plain_value(step) and behind.startswith(step.variable.source)
 
     def take_computed(self, line, name):
         """An expression that is evaluated once more."""
@@ -239,10 +290,11 @@ class Findings:
                 if variable is None or variable.owner is None or variable.is_parameter or not self.name(variable):
                     continue
                 is_sure = variable in line[1].surely_unset
-                if is_sure or not variable.is_array:
+                if is_sure or not variable.is_array and variable.whole is None:
                     uses.setdefault(variable, {}).setdefault(line[1].origin.place, []).append((line, is_sure))
         for variable, places in uses.items():
-            self.take_uses(variable, places)
+            if variable.whole not in uses:
+                self.take_uses(variable, places)
 
     def take_uses(self, variable, places):
         """The uses of one variable, by place."""
@@ -255,6 +307,24 @@ class Findings:
         others = sorted(((place.file, place.line, place.column) for place in places if place.line != first.line))
         notes = tuple(Note(*place, "used here too") for place in others[:4])
         self.put((first, "unset", self.name(variable)), self.remark(line, kind, text, notes))
+
+    def take_copies(self) -> None:
+        """Assignments of variables to themselves."""
+        for line in self.lines:
+            _, step, procedure = line
+            if is_own_copy(step) and step.role == "plain" and line[0] not in self.never and self.name(step.variable):
+                claim = (step.origin.place, "dead", self.name(step.variable))
+                if self.is_meant(procedure, step.variable) or not self.is_own_in_source(step) or not self.is_new(claim):
+                    continue
+                lines = [other for other in self.lines if other[1].origin.place == step.origin.place and other[1].kind == "set"]
+                if all(is_own_copy(other[1]) for other in lines):
+                    self.put(claim, self.remark(line, "dead", f"'{self.name(step.variable)}' is assigned to itself"))
+
+    def is_own_in_source(self, step: Step) -> bool:
+        """Whether the source assigns a variable to itself where gcc does, and not what gives the same."""
+        place, name = step.origin.place, re.escape(step.variable.source)
+        text = self.sources.get(place.file).behind(place.line, place.column)
+        return bool(re.match(rf"(?:{name}\s*)?=[\s(]*{name}[\s)]*[;,]", text))
 
     def take_never_reached(self):
         """The first statement of each stretch that is never reached."""
@@ -311,6 +381,16 @@ class Findings:
             if place and is_shared((*place[:2], 0)):
                 found.add(((*place[:2], 0), "never", procedure.source))
         return found
+
+
+def is_own_copy(step: Step) -> bool:
+    """Whether a step sets a variable to itself."""
+    return step.is_copy and step.operands[:1] == (step.variable,) and not step.weak
+
+
+def whole_name(variable: Variable) -> str:
+    """The name of a variable, or of the one of which it is a part."""
+    return variable.whole.source if variable.whole else variable.source
 
 
 def has_plain_value(step):

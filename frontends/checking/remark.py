@@ -6,8 +6,9 @@ from dataclasses import dataclass
 KINDS = {
     "dead": ("no execution reads the value that is assigned", True),
     "dead-initial": ("no execution reads a plain initial value: 0, NULL, {0}, an empty string", False),
+    "dead-last": ("the same of what a run of statements of one form counts on, as its last one leaves it", False),
     "unset": ("a local is read that is set on no way to the place", True),
-    "maybe-unset": ("a local is read that is not set on some way to the place", True),
+    "maybe-unset": ("a local is read that is not set on some way to the place", False),
     "never": ("a statement or function to which no way leads", True),
     "computed": ("each way to the place has evaluated the expression already", False),
     "busy": ("each way from the test on evaluates the expression", False),

@@ -1,6 +1,7 @@
 """Walks along the steps of one procedure: where a value is overwritten, where an expression was or will be evaluated."""
 
 from gimple import flow
+from gimple.code import Procedure, Step
 
 MOST = 3
 
@@ -37,6 +38,12 @@ class Traces:
         follow, _, numbers, _ = self.of(procedure)
         return places_of(self.walk(procedure, follow[numbers[step]], follow, lambda other: other.kind in ("set", "read")
                                    and other.variable is step.variable and not other.weak))
+
+    def set_before(self, procedure: Procedure, step: Step) -> list[Step]:
+        """The steps that may have set the variable last before this one."""
+        _, before, numbers, _ = self.of(procedure)
+        return self.walk(procedure, before[numbers[step]], before,
+                         lambda other: other.kind in ("set", "read") and other.variable is step.variable)
 
     def evaluated(self, procedure, step):
         """The places that evaluated the step's expression last."""

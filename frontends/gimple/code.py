@@ -9,7 +9,8 @@ class Variable:
     """A variable of the program, which stands for one of the C program or for a value that gcc made.
 
     source: its name in C, or empty. owner: the procedure whose local it is, or None. home: of a static, the file's name or the
-    procedure in which it stands. is_addressed: a pointer may lead to it.
+    procedure in which it stands. is_addressed: a pointer may lead to it. whole: the variable of which it is a part, or the pointer
+    that leads to it.
     """
     wish: str
     source: str = ""
@@ -18,6 +19,7 @@ class Variable:
     is_array: bool = False
     is_addressed: bool = False
     is_parameter: bool = False
+    whole: object = None
     name: str = ""
 
     def is_in_scope(self, procedure):
@@ -48,7 +50,8 @@ class Step:
     `label` or on where it is a test. A fork leads to `label` or on. A note stands for no statement: it says that the
     variables of `touched` may be written from there on, through an address or a part. A test that compares one variable with a number
     has variable, operation and number in `compares`, one of two numbers its outcome in `outcome`. Of a set that is `told_once` a copy
-    in a procedure of one activation tells whether its value is read.
+    in a procedure of one activation tells whether its value is read. One that `is_copy` sets its variable to its operand, as it is;
+    one that is `chained` stands behind another sign of assignment at that place, as `y = 0` in `x = y = 0`.
     """
     kind: str
     variable: Variable = None
@@ -70,10 +73,19 @@ class Step:
     compares: tuple = ()
     outcome: bool = None
     told_once: bool = False
+    is_copy: bool = False
+    chained: object = None
 
     def reads(self):
         """The variables that it reads."""
         return [operand for operand in self.operands if isinstance(operand, Variable)]
+
+    @staticmethod
+    def reading(variables: tuple[Variable, ...], origin: object) -> list["Step"]:
+        """Steps that read variables for a C statement."""
+        after = Label()
+        return [Step("use", operands=variables, label=after, origin=origin),
+                Step("label", label=after)]
 
     def jump(self):
         """Another step that leads where this one leads."""

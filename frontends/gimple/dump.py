@@ -19,6 +19,7 @@ CASE = re.compile(r"(?:default|case [^:]*): <([^>]*)>")
 OPERAND_NAME = re.compile(r'(?:"\w+" )?"(?P<constraint>[^"]*)" (?P<operand>.*)$')
 VALUES = {"assign": slice(1, None), "call": slice(1, None), "cond": slice(1, 3), "switch": slice(0, 1), "return": slice(0, 1),
           "goto": slice(0, 1)}
+STRUCT = re.compile(r"(?:const )?struct [\w$]+ [\w$]+D\.\d+$")
 PASSED_OVER = ("//", "#", "gimple_nop", "GIMPLE_NOP", "gimple_debug")
 
 
@@ -66,7 +67,8 @@ class Try:
 class Function:
     """A function's dump: what it declares, by names as `xD.12`, and its statements, which are read when they are asked for.
 
-    attributes: what stands before its heading. arrays: the locals that are arrays. text: the lines of its statements, of which the
+    attributes: what stands before its heading. arrays: the locals that are arrays. structs: what is declared as a struct, of locals
+    and parameters. text: the lines of its statements, of which the
     first has this `number` in the dump. shown: what a file of the dump's is called in places.
     """
     name: str
@@ -78,6 +80,7 @@ class Function:
     parameters: list = field(default_factory=list)
     locals: set = field(default_factory=set)
     arrays: set = field(default_factory=set)
+    structs: set = field(default_factory=set)
     statics: list = field(default_factory=list)
     text: str = ""
     number: int = 1
@@ -287,15 +290,20 @@ def closing_bracket(text):
     return len(text)
 
 
-def parameters_in(heading, name):
-    """The declared names of the parameters in a function's heading, in order."""
+def take_parameters(function: Function, heading: str, name: str) -> None:
+    """Takes in the parameters in a function's heading, in order."""
     inside = heading[heading.index(name) + len(name):].strip()
-    names = []
     for word in operands.split_words(inside[1:closing_bracket(inside)]):
         declared = re.findall(operands.DECLARED, word)
         if declared:
-            names.append(declared[-1])
-    return names
+            function.parameters.append(declared[-1])
+            if is_struct(word):
+                function.structs.add(declared[-1])
+
+
+def is_struct(declaration: str) -> bool:
+    """Whether a declaration without brackets is one of a struct by name."""
+    return bool(STRUCT.match(declaration))
 
 
 def declare(function, text):
@@ -313,6 +321,8 @@ def declare(function, text):
         function.locals.add(declared[-1])
         if is_array:
             function.arrays.add(declared[-1])
+        elif is_struct(plain):
+            function.structs.add(declared[-1])
 
 
 def cases_of(statement):
@@ -342,7 +352,7 @@ def function_in(text, number, file, shown):
     if name not in heading:
         raise Refusal("no raw dump with numbers; run gcc with -fdump-tree-lower-raw-lineno-uid", file)
     function.attributes = heading.split(name)[0]
-    function.parameters = parameters_in(heading, name)
+    take_parameters(function, heading, name)
     first = FIRST_STATEMENT.search(inside)
     if first:
         take_declarations(function, inside[:first.start()])

@@ -1,5 +1,6 @@
 """What gcc's other dumps say of a file: the symbol table, which calls never return, which variables are volatile."""
 
+import bisect
 import re
 from dataclasses import dataclass, field
 
@@ -13,6 +14,8 @@ ORIGINAL = re.compile(r";; Function (\S+) \(|[ (]\(void\) ([A-Za-z_$][\w$]*)[;,)
 NO_SUCCESSOR = re.compile(r"\n;;    succ:[ ]*\n")
 ENDLESS = re.compile(rf"(?:\S+ = )?({operands.DECLARED}) \(")
 IN_SECTION = re.compile(r"^\S.*((?:\n .*)*?\n  Visibility:.* section:.*)", re.MULTILINE)
+FUNCTION = re.compile(r"^;; Function (\S+) \(", re.MULTILINE)
+VERSION = re.compile(r"([A-Za-z_$][\w$]*)_\d+(?:\(D\))?(?![\w$])")
 TABLES = (".init_array", ".preinit_array", ".fini_array", ".ctors", ".dtors")
 
 
@@ -39,6 +42,7 @@ class Symbols:
     by_name: the symbols of the file's own level. addressed: the names of variables of which some initialiser takes the address, or
     to which something leads that gcc doesn't see.
     endless: the declared names of functions whose calls never return. volatile: the declared names that are accessed as volatile.
+    volatile_behind: the functions and, by the source's names, their pointers to what is.
     definitions: by name, file and line where a function is defined. cast_away: pairs of a function's name and that of a
     variable which it casts to void. sources: the files that it was made of, but for the system's headers.
     """
@@ -46,6 +50,7 @@ class Symbols:
     addressed: set = field(default_factory=set)
     endless: set = field(default_factory=set)
     volatile: set = field(default_factory=set)
+    volatile_behind: set[tuple[str, str]] = field(default_factory=set)
     definitions: dict = field(default_factory=dict)
     cast_away: set = field(default_factory=set)
     sources: list = field(default_factory=list)
@@ -133,10 +138,13 @@ def read_blocks(text, symbols):
         callee = ENDLESS.match(operands.without_places(line_at(text, found.start() - 1)))
         if callee:
             symbols.endless.add(callee[1])
+    heads = list(FUNCTION.finditer(text)) if "={v}" in text else []
+    starts, names = [head.start() for head in heads], [head[1] for head in heads]
     for found in re.finditer(r"=\{v\}", text):
         line = line_at(text, found.start())
         if not line.startswith(";;") and "{CLOBBER" not in line:
-            take_volatile(operands.without_places(line), symbols)
+            at = bisect.bisect(starts, found.start()) - 1
+            take_volatile(operands.without_places(line), names[at] if at >= 0 else "", symbols)
 
 
 def line_at(text, at):
@@ -144,11 +152,12 @@ def line_at(text, at):
     return text[text.rfind("\n", 0, at + 1) + 1:text.find("\n", at + 1)].strip()
 
 
-def take_volatile(line, symbols):
-    """Takes in the variables of a statement with a volatile access; fields are left out."""
+def take_volatile(line: str, function: str, symbols: Symbols) -> None:
+    """Takes in the variables of a function's statement with a volatile access; fields are left out."""
     for found in re.finditer(operands.DECLARED, operands.STRING.sub("", line)):
         if not line[:found.start()].endswith((".", "->")):
             symbols.volatile.add(found.group())
+    symbols.volatile_behind.update((function, name) for name in VERSION.findall(line))
 
 
 def read_definitions(text, symbols, shown):

@@ -9,6 +9,7 @@ from .dump import Try, statements_in
 from .faults import Refusal
 from .jumps import Jumps
 from .labels import Copies, Exits, Labels, label_name, labels_in, named_labels
+from .parts import Parts
 from .values import Pending, Value
 from .world import function_place
 
@@ -47,7 +48,9 @@ class Translator(Calls, Jumps):
         self.halves = {}
         self.labels = self.own_labels = Labels()
         self.anywhere = None
-        self.statement = None
+        self.statement = self.previous = None
+        self.start = self.previous_start = 0
+        self.given = self.previous_given = Value()
         self.last_place = None
 
     def translate(self):
@@ -56,10 +59,12 @@ class Translator(Calls, Jumps):
         self.procedure.stop = Label()
         if function.fault or self.procedure.refusal:
             raise function.fault or self.procedure.refusal
+        self.parts = Parts(self.world, self.file, self.procedure)
         self.block(function.body)
         self.flush_all()
         if self.anywhere:
             self.lead_anywhere(named_labels(function.body))
+        self.parts.add_reads_behind(self.services.writing)
         missing = set(self.labels.made) - labels_in(function.body)
         if missing:
             raise Refusal(f"a jump to {missing.pop()}, which is not there", function_place(self.file, self.procedure))
@@ -110,7 +115,8 @@ class Translator(Calls, Jumps):
 
     def turn(self, statement):
         """One statement."""
-        self.statement = statement
+        self.previous, self.previous_start, self.previous_given = self.statement, self.start, self.given
+        self.statement, self.start, self.given = statement, len(self.procedure.steps), Value()
         self.last_place = statement.place or self.last_place
         self.build.origin = statement
         self.build.slot = 0
@@ -159,9 +165,17 @@ class Translator(Calls, Jumps):
             self.read_memory()
             return Value()
         base = self.name_value(reference.base)
+        parts = self.part_reads(word, base.exact) if self.parts.of_whole else ()
         if reference.is_whole:
-            return base
-        return Value(base.reads + self.reads_of(reference.reads))
+            return Value(base.reads + parts, base.exact) if parts else base
+        return Value(base.reads + parts + self.reads_of(reference.reads))
+
+    def part_reads(self, word: str, whole: Variable | None) -> tuple[Variable, ...]:
+        """The parts of a variable that an operand may read."""
+        exact, others = self.parts.read_as(word, whole)
+        if others:  # nothing is told of those that are unset
+            self.build.add("note", touched=tuple(others))
+        return (*exact, *others)
 
     def element(self, word):
         """The array and the index, as operands, where a word is an element of a variable at one index; else None."""
@@ -174,6 +188,7 @@ class Translator(Calls, Jumps):
 
     def read_memory(self):
         """Reads what pointers may lead to."""
+        self.build.use(self.parts.behind.values(), "made")
         if self.services.reading:
             self.build.call([self.services.reading])
 
@@ -213,10 +228,11 @@ class Translator(Calls, Jumps):
             self.evaluations[target] = self.evaluations[words[0]]
         if operation == "complex_expr" and self.keeps_half(target, words):
             return
-        element = self.element(words[0]) if operation == "array_ref" else None
-        values = [] if element else [self.value(word) for word in words]
+        chained = self.chained_value(operation, words[0])
+        element = self.element(words[0]) if operation == "array_ref" and chained is None else None
+        values = [] if element else [self.value(word) for word in words] if chained is None else [chained]
         if element:
-            operator, parts, reads = "^", element, ()
+            operator, parts, reads = "^", element, self.part_reads(words[0], element[0])
         else:
             operator, parts, reads = self.expression(operation, values)
         start = len(self.procedure.steps)
@@ -225,6 +241,27 @@ class Translator(Calls, Jumps):
             self.halves[target] = operands.parse(words[0]).base
         for step in self.procedure.steps[start:]:
             step.is_element = bool(element)
+            step.is_copy = bool(parts) and not operator
+        if parts and not operator:
+            self.given = Value((parts[0],) if isinstance(parts[0], Variable) else (), parts[0])
+
+    def chained_value(self, operation: str, word: str) -> Value | None:
+        """What `y` was just set to in `x = y = 0`, where the setting of `x` is at hand; else None.
+
+        The source does not read `y` then. The sign of `x` stands before that of `y`; whether a sign of assignment stands between
+        them is for those to see who have the source.
+        """
+        last, place = self.previous, self.statement.place
+        if operation not in COPIES or operands.is_temporary(word):
+            return None
+        if last is None or last.kind not in ("assign", "call") or last.words[1] != word:
+            return None
+        if place is None or last.place is None or not place < last.place:
+            return None
+        for step in self.procedure.steps[self.previous_start:]:
+            if step.kind == "set":
+                step.chained = place
+        return self.previous_given
 
     def keeps_half(self, target, words):
         """Whether one half of a complex number is its own older one: then the other half alone is written, as a part is."""
@@ -259,7 +296,7 @@ class Translator(Calls, Jumps):
                 return UNARY[operation], tuple(exact), ()
         reads = tuple(dict.fromkeys(variable for value in values for variable in value.reads))
         if operation in COPIES and len(values) == 1 and exact[0] is not None:
-            return "", (exact[0],), ()
+            return "", (exact[0],), values[0].reads[1:] if has_variable else ()
         return "", (), reads
 
     def store(self, target, operator, parts, reads):
@@ -272,6 +309,8 @@ class Translator(Calls, Jumps):
         if reference.is_memory:
             self.build.use([*[part for part in parts if isinstance(part, Variable)], *reads, *extra])
             self.write_memory()
+            if target in self.parts.behind:
+                self.build.set(self.parts.behind[target])
             return
         variable = self.world.variable(self.file, self.procedure, reference.base)
         if variable is None:
@@ -281,10 +320,17 @@ class Translator(Calls, Jumps):
         if not parts and reads:
             parts, reads = reads[:1], reads[1:]
         self.build.use([*reads, *extra])
-        if reference.is_whole:
-            self.build.set(variable, parts, operator)
-        else:
-            self.build.set(variable, parts, operator, weak=True)
+        self.build.set(variable, parts, operator, weak=not reference.is_whole)
+        if variable in self.parts.of_whole:
+            self.store_parts(target, variable)
+
+    def store_parts(self, target: str, whole: Variable) -> None:
+        """Writes the parts that a store writes."""
+        exact, others = self.parts.written_as(target, whole)
+        if others:
+            self.build.add("note", touched=tuple(others))
+        for part in exact:
+            self.build.set(part, role="made" if operands.is_declared(target) else self.build.role)
 
     def hold(self, temporary, operator, parts, reads):
         """A temporary's value: an expression is evaluated at once, into a variable that nobody reads; all else is held."""

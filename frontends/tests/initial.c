@@ -21,7 +21,7 @@ int main(int argc, char **argv)
     none = argv[0];
     three = argc;
     later = argc;
-    parts.in.deep = later;
+    parts.in.deep = later;  /* expect: assignment to 'parts.in.deep' is dead */
     parts.first = 1;
     printf("%d", parts.first);
     parts.in.deep = 2;      /* expect: assignment to 'parts.in.deep' is dead */

@@ -156,9 +156,10 @@ class Body:
 class Changes:
     """What is added to the bodies of one program."""
 
-    def __init__(self, world, bodies, written, facts, shown):
+    def __init__(self, world, bodies, written, facts, shown, never_called):
         self.world = world
         self.named = shown
+        self.never_called = never_called
         self.bodies = bodies
         self.facts = facts
         self.declared = {variable: declared for (_, declared), variable in world.locals.items()}
@@ -166,7 +167,7 @@ class Changes:
         self.once = [note for note in written.notes if note[1].origin and note[2].is_once and note[1].kind == "set"]
         self.never = {number for number, told in facts.items() if ("never_reached", "") in told}
         self.before, self.after, self.top, self.globals = {}, {}, {}, []
-        self.counts = dict.fromkeys(("dead", "never", "computed", "busy", "unset", "named"), 0)
+        self.counts = dict.fromkeys(("dead", "never", "computed", "busy", "unset", "uncalled", "named"), 0)
         self.copies = {}
         for number, step, procedure in [*self.notes, *self.once]:
             self.copies.setdefault((step.origin, step.slot), []).append((number, step, procedure))
@@ -179,6 +180,8 @@ class Changes:
             self.trap()
         if "unset" in kinds:
             self.trap_unset()
+        if "uncalled" in kinds:
+            self.trap_uncalled()
         self.compare(kinds)
 
     def body_of(self, procedure):
@@ -198,6 +201,8 @@ class Changes:
             statement = step.origin
             if step.kind != "set" or step.role != "plain" or statement in done or self.body_of(procedure) is None:
                 continue
+            if step.chained:
+                continue  # gcc's form reads it again
             if re.fullmatch(operands.TEMPORARY, statement.words[1]):
                 continue
             if statement.kind in ("assign", "call") and self.holds(step, "dead", ""):
@@ -212,6 +217,13 @@ class Changes:
         for statement in {step.origin for _, step, _ in self.notes} - reached:
             self.before.setdefault(statement, []).append("__builtin_trap();")
             self.counts["never"] += 1
+
+    def trap_uncalled(self) -> None:
+        """Ends the program in each function that is told as never called."""
+        for procedure in self.never_called:
+            if self.body_of(procedure) is not None:
+                self.top.setdefault(procedure.function.uid, []).append("__builtin_trap();")
+                self.counts["uncalled"] += 1
 
     def trap_unset(self) -> None:
         """Ends the program where a local is surely unset: the programs read none."""
