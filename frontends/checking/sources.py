@@ -4,9 +4,8 @@ import re
 
 from .expressions import BEFORE, Operand, canonical, written_at
 from .macros import NAME, Macros, enumerators_in, macros_in
+from .silencing import is_silenced
 
-IGNORE = re.compile(r"tacflow:\s*ignore\b(?:\s+(?P<kinds>[a-z-]+(?:\s*,\s*[a-z-]+)*))?")
-ONLY_COMMENT = re.compile(r"\s*(?://|/\*)")
 UNUSED = r"__attribute__\s*\(\([^;]*\b(?:__)?unused(?:__)?\b|\[\[[^;]*\bunused\]\]|\bmaybe_unused\]\]|\b[A-Z_]*UNUSED[A-Z_]*\b"
 
 
@@ -34,8 +33,7 @@ class Source:
 
     def is_silenced(self, kind, line):
         """Whether a comment on a line, or on one of its own before it, silences remarks of a kind there."""
-        above = self.line(line - 1)
-        return any(silences(text, kind) for text in (self.line(line), above if ONLY_COMMENT.match(above) else ""))
+        return is_silenced(kind, self.line(line), self.line(line - 1))
 
     def is_marked_unused(self, name, first, last):
         """Whether lines declare a variable of this name as one that need not be used."""
@@ -77,15 +75,6 @@ class Source:
         text = self.line(line)
         found = {re.sub(r"\s", "", part) for part in re.findall(rf"{BEFORE}{re.escape(name)}((?:\s*\.\s*[A-Za-z_]\w*|\[\w+\])*)", text)}
         return name + found.pop() if len(found) == 1 else name
-
-
-def silences(text, kind):
-    """Whether a line's comment silences a kind."""
-    found = IGNORE.search(text)
-    if not found:
-        return False
-    kinds = re.split(r"\s*,\s*", found["kinds"]) if found["kinds"] else []
-    return not kinds or any(kind == name or kind.endswith("-" + name) or kind.startswith(name + "-") for name in kinds)
 
 
 class Sources:
