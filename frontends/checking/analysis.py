@@ -15,7 +15,7 @@ from gimple import dump, emit, inputs, program
 from gimple.faults import Refusal
 from gimple.world import World
 
-from .compiling import BadWords, run_gcc
+from .compiling import BadWords, run_gcc, unknown
 from .findings import Findings
 from .sources import Sources
 
@@ -50,12 +50,14 @@ class Outcome:
 
     remarks: by key. seen: what could have one at places that other programs may have too, as in headers. own: the files of which this
     program alone is the judge, should others take them in. notes, faults: what is to be said, and what was refused.
+    left_out: the words that gcc does not know.
     """
     remarks: dict = field(default_factory=dict)
     seen: set = field(default_factory=set)
     own: set = field(default_factory=set)
     notes: list = field(default_factory=list)
     faults: list = field(default_factory=list)
+    left_out: list[str] = field(default_factory=list)
 
     def join(self, parts):
         """Takes in what came of the parts of a program."""
@@ -151,6 +153,7 @@ def compile_all(task, outcome):
                 files += [inputs.read_file(path, given.shown(given.file), given.shown)] if path else []
             except Refusal as refusal:
                 outcome.faults.append(str(refusal))
+    outcome.left_out += unknown
     return files
 
 

@@ -5,8 +5,9 @@ import os
 import subprocess
 import sys
 from collections import Counter
+from dataclasses import replace
 
-from . import baseline, formats
+from . import baseline, changes, formats
 from .analysis import HERE, Task, agreed, analyse, processes, take_up
 from .compiling import BadWords, Input
 from .database import inputs_of
@@ -25,15 +26,16 @@ def say(text):
 
 
 def version():
-    """The version of tacflow."""
-    with open(os.path.join(ROOT, "bindings", "rust", "Cargo.toml"), encoding="utf-8") as file:
+    """The version of tacflow: in the repository, or where it is installed."""
+    paths = [os.path.join(ROOT, *parts, "Cargo.toml") for parts in (("bindings", "rust"), ("rust",))]
+    with open(next(filter(os.path.exists, paths), paths[0]), encoding="utf-8") as file:
         return next(line.split('"')[1] for line in file if line.startswith("version ="))
 
 
 def tasks_of(words):
     """The programs that are to be analysed."""
-    given = inputs_of(words.values["-p"], words.files) if words.values["-p"] else [Input(file, ()) for file in words.files]
-    given = [Input(one.file, one.options + tuple(words.options), one.directory) for one in given]
+    given = inputs_of(words.values["-p"], words.files) if words.values["-p"] else [Input(file) for file in words.files]
+    given = [replace(one, words=tuple(words.options)) for one in given]
     is_whole, shows_all, folder = words.flags["--whole"], words.flags["--all"], words.values["--keep"]
     if not given:
         raise BadWords("the compilation database has no C file")
@@ -76,8 +78,11 @@ def write(words, remarks):
     sys.stdout.flush()
 
 
-def tell_end(outcomes, remarks, count):
+def tell_end(outcomes, remarks, count, is_verbose):
     """Tells what was not analysed, and how many remarks there are."""
+    left_out = dict.fromkeys(word for outcome in outcomes for word in outcome.left_out)
+    if is_verbose and left_out:
+        say(f"note: left out, as gcc does not know them: {' '.join(left_out)}")
     for text in dict.fromkeys(note for outcome in outcomes for note in outcome.notes):
         say(f"note: {text}")
     for text in dict.fromkeys(fault for outcome in outcomes for fault in outcome.faults):
@@ -96,12 +101,14 @@ def check(words):
     files = [given.shown(given.file) for task in tasks for given in task.inputs]
     told = [remark for remark in agreed(outcomes).values() if remark.kind in words.kinds and not remark.file.startswith(SYSTEM_HEADERS)]
     remarks = in_source_order(told, files)
+    if words.values["--since"] is not None:
+        remarks = changes.changed_since(words.values["--since"], remarks)
     if words.values["--baseline"] is not None:
         remarks = baseline.without_known(words.values["--baseline"], remarks)
     if words.values["--write-baseline"] is not None:
         baseline.write(words.values["--write-baseline"], remarks)
     write(words, remarks)
-    tell_end(outcomes, remarks, len(set(files)))
+    tell_end(outcomes, remarks, len(set(files)), words.flags["--verbose"])
     if any(outcome.faults for outcome in outcomes):
         return 3
     return 1 if remarks and words.flags["--error"] else 0

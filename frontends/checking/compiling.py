@@ -3,6 +3,7 @@
 import os
 import re
 import subprocess
+from collections.abc import Iterator
 from dataclasses import dataclass
 
 from gimple import inputs, symbols
@@ -10,27 +11,50 @@ from gimple.faults import Refusal
 
 ASKED = ["-O0", "-g0", "-fdump-tree-lower-raw-lineno-uid", "-fdump-tree-ssa-lineno-uid-blocks",
          "-fdump-ipa-cgraph", "-fdump-tree-original"]
-# Options with a word behind them: those that go to gcc, and those that are left out, since what gcc writes is not wanted.
-WITH_WORD = frozenset("""-I -D -U -include -isystem -iquote -idirafter -imacros -isysroot -iprefix -iwithprefix -iwithprefixbefore
--imultilib -std -Xpreprocessor -Xassembler -A --param -B -L -l -T -u -z -e -Xlinker -arch -specs --sysroot -framework""".split())
-LEFT_OUT_WITH_WORD = frozenset("-o -MF -MT -MQ -aux-info -dumpbase -dumpdir -dumpbase-ext -wrapper".split())
-LEFT_OUT = re.compile(r"""-(?:c|S|pipe|pg|p|s|v|g.*|O.*|o.+|MD|MMD|MP|MG|MF.+|MT.+|MQ.+|save-temps.*|-coverage|coverage|ftest-coverage
-|fprofile.*|fsanitize.*|flto.*|fopenmp.*|fopenacc.*|finstrument-functions.*|fdump-.*|fstack-protector.*|ftime-report|Q|\#\#\#)$""",
-                      re.VERBOSE)
+# Options with a word behind them: those that go to gcc, those that are left out, since what gcc
+# writes is not wanted, and those of other compilers.
+WITH_WORD = frozenset("""-I -D -U -include -isystem -iquote -idirafter -imacros -isysroot -iprefix
+-iwithprefix -iwithprefixbefore -imultilib -std -Xassembler -A --param -B -L -l -T -u -z -e
+-Xlinker -specs --sysroot""".split())
+LEFT_OUT_WITH_WORD = frozenset("""-o -MF -MT -MQ -aux-info -dumpbase -dumpdir -dumpbase-ext
+-wrapper""".split())
+OTHERS_WITH_WORD = frozenset("""-target -Xclang -mllvm -Xanalyzer -arch -framework -iframework
+-iwithsysroot -ivfsoverlay -resource-dir -Xopenmp-target""".split())
+LEFT_OUT = re.compile(r"""-(?:c|S|pipe|pg|p|s|v|g.*|O.*|o.+|MD|MMD|MP|MG|MF.+|MT.+|MQ.+|save-temps.*
+|-coverage|coverage|ftest-coverage|fprofile.*|fauto-profile.*|fbranch-probabilities|fsanitize.*
+|flto.*|fopenmp.*|fopenacc.*|finstrument-functions.*|fdump-.*|fstack-protector.*|ftime-report|Q
+|\#\#\#)$""", re.VERBOSE)
 OTHER_WORK = frozenset(["-E", "-M", "-MM", "-fsyntax-only", "-###", "--help", "--version"])
-DOUBLE = re.compile(r"--(?:sysroot|param|std|coverage|include|define-macro)(?:=|$)")
+DOUBLE = re.compile(r"--(?:sysroot|param|std|coverage|include|define-macro|specs)(?:=|$)")
 PASSED_OVER = re.compile(r".*\.(?:o|a|so(?:\.\d+)*|lo|s|S|ld|map)$")
+# Words for the preprocessor that ask for a file, with the file behind some of them.
+DEPENDENCIES = frozenset(["-MD", "-MMD", "-MF", "-MT", "-MQ", "-MP", "-MG", "-M", "-MM"])
+DEPENDENCIES_ALONE = frozenset(["-MP", "-MG", "-M", "-MM"])
+# What gcc says of a word that it does not know.
+UNKNOWN = re.compile(r"(?:unrecognized command-line option|unrecognized argument in option"
+                     r"|cannot read spec file) [‘'](?P<word>[^’']+)[’']"
+                     r"|bad value [‘'](?P<value>[^’']+)[’'] for [‘'](?P<switch>-[^’']+)[’'] switch"
+                     r"|[‘'](?P<other>-[^’']+)[’'] is not supported by this configuration")
 
 
 @dataclass(frozen=True)
 class Input:
-    """A C file: its name, the options that gcc takes for it, and the folder that names begin at, '.' where a word named it."""
-    file: str
-    options: tuple
-    directory: str = "."
+    """A C file with the words that gcc takes for it.
 
-    def shown(self, name):
-        """What a file of gcc's is called in messages: as it was named, or else from here where it is below this folder."""
+    options: those of a compilation database; words: those of the command. directory: the folder
+    that names begin at, '.' where a word named it. left_out: what gcc would not know.
+    """
+    file: str
+    options: tuple[str, ...] = ()
+    directory: str = "."
+    words: tuple[str, ...] = ()
+    left_out: tuple[str, ...] = ()
+
+    def shown(self, name: str) -> str:
+        """What a file of gcc's is called in messages.
+
+        As it was named, or else from here where it is below this folder.
+        """
         if self.directory == ".":
             return os.path.normpath(name) if "/../" in name else name
         path = os.path.normpath(os.path.join(self.directory, name))
@@ -42,8 +66,11 @@ class BadWords(Exception):
     """Words that the command doesn't take."""
 
 
-def take_option(word, rest, options):
-    """Takes in a word of gcc's, and the one behind it where that belongs to it; answers whether it is one."""
+def take_option(word: str, rest: Iterator[str], options: list[str]) -> bool:
+    """Takes in a word of gcc's, and the one behind it where that belongs to it.
+
+    Answers whether it is one.
+    """
     if word in OTHER_WORK:
         raise BadWords(f"{word} has gcc write no code, so there is nothing to tell")
     if word == "-x" or word.startswith("-x") and len(word) > 2:
@@ -52,6 +79,10 @@ def take_option(word, rest, options):
             raise BadWords(f"-x {language}: only C is taken")
     elif word in LEFT_OUT_WITH_WORD:
         following(word, rest)
+    elif word == "-Xpreprocessor":
+        take_for_preprocessor(rest, options)
+    elif word.startswith("-Wp,"):
+        options += without_dependencies(word)
     elif word in WITH_WORD:
         options += [word, following(word, rest)]
     elif LEFT_OUT.match(word):
@@ -63,12 +94,38 @@ def take_option(word, rest, options):
     return True
 
 
-def following(word, rest):
+def take_for_preprocessor(rest: Iterator[str], options: list[str]) -> None:
+    """Takes in a word behind `-Xpreprocessor`; those that ask for a file are left out."""
+    word = following("-Xpreprocessor", rest)
+    if word not in DEPENDENCIES:
+        options += ["-Xpreprocessor", word]
+    elif word not in DEPENDENCIES_ALONE:
+        if following(word, rest) != "-Xpreprocessor":
+            raise BadWords(f"-Xpreprocessor {word} takes a word behind a further -Xpreprocessor")
+        following("-Xpreprocessor", rest)
+
+
+def without_dependencies(word: str) -> list[str]:
+    """A word `-Wp,..` without those for the preprocessor that ask for a file."""
+    kept, rest = [], iter(word.split(",")[1:])
+    for part in rest:
+        if part not in DEPENDENCIES:
+            kept.append(part)
+        elif part not in DEPENDENCIES_ALONE:
+            next(rest, None)
+    return [",".join(["-Wp", *kept])] if kept else []
+
+
+def following(word: str, rest: Iterator[str]) -> str:
     """The word behind an option."""
     found = next(rest, None)
     if found is None:
         raise BadWords(f"{word} takes a word behind it")
     return found
+
+
+# The words of databases that gcc did not know, in the order in which it said so.
+unknown: dict[str, None] = {}
 
 
 def run_gcc(given: Input, folder: str) -> str | None:
@@ -77,30 +134,51 @@ def run_gcc(given: Input, folder: str) -> str | None:
     Answers the path of the dump, or None where there is no function.
     """
     os.mkdir(folder)
+    unknown.update(dict.fromkeys(given.left_out))
     dump_into(given, folder, "-ftoplevel-reorder")
     for table in dumps_in(folder, ".cgraph"):
         if symbols.loses_section(inputs.read_text(table)):
-            # what such a variable leads to is told where gcc keeps all, and then not which it would keep by itself
+            # what such a variable leads to is told where gcc keeps all, and then not which it
+            # would keep by itself
             os.rename(table, os.path.join(folder, "c.reordered"))
             dump_into(given, folder, "-fno-toplevel-reorder")
     return next(iter(dumps_in(folder, ".lower")), None)
 
 
 def dump_into(given: Input, folder: str, order: str) -> None:
-    """Runs gcc for a file's dumps in a folder."""
+    """Runs gcc for a file's dumps in a folder, without the words of a database that it refuses."""
     gcc = os.environ.get("GCC", "gcc")
-    command = [gcc, "-S", "-o", os.path.join(folder, "out.s"), "-w", *given.options, *ASKED, order,
-               "-aux-info", os.path.join(folder, "c.aux"),
-               "-MMD", "-MF", os.path.join(folder, "c.sources"),
-               "-dumpdir", folder + "/", "-dumpbase", "c", given.file]
-    try:
-        done = subprocess.run(command, cwd=given.directory, capture_output=True, text=True, errors="surrogateescape", check=False)
-    except OSError as fault:
-        raise Refusal(f"{fault.filename or gcc}: {fault.strerror}") from None
-    if done.returncode:
-        told = done.stderr.strip().splitlines()
-        first = next((line for line in told if "error" in line), told[0] if told else f"status {done.returncode}")
-        raise Refusal(f"gcc failed: {first}", given.shown(given.file))
+    while True:
+        options = [word for word in given.options if word not in unknown]
+        command = [gcc, "-S", "-o", os.path.join(folder, "out.s"), "-w", *options, *given.words,
+                   *ASKED, order, "-aux-info", os.path.join(folder, "c.aux"),
+                   "-MMD", "-MF", os.path.join(folder, "c.sources"),
+                   "-dumpdir", folder + "/", "-dumpbase", "c", given.file]
+        try:
+            done = subprocess.run(command, cwd=given.directory, capture_output=True, text=True,
+                                  errors="surrogateescape", check=False)
+        except OSError as fault:
+            raise Refusal(f"{fault.filename or gcc}: {fault.strerror}") from None
+        if not done.returncode:
+            return
+        refused = {word for word in options if is_refused(word, done.stderr)}
+        if not refused:
+            told = done.stderr.strip().splitlines()
+            status = f"status {done.returncode}"
+            first = next((line for line in told if "error" in line), told[0] if told else status)
+            raise Refusal(f"gcc failed: {first}", given.shown(given.file))
+        unknown.update(dict.fromkeys(word for word in options if word in refused))
+
+
+def is_refused(word: str, said: str) -> bool:
+    """Whether gcc said that it does not know a word."""
+    for found in UNKNOWN.finditer(said):
+        if found["value"]:
+            if word.endswith("=" + found["value"]) and word[0] == "-":
+                return True
+        elif word in (found["word"], found["other"]) or word.endswith(f"specs={found['word']}"):
+            return True
+    return False
 
 
 def dumps_in(folder: str, ending: str) -> list[str]:

@@ -4,10 +4,10 @@ import json
 import os
 import shlex
 
-from .compiling import BadWords, Input, take_option
+from .compiling import OTHERS_WITH_WORD, BadWords, Input, following, take_option
 
 
-def inputs_of(path, wanted):
+def inputs_of(path: str, wanted: list[str]) -> list[Input]:
     """The C files of a database with their options; those that are wanted where some are."""
     if os.path.isdir(path):
         path = os.path.join(path, "compile_commands.json")
@@ -31,19 +31,28 @@ def inputs_of(path, wanted):
     return list(found)
 
 
-def input_of(entry):
-    """The C file of an entry, or None where it is of another language or its words have gcc write no code."""
+def input_of(entry: dict) -> Input | None:
+    """The C file of an entry.
+
+    None where it is of another language or its words have gcc write no code.
+    """
     words = entry["arguments"] if "arguments" in entry else shlex.split(entry["command"])
     file, directory = entry["file"], os.path.realpath(entry["directory"])
     if not file.endswith(".c"):
         return None
     whole = os.path.join(directory, file)
-    options, rest = [], iter(words[1:])
+    options: list[str] = []
+    left_out: list[str] = []
+    rest = iter(words[1:])
     try:
         for word in rest:
             # what is no option and not the file is the compiler behind `ccache`, or an object
-            if os.path.join(directory, word) != whole and word.startswith("-") and not take_option(word, rest, options):
+            if os.path.join(directory, word) == whole or not word.startswith("-"):
+                continue
+            if word in OTHERS_WITH_WORD:
+                left_out.append(f"{word} {following(word, rest)}")
+            elif not take_option(word, rest, options):
                 options.append(word)
     except BadWords:
         return None
-    return Input(file, tuple(options), directory)
+    return Input(file, tuple(options), directory, left_out=tuple(left_out))

@@ -1,13 +1,20 @@
 """How remarks are written: as a compiler's warnings, as lines of JSON, as SARIF."""
 
+import hashlib
 import json
 import os
+from collections import Counter
+from collections.abc import Iterator
 
-from .remark import KINDS
+from .baseline import print_of
+from .remark import KINDS, Kind, Remark
+from .sources import Sources
 
 COLOURS = {"place": "\033[1m", "warning": "\033[1;35m", "note": "\033[1;36m", "caret": "\033[1;32m"}
 PLAIN = "\033[0m"
 SCHEMA = "https://docs.oasis-open.org/sarif/sarif/v2.1.0/errata01/os/schemas/sarif-schema-2.1.0.json"
+# What relative names begin at.
+BASE = "%SRCROOT%"
 WARNINGS = ("dead", "unset", "never")
 
 
@@ -55,18 +62,56 @@ def json_lines(remarks):
                           "function": remark.function, "message": remark.text, "notes": notes})
 
 
-def sarif_lines(remarks, sources, version):
+def sarif_lines(remarks: list[Remark], sources: Sources, version: str) -> Iterator[str]:
     """The remarks as one object of SARIF 2.1.0."""
-    kinds = list(KINDS)
-    rules = [{"id": f"tacflow-{kind}", "shortDescription": {"text": says}, "defaultConfiguration": {"level": level_of(kind)}}
-             for kind, (says, _) in KINDS.items()]
-    results = [{"ruleId": f"tacflow-{remark.kind}", "ruleIndex": kinds.index(remark.kind), "level": level_of(remark.kind),
-                "message": {"text": remark.text}, "locations": [location(remark, sources)],
-                "relatedLocations": [{**location(note, sources), "message": {"text": note.text}} for note in remark.notes]}
-               for remark in remarks]
-    driver = {"name": "tacflow", "version": version, "rules": rules}
-    yield json.dumps({"$schema": SCHEMA, "version": "2.1.0", "runs": [{"tool": {"driver": driver}, "results": results,
-                                                                       "columnKind": "unicodeCodePoints"}]}, indent=1)
+    numbers = {kind: number for number, kind in enumerate(KINDS)}
+    seen: Counter[str] = Counter()
+    results = []
+    for remark in remarks:
+        known_by = print_of(remark)
+        seen[known_by] += 1
+        mark = hashlib.sha256(f"{known_by}\t{seen[known_by]}".encode("utf-8", "surrogateescape"))
+        results.append({
+            "ruleId": f"tacflow-{remark.kind}", "ruleIndex": numbers[remark.kind],
+            "level": level_of(remark.kind), "message": {"text": remark.text},
+            "locations": [location(remark, sources)],
+            "partialFingerprints": {"tacflow/v1": mark.hexdigest()},
+            "relatedLocations": [{**location(note, sources), "message": {"text": note.text}}
+                                 for note in remark.notes]})
+    run = {"tool": {"driver": {"name": "tacflow", "version": version, "rules": rules(),
+                               "supportedTaxonomies": [{"name": "CWE", "index": 0}]}},
+           "taxonomies": [taxonomy()], "results": results, "columnKind": "unicodeCodePoints",
+           "originalUriBaseIds": {BASE: {"uri": uri_of(os.getcwd()) + "/"}}}
+    yield json.dumps({"$schema": SCHEMA, "version": "2.1.0", "runs": [run]}, indent=1)
+
+
+def rules() -> list[dict]:
+    """SARIF's rule of each kind."""
+    found = []
+    for name, kind in KINDS.items():
+        rule = {"id": f"tacflow-{name}", "name": name, "shortDescription": {"text": kind.says},
+                "defaultConfiguration": {"level": level_of(name), "enabled": kind.is_told},
+                "help": {"text": f"{kind.says}. {kind.act}", "markdown": markdown(name, kind)}}
+        if kind.weakness:
+            rule["properties"] = {"tags": [f"external/cwe/cwe-{kind.weakness}"]}
+            target = {"id": str(kind.weakness), "toolComponent": {"name": "CWE", "index": 0}}
+            rule["relationships"] = [{"target": target, "kinds": ["superset"]}]
+        found.append(rule)
+    return found
+
+
+def taxonomy() -> dict:
+    """The entries of the list CWE that rules name."""
+    numbers = sorted({kind.weakness for kind in KINDS.values() if kind.weakness})
+    return {"name": "CWE", "organization": "MITRE", "shortDescription": {
+        "text": "Common Weakness Enumeration"}, "taxa": [{"id": str(one)} for one in numbers]}
+
+
+def markdown(name: str, kind: Kind) -> str:
+    """The help of a kind as Markdown."""
+    weakness = f"\n\nCWE-{kind.weakness}." if kind.weakness else ""
+    return (f"**{name}**: {kind.says}.\n\n{kind.act}\n\nA comment `tacflow: ignore {name}` on the "
+            f"line, or on one of its own before it, silences this.{weakness}")
 
 
 def level_of(kind):
@@ -79,8 +124,16 @@ def location(at, sources):
     source = sources.get(at.file)
     line = source.line(at.line)
     column = len(line) - len(source.behind(at.line, at.column)) + 1 if line else at.column
-    uri = "file://" * os.path.isabs(at.file) + "/".join(map(quoted, at.file.split(os.sep)))
-    return {"physicalLocation": {"artifactLocation": {"uri": uri}, "region": {"startLine": at.line, "startColumn": column}}}
+    artifact = {"uri": uri_of(at.file)}
+    if not os.path.isabs(at.file):
+        artifact["uriBaseId"] = BASE
+    region = {"startLine": at.line, "startColumn": column}
+    return {"physicalLocation": {"artifactLocation": artifact, "region": region}}
+
+
+def uri_of(path: str) -> str:
+    """A path as a URI."""
+    return "file://" * os.path.isabs(path) + "/".join(map(quoted, path.split(os.sep)))
 
 
 def quoted(part):

@@ -1,17 +1,46 @@
 """What is told of a C program, and of which kinds it is."""
 
 from dataclasses import dataclass
+from typing import NamedTuple
 
-# Each kind with what its remarks say, for those who choose kinds, and whether it is told where none are chosen.
+
+class Kind(NamedTuple):
+    """A kind of remarks: what they say, for those who choose kinds, and more for those who read one.
+
+    is_told: whether it is told where none are chosen. weakness: its number in the list CWE, 0 where
+    it has none there. act: what to do about it.
+    """
+    says: str
+    is_told: bool
+    weakness: int
+    act: str
+
+
 KINDS = {
-    "dead": ("no execution reads the value that is assigned", True),
-    "dead-initial": ("no execution reads a plain initial value: 0, NULL, {0}, an empty string", False),
-    "dead-last": ("the same of what a run of statements of one form counts on, as its last one leaves it", False),
-    "unset": ("a local is read that is set on no way to the place", True),
-    "maybe-unset": ("a local is read that is not set on some way to the place", False),
-    "never": ("a statement or function to which no way leads", True),
-    "computed": ("each way to the place has evaluated the expression already", False),
-    "busy": ("each way from the test on evaluates the expression", False),
+    "dead": Kind(
+        "no execution reads the value that is assigned", True, 563,
+        "Delete the assignment, or use the value where it was meant to be used."),
+    "dead-initial": Kind(
+        "no execution reads a plain initial value: 0, NULL, {0}, an empty string", False, 563,
+        "Many write such values for safety. Declare the variable where it gets its value."),
+    "dead-last": Kind(
+        "the same of what a run of statements of one form counts on, as its last one leaves it",
+        False, 563, "Nothing needs to be done: the run stays as regular as it is."),
+    "unset": Kind(
+        "a local is read that is set on no way to the place", True, 457,
+        "Set the variable before this place, on each way."),
+    "maybe-unset": Kind(
+        "a local is read that is not set on some way to the place", False, 457,
+        "See whether that way can be taken. If so, set the variable on it."),
+    "never": Kind(
+        "a statement or function to which no way leads", True, 561,
+        "Delete it, or see why the way to it is gone."),
+    "computed": Kind(
+        "each way to the place has evaluated the expression already", False, 0,
+        "Keep the value that was evaluated before."),
+    "busy": Kind(
+        "each way from the test on evaluates the expression", False, 0,
+        "Evaluate it once, before the test."),
 }
 
 

@@ -22,27 +22,31 @@ claims.
   --baseline FILE    tell only what is not in FILE, which --write-baseline wrote
   --write-baseline FILE
                      write what is told to FILE, for a later --baseline
+  --since REV        tell only of lines that `git diff REV` says changed
   --error            status 1 where there are remarks
   --all              also remarks on what has no name in the source (gcc's temporaries, address arithmetic), on arguments, and on jumps
   --keep FOLDER      leave the program, its map and tacview's answer there; of several programs the last one's
+  --verbose          tell too which words of a database were left out, since gcc does not know them
   --version          tells the version
   --help, -h         tells this, and ends
 
 Options of gcc's go to gcc, but for those that ask for files, for optimisation or for checks of a run. A comment
-`tacflow: ignore dead` silences remarks of a kind on its line, or on the next one where it stands by itself. NO_COLOR takes the
-colours away, TACVIEW=/path/to/program another program in place of ../tacview, GCC=/path/to/gcc another compiler.
+`tacflow: ignore dead` silences remarks of a kind on its line, or on the next one where it stands by itself; so do
+NOLINT, NOLINTNEXTLINE and `cppcheck-suppress unreadVariable`. NO_COLOR takes the colours away, TACVIEW=/path/to/program
+another program in place of ../tacview, GCC=/path/to/gcc another compiler.
 
 Status: 0 where the remarks were written, 1 where there are some under --error, 2 for bad words, 3 where a file could not be
 analysed or the remarks not be written; standard error says why.
 """
-FLAGS = ("--all", "--error", "--whole", "--together")
-VALUES = ("--keep", "--kinds", "--format", "--baseline", "--write-baseline", "-p", "-j")
+FLAGS = ("--all", "--error", "--verbose", "--whole", "--together")
+VALUES = ("--keep", "--kinds", "--format", "--baseline", "--write-baseline", "--since", "-p", "-j")
 FORMATS = ("text", "json", "sarif")
 
 
 def help_text():
     """The help, with the kinds."""
-    rows = [f"                       {name:<13} {says}{' (default)' if told else ''}" for name, (says, told) in KINDS.items()]
+    rows = [f"                       {name:<13} {kind.says}{' (default)' if kind.is_told else ''}"
+            for name, kind in KINDS.items()]
     return HELP % "\n".join(rows)
 
 
@@ -98,7 +102,7 @@ class Words:
         """The kinds that are told."""
         told = self.values["--kinds"]
         if told is None:
-            return {kind for kind, (_, is_default) in KINDS.items() if is_default}
+            return {name for name, kind in KINDS.items() if kind.is_told}
         names = [name.strip() for name in told.split(",")]
         wrong = [name for name in names if name not in KINDS and name != "all"]
         if wrong:

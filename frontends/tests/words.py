@@ -35,6 +35,8 @@ CASES = [
     ("-x c++ one.c", 2, r"-x c\+\+: only C is taken"),
     ("-xc++ one.c", 2, r"only C is taken"),
     ("-E one.c", 2, r"-E has gcc write no code"),
+    ("-fblocks one.c", 3, r"one.c: gcc failed: .*-fblocks"),
+    ("--target=arm one.c", 2, r"--target=arm is no option"),
     ("-fsyntax-only one.c", 2, r"-fsyntax-only has gcc write no code"),
     ("-j 0 one.c", 2, r"-j takes a number"),
     ("-j", 2, r"-j takes a word behind it"),
@@ -89,9 +91,50 @@ def wrong_forms(folder):
     sarif = json.loads(run("--format sarif one.c", folder).stdout)["runs"][0]
     result = sarif["results"][0]
     place = result["locations"][0]["physicalLocation"]
-    if (sarif["tool"]["driver"]["rules"][result["ruleIndex"]]["id"] != "tacflow-dead" or place["artifactLocation"] != {"uri": "one.c"}
-            or place["region"] != {"startLine": 4, "startColumn": 6}):
-        yield f"sarif: {result}"
+    rule = sarif["tool"]["driver"]["rules"][result["ruleIndex"]]
+    base = sarif["originalUriBaseIds"]["%SRCROOT%"]["uri"]
+    if (rule["id"] != "tacflow-dead" or place["artifactLocation"] != {"uri": "one.c", "uriBaseId": "%SRCROOT%"}
+            or place["region"] != {"startLine": 4, "startColumn": 6} or base != f"file://{folder}/"):
+        yield f"sarif: {result} {base}"
+    weaknesses = {rule["id"].removeprefix("tacflow-"): rule.get("relationships", [{"target": {"id": ""}}])[0]["target"]["id"]
+                  for rule in sarif["tool"]["driver"]["rules"]}
+    if weaknesses != {"dead": "563", "dead-initial": "563", "dead-last": "563", "unset": "457", "maybe-unset": "457", "never": "561",
+                      "computed": "", "busy": ""} or not rule["help"]["markdown"].startswith("**dead**"):
+        yield f"sarif's rules: {weaknesses} {rule}"
+
+
+def wrong_prints(folder):
+    """What is wrong with SARIF's fingerprints: they stay where lines move, and no two are alike."""
+    def prints():
+        results = json.loads(run("--format sarif one.c", folder).stdout)["runs"][0]["results"]
+        return [result["partialFingerprints"]["tacflow/v1"] for result in results]
+    first = prints()
+    with open(os.path.join(folder, "one.c"), "w", encoding="utf-8") as file:
+        file.write("\n" + ONE_REMARK.replace("return 0;", "gone = 3; return 0;"))
+    later = prints()
+    if len(first) != 1 or len(set(later)) != 2 or first[0] not in later:
+        yield f"fingerprints: {first} {later}"
+
+
+def wrong_since(folder):
+    """What is wrong with --since: only lines that changed are told of."""
+    def git(*words):
+        subprocess.run(["git", "-c", "user.name=x", "-c", "user.email=x@y.example", *words], cwd=folder, check=True, capture_output=True)
+    if run("--since HEAD one.c", folder).returncode != 2:
+        yield "--since without a repository"
+    git("init", "-q")
+    git("add", "one.c", "library.c")
+    git("commit", "-q", "-m", "first")
+    with open(os.path.join(folder, "library.c"), "w", encoding="utf-8") as file:
+        file.write(LIBRARY.replace("return n;", "n = 3;\n    return 2;") + "int g(int n)\n{\n    n = 4;\n    return 1;\n}\n")
+    told = run("--since HEAD --format json one.c library.c", folder)
+    places = [(row["file"], row["line"]) for row in map(json.loads, told.stdout.splitlines())]
+    if places != [("library.c", 4), ("library.c", 9)]:
+        yield f"--since: {places} {told.stderr}"
+    for words, pattern in (("--since nothing one.c", "--since: git: "), ("--since=-p one.c", "-p is no revision")):
+        done = run(words, folder)
+        if done.returncode != 2 or pattern not in done.stderr:
+            yield f"{words}: {done.returncode} {done.stderr}"
 
 
 def wrong_baselines(folder):
@@ -118,6 +161,26 @@ def wrong_databases(folder):
             yield f"check-c {words}: {told.stdout}{told.stderr}"
 
 
+def wrong_others_words(folder):
+    """What is wrong with a database of another compiler's words, or with words that ask for files."""
+    entry = {"directory": folder, "file": "library.c", "arguments": [
+        "clang", "-Weverything", "-fblocks", "--target=arm-none-eabi", "-target", "arm", "-mthumb", "-march=armv7-a", "-Xclang", "-x",
+        "-specs=not.specs", "-include", "there.h", "-specs=mine.specs", "-fauto-profile", "-Wp,-MD,x.d", "-c", "library.c"]}
+    for name, text in (("compile_commands.json", json.dumps([entry])), ("there.h", "#define n m\n"), ("mine.specs", "*cpp:\n+ -DK\n\n")):
+        with open(os.path.join(folder, name), "w", encoding="utf-8") as file:
+            file.write(text)
+    left_out = "-target arm -Xclang -x -specs=not.specs -Weverything -fblocks --target=arm-none-eabi -mthumb -march=armv7-a"
+    for words, is_told in (("-p .", False), ("-p . --verbose", True)):
+        done = run(words, folder)
+        named = re.search("left out, as gcc does not know them: (.*)", done.stderr)
+        if "1 remark on 1 file" not in done.stderr or bool(named) != is_told or is_told and set(named[1].split()) != set(left_out.split()):
+            yield f"{words}: {done.stderr}"
+    for words in ("-Wp,-MD,x.d,-DK", "-Xpreprocessor -MD -Xpreprocessor x.d", "-include there.h", "--specs=mine.specs"):
+        done = run(words + " library.c", folder)
+        if "1 remark on 1 file" not in done.stderr or os.path.exists(os.path.join(folder, "x.d")):
+            yield f"{words}: {done.stderr}"
+
+
 def wrong_parts(folder):
     """What is wrong where a program is analysed in parts: a header's remark holds in the copies of all parts, or is not told."""
     header = "static int state;\nstatic inline void set(int x)\n{\n    int twice = x * 2;\n    state = x;\n}\n"
@@ -131,7 +194,7 @@ def wrong_parts(folder):
         halves = analysis.cut(list(range(len(weights))), dict(enumerate(weights)), 2)
         if len(halves) != 2 or sum(halves, []) != list(range(len(weights))):
             yield f"halves of {weights}: {halves}"
-    files = tuple(Input(os.path.join(folder, name), ()) for name in ("first.c", "second.c"))
+    files = tuple(Input(os.path.join(folder, name)) for name in ("first.c", "second.c"))
     for processes in (1, 2):
         outcome = in_parts(analysis.Task(files, processes=processes), MANY_STATEMENTS=100, PART=300)
         places = Counter((os.path.basename(remark.file), remark.text) for remark in outcome.remarks.values() if remark.kind == "dead")
@@ -156,7 +219,7 @@ def wrong_large(folder):
     with open(path, "w", encoding="utf-8") as file:
         file.write("static int kept, lost;\n" + LIBRARY + "void g(int n)\n{\n    kept = n;\n    lost = n;\n}\n"
                    + "int h(void)\n{\n" + "    kept += 1;\n" * 100 + "    return kept;\n}\n")
-    outcome = in_parts(analysis.Task((Input(path, ()),)), MANY_STATEMENTS=100, HOPELESS=200)
+    outcome = in_parts(analysis.Task((Input(path),)), MANY_STATEMENTS=100, HOPELESS=200)
     told = sorted((remark.line, remark.text) for remark in outcome.remarks.values() if remark.kind == "dead")
     is_noted = any("'h' is left out" in note for note in outcome.notes)
     if told != [(4, "assignment to 'gone' is dead"), (10, "assignment to 'lost' is dead")] or not is_noted:
@@ -193,7 +256,8 @@ def wrong_ends(folder):
 def differences():
     """What is wrong, for each group of trials the lines that say so."""
     wrong = []
-    groups = (wrong_cases, wrong_forms, wrong_baselines, wrong_databases, wrong_parts, wrong_large, wrong_ends)
+    groups = (wrong_cases, wrong_forms, wrong_prints, wrong_since, wrong_baselines, wrong_databases, wrong_others_words, wrong_parts,
+              wrong_large, wrong_ends)
     for group in groups:
         with tempfile.TemporaryDirectory() as folder:
             os.mkdir(os.path.join(folder, "folder.c"))
