@@ -22,8 +22,9 @@ SWAPPED = {"+": "+", "*": "*", "&": "&", "|": "|", "^": "^", "==": "==", "!=": "
 ASSIGNED = re.compile(r"(?:[A-Za-z_$][\w$]*\s*)?=[\s(]*$|\(*$")
 ALL_OF_IT = re.compile(r"[\s)]*[;,]")
 
-# The value of a constant's name, None where it is not known.
-Meaning = Callable[[str], int | None]
+# The value of a constant's name, None where it is not known, NO_VALUE of what is no constant.
+Meaning = Callable[[str], float | None]
+NO_VALUE = float("nan")
 
 
 class Operand(NamedTuple):
@@ -126,7 +127,7 @@ def forms_of(operator: str, first: Operand, second: Operand) -> Iterator[Form]:
 def binary(text: str, form: Form, meaning: Meaning) -> Iterator[Candidate]:
     """The parts of a text that have an operator between two operands, also as an assignment."""
     mark = re.escape(form.sign) + CLOSED.get(form.sign, "")
-    mark += "=?" if form.sign in ASSIGNING else ""
+    mark += "=?" if form.sign in ASSIGNING and form.first.is_name else ""
     pattern = rf"({word(form.first)})\s*\)*\s*({mark})\s*\(*\s*({word(form.second)})"
     for found in re.finditer(pattern, text):
         pairs = (found[1], form.first), (found[3], form.second)

@@ -3,6 +3,7 @@
 import re
 
 from gimple.code import Procedure, Step, Variable
+from gimple.operands import split_declared
 from gimple.translate import COPIES
 
 from .expressions import Operand, canonical
@@ -39,6 +40,7 @@ class Findings:
         self.remarks = {}
         self.tried = set()
         self.texts = set()
+        self.named = {}
         told = {line[1].origin.place for line in [*self.lines, *self.lines_once] if line[0] in facts}
         self.by_claim = self.gather(line for line in [*self.lines, *self.lines_once] if line[1].origin.place in told)
         self.take_all()
@@ -243,7 +245,18 @@ class Findings:
                     else Operand(part.text, False) for part in step.operands]
         place = step.origin.place
         macros = self.macros[procedure.function.file]
-        return self.sources.get(place.file).expression_at(place.line, place.column, step.operator, operands, step.is_element, macros)
+        source = self.sources.get(place.file)
+        return source.expression_at(place.line, place.column, step.operator, operands,
+                                    step.is_element, macros, self.variables_in(procedure))
+
+    def variables_in(self, procedure: Procedure) -> frozenset[str]:
+        """The names of variables and functions that a function's statements may have."""
+        function = procedure.function
+        if function not in self.named:
+            declared = [*function.parameters, *function.locals, *function.statics]
+            own = {split_declared(name)[0] for name in declared}
+            self.named[function] = own.union(self.files[function.file].symbols.by_name)
+        return self.named[function]
 
     def take_busy(self, line, name):
         """An expression that each way from a test evaluates."""

@@ -2,7 +2,7 @@
 
 import re
 
-from .expressions import BEFORE, Operand, canonical, written_at
+from .expressions import BEFORE, NO_VALUE, Operand, canonical, written_at
 from .macros import NAME, Macros, enumerators_in, macros_in
 from .silencing import is_silenced
 
@@ -53,16 +53,18 @@ class Source:
         return self.enumerated
 
     def expression_at(self, line: int, column: int, operator: str, operands: list[Operand],
-                      is_element: bool, macros: Macros) -> str:
+                      is_element: bool, macros: Macros, variables: frozenset[str]) -> str:
         """How an expression is written at a place, '' where it is not there.
 
-        macros: those of the sources, not of the system.
+        macros: those of the sources, not of the system. variables: the names that are no constants.
         """
+        def meaning(name: str) -> float | None:
+            return NO_VALUE if name in variables else macros.value_of(name)
         above = "".join(self.line(number) + "\n" for number in range(line - 1, line))
         below = "\n".join(self.line(number) for number in range(line, line + 3))
         behind = self.behind(line, column)
         at = len(above) + len(self.line(line)) - len(behind)
-        shown = written_at(above + below, at, operator, operands, is_element, macros.value_of)
+        shown = written_at(above + below, at, operator, operands, is_element, meaning)
         if shown:
             return shown
         # a macro's expressions stand at its name

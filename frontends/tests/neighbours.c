@@ -34,8 +34,15 @@ static int constants(int c, int other, double d)
     return first + flagged + shade + (half > whole);
 }
 
+static int folded(int p, int v)
+{
+    int sum = v + 1;
+    p += v * p;             /* gcc evaluates p * (v + 1), the source does not */
+    return p + sum;
+}
+
 int main(int argc, char **argv)
 {
     printf("%d %d\n", constants(argc, argc + 1, argc), RED);
-    return remainders(argc, argc + 3);
+    return remainders(argc, argc + 3) + folded(argc, 4);
 }
