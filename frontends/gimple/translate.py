@@ -337,6 +337,7 @@ class Translator(Calls, Jumps):
         if self.services.keeps_temporaries:
             self.keep(temporary, operator, parts, reads)
         elif operator:
+            self.build.use(reads)
             self.evaluations[temporary] = self.build.set(self.services.scratch, parts, operator)
             self.pending.put(temporary, Value())
         elif parts:

@@ -170,7 +170,7 @@ class Function:
         self.put(f"return {self.expression()};", 1)
         names = "".join(f"    unsigned {name} = {self.first_value()};\n" for name in self.locals)
         counters = "".join(f"    int k{number};\n" for number in range(self.counters))
-        late = ("    struct pair kit = { 3 };\n    struct thin slim;\n    _Complex double wave;\n    unsigned late, row[3];\n"
+        late = ("    unsigned at = p0 % 3;\n    struct pair kit = { 3 };\n    struct thin slim;\n    _Complex double wave;\n    unsigned late, row[3];\n"
                 "    slim.small = p1;\n    slim.seen = p0;\n    __real__ wave = p0 & 63;\n"
                 "    __imag__ wave = p1 & 63;\n    row[0] = p0;\n    row[1] = p1;\n"
                 "    row[2] = 3;\n    late = row[1];\n")
@@ -207,7 +207,7 @@ class Function:
         index = self.random.choice(self.names)
         return self.random.choice([f"table[{index} & 7]", f"local[{index} & 3]", "duo.first", "duo.second", "box.second", "duo.cells[1]",
                                    "*where", "*aim", "mixed.number", "mixed.bytes[2]", "(unsigned)fuel",
-                                   "row[0]", "row[2]", "kit.first", "kit.cells[1]", "row[p1 % 3]", "(unsigned)__real__ wave", "slim.small"])
+                                   "row[0]", "row[2]", "kit.first", "kit.cells[1]", "row[p1 % 3]", "row[at]", "row[at]", "kit.cells[at]", "(unsigned)__real__ wave", "slim.small"])
 
     def expression(self, depth=0):
         """An expression."""
@@ -243,7 +243,7 @@ class Function:
         index = self.random.choice(self.names)
         return self.random.choice([f"table[{index} & 7]", f"local[{index} & 3]", "duo.first", "duo.cells[2]", "box.first", "box.cells[1]",
                                    "*where", "*aim", "mixed.number", "mixed.bytes[1]", "row[0]", "row[1]", "late", "kit.first", "kit.cells[1]", "kit.second",
-                                   "row[p0 % 3]", "*where", "*where",
+                                   "row[p0 % 3]", "row[at]", "*where", "*where",
                                    "slim.small", "duo.second", "box.second"])
 
     def block(self, depth, count, loops):

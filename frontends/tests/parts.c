@@ -44,6 +44,16 @@ static int read_by_index(int i)
     return a[1] + i;
 }
 
+static int tested_by_index(int c)
+{
+    int a[3] = { 5, 6, 7 }; /* expect: initial value of 'a[2]' is dead */
+    a[2] = c;
+    for (int i = 0; i < 3; i++)
+        if (a[i] == c)
+            return i;
+    return 4;
+}
+
 static int members(int c)
 {
     union either u;
@@ -129,6 +139,6 @@ int main(int c, char **v)
     by_volatile(&m, &a);
     called(&a);
     to_fields(&b, c);
-    return fields(c) + unset_field(c) + unset_element() + by_index(c) + read_by_index(c & 1) + members(c) + inner(c)
+    return fields(c) + unset_field(c) + unset_element() + by_index(c) + read_by_index(c & 1) + tested_by_index(c) + members(c) + inner(c)
         + whole(a) + given(c).x + behind(&m, &n) + m + n + b.x + a.x + a.y;
 }
