@@ -15,6 +15,7 @@ from .written import part_named
 WORD = re.compile(r"[A-Za-z_$][\w$]*")
 # What stands at the place of a statement that makes a variable's value of its older one.
 COUNTING = re.compile(r"\+\+|--|(?:[-+*/%&|^]|<<|>>)=")
+CONSTANTS = ("integer_cst", "real_cst", "string_cst")
 SHOWN_ROLES = ("plain", "test", "result")
 PLAIN_VALUES = frozenset(["0", "0B", "0.0", "{}", '""', "0.0e+0", "0x0"])
 
@@ -153,11 +154,15 @@ class Findings:
         return "dead-last" if is_last else "dead"
 
     def is_last_of_run(self, procedure: Procedure, step: Step) -> bool:
-        """Whether a value is counted on from one that was set by a statement of the same form."""
+        """Whether a value is only counted on.
+
+        A call makes it of the older one, or an operation that a statement before did too.
+        """
         if step.variable.is_addressed or not self.counts_on(step):
             return False
-        form = step.origin.kind, step.origin.words[0]
-        return any(other.origin and (other.origin.kind, other.origin.words[0]) == form and self.counts_on(other)
+        if step.origin.kind == "call":
+            return True
+        return any(other.origin and other.origin.words[0] == step.origin.words[0] and self.counts_on(other)
                    for other in self.traces.set_before(procedure, step))
 
     def counts_on(self, step: Step) -> bool:
@@ -215,13 +220,14 @@ class Findings:
         return self.sources.get(name).is_marked_unused(whole_name(variable), first, last)
 
     def is_plain_initial(self, step):
-        """Whether an assignment is a declaration's `= 0` or the like."""
+        """Whether an assignment is a declaration's, of a constant or of a part."""
         place = step.origin.place
         behind = self.sources.get(place.file).behind(place.line, place.column)
         if step.variable.whole:
             name = re.escape(step.variable.whole.source)
             return bool(re.match(rf"{name}\s*(?:\[[^]]*\]\s*)*=", behind))
-        return has_plain_value(step) and behind.startswith(step.variable.source)
+        is_constant = has_plain_value(step) or step.origin.words[0] in CONSTANTS
+        return is_constant and behind.startswith(step.variable.source)
 
     def take_computed(self, line, name):
         """An expression that is evaluated once more."""

@@ -21,11 +21,11 @@ KINDS = {
         "no execution reads the value that is assigned", True, 563,
         "Delete the assignment, or use the value where it was meant to be used."),
     "dead-initial": Kind(
-        "no execution reads a plain initial value: 0, NULL, {0}, an empty string", False, 563,
+        "no execution reads a constant that a declaration sets, as 0, NULL, {0}, -1", False, 563,
         "Many write such values for safety. Declare the variable where it gets its value."),
     "dead-last": Kind(
-        "the same of what a run of statements of one form counts on, as its last one leaves it",
-        False, 563, "Nothing needs to be done: the run stays as regular as it is."),
+        "the same of what is only counted on: pos = add(.., pos, ..), the last n += 2 of several",
+        False, 563, "Nothing needs to be done: what stands there is as regular as it was."),
     "unset": Kind(
         "a local is read that is set on no way to the place", True, 457,
         "Set the variable before this place, on each way."),

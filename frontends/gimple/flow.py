@@ -79,17 +79,22 @@ def live_behind(blocks, leads, reads, kills):
             read[block] = reads[at] | (read[block] & ~kills[at])
             killed[block] |= kills[at]
     live, behind = list(read), [0] * len(blocks)
-    waiting = list(range(len(blocks)))
-    while waiting:
-        block = waiting.pop()
-        value = behind[block]
-        for place in leads[block]:
-            value |= live[place]
-        behind[block] = value
-        value = read[block] | (value & ~killed[block])
-        if value != live[block]:
-            live[block] = value
-            waiting += before[block]
+    # most places that a block leads to stand behind it, so that few turns are taken
+    changed = bytearray(b"\1") * len(blocks)
+    while any(changed):
+        for block in range(len(blocks) - 1, -1, -1):
+            if not changed[block]:
+                continue
+            changed[block] = 0
+            value = 0
+            for place in leads[block]:
+                value |= live[place]
+            behind[block] = value
+            value = read[block] | (value & ~killed[block])
+            if value != live[block]:
+                live[block] = value
+                for place in before[block]:
+                    changed[place] = 1
     return behind
 
 
@@ -126,18 +131,21 @@ def states_before(blocks, leads, touches, ends, every):
                 made = (made | touches[at]) & ~ends[at]
         changes.append((touching, ending, made))
     states = [(every, 0), *[None] * (len(blocks) - 1)]
-    waiting = [0]
-    while waiting:
-        block = waiting.pop()
-        touching, ending, made = changes[block]
-        unset, touched = states[block]
-        unset, touched = unset & ~touching | ending, touched & ~ending | made
-        for place in leads[block]:
-            known = states[place] or (0, 0)
-            joined = unset | known[0], touched | known[1]
-            if joined != states[place]:
-                states[place] = joined
-                waiting.append(place)
+    changed = bytearray(len(blocks))
+    changed[0] = 1
+    while any(changed):
+        for block, (touching, ending, made) in enumerate(changes):
+            if not changed[block]:
+                continue
+            changed[block] = 0
+            unset, touched = states[block]
+            unset, touched = unset & ~touching | ending, touched & ~ending | made
+            for place in leads[block]:
+                known = states[place] or (0, 0)
+                joined = unset | known[0], touched | known[1]
+                if joined != states[place]:
+                    states[place] = joined
+                    changed[place] = 1
     return states
 
 

@@ -4,7 +4,7 @@ int other(int n);
 int called_back(int n)
 {
     int kept = n * 2;
-    int result = -1;        /* expect: assignment to 'result' is dead */
+    int result = -1;        /* expect: initial value of 'result' is dead */
     if (n > 3) {
         result = n;
         other(kept);
@@ -45,7 +45,7 @@ int inner(int n)
 
 int counted(int n)
 {
-    int total = 1;          /* expect: assignment to 'total' is dead */
+    int total = 1;          /* expect: initial value of 'total' is dead */
     for (total = 0; n > 0; n--) {
         total += other(total);
         if (total > 100)

@@ -22,7 +22,7 @@ static char *chained(char *com, int n)
     a = b = d = n;          /* expect: assignment to 'b' is dead */
     b = a + d;
     for (; n; a = d) d = n--;
-    int e = 3, f = e = b;   /* expect: assignment to 'e' is dead */
+    int e = 3, f = e = b;   /* expect: assignment to 'e' is dead */ /* expect: initial value of 'e' is dead */
     return head + (end - com) + a + b + d + f;
 }
 

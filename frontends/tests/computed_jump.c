@@ -6,7 +6,7 @@ static int run(const char *code)
 {
     static void *const to[] = { &&more, &&less, &&done };
     int value, last;
-    int spare = 1;          /* expect: assignment to 'spare' is dead */
+    int spare = 1;          /* expect: initial value of 'spare' is dead */
     goto *to[code[0] & 1];
 more:
     value = value + 1;      /* expect: 'value' may be used before it is set */

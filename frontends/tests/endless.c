@@ -15,7 +15,7 @@ static void serve(void)
 
 static int quiet(int n)
 {
-    int gone = 4;           /* expect: assignment to 'gone' is dead */
+    int gone = 4;           /* expect: initial value of 'gone' is dead */
     while (n > 0)
         n = n - 1;
     gone = n;

@@ -23,7 +23,7 @@ static int again(int n)
 
 int main(int argc, char **argv)
 {
-    int unread = 3;         /* expect: assignment to 'unread' is dead */
+    int unread = 3;         /* expect: initial value of 'unread' is dead */
     lost = 4;               /* again may read it */
     unread = again(argc);   /* expect: assignment to 'unread' is dead */
     lost = 5;               /* again may also call main, and read it behind that */

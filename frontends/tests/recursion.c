@@ -14,7 +14,7 @@ static int factorial(int n)
 static int walk(int depth)
 {
     int kept = depth * 2;   /* in use across the call: read on line 22 */
-    int spare = 1;          /* expect: assignment to 'spare' is dead */
+    int spare = 1;          /* expect: initial value of 'spare' is dead */
     int twice;
     if (depth > 0)
         walk(depth - 1);

@@ -1,5 +1,5 @@
-/* What a run of statements counts on, the last of which leaves it to nobody. */
-/* options: --whole --kinds dead,dead-last */
+/* What is only counted on and left to nobody in the end: a kind of its own. */
+/* options: --whole --kinds dead-last */
 #include <string.h>
 static unsigned long put(char *to, unsigned long at, char what)
 {
@@ -13,15 +13,15 @@ static void build(char *to)
     pos = put(to, pos, 'a');
     pos = put(to, pos, 'b');
     pos = put(to, pos, 'c');    /* expect: assignment to 'pos' is dead */
-    other = put(to, 1, 'd');    /* expect: assignment to 'other' is dead */
-    other = put(to, 2, 'e');    /* expect: assignment to 'other' is dead */
+    other = put(to, 1, 'd');    /* made of no older value */
+    other = put(to, 2, 'e');
 }
 
 static void write(char *to, int n)
 {
     *to++ = n;
     *to++ = n + 1;              /* expect: assignment to 'to' is dead */
-    n += 3;                     /* expect: assignment to 'n' is dead */
+    n += 3;                     /* of no run */
 }
 
 int main(int argc, char **argv)
