@@ -259,7 +259,7 @@ class Analysis:
         told, said = run_tacview(written.text, self.workers)
         if self.task.keep:
             keep(self.task.keep, written, told)
-        found = Findings(built, written, read_facts(told), self.sources, self.files, self.task.shows_all)
+        found = Findings.of(built, written, read_facts(told), self.sources, self.files, self.task.shows_all)
         said += [f"{procedure.refusal}; '{procedure.source}' is taken as unknown code" for procedure in built.refused]
         self.parts.append(Outcome(found.remarks, self.seen_in(found), notes=said))
 

@@ -96,7 +96,7 @@ def check(words):
     """Does what the words ask for; answers the status."""
     tasks = tasks_of(words)
     prepare_tacview()
-    gc.set_threshold(100000, 20, 20)  # most of what is made is in use until its program is done
+    gc.disable()  # most of what is made is in use until its program is done
     outcomes = outcomes_of(tasks, words.processes)
     files = [given.shown(given.file) for task in tasks for given in task.inputs]
     told = [remark for remark in agreed(outcomes).values() if remark.kind in words.kinds and not remark.file.startswith(SYSTEM_HEADERS)]

@@ -3,15 +3,26 @@
 import re
 
 from gimple.code import Procedure, Step, Variable
+from gimple.dump import Function, Place
+from gimple.emit import Written
 from gimple.operands import split_declared
+from gimple.program import Program
 from gimple.translate import COPIES
+from gimple.world import File
 
 from .expressions import Operand, canonical
 from .macros import Macros
 from .remark import Note, Remark
+from .sources import Sources
 from .traces import Traces
 from .written import part_named
 
+# Of each line of a program what tacflow tells: kinds, each with a name or an expression.
+Facts = dict[int, list[tuple[str, str]]]
+# A line of a program, and what it stands for.
+Line = tuple[int, Step, Procedure]
+# What could be told: a place, a kind, a name.
+Claim = tuple[Place, str, str]
 WORD = re.compile(r"[A-Za-z_$][\w$]*")
 # What stands at the place of a statement that makes a variable's value of its older one.
 COUNTING = re.compile(r"\+\+|--|(?:[-+*/%&|^]|<<|>>)=")
@@ -26,25 +37,37 @@ class Findings:
     remarks: by keys, which are the same for all copies of a place in all programs. tried: the keys that were looked at.
     """
 
-    def __init__(self, program, written, facts, sources, files, shows_all):
+    def __init__(self, program: Program, facts: Facts, sources: Sources, files: list[File],
+                 shows_all: bool) -> None:
         self.program = program
         self.facts = facts
         self.sources = sources
         self.files = {file.name: file for file in files}
         self.macros = {file.name: Macros(sources, file.symbols.sources) for file in files}
         self.shows_all = shows_all
-        lines = [(number, step, procedure) for number, step, procedure in written.notes if step.origin and step.origin.place]
-        self.lines = [line for line in lines if not line[2].is_once]
-        self.lines_once = [line for line in lines if line[2].is_once and line[1].kind == "set"]
+        self.lines: list[Line] = []
+        self.lines_once: list[Line] = []
         self.never = {number for number, told in facts.items() if ("never_reached", "") in told}
+        self.by_claim: dict[Claim, list[Line]] = {}
         self.traces = Traces()
-        self.remarks = {}
-        self.tried = set()
-        self.texts = set()
-        self.named = {}
-        told = {line[1].origin.place for line in [*self.lines, *self.lines_once] if line[0] in facts}
-        self.by_claim = self.gather(line for line in [*self.lines, *self.lines_once] if line[1].origin.place in told)
-        self.take_all()
+        self.remarks: dict[Claim, Remark] = {}
+        self.tried: set[Claim] = set()
+        self.texts: set[tuple] = set()
+        self.named: dict[Function, frozenset[str]] = {}
+
+    @classmethod
+    def of(cls, program: Program, written: Written, facts: Facts, sources: Sources,
+           files: list[File], shows_all: bool) -> "Findings":
+        """The remarks on a program of which tacflow tells these facts."""
+        found = cls(program, facts, sources, files, shows_all)
+        lines = [line for line in written.notes if line[1].origin and line[1].origin.place]
+        found.lines = [line for line in lines if not line[2].is_once]
+        found.lines_once = [line for line in lines if line[2].is_once and line[1].kind == "set"]
+        both = [*found.lines, *found.lines_once]
+        told = {line[1].origin.place for line in both if line[0] in facts}
+        found.by_claim = found.gather(line for line in both if line[1].origin.place in told)
+        found.take_all()
+        return found
 
     # What can be told at a place
 

@@ -69,7 +69,7 @@ class Function:
 
     attributes: what stands before its heading. arrays: the locals that are arrays. structs: what is declared as a struct, of locals
     and parameters. text: the lines of its statements, of which the
-    first has this `number` in the dump. shown: what a file of the dump's is called in places.
+    first has this `number` in the dump. words: its operands, once they were asked for. shown: what a file of the dump's is called in places.
     """
     name: str
     linkage: str
@@ -86,6 +86,7 @@ class Function:
     number: int = 1
     named: tuple = None
     used: tuple = None
+    words: dict = field(default_factory=dict)
 
     @functools.cached_property
     def contents(self):
@@ -127,7 +128,8 @@ class Function:
         """The names that its operands have, each with whether its address is taken there, and the operand that is not known, if any."""
         if self.used is None:
             found, unknown = {}, None
-            for word, place in {word: statement.place for statement in statements_in(self.body) for word in words_of(statement)}.items():
+            self.words = {word: statement.place for statement in statements_in(self.body) for word in words_of(statement)}
+            for word, place in self.words.items():
                 reference = operands.parse(word)
                 if reference is None or reference.base is None and reference.constant is None and not reference.is_memory:
                     unknown = word, place

@@ -11,7 +11,7 @@ from dataclasses import dataclass
 
 from . import operands
 from .code import Procedure, Step, Variable
-from .dump import statements_in, words_of
+from .dump import statements_in
 from .world import File, World
 
 NAMED = r"[A-Za-z_$][\w$]*D\.\d+"
@@ -53,17 +53,12 @@ class Parts:
         self.of_whole: dict[Variable, list[Part]] = {}
         self.behind: dict[str, Variable] = {}
         self.by_pointer: dict[Variable, list[Variable]] = {}
-        parts: dict[str, None] = {}
-        stored: Counter[str] = Counter()
-        for statement in statements_in(procedure.function.body):
-            for word in words_of(statement):
-                if word.endswith("]") or word.count("D.") > 1:
-                    parts[word] = None
-            target = statement.words[1] if statement.kind in ("assign", "call") else ""
-            if target.startswith("*") or "->" in target:
-                stored[target] += 1
-        self.take_parts(parts)
-        self.take_behind([word for word, count in stored.items() if count > 1])
+        words = procedure.function.words
+        self.take_parts(word for word in words if word.endswith("]") or word.count("D.") > 1)
+        if any(word.startswith("*") or "->" in word for word in words):
+            stored = Counter(statement.words[1] for statement in statements_in(procedure.function.body)
+                             if statement.kind in ("assign", "call"))
+            self.take_behind([word for word, count in stored.items() if count > 1])
 
     def variable(self, name: str) -> Variable | None:
         """The local of this name that no pointer leads to, or None."""
@@ -90,10 +85,10 @@ class Parts:
 
     def take_behind(self, words: list[str]) -> None:
         """Makes variables for what these words find behind pointers."""
-        for word in words if len(words) <= MOST else ():
-            found = BEHIND.match(word)
-            name = found and (found[1] or found[2])
-            pointer = self.variable(name) if name else None
+        found = [match for match in map(BEHIND.match, words) if match]
+        for match in found if len(found) <= MOST else ():
+            word = match.group()
+            pointer = self.variable(match[1] or match[2])
             key = self.procedure.function.name, pointer.source if pointer else ""
             if pointer is not None and key not in self.file.symbols.volatile_behind:
                 self.behind[word] = self.new(word, pointer, True)

@@ -9,6 +9,7 @@ from .dump import statements_in
 from .faults import Refusal
 from .known_tests import lead_past
 from .services import call_from_outside, called_back, fill_memory, fill_unknown, make_services, read_parameters
+from .state import State
 from .translate import Translator
 from .values import Constants
 
@@ -68,7 +69,7 @@ def translate_all(world, services):
     refused = []
     for (file, _), procedure in world.procedures.items():
         try:
-            Translator(world, file, procedure, services, constants).translate()
+            Translator(State(world, file, procedure, services, constants)).translate()
             lead_past(procedure)
         except Refusal as refusal:
             procedure.refusal = refusal
@@ -162,9 +163,12 @@ def close_stops(functions, others):
     Of the procedures in `others` it is known that they may end the program.
     """
     stopping = set(others)
+    leading = {procedure: [step for step in procedure.steps if step.label is procedure.stop]
+               for procedure in functions}
     changed = True
     while changed:
-        found = {procedure for procedure in functions if any(may_stop(procedure, step, stopping) for step in procedure.steps)}
+        found = {procedure for procedure, steps in leading.items()
+                 if any(may_stop(procedure, step, stopping) for step in steps)}
         changed = not found <= stopping
         stopping |= found
     for procedure in functions:

@@ -1,0 +1,191 @@
+"""What a function's translation has at hand: the values of operands, and what is written to targets."""
+
+import re
+
+from . import operands
+from .code import Builder, Variable
+from .faults import Refusal
+from .labels import Labels
+from .values import Pending, Value
+from .world import function_place
+
+NUMBER = re.compile(r"-?\d+")
+
+
+class State:
+    """The state of one function's translation, with what reads and writes of operands are as steps.
+
+    services: the procedures that stand for memory and for unknown code. Where these keep temporaries, each of gcc's is a variable
+    of its own, and address arithmetic an expression.
+    """
+
+    def __init__(self, world, file, procedure, services, constants):
+        self.world = world
+        self.file = file
+        self.procedure = procedure
+        self.services = services
+        self.constants = constants
+        self.build = Builder(procedure)
+        self.pending = Pending()
+        self.kept = {}
+        self.evaluations = {}
+        self.halves = {}
+        self.labels = Labels()
+        self.anywhere = None
+        self.statement = self.previous = None
+        self.start = self.previous_start = 0
+        self.given = self.previous_given = Value()
+        self.last_place = None
+
+    def refuse(self, message):
+        """Refuses the statement at hand."""
+        raise Refusal(message, self.last_place or function_place(self.file, self.procedure))
+
+    # Values
+
+    def name_value(self, name):
+        """The value of a temporary, a variable, or a function's name."""
+        if name in self.kept:
+            return Value((self.kept[name],), self.kept[name])
+        if not operands.is_declared(name) and name != "<retval>":
+            return self.pending.take(name)
+        if name != "<retval>" and not self.world.is_local(self.procedure, name) and self.world.is_function(self.file, name):
+            return Value(exact=self.constants.number(name, self.file.name))
+        variable = self.world.variable(self.file, self.procedure, name)
+        return Value((variable,), variable) if variable else Value()
+
+    def reads_of(self, names):
+        """The variables that are read with these names."""
+        return tuple(variable for name in names for variable in self.name_value(name).reads)
+
+    def value(self, word):
+        """The value of an operand. What is behind a pointer is read at once."""
+        if word == "NULL":
+            return Value()
+        reference = operands.parse(word)
+        if reference.is_address or reference.constant is not None:
+            reads = self.reads_of(reference.reads)
+            return Value(reads, self.constants.number(word, self.file.name) if not reads else None)
+        if reference.is_memory:
+            self.build.use(self.reads_of(reference.reads))
+            self.read_memory()
+            return Value()
+        base = self.name_value(reference.base)
+        parts = self.part_reads(word, base.exact) if self.parts.of_whole else ()
+        if reference.is_whole:
+            return Value(base.reads + parts, base.exact) if parts else base
+        return Value(base.reads + parts + self.reads_of(reference.reads))
+
+    def part_reads(self, word: str, whole: Variable | None) -> tuple[Variable, ...]:
+        """The parts of a variable that an operand may read."""
+        exact, others = self.parts.read_as(word, whole)
+        if others:  # nothing is told of those that are unset
+            self.build.add("note", touched=tuple(others))
+        return (*exact, *others)
+
+    def element(self, word):
+        """The array and the index, as operands, where a word is an element of a variable at one index; else None."""
+        reference = operands.parse(word)
+        if reference.index is None or reference.base is None or NUMBER.fullmatch(reference.index):
+            return None
+        array = self.name_value(reference.base).exact
+        index = self.name_value(reference.index).exact
+        return (array, index) if isinstance(array, Variable) and isinstance(index, Variable) else None
+
+    def read_memory(self):
+        """Reads what pointers may lead to."""
+        self.build.use(self.parts.behind.values(), "made")
+        if self.services.reading:
+            self.build.call([self.services.reading])
+
+    def read_now(self, wanted):
+        """Reads what temporaries still had to read, as their own statements do."""
+        at_hand = self.build.origin
+        for origin, reads in wanted:
+            self.build.origin = origin
+            self.build.use(reads, "made")
+        self.build.origin = at_hand
+
+    def flush_all(self):
+        """Reads what the temporaries still have to read."""
+        self.read_now(self.pending.flush_all())
+
+    def flush_reached(self):
+        """The same of those whose variables may be written by other code."""
+        self.read_now(self.pending.flush_reached())
+
+    def flush_variable(self, variable):
+        """The same of those that read this variable."""
+        self.read_now(self.pending.flush_variable(variable))
+
+    def store(self, target, operator, parts, reads):
+        """Writes to a target the value of an expression, a copy, or something that was made of what is read."""
+        if operands.is_temporary(target):
+            self.hold(target, operator, parts, reads)
+            return
+        reference = operands.parse(target)
+        extra = self.reads_of(reference.reads)
+        if reference.is_memory:
+            self.build.use([*[part for part in parts if isinstance(part, Variable)], *reads, *extra])
+            self.write_memory()
+            if target in self.parts.behind:
+                self.build.set(self.parts.behind[target])
+            return
+        variable = self.world.variable(self.file, self.procedure, reference.base)
+        if variable is None:
+            self.build.use([*[part for part in parts if isinstance(part, Variable)], *reads, *extra])
+            return
+        self.flush_variable(variable)
+        if not parts and reads:
+            parts, reads = reads[:1], reads[1:]
+        self.build.use([*reads, *extra])
+        self.build.set(variable, parts, operator, weak=not reference.is_whole)
+        if variable in self.parts.of_whole:
+            self.store_parts(target, variable)
+
+    def store_parts(self, target: str, whole: Variable) -> None:
+        """Writes the parts that a store writes."""
+        exact, others = self.parts.written_as(target, whole)
+        if others:
+            self.build.add("note", touched=tuple(others))
+        for part in exact:
+            self.build.set(part, role="made" if operands.is_declared(target) else self.build.role)
+
+    def hold(self, temporary, operator, parts, reads):
+        """A temporary's value: an expression is evaluated at once, into a variable that nobody reads; all else is held."""
+        if self.services.keeps_temporaries:
+            self.keep(temporary, operator, parts, reads)
+        elif operator:
+            self.build.use(reads)
+            self.evaluations[temporary] = self.build.set(self.services.scratch, parts, operator)
+            self.pending.put(temporary, Value())
+        elif parts:
+            exact = parts[0]
+            self.pending.put(temporary, Value((exact,) if isinstance(exact, Variable) else (), exact), self.statement)
+        else:
+            self.pending.put(temporary, Value(reads), self.statement)
+
+    def keep(self, temporary, operator, parts, reads):
+        """A temporary's value, in a variable of its own."""
+        variable = self.kept.setdefault(temporary, Variable(f"{self.procedure.wish}_{temporary}", owner=self.procedure))
+        if not parts:
+            parts, reads = reads[:1], reads[1:]
+        self.build.use(reads)
+        self.build.set(variable, parts, operator)
+
+    def write_memory(self):
+        """Writes to what pointers may lead to."""
+        self.flush_reached()
+        if self.services.writing:
+            self.build.call([self.services.writing])
+
+    def note_addresses(self, words):
+        """Notes the locals whose address a statement takes."""
+        touched = []
+        for word in words:
+            for name in operands.parse(word).addressed:
+                if operands.is_declared(name) and self.world.is_local(self.procedure, name):
+                    touched.append(self.world.variable(self.file, self.procedure, name))
+        touched = tuple(variable for variable in touched if variable)
+        if touched:
+            self.build.add("note", touched=touched)
