@@ -9,8 +9,16 @@ from .remark import Remark
 
 FILE = re.compile(r"\+\+\+ b/(.*?)\t?$")
 LINES = re.compile(r"@@ -\d+(?:,(\d+))? \+(\d+)(?:,(\d+))? @@")
-DIFF = ["-c", "core.quotePath=false", "diff", "--unified=0", "--no-color", "--no-ext-diff",
-        "--src-prefix=a/", "--dst-prefix=b/"]
+DIFF = [
+    "-c",
+    "core.quotePath=false",
+    "diff",
+    "--unified=0",
+    "--no-color",
+    "--no-ext-diff",
+    "--src-prefix=a/",
+    "--dst-prefix=b/",
+]
 
 
 def changed_since(revision: str, remarks: list[Remark]) -> list[Remark]:
@@ -19,16 +27,22 @@ def changed_since(revision: str, remarks: list[Remark]) -> list[Remark]:
         raise BadWords(f"{revision} is no revision")
     top = asked_of_git("rev-parse", "--show-toplevel").rstrip("\n")
     changed = lines_in(asked_of_git(*DIFF, revision, "--"), os.path.realpath(top))
-    return [remark for remark in remarks
-            if any(first <= remark.line <= last
-                   for first, last in changed.get(os.path.realpath(remark.file), ()))]
+    return [
+        remark
+        for remark in remarks
+        if any(
+            first <= remark.line <= last
+            for first, last in changed.get(os.path.realpath(remark.file), ())
+        )
+    ]
 
 
 def asked_of_git(*words: str) -> str:
     """What git answers."""
     try:
-        done = subprocess.run(["git", *words], capture_output=True, text=True,
-                              errors="surrogateescape", check=False)
+        done = subprocess.run(
+            ["git", *words], capture_output=True, text=True, errors="surrogateescape", check=False
+        )
     except OSError as fault:
         raise BadWords(f"--since needs git: {fault.strerror}") from None
     if done.returncode:

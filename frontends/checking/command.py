@@ -1,11 +1,14 @@
 """The command check-c, from its words to its status."""
 
+from __future__ import annotations
+
 import gc
 import os
 import subprocess
 import sys
 from collections import Counter
 from dataclasses import replace
+from typing import TYPE_CHECKING
 
 from . import baseline, changes, formats
 from .analysis import HERE, Task, agreed, analyse, processes, take_up
@@ -15,47 +18,76 @@ from .remark import in_source_order
 from .sources import Sources
 from .words import Words, help_text
 
+if TYPE_CHECKING:
+    from .analysis import Outcome
+    from .remark import Remark
+
 # As gcc itself, check-c tells nothing of these.
 SYSTEM_HEADERS = ("/usr/include/", "/usr/lib/", "/usr/local/include/")
 ROOT = os.path.join(HERE, "..", "..")
 
 
-def say(text):
+def say(text: str) -> None:
     """Tells something on standard error."""
     print(f"check-c: {text}", file=sys.stderr)
 
 
-def version():
+def version() -> str:
     """The version of tacflow: in the repository, or where it is installed."""
-    paths = [os.path.join(ROOT, *parts, "Cargo.toml") for parts in (("bindings", "rust"), ("rust",))]
+    paths = [
+        os.path.join(ROOT, *parts, "Cargo.toml") for parts in (("bindings", "rust"), ("rust",))
+    ]
     with open(next(filter(os.path.exists, paths), paths[0]), encoding="utf-8") as file:
         return next(line.split('"')[1] for line in file if line.startswith("version ="))
 
 
-def tasks_of(words):
+def tasks_of(words: Words) -> list[Task]:
     """The programs that are to be analysed."""
-    given = inputs_of(words.values["-p"], words.files) if words.values["-p"] else [Input(file) for file in words.files]
+    given = (
+        inputs_of(words.values["-p"], words.files)
+        if words.values["-p"]
+        else [Input(file) for file in words.files]
+    )
     given = [replace(one, words=tuple(words.options)) for one in given]
-    is_whole, shows_all, folder = words.flags["--whole"], words.flags["--all"], words.values["--keep"]
+    is_whole, shows_all, folder = (
+        words.flags["--whole"],
+        words.flags["--all"],
+        words.values["--keep"],
+    )
     if not given:
         raise BadWords("the compilation database has no C file")
     if is_whole or words.flags["--together"]:
         return [Task(tuple(given), is_whole, shows_all, folder, processes=words.processes)]
     counts = Counter(one.shown(one.file) for one in given)
     repeated = frozenset(file for file, count in counts.items() if count > 1)
-    return [Task((one,), False, shows_all, folder, len(given) == 1, repeated, words.processes if len(given) == 1 else 1) for one in given]
+    return [
+        Task(
+            (one,),
+            False,
+            shows_all,
+            folder,
+            len(given) == 1,
+            repeated,
+            words.processes if len(given) == 1 else 1,
+        )
+        for one in given
+    ]
 
 
-def prepare_tacview():
-    """Has the launcher build its program where that is still to be done, which it tells on standard error."""
+def prepare_tacview() -> None:
+    """Has the launcher build its program where that is still to be done, which it tells on standard
+    error.
+    """
     if "TACVIEW" in os.environ:
         return
     out = os.path.join(ROOT, "crates", "tacview", "out")
     if not any(os.path.exists(os.path.join(out, path)) for path in ("tacview", "unproved/tacview")):
-        subprocess.run([os.path.join(ROOT, "tacview"), "--help"], stdout=subprocess.DEVNULL, check=False)
+        subprocess.run(
+            [os.path.join(ROOT, "tacview"), "--help"], stdout=subprocess.DEVNULL, check=False
+        )
 
 
-def outcomes_of(tasks, count):
+def outcomes_of(tasks: list[Task], count: int) -> list[Outcome]:
     """What came of all tasks, by so many processes."""
     if count == 1 or len(tasks) == 1:
         return [analyse(task) for task in tasks]
@@ -63,7 +95,7 @@ def outcomes_of(tasks, count):
         return pool.map(analyse, tasks, chunksize=1)
 
 
-def write(words, remarks):
+def write(words: Words, remarks: list[Remark]) -> None:
     """Writes the remarks to standard output."""
     sources = Sources()
     sys.stdout.reconfigure(encoding="utf-8", errors="surrogateescape")
@@ -78,7 +110,7 @@ def write(words, remarks):
     sys.stdout.flush()
 
 
-def tell_end(outcomes, remarks, count, is_verbose):
+def tell_end(outcomes: list[Outcome], remarks: list[Remark], count: int, is_verbose: bool) -> None:
     """Tells what was not analysed, and how many remarks there are."""
     left_out = dict.fromkeys(word for outcome in outcomes for word in outcome.left_out)
     if is_verbose and left_out:
@@ -89,17 +121,23 @@ def tell_end(outcomes, remarks, count, is_verbose):
         say(text)
     kinds = Counter(remark.kind for remark in remarks)
     parts = ", ".join(f"{kinds[kind]} {kind}" for kind in sorted(kinds))
-    say(f"{len(remarks)} remark{'' if len(remarks) == 1 else 's'} on {count} file{'' if count == 1 else 's'}" + (f": {parts}" if parts else ""))
+    remarks_told = f"{len(remarks)} remark{'' if len(remarks) == 1 else 's'}"
+    files_told = f"{count} file{'' if count == 1 else 's'}"
+    say(f"{remarks_told} on {files_told}" + (f": {parts}" if parts else ""))
 
 
-def check(words):
+def check(words: Words) -> int:
     """Does what the words ask for; answers the status."""
     tasks = tasks_of(words)
     prepare_tacview()
     gc.disable()  # most of what is made is in use until its program is done
     outcomes = outcomes_of(tasks, words.processes)
     files = [given.shown(given.file) for task in tasks for given in task.inputs]
-    told = [remark for remark in agreed(outcomes).values() if remark.kind in words.kinds and not remark.file.startswith(SYSTEM_HEADERS)]
+    told = [
+        remark
+        for remark in agreed(outcomes).values()
+        if remark.kind in words.kinds and not remark.file.startswith(SYSTEM_HEADERS)
+    ]
     remarks = in_source_order(told, files)
     if words.values["--since"] is not None:
         remarks = changes.changed_since(words.values["--since"], remarks)
@@ -114,7 +152,7 @@ def check(words):
     return 1 if remarks and words.flags["--error"] else 0
 
 
-def main(words):
+def main(words: list[str]) -> int:
     """Runs the command; answers its status."""
     try:
         if {"--help", "-h"} & set(words):

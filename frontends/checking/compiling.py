@@ -9,21 +9,36 @@ from dataclasses import dataclass
 from gimple import inputs, symbols
 from gimple.faults import Refusal
 
-ASKED = ["-O0", "-g0", "-fdump-tree-lower-raw-lineno-uid", "-fdump-tree-ssa-lineno-uid-blocks",
-         "-fdump-ipa-cgraph", "-fdump-tree-original"]
+ASKED = [
+    "-O0",
+    "-g0",
+    "-fdump-tree-lower-raw-lineno-uid",
+    "-fdump-tree-ssa-lineno-uid-blocks",
+    "-fdump-ipa-cgraph",
+    "-fdump-tree-original",
+]
 # Options with a word behind them: those that go to gcc, those that are left out, since what gcc
 # writes is not wanted, and those of other compilers.
-WITH_WORD = frozenset("""-I -D -U -include -isystem -iquote -idirafter -imacros -isysroot -iprefix
+WITH_WORD = frozenset(
+    """-I -D -U -include -isystem -iquote -idirafter -imacros -isysroot -iprefix
 -iwithprefix -iwithprefixbefore -imultilib -std -Xassembler -A --param -B -L -l -T -u -z -e
--Xlinker -specs --sysroot""".split())
-LEFT_OUT_WITH_WORD = frozenset("""-o -MF -MT -MQ -aux-info -dumpbase -dumpdir -dumpbase-ext
--wrapper""".split())
-OTHERS_WITH_WORD = frozenset("""-target -Xclang -mllvm -Xanalyzer -arch -framework -iframework
--iwithsysroot -ivfsoverlay -resource-dir -Xopenmp-target""".split())
-LEFT_OUT = re.compile(r"""-(?:c|S|pipe|pg|p|s|v|g.*|O.*|o.+|MD|MMD|MP|MG|MF.+|MT.+|MQ.+|save-temps.*
+-Xlinker -specs --sysroot""".split()
+)
+LEFT_OUT_WITH_WORD = frozenset(
+    """-o -MF -MT -MQ -aux-info -dumpbase -dumpdir -dumpbase-ext
+-wrapper""".split()
+)
+OTHERS_WITH_WORD = frozenset(
+    """-target -Xclang -mllvm -Xanalyzer -arch -framework -iframework
+-iwithsysroot -ivfsoverlay -resource-dir -Xopenmp-target""".split()
+)
+LEFT_OUT = re.compile(
+    r"""-(?:c|S|pipe|pg|p|s|v|g.*|O.*|o.+|MD|MMD|MP|MG|MF.+|MT.+|MQ.+|save-temps.*
 |-coverage|coverage|ftest-coverage|fprofile.*|fauto-profile.*|fbranch-probabilities|fsanitize.*
 |flto.*|fopenmp.*|fopenacc.*|finstrument-functions.*|fdump-.*|fstack-protector.*|ftime-report|Q
-|\#\#\#)$""", re.VERBOSE)
+|\#\#\#)$""",
+    re.VERBOSE,
+)
 OTHER_WORK = frozenset(["-E", "-M", "-MM", "-fsyntax-only", "-###", "--help", "--version"])
 DOUBLE = re.compile(r"--(?:sysroot|param|std|coverage|include|define-macro|specs)(?:=|$)")
 PASSED_OVER = re.compile(r".*\.(?:o|a|so(?:\.\d+)*|lo|s|S|ld|map)$")
@@ -31,10 +46,12 @@ PASSED_OVER = re.compile(r".*\.(?:o|a|so(?:\.\d+)*|lo|s|S|ld|map)$")
 DEPENDENCIES = frozenset(["-MD", "-MMD", "-MF", "-MT", "-MQ", "-MP", "-MG", "-M", "-MM"])
 DEPENDENCIES_ALONE = frozenset(["-MP", "-MG", "-M", "-MM"])
 # What gcc says of a word that it does not know.
-UNKNOWN = re.compile(r"(?:unrecognized command-line option|unrecognized argument in option"
-                     r"|cannot read spec file) [‘'](?P<word>[^’']+)[’']"
-                     r"|bad value [‘'](?P<value>[^’']+)[’'] for [‘'](?P<switch>-[^’']+)[’'] switch"
-                     r"|[‘'](?P<other>-[^’']+)[’'] is not supported by this configuration")
+UNKNOWN = re.compile(
+    r"(?:unrecognized command-line option|unrecognized argument in option"
+    r"|cannot read spec file) [‘'](?P<word>[^’']+)[’']"
+    r"|bad value [‘'](?P<value>[^’']+)[’'] for [‘'](?P<switch>-[^’']+)[’'] switch"
+    r"|[‘'](?P<other>-[^’']+)[’'] is not supported by this configuration"
+)
 
 
 @dataclass(frozen=True)
@@ -44,6 +61,7 @@ class Input:
     options: those of a compilation database; words: those of the command. directory: the folder
     that names begin at, '.' where a word named it. left_out: what gcc would not know.
     """
+
     file: str
     options: tuple[str, ...] = ()
     directory: str = "."
@@ -150,13 +168,36 @@ def dump_into(given: Input, folder: str, order: str) -> None:
     gcc = os.environ.get("GCC", "gcc")
     while True:
         options = [word for word in given.options if word not in unknown]
-        command = [gcc, "-S", "-o", os.path.join(folder, "out.s"), "-w", *options, *given.words,
-                   *ASKED, order, "-aux-info", os.path.join(folder, "c.aux"),
-                   "-MMD", "-MF", os.path.join(folder, "c.sources"),
-                   "-dumpdir", folder + "/", "-dumpbase", "c", given.file]
+        command = [
+            gcc,
+            "-S",
+            "-o",
+            os.path.join(folder, "out.s"),
+            "-w",
+            *options,
+            *given.words,
+            *ASKED,
+            order,
+            "-aux-info",
+            os.path.join(folder, "c.aux"),
+            "-MMD",
+            "-MF",
+            os.path.join(folder, "c.sources"),
+            "-dumpdir",
+            folder + "/",
+            "-dumpbase",
+            "c",
+            given.file,
+        ]
         try:
-            done = subprocess.run(command, cwd=given.directory, capture_output=True, text=True,
-                                  errors="surrogateescape", check=False)
+            done = subprocess.run(
+                command,
+                cwd=given.directory,
+                capture_output=True,
+                text=True,
+                errors="surrogateescape",
+                check=False,
+            )
         except OSError as fault:
             raise Refusal(f"{fault.filename or gcc}: {fault.strerror}") from None
         if not done.returncode:

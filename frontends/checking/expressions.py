@@ -13,11 +13,29 @@ ESCAPES = {"n": 10, "t": 9, "r": 13, "a": 7, "b": 8, "f": 12, "v": 11, "e": 27}
 BEFORE = r"(?<![\w$.])(?<!->)"
 AFTER = r"(?![\w$]|\s*(?:\(|\[|\.\w|->))"
 # What may not stand behind an operator, since it would be another one.
-CLOSED = {"+": r"(?!\+)", "-": "(?![->])", "&": "(?!&)", "|": r"(?!\|)", "<": "(?![<=])",
-          ">": "(?![>=])", "/": "(?![/*])"}
+CLOSED = {
+    "+": r"(?!\+)",
+    "-": "(?![->])",
+    "&": "(?!&)",
+    "|": r"(?!\|)",
+    "<": "(?![<=])",
+    ">": "(?![>=])",
+    "/": "(?![/*])",
+}
 ASSIGNING = {"+", "-", "*", "/", "%", "&", "|", "^", "<<", ">>"}
-SWAPPED = {"+": "+", "*": "*", "&": "&", "|": "|", "^": "^", "==": "==", "!=": "!=", "<": ">",
-           ">": "<", "<=": ">=", ">=": "<="}
+SWAPPED = {
+    "+": "+",
+    "*": "*",
+    "&": "&",
+    "|": "|",
+    "^": "^",
+    "==": "==",
+    "!=": "!=",
+    "<": ">",
+    ">": "<",
+    "<=": ">=",
+    ">=": "<=",
+}
 # What stands between the place of a statement and an expression that is all of its right side.
 ASSIGNED = re.compile(r"(?:[A-Za-z_$][\w$]*\s*)?=[\s(]*$|\(*$")
 ALL_OF_IT = re.compile(r"[\s)]*[;,]")
@@ -29,6 +47,7 @@ NO_VALUE = float("nan")
 
 class Operand(NamedTuple):
     """An operand: a variable's name, or a constant as gcc writes it."""
+
     text: str
     is_name: bool
 
@@ -39,6 +58,7 @@ class Form(NamedTuple):
     is_exact: it may be another expression elsewhere, as `x % 2` is for a signed `x`.
     is_taken_away: its last constant is taken away where gcc adds one.
     """
+
     sign: str
     first: Operand
     second: Operand
@@ -51,6 +71,7 @@ class Candidate(NamedTuple):
 
     shown: how it is told. is_same: whether its constants are gcc's, None where that is not known.
     """
+
     shown: str
     start: int
     sign: int
@@ -58,8 +79,9 @@ class Candidate(NamedTuple):
     is_same: bool | None
 
 
-def written_at(text: str, at: int, operator: str, operands: list[Operand], is_element: bool,
-               meaning: Meaning) -> str:
+def written_at(
+    text: str, at: int, operator: str, operands: list[Operand], is_element: bool, meaning: Meaning
+) -> str:
     """How an expression whose statement is placed at `at` stands in a text, '' where it doesn't."""
     found = list(candidates(text, operator, operands, is_element, meaning))
     there = [candidate for candidate in found if stands_at(candidate, text, at)]
@@ -72,12 +94,13 @@ def stands_at(candidate: Candidate, text: str, at: int) -> bool:
     """Whether a candidate's operator is at a place, or it is all that a statement there assigns."""
     if candidate.sign == at:
         return True
-    is_first = at <= candidate.start and ASSIGNED.match(text[at:candidate.start])
+    is_first = at <= candidate.start and ASSIGNED.match(text[at : candidate.start])
     return bool(is_first and ALL_OF_IT.match(text, candidate.end))
 
 
-def candidates(text: str, operator: str, operands: list[Operand], is_element: bool,
-               meaning: Meaning) -> Iterator[Candidate]:
+def candidates(
+    text: str, operator: str, operands: list[Operand], is_element: bool, meaning: Meaning
+) -> Iterator[Candidate]:
     """The parts of a text that may be an expression of these operands."""
     first, *others = operands
     if not others:

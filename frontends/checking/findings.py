@@ -1,6 +1,7 @@
 """From facts of a program to remarks on the C sources that it was made of."""
 
 import re
+from collections.abc import Callable, Iterable, Iterator
 
 from gimple.code import Procedure, Step, Variable
 from gimple.dump import Function, Place
@@ -34,11 +35,13 @@ PLAIN_VALUES = frozenset(["0", "0B", "0.0", "{}", '""', "0.0e+0", "0x0"])
 class Findings:
     """The remarks on one program.
 
-    remarks: by keys, which are the same for all copies of a place in all programs. tried: the keys that were looked at.
+    remarks: by keys, which are the same for all copies of a place in all programs. tried: the keys
+    that were looked at.
     """
 
-    def __init__(self, program: Program, facts: Facts, sources: Sources, files: list[File],
-                 shows_all: bool) -> None:
+    def __init__(
+        self, program: Program, facts: Facts, sources: Sources, files: list[File], shows_all: bool
+    ) -> None:
         self.program = program
         self.facts = facts
         self.sources = sources
@@ -56,8 +59,15 @@ class Findings:
         self.named: dict[Function, frozenset[str]] = {}
 
     @classmethod
-    def of(cls, program: Program, written: Written, facts: Facts, sources: Sources,
-           files: list[File], shows_all: bool) -> "Findings":
+    def of(
+        cls,
+        program: Program,
+        written: Written,
+        facts: Facts,
+        sources: Sources,
+        files: list[File],
+        shows_all: bool,
+    ) -> "Findings":
         """The remarks on a program of which tacflow tells these facts."""
         found = cls(program, facts, sources, files, shows_all)
         lines = [line for line in written.notes if line[1].origin and line[1].origin.place]
@@ -71,7 +81,7 @@ class Findings:
 
     # What can be told at a place
 
-    def claims(self, line):
+    def claims(self, line: tuple[int, Step, Procedure]) -> Iterator[tuple[Place, str, str]]:
         """What could be told of a line, by keys that all copies of its place share."""
         _, step, procedure = line
         place = step.origin.place
@@ -85,7 +95,9 @@ class Findings:
         if not procedure.is_once:
             yield place, "never", ""
 
-    def gather(self, lines):
+    def gather(
+        self, lines: Iterable[Line]
+    ) -> dict[tuple[Place, str, str], list[tuple[int, Step, Procedure]]]:
         """Lines by what could be told of them."""
         found = {}
         for line in lines:
@@ -93,28 +105,30 @@ class Findings:
                 found.setdefault(claim, []).append(line)
         return found
 
-    def name(self, variable):
+    def name(self, variable: Variable) -> str:
         """What a variable is called, '' where it has no name in the source."""
         return variable.source or (variable.name if self.shows_all else "")
 
-    def plain_expression(self, step):
+    def plain_expression(self, step: Step) -> str:
         """A step's expression by the source's names, '' where some operand has none."""
-        parts = [self.name(part) if isinstance(part, Variable) else part.text for part in step.operands]
+        parts = [
+            self.name(part) if isinstance(part, Variable) else part.text for part in step.operands
+        ]
         operands = [Operand(part, True) for part in parts]
         return canonical(step.operator, operands, step.is_element) if all(parts) else ""
 
-    def holds(self, claim, told):
+    def holds(self, claim: tuple[Place, str, str], told: Callable[[Line], bool]) -> bool:
         """Whether each copy that is reached has what is told, and at least one is."""
         lines = [line for line in self.by_claim[claim] if line[0] not in self.never]
         return bool(lines) and all(told(line) for line in lines)
 
-    def has_fact(self, line, kind, name):
+    def has_fact(self, line: tuple[int, Step, Procedure], kind: str, name: str) -> bool:
         """Whether tacflow tells this of a line."""
         return (kind, name) in self.facts.get(line[0], ())
 
     # Kinds
 
-    def take_all(self):
+    def take_all(self) -> None:
         """Makes all remarks."""
         for line in [*self.lines, *self.lines_once]:
             told = self.facts.get(line[0], ())
@@ -130,44 +144,71 @@ class Findings:
         self.take_never_reached()
         self.take_never_called()
 
-    def is_new(self, key):
+    def is_new(self, key: tuple[Place, str, str]) -> bool:
         """Whether a key was not looked at before."""
         known = key in self.tried
         self.tried.add(key)
         return not known
 
-    def put(self, key, remark):
+    def put(self, key: tuple[Place | tuple[str, int, int], str, str], remark: Remark) -> None:
         """Keeps a remark unless a comment silences it."""
         text = remark.file, remark.line, remark.column, remark.text
-        if key not in self.remarks and text not in self.texts and not self.sources.get(remark.file).is_silenced(remark.kind, remark.line):
+        if (
+            key not in self.remarks
+            and text not in self.texts
+            and not self.sources.get(remark.file).is_silenced(remark.kind, remark.line)
+        ):
             self.remarks[key] = remark
             self.texts.add(text)
 
-    def take_dead(self, line):
+    def take_dead(self, line: tuple[int, Step, Procedure]) -> None:
         """An assignment whose value nobody reads."""
         _, step, procedure = line
         name = self.name(step.variable)
         claim = (step.origin.place, "dead", name)
-        if not name or step.role not in SHOWN_ROLES and not self.shows_all or not self.is_new(claim):
+        if (
+            not name
+            or step.role not in SHOWN_ROLES
+            and not self.shows_all
+            or not self.is_new(claim)
+        ):
             return
         if not self.holds(claim, lambda copy: self.has_fact(copy, "dead", copy[1].variable.name)):
             return
-        if self.is_meant(procedure, step.variable) or not self.holds_for_macro(step) or not self.is_chain(step):
+        if (
+            self.is_meant(procedure, step.variable)
+            or not self.holds_for_macro(step)
+            or not self.is_chain(step)
+        ):
             return
-        if step.variable.whole and self.is_dead_whole((claim[0], "dead", step.variable.whole.source)):
+        if step.variable.whole and self.is_dead_whole(
+            (claim[0], "dead", step.variable.whole.source)
+        ):
             return
         kind = self.kind_of_dead(claim, procedure)
         shown = part_named(step) or name
-        text = f"initial value of '{shown}' is dead" if kind == "dead-initial" else f"assignment to '{shown}' is dead"
-        notes = () if step.variable.owner is not procedure else tuple(
-            Note(place.file, place.line, place.column, "overwritten here") for place in self.traces.overwritten(procedure, step))
+        text = (
+            f"initial value of '{shown}' is dead"
+            if kind == "dead-initial"
+            else f"assignment to '{shown}' is dead"
+        )
+        notes = (
+            ()
+            if step.variable.owner is not procedure
+            else tuple(
+                Note(place.file, place.line, place.column, "overwritten here")
+                for place in self.traces.overwritten(procedure, step)
+            )
+        )
         self.put(claim, self.remark(line, kind, text, notes))
 
-    def is_dead_whole(self, claim) -> bool:
+    def is_dead_whole(self, claim: tuple[Place, str, str]) -> bool:
         """Whether the whole of a part is told as dead at its place."""
-        return claim in self.by_claim and self.holds(claim, lambda copy: self.has_fact(copy, "dead", copy[1].variable.name))
+        return claim in self.by_claim and self.holds(
+            claim, lambda copy: self.has_fact(copy, "dead", copy[1].variable.name)
+        )
 
-    def kind_of_dead(self, claim, procedure: Procedure) -> str:
+    def kind_of_dead(self, claim: tuple[Place, str, str], procedure: Procedure) -> str:
         """Of which kind a dead assignment is."""
         steps = [copy[1] for copy in self.by_claim[claim]]
         if all(self.is_plain_initial(step) for step in steps):
@@ -185,8 +226,10 @@ class Findings:
             return False
         if step.origin.kind == "call":
             return True
-        return any(other.origin and other.origin.words[0] == step.origin.words[0] and self.counts_on(other)
-                   for other in self.traces.set_before(procedure, step))
+        return any(
+            other.origin and other.origin.words[0] == step.origin.words[0] and self.counts_on(other)
+            for other in self.traces.set_before(procedure, step)
+        )
 
     def counts_on(self, step: Step) -> bool:
         """Whether a statement sets a variable to what it makes of its older value."""
@@ -199,19 +242,29 @@ class Findings:
         return bool(COUNTING.match(source.behind(place.line, place.column)))
 
     def is_chain(self, step: Step) -> bool:
-        """Whether a chained assignment is one in the source, as `y = 0` in `x = y = 0`; so is what is not chained."""
+        """Whether a chained assignment is one in the source, as `y = 0` in `x = y = 0`; so is what
+        is not chained.
+        """
         if step.chained is None:
             return True
         place = step.chained
         source = self.sources.get(place.file)
-        text = source.behind(place.line, place.column) + source.line(place.line + 1) + source.line(place.line + 2)
-        name = r"\s*".join(map(re.escape, re.findall(r"\w+|\S", part_named(step) or step.variable.source)))
+        text = (
+            source.behind(place.line, place.column)
+            + source.line(place.line + 1)
+            + source.line(place.line + 2)
+        )
+        name = r"\s*".join(
+            map(re.escape, re.findall(r"\w+|\S", part_named(step) or step.variable.source))
+        )
         return bool(re.match(rf"(?:\w+\s*)?=[\s(]*{name}\s*=(?!=)", text))
 
-    def holds_for_macro(self, step):
-        """Whether an assignment is no macro's, or all of this macro's in its file to variables of this name are dead.
+    def holds_for_macro(self, step: Step) -> bool:
+        """Whether an assignment is no macro's, or all of this macro's in its file to variables of
+        this name are dead.
 
         Where a macro sets a variable to zero, as one that frees does, that is meant for other uses.
+
         """
         word = self.macro_at(step)
         if not word:
@@ -219,19 +272,37 @@ class Findings:
         if has_plain_value(step):
             return False
         name, file = step.variable.source, step.origin.place.file
-        return all(self.has_fact(line, "dead", line[1].variable.name) for line in [*self.lines, *self.lines_once]
-                   if line[0] not in self.never and line[1].kind == "set" and not line[1].told_once and line[1].role in SHOWN_ROLES
-                   and line[1].variable.source == name and line[1].origin.place.file == file and self.macro_at(line[1]) == word)
+        return all(
+            self.has_fact(line, "dead", line[1].variable.name)
+            for line in [*self.lines, *self.lines_once]
+            if line[0] not in self.never
+            and line[1].kind == "set"
+            and not line[1].told_once
+            and line[1].role in SHOWN_ROLES
+            and line[1].variable.source == name
+            and line[1].origin.place.file == file
+            and self.macro_at(line[1]) == word
+        )
 
-    def macro_at(self, step):
-        """The macro at whose name an assignment stands, '' where it stands at its own sign, its variable or the function it calls."""
+    def macro_at(self, step: Step) -> str:
+        """The macro at whose name an assignment stands, '' where it stands at its own sign, its
+        variable or the function it calls.
+        """
         statement = step.origin
-        behind = self.sources.get(statement.place.file).behind(statement.place.line, statement.place.column)
+        behind = self.sources.get(statement.place.file).behind(
+            statement.place.line, statement.place.column
+        )
         word = WORD.match(behind)
-        is_callee = word and statement.kind == "call" and statement.words[0].startswith(word.group() + "D.")
-        return "" if not word or is_callee or word.group() == whole_name(step.variable) else word.group()
+        is_callee = (
+            word and statement.kind == "call" and statement.words[0].startswith(word.group() + "D.")
+        )
+        return (
+            ""
+            if not word or is_callee or word.group() == whole_name(step.variable)
+            else word.group()
+        )
 
-    def is_meant(self, procedure, variable):
+    def is_meant(self, procedure: Procedure, variable: Variable) -> bool:
         """Whether the source says that a variable need not be read."""
         function = procedure.function
         if function is None or variable.owner is not procedure:
@@ -242,7 +313,7 @@ class Findings:
         name, first, last = self.span_of(procedure)
         return self.sources.get(name).is_marked_unused(whole_name(variable), first, last)
 
-    def is_plain_initial(self, step):
+    def is_plain_initial(self, step: Step) -> bool:
         """Whether an assignment is a declaration's, of a constant or of a part."""
         place = step.origin.place
         behind = self.sources.get(place.file).behind(place.line, place.column)
@@ -252,31 +323,48 @@ class Findings:
         is_constant = has_plain_value(step) or step.origin.words[0] in CONSTANTS
         return is_constant and behind.startswith(step.variable.source)
 
-    def take_computed(self, line, name):
+    def take_computed(self, line: tuple[int, Step, Procedure], name: str) -> None:
         """An expression that is evaluated once more."""
         _, step, procedure = line
         claim = (step.origin.place, "computed", self.plain_expression(step))
-        if step.expression != name or not claim[2] or step.role not in SHOWN_ROLES and not self.shows_all or not self.is_new(claim):
+        if (
+            step.expression != name
+            or not claim[2]
+            or step.role not in SHOWN_ROLES
+            and not self.shows_all
+            or not self.is_new(claim)
+        ):
             return
         if not self.holds(claim, lambda copy: self.has_fact(copy, "computed", copy[1].expression)):
             return
         shown = self.expression_shown(step, procedure)
         if shown:
-            notes = tuple(Note(place.file, place.line, place.column, "evaluated here")
-                          for place in self.traces.evaluated(procedure, step))
+            notes = tuple(
+                Note(place.file, place.line, place.column, "evaluated here")
+                for place in self.traces.evaluated(procedure, step)
+            )
             self.put(claim, self.remark(line, "computed", f"'{shown}' is already computed", notes))
 
-    def expression_shown(self, step, procedure):
-        """An expression of a procedure's as its source has it, '' where it stands there in no form."""
+    def expression_shown(self, step: Step, procedure: Procedure) -> str:
+        """An expression as its source has it, '' where it stands there in no form."""
         if self.shows_all:
             return self.plain_expression(step)
-        operands = [Operand(part.source, True) if isinstance(part, Variable)
-                    else Operand(part.text, False) for part in step.operands]
+        operands = [
+            Operand(part.source, True) if isinstance(part, Variable) else Operand(part.text, False)
+            for part in step.operands
+        ]
         place = step.origin.place
         macros = self.macros[procedure.function.file]
         source = self.sources.get(place.file)
-        return source.expression_at(place.line, place.column, step.operator, operands,
-                                    step.is_element, macros, self.variables_in(procedure))
+        return source.expression_at(
+            place.line,
+            place.column,
+            step.operator,
+            operands,
+            step.is_element,
+            macros,
+            self.variables_in(procedure),
+        )
 
     def variables_in(self, procedure: Procedure) -> frozenset[str]:
         """The names of variables and functions that a function's statements may have."""
@@ -287,7 +375,7 @@ class Findings:
             self.named[function] = own.union(self.files[function.file].symbols.by_name)
         return self.named[function]
 
-    def take_busy(self, line, name):
+    def take_busy(self, line: tuple[int, Step, Procedure], name: str) -> None:
         """An expression that each way from a test evaluates."""
         _, step, procedure = line
         found = self.evaluation_in(procedure, name)
@@ -295,16 +383,28 @@ class Findings:
             return
         claim = (step.origin.place, "busy", "")
         key = (step.origin.place, "busy", self.plain_expression(found))
-        if not self.is_new(key) or not self.holds(claim, lambda copy: self.is_busy_copy(copy, key[2])):
+        if not self.is_new(key) or not self.holds(
+            claim, lambda copy: self.is_busy_copy(copy, key[2])
+        ):
             return
         ways = self.traces.evaluated_next(procedure, step, name)
         if not all(ways) or all(way == ways[0] for way in ways):
             return  # nothing is gained before this test that isn't behind it
-        places = sorted({place for way in ways for place in way}, key=lambda place: (place.file, place.line, place.column))
-        notes = tuple(Note(place.file, place.line, place.column, "evaluated here") for place in places)
-        self.put(key, self.remark(line, "busy", f"'{self.expression_shown(found, procedure)}' is very busy", notes))
+        places = sorted(
+            {place for way in ways for place in way},
+            key=lambda place: (place.file, place.line, place.column),
+        )
+        notes = tuple(
+            Note(place.file, place.line, place.column, "evaluated here") for place in places
+        )
+        self.put(
+            key,
+            self.remark(
+                line, "busy", f"'{self.expression_shown(found, procedure)}' is very busy", notes
+            ),
+        )
 
-    def is_busy_copy(self, line, expression):
+    def is_busy_copy(self, line: tuple[int, Step, Procedure], expression: str) -> bool:
         """Whether a copy of a test has an expression, by the source's names, as very busy."""
         for kind, name in self.facts.get(line[0], ()):
             if kind == "busy":
@@ -313,40 +413,70 @@ class Findings:
                     return True
         return False
 
-    def evaluation_in(self, procedure, name):
-        """A step of a procedure that evaluates an expression of its own scope which stands in the source, or None."""
+    def evaluation_in(self, procedure: Procedure, name: str) -> Step | None:
+        """A step of a procedure that evaluates an expression of its own scope which stands in the
+        source, or None.
+        """
         for step in self.traces.evaluations(procedure).get(name, ()):
-            if step.role not in SHOWN_ROLES and not self.shows_all or not step.origin or not step.origin.place:
+            if (
+                step.role not in SHOWN_ROLES
+                and not self.shows_all
+                or not step.origin
+                or not step.origin.place
+            ):
                 continue
             is_in_scope = all(part.is_in_scope(procedure) for part in step.reads())
-            if is_in_scope and self.plain_expression(step) and self.expression_shown(step, procedure):
+            if (
+                is_in_scope
+                and self.plain_expression(step)
+                and self.expression_shown(step, procedure)
+            ):
                 return step
         return None
 
-    def take_unset(self):
+    def take_unset(self) -> None:
         """Uses of locals that are not set: the first use of each, with the others as notes."""
         uses = {}
         for line in self.lines:
             for kind, name in self.facts.get(line[0], ()):
-                variable = next((found for found in line[1].unset if found.name == name), None) if kind == "unset" else None
-                if variable is None or variable.owner is None or variable.is_parameter or not self.name(variable):
+                variable = (
+                    next((found for found in line[1].unset if found.name == name), None)
+                    if kind == "unset"
+                    else None
+                )
+                if (
+                    variable is None
+                    or variable.owner is None
+                    or variable.is_parameter
+                    or not self.name(variable)
+                ):
                     continue
                 is_sure = variable in line[1].surely_unset
                 if is_sure or not variable.is_array and variable.whole is None:
-                    uses.setdefault(variable, {}).setdefault(line[1].origin.place, []).append((line, is_sure))
+                    uses.setdefault(variable, {}).setdefault(line[1].origin.place, []).append(
+                        (line, is_sure)
+                    )
         for variable, places in uses.items():
             if variable.whole not in uses:
                 self.take_uses(variable, places)
 
-    def take_uses(self, variable, places):
+    def take_uses(
+        self, variable: Variable, places: dict[Place, list[tuple[tuple[int, object, object], bool]]]
+    ) -> None:
         """The uses of one variable, by place."""
         sure = {place for place, told in places.items() if all(is_sure for _, is_sure in told)}
         first = min(sure or places, key=lambda place: (place.file, place.line, place.column))
         line = places[first][0][0]
         kind = "unset" if first in sure else "maybe-unset"
         shown = self.sources.get(first.file).use_at(first.line, self.name(variable))
-        text = f"'{shown}' is used before it is set" if kind == "unset" else f"'{shown}' may be used before it is set"
-        others = sorted(((place.file, place.line, place.column) for place in places if place.line != first.line))
+        text = (
+            f"'{shown}' is used before it is set"
+            if kind == "unset"
+            else f"'{shown}' may be used before it is set"
+        )
+        others = sorted(
+            ((place.file, place.line, place.column) for place in places if place.line != first.line)
+        )
         notes = tuple(Note(*place, "used here too") for place in others[:4])
         self.put((first, "unset", self.name(variable)), self.remark(line, kind, text, notes))
 
@@ -354,21 +484,41 @@ class Findings:
         """Assignments of variables to themselves."""
         for line in self.lines:
             _, step, procedure = line
-            if is_own_copy(step) and step.role == "plain" and line[0] not in self.never and self.name(step.variable):
+            if (
+                is_own_copy(step)
+                and step.role == "plain"
+                and line[0] not in self.never
+                and self.name(step.variable)
+            ):
                 claim = (step.origin.place, "dead", self.name(step.variable))
-                if self.is_meant(procedure, step.variable) or not self.is_own_in_source(step) or not self.is_new(claim):
+                if (
+                    self.is_meant(procedure, step.variable)
+                    or not self.is_own_in_source(step)
+                    or not self.is_new(claim)
+                ):
                     continue
-                lines = [other for other in self.lines if other[1].origin.place == step.origin.place and other[1].kind == "set"]
+                lines = [
+                    other
+                    for other in self.lines
+                    if other[1].origin.place == step.origin.place and other[1].kind == "set"
+                ]
                 if all(is_own_copy(other[1]) for other in lines):
-                    self.put(claim, self.remark(line, "dead", f"'{self.name(step.variable)}' is assigned to itself"))
+                    self.put(
+                        claim,
+                        self.remark(
+                            line, "dead", f"'{self.name(step.variable)}' is assigned to itself"
+                        ),
+                    )
 
     def is_own_in_source(self, step: Step) -> bool:
-        """Whether the source assigns a variable to itself where gcc does, and not what gives the same."""
+        """Whether the source assigns a variable to itself where gcc does, and not what gives the
+        same.
+        """
         place, name = step.origin.place, re.escape(step.variable.source)
         text = self.sources.get(place.file).behind(place.line, place.column)
         return bool(re.match(rf"(?:{name}\s*)?=[\s(]*{name}[\s)]*[;,]", text))
 
-    def take_never_reached(self):
+    def take_never_reached(self) -> None:
         """The first statement of each stretch that is never reached."""
         reached = {line[1].origin for line in self.lines if line[0] not in self.never}
         reached_places = {origin.place for origin in reached}
@@ -377,23 +527,42 @@ class Findings:
             _, step, procedure = line
             if step.origin in reached:
                 last = None
-            elif last is not procedure and (step.role in SHOWN_ROLES or self.shows_all) and step.origin.place not in reached_places:
+            elif (
+                last is not procedure
+                and (step.role in SHOWN_ROLES or self.shows_all)
+                and step.origin.place not in reached_places
+            ):
                 last = procedure
-                self.put((step.origin.place, "never", ""), self.remark(line, "never", "never reached"))
+                self.put(
+                    (step.origin.place, "never", ""), self.remark(line, "never", "never reached")
+                )
 
-    def take_never_called(self):
+    def take_never_called(self) -> None:
         """Functions to which no way leads."""
-        called = {self.definition_of(procedure) for procedure in self.program.procedures if procedure.function}
+        called = {
+            self.definition_of(procedure)
+            for procedure in self.program.procedures
+            if procedure.function
+        }
         for procedure in self.program.never_called:
             place = self.definition_of(procedure)
-            if place and place not in called and not procedure.function.is_nested and "unused" not in procedure.function.attributes:
-                remark = Remark(*place, "never", f"'{procedure.source}' is never called", procedure.source)
+            if (
+                place
+                and place not in called
+                and not procedure.function.is_nested
+                and "unused" not in procedure.function.attributes
+            ):
+                remark = Remark(
+                    *place, "never", f"'{procedure.source}' is never called", procedure.source
+                )
                 self.put(((*place[:2], 0), "never", procedure.source), remark)
 
     # Places
 
-    def definition_of(self, procedure):
-        """Where a function's name stands in its definition: file, line and column; None where that is not known."""
+    def definition_of(self, procedure: Procedure) -> tuple[str, int, int]:
+        """Where a function's name stands in its definition: file, line and column; None where that
+        is not known.
+        """
         function = procedure.function
         found = self.files[function.file].symbols.definitions.get(function.name)
         if found is None:
@@ -401,23 +570,34 @@ class Findings:
         column = self.sources.get(found[0]).line(found[1]).find(function.name) + 1
         return (*found, max(column, 1))
 
-    def span_of(self, procedure):
+    def span_of(self, procedure: Procedure) -> tuple[str, int, int]:
         """The file and the lines that a function spans, by its definition and its statements."""
-        places = [step.origin.place for step in procedure.steps if step.origin and step.origin.place]
+        places = [
+            step.origin.place for step in procedure.steps if step.origin and step.origin.place
+        ]
         start = self.definition_of(procedure) or places[0]
         lines = [place.line for place in places if place.file == start[0]]
         return start[0], min([start[1], *lines]), max([start[1], *lines])
 
     @staticmethod
-    def remark(line, kind, text, notes=()):
+    def remark(
+        line: tuple[int, Step, Procedure], kind: str, text: str, notes: tuple[Note, ...] = ()
+    ) -> Remark:
         """A remark at a line's place."""
         place = line[1].origin.place
         return Remark(place.file, place.line, place.column, kind, text, line[2].source, notes)
 
-    def seen_at(self, is_shared):
+    def seen_at(
+        self, is_shared: Callable[[tuple], bool]
+    ) -> set[tuple[Place | tuple[str, int, int], str, str]]:
         """The keys of all that could be told at places that are shared."""
-        found = set(self.gather(line for line in [*self.lines, *self.lines_once]
-                                if line[0] not in self.never and is_shared(line[1].origin.place)))
+        found = set(
+            self.gather(
+                line
+                for line in [*self.lines, *self.lines_once]
+                if line[0] not in self.never and is_shared(line[1].origin.place)
+            )
+        )
         for procedure in self.program.procedures:
             place = self.definition_of(procedure) if procedure.function else None
             if place and is_shared((*place[:2], 0)):
@@ -435,6 +615,6 @@ def whole_name(variable: Variable) -> str:
     return variable.whole.source if variable.whole else variable.source
 
 
-def has_plain_value(step):
+def has_plain_value(step: Step) -> bool:
     """Whether a step is an assignment of zero or the like."""
     return step.origin.kind == "assign" and step.origin.words[2] in PLAIN_VALUES

@@ -1,15 +1,25 @@
 """The macros of the sources: whether what stands at a macro's name may be written in its text."""
 
+from __future__ import annotations
+
 import re
+from typing import TYPE_CHECKING
 
 from .expressions import value_of
+
+if TYPE_CHECKING:
+    from .sources import Sources
 
 DEFINED = re.compile(r"^[ \t]*#[ \t]*define[ \t]+([A-Za-z_$][\w$]*)((?:\\\r?\n|.)*)", re.MULTILINE)
 DEEPEST = 8
 NAME = re.compile(r"[A-Za-z_$][\w$]*")
 COMPARING = ("<", ">", "=", "!")
 # How gcc's operators may be written.
-WRITTEN = {"+": ("+", "-"), "-": ("-", "+"), **dict.fromkeys(("<", ">", "<=", ">=", "==", "!="), COMPARING)}
+WRITTEN = {
+    "+": ("+", "-"),
+    "-": ("-", "+"),
+    **dict.fromkeys(("<", ">", "<=", ">=", "==", "!="), COMPARING),
+}
 
 
 ENUMERATION = re.compile(r"\benum\b[^{};()]*\{([^{}]*)\}")
@@ -30,8 +40,10 @@ def enumerators_in(text: str) -> dict[str, int | None]:
     return found
 
 
-def macros_in(text):
-    """The macros that a source defines, by name: what they stand for, of those with several definitions all of it."""
+def macros_in(text: str) -> dict[str, str]:
+    """The macros that a source defines, by name: what they stand for, of those with several
+    definitions all of it.
+    """
     found = {}
     for name, meaning in DEFINED.findall(text):
         found[name] = found.get(name, "") + " " + meaning
@@ -41,30 +53,35 @@ def macros_in(text):
 class Macros:
     """The macros that some source files define, as they are when somebody asks for one."""
 
-    def __init__(self, sources, files):
+    def __init__(self, sources: Sources, files: list[str]) -> None:
         self.sources = sources
         self.files = files
 
-    def text_of(self, name):
-        """What a macro stands for, other macros that it names too; '' where these files define none of the name."""
+    def text_of(self, name: str) -> str:
+        """What a macro stands for, other macros that it names too; '' where these files define none
+        of the name.
+        """
         texts, waiting = {}, [name]
         while waiting:
             name = waiting.pop()
             if name not in texts:
-                texts[name] = "".join(self.sources.get(file).macros().get(name, "") for file in self.files)
+                texts[name] = "".join(
+                    self.sources.get(file).macros().get(name, "") for file in self.files
+                )
                 waiting += NAME.findall(texts[name])
         return "".join(texts.values())
 
     def value_of(self, name: str) -> int | None:
-        """The value of a macro or an enumerator that is a plain number, None where it is not known."""
+        """The value of a macro or an enumerator, None where it is no plain number."""
         if name == "NULL":
             return 0
         for _ in range(DEEPEST):
             sources = [self.sources.get(file) for file in self.files]
             text = COMMENT.sub("", "".join(source.macros().get(name, "") for source in sources))
             if not text:
-                values = {source.enumerators()[name] for source in sources
-                          if name in source.enumerators()}
+                values = {
+                    source.enumerators()[name] for source in sources if name in source.enumerators()
+                }
                 return values.pop() if len(values) == 1 else None
             name = text.strip(" \t()")
             known = value_of(name)
@@ -72,7 +89,9 @@ class Macros:
                 return known if isinstance(known, int) else None
         return None
 
-    def may_write(self, name, operator, is_element):
+    def may_write(self, name: str, operator: str, is_element: bool) -> bool:
         """Whether a macro of this name has an operator in its text."""
         text = self.text_of(name)
-        return any(sign in text for sign in (("[",) if is_element else WRITTEN.get(operator, (operator,))))
+        return any(
+            sign in text for sign in (("[",) if is_element else WRITTEN.get(operator, (operator,)))
+        )

@@ -8,21 +8,43 @@ SUPPRESS = re.compile(r"\bcppcheck-suppress\b\s+(?:\[(?P<names>[^]]*)\]|(?P<name
 ONLY_COMMENT = re.compile(r"\s*(?://|/\*)")
 # What others call a kind of ours: the kinds that their names silence.
 OTHERS = {
-    "dead": ("unreadVariable", "redundantAssignment", "redundantInitialization", "selfAssignment",
-             "unusedVariable", "unusedStructMember", "clang-analyzer-deadcode.DeadStores",
-             "clang-diagnostic-unused-but-set-variable", "clang-diagnostic-self-assign"),
-    "unset": ("uninitvar", "uninitdata", "uninitStructMember", "legacyUninitvar",
-              "clang-analyzer-core.uninitialized.*", "clang-analyzer-core.*",
-              "clang-diagnostic-uninitialized", "clang-diagnostic-sometimes-uninitialized"),
-    "never": ("unusedFunction", "unreachableCode", "duplicateBreak",
-              "clang-diagnostic-unreachable-code", "clang-diagnostic-unused-function",
-              "clang-analyzer-alpha.deadcode.UnreachableCode"),
+    "dead": (
+        "unreadVariable",
+        "redundantAssignment",
+        "redundantInitialization",
+        "selfAssignment",
+        "unusedVariable",
+        "unusedStructMember",
+        "clang-analyzer-deadcode.DeadStores",
+        "clang-diagnostic-unused-but-set-variable",
+        "clang-diagnostic-self-assign",
+    ),
+    "unset": (
+        "uninitvar",
+        "uninitdata",
+        "uninitStructMember",
+        "legacyUninitvar",
+        "clang-analyzer-core.uninitialized.*",
+        "clang-analyzer-core.*",
+        "clang-diagnostic-uninitialized",
+        "clang-diagnostic-sometimes-uninitialized",
+    ),
+    "never": (
+        "unusedFunction",
+        "unreachableCode",
+        "duplicateBreak",
+        "clang-diagnostic-unreachable-code",
+        "clang-diagnostic-unused-function",
+        "clang-analyzer-alpha.deadcode.UnreachableCode",
+    ),
 }
 
 
 def is_silenced(kind: str, line: str, above: str) -> bool:
     """Whether a comment on a line, or on the one above it, silences remarks of a kind there."""
-    if any(ours_silences(text, kind) for text in (line, above if ONLY_COMMENT.match(above) else "")):
+    if any(
+        ours_silences(text, kind) for text in (line, above if ONLY_COMMENT.match(above) else "")
+    ):
         return True
     for text, is_above in ((line, False), (above, True)):
         found = NOLINT.search(text)
@@ -50,11 +72,13 @@ def is_of(kind: str, name: str) -> bool:
 
 
 def is_named(kind: str, names: str) -> bool:
-    """Whether some of these names, with commas between, is one of others' for a kind, or is ours."""
+    """Whether one of these names, with commas between, is one for a kind."""
     ours = [ours for ours in OTHERS if is_of(kind, ours)]
     known = {"*", "tacflow-*", f"tacflow-{kind}", *(name for one in ours for name in OTHERS[one])}
     if ours == ["dead"] or kind == "never":
         known.add("clang-analyzer-deadcode.*")
     given = [re.split(r"[:\s]", name.strip())[0] for name in names.split(",")]
-    return any(name in known or name.startswith("clang-analyzer-core.uninitialized")
-               and "unset" in ours for name in given)
+    return any(
+        name in known or name.startswith("clang-analyzer-core.uninitialized") and "unset" in ours
+        for name in given
+    )

@@ -1,4 +1,6 @@
-"""The text of C sources: what stands at a place, how an expression is written there, and which remarks a comment silences."""
+"""The text of C sources: what stands at a place, how an expression is written there, and which
+remarks a comment silences.
+"""
 
 import re
 
@@ -6,13 +8,16 @@ from .expressions import BEFORE, NO_VALUE, Operand, canonical, written_at
 from .macros import NAME, Macros, enumerators_in, macros_in
 from .silencing import is_silenced
 
-UNUSED = r"__attribute__\s*\(\([^;]*\b(?:__)?unused(?:__)?\b|\[\[[^;]*\bunused\]\]|\bmaybe_unused\]\]|\b[A-Z_]*UNUSED[A-Z_]*\b"
+UNUSED = (
+    r"__attribute__\s*\(\([^;]*\b(?:__)?unused(?:__)?\b|\[\[[^;]*\bunused\]\]"
+    r"|\bmaybe_unused\]\]|\b[A-Z_]*UNUSED[A-Z_]*\b"
+)
 
 
 class Source:
     """One source file's lines; none where it can't be read."""
 
-    def __init__(self, path):
+    def __init__(self, path: str) -> None:
         self.lines = []
         self.defined = None
         self.enumerated = None
@@ -22,25 +27,30 @@ class Source:
         except OSError:
             pass
 
-    def line(self, number):
+    def line(self, number: int) -> str:
         """The text of a line, '' where there is none."""
         return self.lines[number - 1] if 0 < number <= len(self.lines) else ""
 
-    def behind(self, line, column):
+    def behind(self, line: int, column: int) -> str:
         """What a line has from a column on, which counts bytes."""
         text = self.line(line).encode("utf-8", "surrogateescape")
-        return text[column - 1:].decode("utf-8", "replace")
+        return text[column - 1 :].decode("utf-8", "replace")
 
-    def is_silenced(self, kind, line):
-        """Whether a comment on a line, or on one of its own before it, silences remarks of a kind there."""
+    def is_silenced(self, kind: str, line: int) -> bool:
+        """Whether a comment on a line, or on one of its own before it, silences remarks of a kind
+        there.
+        """
         return is_silenced(kind, self.line(line), self.line(line - 1))
 
-    def is_marked_unused(self, name, first, last):
+    def is_marked_unused(self, name: str, first: int, last: int) -> bool:
         """Whether lines declare a variable of this name as one that need not be used."""
         word = re.compile(rf"\b{re.escape(name)}\b")
-        return any(word.search(text) and re.search(UNUSED, text) for text in self.lines[max(first - 1, 0):last])
+        return any(
+            word.search(text) and re.search(UNUSED, text)
+            for text in self.lines[max(first - 1, 0) : last]
+        )
 
-    def macros(self):
+    def macros(self) -> dict[str, str]:
         """The macros that it defines, by name."""
         if self.defined is None:
             self.defined = macros_in("\n".join(self.lines))
@@ -52,14 +62,24 @@ class Source:
             self.enumerated = enumerators_in("\n".join(self.lines))
         return self.enumerated
 
-    def expression_at(self, line: int, column: int, operator: str, operands: list[Operand],
-                      is_element: bool, macros: Macros, variables: frozenset[str]) -> str:
+    def expression_at(
+        self,
+        line: int,
+        column: int,
+        operator: str,
+        operands: list[Operand],
+        is_element: bool,
+        macros: Macros,
+        variables: frozenset[str],
+    ) -> str:
         """How an expression is written at a place, '' where it is not there.
 
         macros: those of the sources, not of the system. variables: the names that are no constants.
         """
+
         def meaning(name: str) -> float | None:
             return NO_VALUE if name in variables else macros.value_of(name)
+
         above = "".join(self.line(number) + "\n" for number in range(line - 1, line))
         below = "\n".join(self.line(number) for number in range(line, line + 3))
         behind = self.behind(line, column)
@@ -72,20 +92,25 @@ class Source:
         is_written = not self.lines or name and macros.may_write(name.group(), operator, is_element)
         return canonical(operator, operands, is_element) if is_written else ""
 
-    def use_at(self, line, name):
+    def use_at(self, line: int, name: str) -> str:
         """How a variable, or the part of it that is meant, is named on a line."""
         text = self.line(line)
-        found = {re.sub(r"\s", "", part) for part in re.findall(rf"{BEFORE}{re.escape(name)}((?:\s*\.\s*[A-Za-z_]\w*|\[\w+\])*)", text)}
+        found = {
+            re.sub(r"\s", "", part)
+            for part in re.findall(
+                rf"{BEFORE}{re.escape(name)}((?:\s*\.\s*[A-Za-z_]\w*|\[\w+\])*)", text
+            )
+        }
         return name + found.pop() if len(found) == 1 else name
 
 
 class Sources:
     """All source files that are asked for."""
 
-    def __init__(self):
+    def __init__(self) -> None:
         self.known = {}
 
-    def get(self, file):
+    def get(self, file: str) -> Source:
         """A source file by its name."""
         if file not in self.known:
             self.known[file] = Source(file)

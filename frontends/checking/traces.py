@@ -1,7 +1,17 @@
-"""Walks along the steps of one procedure: where a value is overwritten, where an expression was or will be evaluated."""
+"""Walks along the steps of one procedure: where a value is overwritten, where an expression was or
+will be evaluated.
+"""
+
+from __future__ import annotations
+
+from collections.abc import Callable, Iterable
+from typing import TYPE_CHECKING
 
 from gimple import flow
 from gimple.code import Procedure, Step
+
+if TYPE_CHECKING:
+    from gimple.dump import Place
 
 MOST = 3
 
@@ -9,11 +19,15 @@ MOST = 3
 class Traces:
     """Walks, with what they need of each procedure kept."""
 
-    def __init__(self):
+    def __init__(self) -> None:
         self.known = {}
 
-    def of(self, procedure):
-        """A procedure's steps that follow and that come before each, the number of each step, and who evaluates what."""
+    def of(
+        self, procedure: Procedure
+    ) -> tuple[list[tuple[int, ...]], list[list[int]], dict[Step, int], dict[str, list[Step]]]:
+        """A procedure's steps that follow and that come before each, the number of each step, and
+        who evaluates what.
+        """
         if procedure not in self.known:
             follow = flow.successors(procedure.steps)
             before = [[] for _ in range(len(procedure.steps) + 1)]
@@ -27,38 +41,71 @@ class Traces:
             self.known[procedure] = follow, before, numbers, evaluations
         return self.known[procedure]
 
-    def evaluations(self, procedure):
+    def evaluations(self, procedure: Procedure) -> dict[str, list[Step]]:
         """The steps of a procedure that evaluate each expression."""
         return self.of(procedure)[3]
 
-    def overwritten(self, procedure, step):
+    def overwritten(self, procedure: Procedure, step: Step) -> list[Place]:
         """The places that write the variable next, of a local that no pointer leads to."""
         if step.variable.is_addressed:
             return []
         follow, _, numbers, _ = self.of(procedure)
-        return places_of(self.walk(procedure, follow[numbers[step]], follow, lambda other: other.kind in ("set", "read")
-                                   and other.variable is step.variable and not other.weak))
+        return places_of(
+            self.walk(
+                procedure,
+                follow[numbers[step]],
+                follow,
+                lambda other: other.kind in ("set", "read")
+                and other.variable is step.variable
+                and not other.weak,
+            )
+        )
 
     def set_before(self, procedure: Procedure, step: Step) -> list[Step]:
         """The steps that may have set the variable last before this one."""
         _, before, numbers, _ = self.of(procedure)
-        return self.walk(procedure, before[numbers[step]], before,
-                         lambda other: other.kind in ("set", "read") and other.variable is step.variable)
+        return self.walk(
+            procedure,
+            before[numbers[step]],
+            before,
+            lambda other: other.kind in ("set", "read") and other.variable is step.variable,
+        )
 
-    def evaluated(self, procedure, step):
+    def evaluated(self, procedure: Procedure, step: Step) -> list[Place]:
         """The places that evaluated the step's expression last."""
         _, before, numbers, _ = self.of(procedure)
-        found = self.walk(procedure, before[numbers[step]], before, lambda other: other.expression == step.expression)
+        found = self.walk(
+            procedure,
+            before[numbers[step]],
+            before,
+            lambda other: other.expression == step.expression,
+        )
         return [place for place in places_of(found) if place != step.origin.place]
 
-    def evaluated_next(self, procedure, step, expression):
-        """The places that evaluate an expression next, for each of the ways that lead on. Those that step a variable, as i++, do not count."""
+    def evaluated_next(
+        self, procedure: Procedure, step: Step, expression: str
+    ) -> list[list[Place]]:
+        """The places that evaluate an expression next, for each of the ways that lead on.
+
+        Those that step a variable, as i++, do not count.
+        """
         follow, _, numbers, _ = self.of(procedure)
-        ways = [self.walk(procedure, [start], follow, lambda other: other.expression == expression) for start in follow[numbers[step]]]
-        return [places_of(found for found in way if found.variable not in found.operands) for way in ways]
+        ways = [
+            self.walk(procedure, [start], follow, lambda other: other.expression == expression)
+            for start in follow[numbers[step]]
+        ]
+        return [
+            places_of(found for found in way if found.variable not in found.operands)
+            for way in ways
+        ]
 
     @staticmethod
-    def walk(procedure, starts, leads, stops):
+    def walk(
+        procedure: Procedure,
+        starts: list[int] | tuple[int, ...],
+        leads: list[list[int] | tuple[int, ...]],
+        stops: Callable[[Step], bool],
+    ) -> list[Step]:
         """The first steps on each way that stop it."""
         steps = procedure.steps
         seen, waiting, found = set(), list(starts), []
@@ -74,7 +121,11 @@ class Traces:
         return found
 
 
-def places_of(steps):
+def places_of(steps: Iterable[Step]) -> list[Place]:
     """The places of steps that stand in the source, in its order, a few of them."""
-    found = {step.origin.place for step in steps if step.origin and step.origin.place and step.role != "made"}
+    found = {
+        step.origin.place
+        for step in steps
+        if step.origin and step.origin.place and step.role != "made"
+    }
     return sorted(found, key=lambda place: (place.file, place.line, place.column))[:MOST]

@@ -1,15 +1,19 @@
-"""Functions that may be active twice: their locals are written so that activations are not taken for one another."""
+"""Functions that may be active twice: their locals are written so that activations are not taken
+for one another.
+"""
 
 from . import flow
 from .code import Builder, Procedure, Step, Variable
 
 
-def callees_of(procedure):
+def callees_of(procedure: Procedure) -> list[Procedure]:
     """The procedures that a procedure calls."""
     return [callee for step in procedure.steps if step.kind == "call" for callee in step.callees]
 
 
-def keep_activations_apart(functions, everything):
+def keep_activations_apart(
+    functions: list[Procedure], everything: list[Procedure]
+) -> tuple[list[Procedure], list[Procedure]]:
     """Writes the locals of procedures that may recur as docs/ENCODINGS.md says.
 
     Answers the procedures that were made for it, and those that stand for one activation each.
@@ -19,8 +23,12 @@ def keep_activations_apart(functions, everything):
     made, single = [], []
     shared = {}
     for procedure in functions:
-        again = {id(step) for step in procedure.steps if step.kind == "call"
-                 and any(number[callee] == number[procedure] for callee in step.callees)}
+        again = {
+            id(step)
+            for step in procedure.steps
+            if step.kind == "call"
+            and any(number[callee] == number[procedure] for callee in step.callees)
+        }
         if again:
             shared[procedure], unread = variables_in_use(procedure, again)
             single += [one_activation(procedure, unread)] if unread else []
@@ -30,18 +38,30 @@ def keep_activations_apart(functions, everything):
             if step.variable in weak:
                 step.weak = True
     for procedure, variables in shared.items():
-        again = [step for step in procedure.steps if step.kind == "call"
-                 and any(number[callee] == number[procedure] for callee in step.callees)]
+        again = [
+            step
+            for step in procedure.steps
+            if step.kind == "call"
+            and any(number[callee] == number[procedure] for callee in step.callees)
+        ]
         made += change_locals(procedure, variables, again)
     return made, single
 
 
-def variables_in_use(procedure, again):
-    """The locals that are in use across one of these calls, or at the entry, or that pointers may lead to.
+def variables_in_use(
+    procedure: Procedure, again: set[int]
+) -> tuple[list[Variable], list[Variable]]:
+    """The locals that are in use across one of these calls, or at the entry, or that pointers may
+    lead to.
 
     Beside them those of which some value seems to be read by nobody, as far as one activation goes.
+
     """
-    own = list(dict.fromkeys([*procedure.locals(), *[parameter for parameter in procedure.parameters if parameter]]))
+    own = list(
+        dict.fromkeys(
+            [*procedure.locals(), *[parameter for parameter in procedure.parameters if parameter]]
+        )
+    )
     live, numbers = flow.live_before(procedure.steps, own)
     used = unread = 0
     for at, step in enumerate(procedure.steps):
@@ -54,22 +74,40 @@ def variables_in_use(procedure, again):
         at_entry = live[0] & numbers[variable] and not variable.is_parameter
         if variable.is_addressed or used & numbers[variable] or at_entry:
             found.append(variable)
-    return found, [variable for variable in found if variable.source and not variable.is_addressed and unread & numbers[variable]]
+    return found, [
+        variable
+        for variable in found
+        if variable.source and not variable.is_addressed and unread & numbers[variable]
+    ]
 
 
-def is_own_set(step):
-    """Whether a step sets a variable, and is not the passing of an argument, to an inner activation for one."""
+def is_own_set(step: Step) -> bool:
+    """Whether a step sets a variable, and is not the passing of an argument, to an inner activation
+    for one.
+    """
     return step.kind == "set" and step.role != "argument"
 
 
-def one_activation(procedure, variables):
-    """A procedure that does what one activation of a function does with these locals, to which no pointer leads.
+def one_activation(procedure: Procedure, variables: list[Variable]) -> Procedure:
+    """A procedure that does what one activation of a function does with these locals, to which no
+    pointer leads.
 
-    Whatever it calls leaves them as they are, so all else that it does is left out. It has all ways of the function.
+    Whatever it calls leaves them as they are, so all else that it does is left out. It has all ways
+    of the function.
     """
-    single = Procedure(f"{procedure.wish}__once", procedure.source, procedure.function, is_once=True)
-    copies = {variable: Variable(variable.wish, variable.source, single, is_array=variable.is_array, is_parameter=variable.is_parameter)
-              for variable in variables}
+    single = Procedure(
+        f"{procedure.wish}__once", procedure.source, procedure.function, is_once=True
+    )
+    copies = {
+        variable: Variable(
+            variable.wish,
+            variable.source,
+            single,
+            is_array=variable.is_array,
+            is_parameter=variable.is_parameter,
+        )
+        for variable in variables
+    }
     build = Builder(single)
     for step in procedure.steps:
         reads = tuple(copies[part] for part in step.reads() if part in copies)
@@ -80,14 +118,24 @@ def one_activation(procedure, variables):
         else:
             build.use(reads)
         if is_own_set(step) and step.variable in copies:
-            build.add("set", variable=copies[step.variable], weak=step.weak, ends_life=step.ends_life, role=step.role)
+            build.add(
+                "set",
+                variable=copies[step.variable],
+                weak=step.weak,
+                ends_life=step.ends_life,
+                role=step.role,
+            )
             single.steps[-1].origin, single.steps[-1].slot = step.origin, step.slot
             step.told_once = True
     return single
 
 
-def change_locals(procedure, variables, calls):
-    """Has the locals change at the entry and behind these calls; by a procedure of its own where there are several."""
+def change_locals(
+    procedure: Procedure, variables: list[Variable], calls: list[Step]
+) -> list[Procedure]:
+    """Has the locals change at the entry and behind these calls; by a procedure of its own where
+    there are several.
+    """
     variables = [variable for variable in variables if variable is not procedure.result]
     if not variables:
         return []
@@ -102,6 +150,10 @@ def change_locals(procedure, variables, calls):
         if step is not None:
             steps.append(step)
         if step is None or id(step) in wanted:
-            steps += [Step("call", callees=[change])] if is_long else [Step("set", variable=variables[0], weak=True)]
+            steps += (
+                [Step("call", callees=[change])]
+                if is_long
+                else [Step("set", variable=variables[0], weak=True)]
+            )
     procedure.steps = steps
     return [change] if is_long else []

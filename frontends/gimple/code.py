@@ -1,36 +1,51 @@
 """Programs of tacflow's language while they are made: variables, statements, procedures."""
 
+from __future__ import annotations
+
+from collections.abc import Iterable
 from dataclasses import dataclass, field
-from typing import NamedTuple
+from typing import TYPE_CHECKING, Any, NamedTuple
+
+if TYPE_CHECKING:
+    from .dump import Function, Place, Statement
+    from .faults import Refusal
 
 
 @dataclass(eq=False, slots=True)
 class Variable:
-    """A variable of the program, which stands for one of the C program or for a value that gcc made.
+    """A variable of the program, which stands for one of the C program or for a value that gcc
+    made.
 
-    source: its name in C, or empty. owner: the procedure whose local it is, or None. home: of a static, the file's name or the
-    procedure in which it stands. is_addressed: a pointer may lead to it. whole: the variable of which it is a part, or the pointer
-    that leads to it.
+    source: its name in C, or empty. owner: the procedure whose local it is, or None. home: of a
+    static, the file's name or the procedure in which it stands. is_addressed: a pointer may lead to
+    it. whole: the variable of which it is a part, or the pointer that leads to it.
     """
+
     wish: str
     source: str = ""
-    owner: object = None
-    home: object = None
+    owner: Procedure | None = None
+    home: Procedure | str | None = None
     is_array: bool = False
     is_addressed: bool = False
     is_parameter: bool = False
-    whole: object = None
+    whole: Variable | None = None
     name: str = ""
 
-    def is_in_scope(self, procedure):
+    def is_in_scope(self, procedure: Procedure) -> bool:
         """Whether a procedure can name it."""
         if self.owner is not None:
             return self.owner is procedure
-        return self.home is None or self.home is procedure or bool(procedure.function) and self.home == procedure.function.file
+        return (
+            self.home is None
+            or self.home is procedure
+            or bool(procedure.function)
+            and self.home == procedure.function.file
+        )
 
 
 class Number(NamedTuple):
     """A number that stands for a constant of the C program; `text` is how C writes it."""
+
     value: int
     text: str
 
@@ -38,6 +53,7 @@ class Number(NamedTuple):
 @dataclass(eq=False)
 class Label:
     """A place in a procedure."""
+
     name: str = ""
 
 
@@ -45,87 +61,110 @@ class Label:
 class Step:
     """One statement of the program.
 
-    kind: 'set', 'read', 'use', 'fork', 'goto', 'call', 'return', 'label', 'note'. A set has `variable` and, for an expression,
-    `operator` and `operands`; one that is `weak` may also leave the variable as it is. A use reads its operands, and leads to
-    `label` or on where it is a test. A fork leads to `label` or on. A note stands for no statement: it says that the
-    variables of `touched` may be written from there on, through an address or a part. A test that compares one variable with a number
-    has variable, operation and number in `compares`, one of two numbers its outcome in `outcome`. Of a set that is `told_once` a copy
-    in a procedure of one activation tells whether its value is read. One that `is_copy` sets its variable to its operand, as it is;
-    one that is `chained` stands behind another sign of assignment at that place, as `y = 0` in `x = y = 0`.
+    kind: 'set', 'read', 'use', 'fork', 'goto', 'call', 'return', 'label', 'note'. A set has
+    `variable` and, for an expression, `operator` and `operands`; one that is `weak` may also leave
+    the variable as it is. A use reads its operands, and leads to `label` or on where it is a test.
+    A fork leads to `label` or on. A note stands for no statement: it says that the variables of
+    `touched` may be written from there on, through an address or a part. A test that compares one
+    variable with a number has variable, operation and number in `compares`, one of two numbers its
+    outcome in `outcome`. Of a set that is `told_once` a copy in a procedure of one activation tells
+    whether its value is read. One that `is_copy` sets its variable to its operand, as it is; one
+    that is `chained` stands behind another sign of assignment at that place, as `y = 0` in `x = y =
+    0`.
     """
+
     kind: str
-    variable: Variable = None
+    variable: Variable | None = None
     operator: str = ""
-    operands: tuple = ()
-    label: object = None
-    callees: tuple = ()
+    operands: tuple[Variable | Number, ...] = ()
+    label: Label | None = None
+    callees: tuple[Procedure, ...] = ()
     weak: bool = False
-    touched: tuple = ()
+    touched: tuple[Variable, ...] = ()
     ends_life: bool = False
-    origin: object = None
+    origin: Statement | None = None
     slot: int = 0
     role: str = "made"
-    unset: tuple = ()
-    surely_unset: tuple = ()
+    unset: tuple[Variable, ...] = ()
+    surely_unset: tuple[Variable, ...] = ()
     result_of_call: bool = False
     is_element: bool = False
     expression: str = ""
     compares: tuple = ()
-    outcome: bool = None
+    outcome: bool | None = None
     told_once: bool = False
     is_copy: bool = False
-    chained: object = None
+    chained: Place | None = None
 
-    def reads(self):
+    def reads(self) -> list[Variable]:
         """The variables that it reads."""
         return [operand for operand in self.operands if isinstance(operand, Variable)]
 
     @staticmethod
-    def reading(variables: tuple[Variable, ...], origin: object) -> list["Step"]:
+    def reading(variables: tuple[Variable, ...], origin: Statement | None) -> list["Step"]:
         """Steps that read variables for a C statement."""
         after = Label()
-        return [Step("use", operands=variables, label=after, origin=origin),
-                Step("label", label=after)]
+        return [
+            Step("use", operands=variables, label=after, origin=origin),
+            Step("label", label=after),
+        ]
 
-    def jump(self):
+    def jump(self) -> Step:
         """Another step that leads where this one leads."""
-        return Step(self.kind, label=self.label, callees=self.callees, origin=self.origin, slot=self.slot, role=self.role)
+        return Step(
+            self.kind,
+            label=self.label,
+            callees=self.callees,
+            origin=self.origin,
+            slot=self.slot,
+            role=self.role,
+        )
 
 
 @dataclass(eq=False)
 class Procedure:
     """A procedure of the program.
 
-    function: the C function's dump, or None where the front end made it. refusal: why it stands for unknown code, or None.
-    is_once: it has the locals of one activation of the function and nothing else.
+    function: the C function's dump, or None where the front end made it. refusal: why it stands for
+    unknown code, or None. is_once: it has the locals of one activation of the function and nothing
+    else.
     """
+
     wish: str
     source: str = ""
-    function: object = None
-    steps: list = field(default_factory=list)
-    parameters: list = field(default_factory=list)
-    result: Variable = None
-    stop: Label = None
-    refusal: object = None
+    function: Function | None = None
+    steps: list[Step] = field(default_factory=list)
+    parameters: list[Variable | None] = field(default_factory=list)
+    result: Variable | None = None
+    stop: Label | None = None
+    refusal: Refusal | None = None
     is_once: bool = False
     name: str = ""
 
-    def locals(self):
+    def locals(self) -> list[Variable]:
         """The variables of its own that its statements name."""
-        named = dict.fromkeys(variable for step in self.steps for variable in (step.variable, *step.operands, *step.touched))
-        return [variable for variable in named if isinstance(variable, Variable) and variable.owner is self]
+        named = dict.fromkeys(
+            variable
+            for step in self.steps
+            for variable in (step.variable, *step.operands, *step.touched)
+        )
+        return [
+            variable
+            for variable in named
+            if isinstance(variable, Variable) and variable.owner is self
+        ]
 
 
 class Builder:
     """Puts steps behind one another in a procedure."""
 
-    def __init__(self, procedure):
+    def __init__(self, procedure: Procedure) -> None:
         self.procedure = procedure
         self.origin = None
         self.role = "made"
         self.slot = 0
 
-    def add(self, kind, **parts):
+    def add(self, kind: str, **parts: Any) -> Step:
         """Adds a step of this kind for the C statement at hand."""
         self.slot += 1
         parts.setdefault("role", self.role)
@@ -133,25 +172,33 @@ class Builder:
         self.procedure.steps.append(step)
         return step
 
-    def label(self, label=None):
+    def label(self, label: Label = None) -> Label:
         """Sets a label, a new one unless one is given."""
         label = label or Label()
         self.procedure.steps.append(Step("label", label=label))
         return label
 
-    def use(self, variables, role=None):
+    def use(self, variables: Iterable[Variable], role: str | None = None) -> None:
         """Reads the variables, two a statement."""
         variables = tuple(dict.fromkeys(variables))
         for at in range(0, len(variables), 2):
             after = Label()
-            self.add("use", operands=variables[at:at + 2], label=after, role=role or self.role)
+            self.add("use", operands=variables[at : at + 2], label=after, role=role or self.role)
             self.label(after)
 
-    def set(self, variable, operands=(), operator="", **parts):
+    def set(
+        self,
+        variable: Variable,
+        operands: list[Variable] | tuple[Number | Variable, ...] = (),
+        operator: str = "",
+        **parts: Any,
+    ) -> Step:
         """Sets a variable to an expression, a copy, or a value that is not told."""
-        return self.add("set", variable=variable, operands=tuple(operands), operator=operator, **parts)
+        return self.add(
+            "set", variable=variable, operands=tuple(operands), operator=operator, **parts
+        )
 
-    def call(self, callees):
+    def call(self, callees: dict[Procedure, None] | list[Procedure]) -> None:
         """Calls one of these procedures, eight a statement, more by tests."""
         callees = list(dict.fromkeys(callees))
         done = Label()
@@ -160,7 +207,7 @@ class Builder:
             other = Label()
             if not is_last:
                 self.add("fork", label=other, role="made")
-            self.add("call", callees=tuple(callees[at:at + 8]))
+            self.add("call", callees=tuple(callees[at : at + 8]))
             if not is_last:
                 self.add("goto", label=done, role="made")
                 self.label(other)

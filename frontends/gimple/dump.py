@@ -1,44 +1,63 @@
-"""Reading gcc's dump `-fdump-tree-lower-raw-lineno-uid`: functions, what they declare, and their statements."""
+"""Reading gcc's dump `-fdump-tree-lower-raw-lineno-uid`: functions, what they declare, and their
+statements.
+"""
+
+from __future__ import annotations
 
 import functools
 import re
+from collections.abc import Callable, Iterator
 from dataclasses import dataclass, field
 from typing import NamedTuple
 
 from . import operands
 from .faults import Refusal
 
-HEADER = re.compile(r"^;; Function (?P<name>\S+) \((?P<linkage>[^,\n]*), .*decl_uid=(?P<uid>\d+)", re.MULTILINE)
+HEADER = re.compile(
+    r"^;; Function (?P<name>\S+) \((?P<linkage>[^,\n]*), .*decl_uid=(?P<uid>\d+)", re.MULTILINE
+)
 FIRST_STATEMENT = re.compile(r"^(?: *(?:\[[^\[\]\"\n]*\] )?(?:gimple_|//)|\}$)", re.MULTILINE)
-STATEMENT_PLACE = re.compile(r"^ *\[([^\[\]\"\n]*:\d+:\d+)(?: discrim \d+)?\] gimple_", re.MULTILINE)
+STATEMENT_PLACE = re.compile(
+    r"^ *\[([^\[\]\"\n]*:\d+:\d+)(?: discrim \d+)?\] gimple_", re.MULTILINE
+)
 SWITCH = re.compile(r"^ *gimple_switch .*", re.MULTILINE)
 # A text without them falls apart into words, in which alone there are declared names.
 SIGNS = str.maketrans(dict.fromkeys("[]<>(),;:&+-={}\"/!|^%~?'\\", " "))
 STATEMENT = re.compile(r"gimple_(?P<kind>\w+) <(?P<words>.*)>(?P<rest>[^>]*)$")
 CASE = re.compile(r"(?:default|case [^:]*): <([^>]*)>")
 OPERAND_NAME = re.compile(r'(?:"\w+" )?"(?P<constraint>[^"]*)" (?P<operand>.*)$')
-VALUES = {"assign": slice(1, None), "call": slice(1, None), "cond": slice(1, 3), "switch": slice(0, 1), "return": slice(0, 1),
-          "goto": slice(0, 1)}
+VALUES = {
+    "assign": slice(1, None),
+    "call": slice(1, None),
+    "cond": slice(1, 3),
+    "switch": slice(0, 1),
+    "return": slice(0, 1),
+    "goto": slice(0, 1),
+}
 STRUCT = re.compile(r"(?:const )?struct [\w$]+ [\w$]+D\.\d+$")
 PASSED_OVER = ("//", "#", "gimple_nop", "GIMPLE_NOP", "gimple_debug")
 
 
 class Place(NamedTuple):
     """A place in a C source. The column counts bytes, from 1."""
+
     file: str
     line: int
     column: int
 
-    def __str__(self):
+    def __str__(self) -> str:
         return f"{self.file}:{self.line}:{self.column}"
 
 
 @dataclass(eq=False, slots=True)
 class Statement:
-    """A statement: its kind, its words as the dump has them but for places, and its own place, None where gcc made it."""
+    """A statement: its kind, its words as the dump has them but for places, and its own place, None
+    where gcc made it.
+    """
+
     kind: str
-    words: list
-    place: Place
+    words: list[str]
+    place: Place | None
     number: int
     file: str
     rest: str = ""
@@ -48,75 +67,91 @@ class Statement:
 class Assembler(Statement):
     """A statement of assembler: its operands with their constraints, and where it may jump to.
 
-    outputs, inputs: pairs of a constraint and an operand. touches_memory: it may do more than its operands say.
+    outputs, inputs: pairs of a constraint and an operand. touches_memory: it may do more than its
+    operands say.
     """
-    outputs: list = field(default_factory=list)
-    inputs: list = field(default_factory=list)
-    labels: list = field(default_factory=list)
+
+    outputs: list[tuple[str, str]] = field(default_factory=list)
+    inputs: list[tuple[str, str]] = field(default_factory=list)
+    labels: list[str] = field(default_factory=list)
     touches_memory: bool = False
 
 
 @dataclass(eq=False)
 class Try:
     """Statements, and others that run whenever the first ones are left."""
-    body: list
-    cleanup: list
+
+    body: list[Statement | Try]
+    cleanup: list[Statement | Try]
 
 
 @dataclass(eq=False)
 class Function:
-    """A function's dump: what it declares, by names as `xD.12`, and its statements, which are read when they are asked for.
+    """A function's dump: what it declares, by names as `xD.12`, and its statements, which are read
+    when they are asked for.
 
-    attributes: what stands before its heading. arrays: the locals that are arrays. structs: what is declared as a struct, of locals
-    and parameters. text: the lines of its statements, of which the
-    first has this `number` in the dump. words: its operands, once they were asked for. shown: what a file of the dump's is called in places.
+    attributes: what stands before its heading. arrays: the locals that are arrays. structs: what is
+    declared as a struct, of locals and parameters. text: the lines of its statements, of which the
+    first has this `number` in the dump. words: its operands, once they were asked for. shown: what
+    a file of the dump's is called in places.
     """
+
     name: str
     linkage: str
     uid: int
     file: str
-    shown: object = str
+    shown: Callable[[str], str] = str
     attributes: str = ""
-    parameters: list = field(default_factory=list)
-    locals: set = field(default_factory=set)
-    arrays: set = field(default_factory=set)
-    structs: set = field(default_factory=set)
-    statics: list = field(default_factory=list)
+    parameters: list[str] = field(default_factory=list)
+    locals: set[str] = field(default_factory=set)
+    arrays: set[str] = field(default_factory=set)
+    structs: set[str] = field(default_factory=set)
+    statics: list[str] = field(default_factory=list)
     text: str = ""
     number: int = 1
-    named: tuple = None
-    used: tuple = None
-    words: dict = field(default_factory=dict)
+    named: tuple[str, ...] | None = None
+    used: tuple | None = None
+    words: dict[str, Place | None] = field(default_factory=dict)
 
     @functools.cached_property
-    def contents(self):
+    def contents(self) -> tuple[list[Statement | Try], None]:
         """Its statements, and why they can't be read, or None."""
         try:
             return Reader(self).block("}"), None
         except Refusal as refusal:
             return [], refusal
         except (ValueError, IndexError):
-            return [], Refusal(f"'{self.name}' has a dump that is not written as expected", self.file)
+            return [], Refusal(
+                f"'{self.name}' has a dump that is not written as expected", self.file
+            )
 
     @property
-    def body(self):
+    def body(self) -> list[Statement | Try]:
         """Its statements."""
         return self.contents[0]
 
     @property
-    def fault(self):
+    def fault(self) -> None:
         """Why its statements can't be read, or None."""
         return self.contents[1]
 
-    def names(self):
-        """The declared names in its statements that are none of its locals, callees and fields too; its statements need not be read."""
+    def names(self) -> tuple[str, ...]:
+        """The declared names in its statements that are none of its locals, callees and fields too;
+        its statements need not be read.
+        """
         if self.named is None:
             own = self.locals.union(self.parameters)
-            words = [word for word in dict.fromkeys(self.text.translate(SIGNS).split()) if "D." in word]
-            self.named = tuple(name for name in dict.fromkeys(name for word in words for name in declared_in(word)) if name not in own)
+            words = [
+                word for word in dict.fromkeys(self.text.translate(SIGNS).split()) if "D." in word
+            ]
+            self.named = tuple(
+                name
+                for name in dict.fromkeys(name for word in words for name in declared_in(word))
+                if name not in own
+            )
         return self.named
 
-    def places(self):
+    def places(self) -> set[str]:
         """The places of its statements, as the dump has them; its statements need not be read."""
         found = set(STATEMENT_PLACE.findall(self.text))
         if "gimple_switch" in self.text:
@@ -124,14 +159,25 @@ class Function:
                 found.update(":".join(place) for place in operands.PLACE.findall(switch))
         return found
 
-    def uses(self):
-        """The names that its operands have, each with whether its address is taken there, and the operand that is not known, if any."""
+    def uses(self) -> tuple[tuple[tuple[str, bool], ...], None]:
+        """The names that its operands have, each with whether its address is taken there, and the
+        operand that is not known, if any.
+        """
         if self.used is None:
             found, unknown = {}, None
-            self.words = {word: statement.place for statement in statements_in(self.body) for word in words_of(statement)}
+            self.words = {
+                word: statement.place
+                for statement in statements_in(self.body)
+                for word in words_of(statement)
+            }
             for word, place in self.words.items():
                 reference = operands.parse(word)
-                if reference is None or reference.base is None and reference.constant is None and not reference.is_memory:
+                if (
+                    reference is None
+                    or reference.base is None
+                    and reference.constant is None
+                    and not reference.is_memory
+                ):
                     unknown = word, place
                     continue
                 for name in [*reference.addressed, *operands.names_read(reference)]:
@@ -139,22 +185,22 @@ class Function:
             self.used = tuple(pair for pair in found if operands.is_declared(pair[0])), unknown
         return self.used
 
-    def size(self):
+    def size(self) -> int:
         """How many statements it has, about."""
         return self.text.count("gimple_") + 1
 
     @property
-    def is_nested(self):
+    def is_nested(self) -> bool:
         """Whether it stands in another function."""
         return "." in self.linkage
 
     @property
-    def is_noreturn(self):
+    def is_noreturn(self) -> bool:
         """Whether it never comes back."""
         return "noreturn" in self.attributes
 
     @property
-    def is_kept(self):
+    def is_kept(self) -> bool:
         """Whether something that gcc doesn't see may call it."""
         return bool(re.search(r"\b(?:__)?used\b", self.attributes))
 
@@ -162,7 +208,7 @@ class Function:
 class Reader:
     """A reader of a function's statements."""
 
-    def __init__(self, function):
+    def __init__(self, function: Function) -> None:
         self.file = function.file
         self.shown = function.shown
         self.lines = function.text.split("\n")
@@ -170,14 +216,14 @@ class Reader:
         self.at = 0
         self.last_place = None
 
-    def next_line(self):
+    def next_line(self) -> str:
         """The next line, which has to be there."""
         if self.at >= len(self.lines):
             raise Refusal("the dump ends within a function", self.last_place or self.file)
         self.at += 1
         return self.lines[self.at - 1]
 
-    def block(self, closing):
+    def block(self, closing: str) -> list[Statement | Try]:
         """The statements up to this closing line."""
         found = []
         while True:
@@ -193,7 +239,7 @@ class Reader:
             elif line and not line.startswith(PASSED_OVER):
                 found.append(self.statement(line, place))
 
-    def try_block(self, line):
+    def try_block(self, line: str) -> Try:
         """A try with its cleanup, the first line passed."""
         if "GIMPLE_TRY_FINALLY" not in line:
             raise Refusal(f"{line.split('<')[1].rstrip(',')} can't be turned", self.last_place)
@@ -204,38 +250,48 @@ class Reader:
         self.pass_line(">")
         return Try(body, cleanup)
 
-    def placed(self, line):
+    def placed(self, line: str) -> tuple[Place | None, str]:
         """The place that a line begins with, or None, and the line without it."""
         found = operands.PLACE.match(line)
         if not found:
             return None, line
-        rest = line[found.end():]
+        rest = line[found.end() :]
         if found[1] == "<built-in>" or found[2] == "0":
             return None, rest
         return Place(self.shown(found[1]), int(found[2]), int(found[3])), rest
 
-    def first_place(self, line):
-        """The first place that a line names: a switch of which gcc tells none is placed at its first case."""
+    def first_place(self, line: str) -> Place:
+        """The first place that a line names: a switch of which gcc tells none is placed at its
+        first case.
+        """
         places = [self.placed(found.group())[0] for found in operands.PLACE.finditer(line)]
         return min(filter(None, places), key=lambda place: (place.line, place.column), default=None)
 
-    def pass_line(self, wanted):
+    def pass_line(self, wanted: str) -> None:
         """Passes a line that has to be there."""
         line = self.next_line().strip()
         if line != wanted:
-            raise Refusal(f"a dump in which '{line}' stands where '{wanted}' should", self.last_place)
+            raise Refusal(
+                f"a dump in which '{line}' stands where '{wanted}' should", self.last_place
+            )
 
-    def statement(self, line, place):
+    def statement(self, line: str, place: Place | None) -> Statement:
         """A statement of one line."""
         if line.startswith("gimple_switch") and place is None:
             place = self.first_place(line)
         found = STATEMENT.match(line)
         if not found:
             raise Refusal(f"a statement that is not known: {line[:60]}", place or self.last_place)
-        return Statement(found["kind"], operands.split_words(operands.without_places(found["words"])), place, self.number + self.at,
-                         self.file, found["rest"])
+        return Statement(
+            found["kind"],
+            operands.split_words(operands.without_places(found["words"])),
+            place,
+            self.number + self.at,
+            self.file,
+            found["rest"],
+        )
 
-    def assembler(self, place):
+    def assembler(self, place: Place) -> Assembler:
         """A statement of assembler, its first line passed."""
         found = Assembler("asm", [], place, self.number + self.at, self.file)
         opening = self.next_line()
@@ -253,7 +309,7 @@ class Reader:
         return found
 
     @staticmethod
-    def take_operands(statement, line):
+    def take_operands(statement: Assembler, line: str) -> None:
         """Takes in a line of operands of a statement of assembler."""
         kind, rest = line.split(": ", 1)
         if kind == "CLOBBER":
@@ -270,19 +326,19 @@ class Reader:
                 raise Refusal("assembler that is not written as expected", statement.place)
 
 
-def place_in(text, shown):
+def place_in(text: str, shown: Callable[[str], str]) -> Place:
     """A place, from `file:line:column` as a dump has it."""
     file, line, column = text.rsplit(":", 2)
     return Place(shown(file), int(line), int(column))
 
 
 @functools.lru_cache(maxsize=1 << 16)
-def declared_in(word):
+def declared_in(word: str) -> tuple[str, ...]:
     """The declared names in a word without signs."""
     return tuple(operands.DECLARED_FIRST.findall(word))
 
 
-def closing_bracket(text):
+def closing_bracket(text: str) -> int:
     """The place of the bracket that closes the text's first one."""
     depth = 0
     for at, sign in enumerate(text):
@@ -294,8 +350,8 @@ def closing_bracket(text):
 
 def take_parameters(function: Function, heading: str, name: str) -> None:
     """Takes in the parameters in a function's heading, in order."""
-    inside = heading[heading.index(name) + len(name):].strip()
-    for word in operands.split_words(inside[1:closing_bracket(inside)]):
+    inside = heading[heading.index(name) + len(name) :].strip()
+    for word in operands.split_words(inside[1 : closing_bracket(inside)]):
         declared = re.findall(operands.DECLARED, word)
         if declared:
             function.parameters.append(declared[-1])
@@ -308,7 +364,7 @@ def is_struct(declaration: str) -> bool:
     return bool(STRUCT.match(declaration))
 
 
-def declare(function, text):
+def declare(function: Function, text: str) -> None:
     """Takes in one declaration."""
     plain = text.rstrip(";")
     plain = re.split(r" = | \[value-expr:", plain)[0]
@@ -327,12 +383,12 @@ def declare(function, text):
             function.structs.add(declared[-1])
 
 
-def cases_of(statement):
+def cases_of(statement: Statement) -> list[str]:
     """The labels of a switch, the default first."""
     return CASE.findall(", ".join(statement.words[1:]))
 
 
-def read(text, file, shown):
+def read(text: str, file: str, shown: Callable[[str], str]) -> list[Function]:
     """The functions of a dump."""
     shown = functools.cache(shown)
     starts = [found.start() for found in HEADER.finditer(text)]
@@ -344,26 +400,28 @@ def read(text, file, shown):
     return found
 
 
-def function_in(text, number, file, shown):
+def function_in(text: str, number: int, file: str, shown: Callable[[str], str]) -> Function:
     """The function of a part of a dump, whose first line has this number."""
     header = HEADER.match(text)
     function = Function(header["name"], header["linkage"], int(header["uid"]), file, shown)
-    heading, _, inside = text[text.index("\n"):].partition("\n{\n")
+    heading, _, inside = text[text.index("\n") :].partition("\n{\n")
     heading = heading.replace("\n", " ")
     name = f"{function.name}D.{function.uid}"
     if name not in heading:
-        raise Refusal("no raw dump with numbers; run gcc with -fdump-tree-lower-raw-lineno-uid", file)
+        raise Refusal(
+            "no raw dump with numbers; run gcc with -fdump-tree-lower-raw-lineno-uid", file
+        )
     function.attributes = heading.split(name)[0]
     take_parameters(function, heading, name)
     first = FIRST_STATEMENT.search(inside)
     if first:
-        take_declarations(function, inside[:first.start()])
-        function.text = inside[first.start():]
-        function.number = number + text[:len(text) - len(function.text)].count("\n")
+        take_declarations(function, inside[: first.start()])
+        function.text = inside[first.start() :]
+        function.number = number + text[: len(text) - len(function.text)].count("\n")
     return function
 
 
-def take_declarations(function, text):
+def take_declarations(function: Function, text: str) -> None:
     """Takes in a function's declarations."""
     depth = 0
     declaration = ""
@@ -376,7 +434,7 @@ def take_declarations(function, text):
             declaration = ""
 
 
-def words_of(statement):
+def words_of(statement: Statement) -> list[str]:
     """The operands of a statement, without the function that it calls."""
     if isinstance(statement, Assembler):
         return [word for _, word in [*statement.outputs, *statement.inputs]]
@@ -386,7 +444,7 @@ def words_of(statement):
     return [word for word in words if word != "NULL"]
 
 
-def statements_in(body):
+def statements_in(body: list[Statement | Try]) -> Iterator[Statement]:
     """All statements of a body, those of cleanups too."""
     for item in body:
         if isinstance(item, Try):

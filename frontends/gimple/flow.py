@@ -1,15 +1,24 @@
-"""Small analyses of one procedure that the encodings rest on: what may run next, what is in use, what may be unset."""
+"""Small analyses of one procedure that the encodings rest on: what may run next, what is in use,
+what may be unset.
+"""
+
+from __future__ import annotations
+
+from typing import TYPE_CHECKING
+
+if TYPE_CHECKING:
+    from .code import Number, Procedure, Step, Variable
 
 
 # The steps behind which not only the next one comes.
 JUMPS = frozenset(["return", "goto", "use", "fork"])
 
 
-def successors(steps, by_outcome=False):
+def successors(steps: list[Step], by_outcome: bool = False) -> list[tuple[int, ...]]:
     """For each step the places that may come next; the end is the number of steps.
 
-    by_outcome: a test of two numbers leads one way. A program has both ways of it: which numbers they are is a matter of how it
-    was compiled, and nothing is to be told of that.
+    by_outcome: a test of two numbers leads one way. A program has both ways of it: which numbers
+    they are is a matter of how it was compiled, and nothing is to be told of that.
     """
     places = {step.label: at for at, step in enumerate(steps) if step.kind == "label"}
     found = [(at,) for at in range(1, len(steps) + 1)]
@@ -27,8 +36,12 @@ def successors(steps, by_outcome=False):
     return found
 
 
-def blocks_of(steps, by_outcome=False):
-    """The stretches of steps that run one after the other, as pairs of first place and the place behind, and where each leads."""
+def blocks_of(
+    steps: list[Step], by_outcome: bool = False
+) -> tuple[list[tuple[int, int]], list[list[int]]]:
+    """The stretches of steps that run one after the other, as pairs of first place and the place
+    behind, and where each leads.
+    """
     follow = successors(steps, by_outcome)
     firsts = {0}
     for at, step in enumerate(steps):
@@ -42,7 +55,7 @@ def blocks_of(steps, by_outcome=False):
     return list(zip(firsts, ends)), leads
 
 
-def bits_of(variables, numbers):
+def bits_of(variables: tuple[Number | Variable | None, ...], numbers: dict[Variable, int]) -> int:
     """A set of variables as the bits of a number."""
     bits = 0
     for variable in variables:
@@ -50,14 +63,23 @@ def bits_of(variables, numbers):
     return bits
 
 
-def live_before(steps, variables):
-    """For each place the bits of the variables whose values are still read from there on, and the bit of each variable.
+def live_before(
+    steps: list[Step], variables: list[Variable]
+) -> tuple[list[int], dict[Variable, int]]:
+    """For each place the bits of the variables whose values are still read from there on, and the
+    bit of each variable.
 
     What a step reads of the result of a call is left out: that value was made by the callee.
+
     """
     numbers = {variable: 1 << number for number, variable in enumerate(variables)}
-    reads = [0 if step.result_of_call or not step.operands else bits_of(step.operands, numbers) for step in steps]
-    kills = [0 if step.weak or step.variable is None else numbers.get(step.variable, 0) for step in steps]
+    reads = [
+        0 if step.result_of_call or not step.operands else bits_of(step.operands, numbers)
+        for step in steps
+    ]
+    kills = [
+        0 if step.weak or step.variable is None else numbers.get(step.variable, 0) for step in steps
+    ]
     blocks, leads = blocks_of(steps)
     behind = live_behind(blocks, leads, reads, kills)
     live = [0] * (len(steps) + 1)
@@ -67,7 +89,9 @@ def live_before(steps, variables):
     return live, numbers
 
 
-def live_behind(blocks, leads, reads, kills):
+def live_behind(
+    blocks: list[tuple[int, int]], leads: list[list[int]], reads: list[int], kills: list[int]
+) -> list[int]:
     """The bits of what is still read behind each block."""
     before = [[] for _ in blocks]
     for block, places in enumerate(leads):
@@ -98,16 +122,19 @@ def live_behind(blocks, leads, reads, kills):
     return behind
 
 
-def mark_unset(steps, variables):
-    """Notes at each step the variables that it reads and that nothing on some way from the entry has touched, and those that
-    nothing has touched on any way."""
+def mark_unset(steps: list[Step], variables: list[Variable]) -> None:
+    """Notes at each step the variables that it reads and that nothing on some way from the entry
+    has touched, and those that nothing has touched on any way.
+    """
     if not variables or not steps:
         return
     numbers = {variable: 1 << number for number, variable in enumerate(variables)}
     touches = [bits_of((step.variable, *step.touched), numbers) for step in steps]
     ends = [touches[at] if step.ends_life else 0 for at, step in enumerate(steps)]
     blocks, leads = blocks_of(steps, True)
-    for (first, end), state in zip(blocks, states_before(blocks, leads, touches, ends, (1 << len(variables)) - 1)):
+    for (first, end), state in zip(
+        blocks, states_before(blocks, leads, touches, ends, (1 << len(variables)) - 1)
+    ):
         if state is None:
             continue
         unset, touched = state
@@ -119,8 +146,16 @@ def mark_unset(steps, variables):
                 touched = (touched | touches[at]) & ~ends[at]
 
 
-def states_before(blocks, leads, touches, ends, every):
-    """What some way to each block has not touched, and what some way has; None where no way leads to it."""
+def states_before(
+    blocks: list[tuple[int, int]],
+    leads: list[list[int]],
+    touches: list[int],
+    ends: list[int],
+    every: int,
+) -> list[tuple[int, int] | None]:
+    """What some way to each block has not touched, and what some way has; None where no way leads
+    to it.
+    """
     changes = []
     for first, end in blocks:
         touching = ending = made = 0
@@ -149,7 +184,7 @@ def states_before(blocks, leads, touches, ends, every):
     return states
 
 
-def note_unset(step, numbers, unset, touched):
+def note_unset(step: Step, numbers: dict[Variable, int], unset: int, touched: int) -> None:
     """Notes at a step which of the variables that it reads are unset before it."""
     found = tuple(variable for variable in step.operands if numbers.get(variable, 0) & unset)
     if found:
@@ -157,8 +192,12 @@ def note_unset(step, numbers, unset, touched):
         step.surely_unset = tuple(variable for variable in found if not numbers[variable] & touched)
 
 
-def components(procedures, callees):
-    """The number of the strongly connected component of each procedure, by Tarjan's way without recursion."""
+def components(
+    procedures: list[Procedure], callees: dict[Procedure, list[Procedure]]
+) -> dict[Procedure, int]:
+    """The number of the strongly connected component of each procedure, by Tarjan's way without
+    recursion.
+    """
     order, low, number, stack = {}, {}, {}, []
     closed = 0
     for start in procedures:
@@ -186,7 +225,9 @@ def components(procedures, callees):
     return number
 
 
-def close_component(node, stack, number, component):
+def close_component(
+    node: Procedure, stack: list[Procedure], number: dict[Procedure, int], component: int
+) -> None:
     """Takes the component of this node from the stack."""
     while True:
         member = stack.pop()

@@ -2,6 +2,7 @@
 
 import glob
 import re
+from collections.abc import Callable
 
 from . import dump, symbols
 from .faults import Refusal
@@ -10,7 +11,7 @@ from .world import File
 LOWER = re.compile(r"(?P<stem>.*)\.\d+t\.lower$")
 
 
-def read_text(path):
+def read_text(path: str) -> str:
     """A file's text; bytes that are no text are kept as they are."""
     try:
         with open(path, encoding="utf-8", errors="surrogateescape", newline="\n") as file:
@@ -19,7 +20,7 @@ def read_text(path):
         raise Refusal(f"{path}: {fault.strerror}") from None
 
 
-def beside(path, stem, ending, option):
+def beside(path: str, stem: str, ending: str, option: str) -> str:
     """The other dump of the same C file."""
     found = sorted(glob.glob(glob.escape(stem) + ".*" + ending))
     if not found:
@@ -27,7 +28,7 @@ def beside(path, stem, ending, option):
     return found[-1]
 
 
-def read_file(path, name=None, shown=str):
+def read_file(path: str, name: str | None = None, shown: Callable[[str], str] = str) -> File:
     """A C file by the dump of this path and those that stand beside it.
 
     name: what messages call it. shown: what they call a file that the dumps name.
@@ -41,7 +42,9 @@ def read_file(path, name=None, shown=str):
     first = glob.glob(glob.escape(stem) + ".reordered")
     kept = symbols.kept_in(read_text(first[0])) if first else None
     symbols.read_table(read_text(beside(path, stem, ".cgraph", "-fdump-ipa-cgraph")), known, kept)
-    symbols.read_blocks(read_text(beside(path, stem, ".ssa", "-fdump-tree-ssa-lineno-uid-blocks")), known)
+    symbols.read_blocks(
+        read_text(beside(path, stem, ".ssa", "-fdump-tree-ssa-lineno-uid-blocks")), known
+    )
     for other in glob.glob(glob.escape(stem) + "*.aux"):
         symbols.read_definitions(read_text(other), known, shown)
     for other in glob.glob(glob.escape(stem) + "*.original"):

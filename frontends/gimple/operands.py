@@ -1,4 +1,6 @@
-"""The operands of gcc's raw dumps: splitting a statement's words, and what an operand reads, writes or points to."""
+"""The operands of gcc's raw dumps: splitting a statement's words, and what an operand reads, writes
+or points to.
+"""
 
 import functools
 import re
@@ -10,14 +12,16 @@ DECLARED = r"(?:(?:\*\.)?[\w$]+?(?:\.[\w$]+?)*?)??D\.\d+(?!\w)"
 TEMPORARY = r"(?:[A-Za-z_$][\w$]*(?:\.\d+)?)?_\d+(?:\(D\))?(?![\w.$])"
 DECLARED_FIRST = re.compile(DECLARED)
 TEMPORARY_NAME = re.compile(TEMPORARY)
-PIECE = re.compile(rf"(?P<name>{DECLARED}|{TEMPORARY}|<retval>)|(?P<word>[A-Za-z_$][\w$.]*)|(?P<arrow>->)"
-                   r"|(?P<number>[-+]?\d+(?:\.\d+)?(?:[eE][-+]\d+)?\w*)|(?P<sign>\S)")
+PIECE = re.compile(
+    rf"(?P<name>{DECLARED}|{TEMPORARY}|<retval>)|(?P<word>[A-Za-z_$][\w$.]*)|(?P<arrow>->)"
+    r"|(?P<number>[-+]?\d+(?:\.\d+)?(?:[eE][-+]\d+)?\w*)|(?P<sign>\S)"
+)
 MARK = re.compile(rf"{STRING.pattern}|->|[<>()\[\]{{}},]")
 OPENING = {"<": ">", "(": ")", "[": "]", "{": "}"}
 NESTED = re.compile(r'[<(\[{"]')
 
 
-def without_places(text):
+def without_places(text: str) -> str:
     """The text with gcc's [file:line:column] marks taken out, strings left alone."""
     if "[" not in text:
         return text
@@ -26,14 +30,14 @@ def without_places(text):
     parts = []
     at = 0
     for string in STRING.finditer(text):
-        parts.append(PLACE.sub("", text[at:string.start()]))
+        parts.append(PLACE.sub("", text[at : string.start()]))
         parts.append(string.group())
         at = string.end()
     parts.append(PLACE.sub("", text[at:]))
     return "".join(parts)
 
 
-def split_words(text):
+def split_words(text: str) -> list[str]:
     """The words between the commas of the outermost level."""
     if not NESTED.search(text):
         return [word.strip() for word in text.split(",")] if "  " in text else text.split(", ")
@@ -46,28 +50,28 @@ def split_words(text):
         elif mark in ">)]}":
             depth -= 1
         elif mark == "," and depth == 0:
-            words.append(text[start:found.start()].strip())
+            words.append(text[start : found.start()].strip())
             start = found.end()
     words.append(text[start:].strip())
     return words
 
 
 @functools.lru_cache(maxsize=1 << 16)
-def is_declared(text):
+def is_declared(text: str) -> bool:
     """Whether a text is one declared name, as `xD.12`, and no field of one."""
     found = DECLARED_FIRST.match(text)
     return bool(found) and found.end() == len(text)
 
 
 @functools.lru_cache(maxsize=1 << 16)
-def is_temporary(text):
+def is_temporary(text: str) -> bool:
     """Whether a text is a temporary of gcc's, as `_12`."""
     return bool(TEMPORARY_NAME.fullmatch(text))
 
 
 @functools.lru_cache(maxsize=1 << 16)
-def split_declared(name):
-    """A dump's `xD.12` as the source's name, empty where gcc made the variable, and the number 12."""
+def split_declared(name: str) -> tuple[str, int]:
+    """A dump's `xD.12` as the source's name, empty where gcc made it, and the number 12."""
     source, number = name.rsplit("D.", 1)
     return source, int(number)
 
@@ -76,41 +80,43 @@ def split_declared(name):
 class Reference:
     """What an operand stands for.
 
-    base: the name of the variable that is read or written, in whole or in part; None behind a pointer and for constants.
-    is_whole: whether that is the whole variable. is_memory: whether it is read or written through a pointer.
-    is_address: whether it is an address, so that `base` is not read. reads: names read to find the place.
-    index: the name or number in `base[index]`, where the operand is just that. constant: the text of a constant.
+    base: the name of the variable that is read or written, in whole or in part; None behind a
+    pointer and for constants. is_whole: whether that is the whole variable. is_memory: whether it
+    is read or written through a pointer. is_address: whether it is an address, so that `base` is
+    not read. reads: names read to find the place. index: the name or number in `base[index]`, where
+    the operand is just that. constant: the text of a constant.
     """
-    base: str = None
+
+    base: str | None = None
     is_whole: bool = True
     is_memory: bool = False
     is_address: bool = False
-    reads: list = field(default_factory=list)
-    addressed: list = field(default_factory=list)
-    index: str = None
-    constant: str = None
+    reads: list[str] = field(default_factory=list)
+    addressed: list[str] = field(default_factory=list)
+    index: str | None = None
+    constant: str | None = None
 
 
 class Parser:
     """A parser of one operand. `parse` answers a Reference, or None where the form is not known."""
 
-    def __init__(self, text):
+    def __init__(self, text: str) -> None:
         self.pieces = [(piece.lastgroup, piece.group()) for piece in PIECE.finditer(text)]
         self.at = 0
 
-    def next_is(self, sign):
+    def next_is(self, sign: str) -> bool:
         """Whether the next piece is this sign, which is then passed."""
         if self.at < len(self.pieces) and self.pieces[self.at][1] == sign:
             self.at += 1
             return True
         return False
 
-    def expect(self, sign):
+    def expect(self, sign: str) -> None:
         """Passes the sign, or gives up."""
         if not self.next_is(sign):
             raise ValueError(sign)
 
-    def parse(self):
+    def parse(self) -> Reference:
         """The whole operand."""
         try:
             reference = self.place()
@@ -118,7 +124,7 @@ class Parser:
         except (ValueError, IndexError):
             return None
 
-    def place(self):
+    def place(self) -> Reference:
         """A place with the fields and indices behind it."""
         reference = self.beginning()
         while self.at < len(self.pieces):
@@ -135,12 +141,12 @@ class Parser:
         return reference
 
     @staticmethod
-    def make_part(reference):
+    def make_part(reference: Reference) -> None:
         """The reference is now to a part of what it was to."""
         reference.is_whole = False
         reference.index = None
 
-    def take_index(self, reference):
+    def take_index(self, reference: Reference) -> None:
         """An index in brackets, the first one passed already."""
         index = self.place()
         was_whole = reference.is_whole and not reference.is_memory
@@ -151,7 +157,7 @@ class Parser:
         if was_whole and not index.is_address:
             reference.index = index.base if index.base and index.is_whole else index.constant
 
-    def skip_to(self, closing):
+    def skip_to(self, closing: str) -> None:
         """Passes pieces up to this closing sign of the level, and the sign."""
         depth = 0
         while True:
@@ -165,13 +171,17 @@ class Parser:
                 depth -= 1
 
     @staticmethod
-    def behind(pointer):
+    def behind(pointer: Reference) -> Reference:
         """What the pointer points to."""
         if pointer.is_address and not pointer.is_memory and pointer.base:
-            return Reference(base=pointer.base, is_whole=False, reads=pointer.reads, addressed=pointer.addressed)
-        return Reference(is_memory=True, is_whole=False, reads=names_read(pointer), addressed=pointer.addressed)
+            return Reference(
+                base=pointer.base, is_whole=False, reads=pointer.reads, addressed=pointer.addressed
+            )
+        return Reference(
+            is_memory=True, is_whole=False, reads=names_read(pointer), addressed=pointer.addressed
+        )
 
-    def beginning(self):
+    def beginning(self) -> Reference:
         """What a place begins with."""
         kind, text = self.pieces[self.at]
         self.at += 1
@@ -200,7 +210,7 @@ class Parser:
             return Reference(constant="label")
         return self.number(kind, text)
 
-    def number(self, kind, text):
+    def number(self, kind: str, text: str) -> Reference:
         """A constant: a number, a string's stand-in, or a word such as Inf."""
         if kind == "word" and self.next_is("("):
             self.skip_to(")")
@@ -211,22 +221,28 @@ class Parser:
             return Reference(constant=text + self.pieces[self.at - 1][1])
         raise ValueError(text)
 
-    def part_up_to(self, closing):
+    def part_up_to(self, closing: str) -> Reference:
         """A place of which a part is meant, up to this closing sign."""
         reference = self.place()
         self.skip_to(closing)
         self.make_part(reference)
         return reference
 
-    def address(self):
+    def address(self) -> Reference:
         """Behind an ampersand."""
         reference = self.place()
         if reference.base is None:
-            return Reference(constant="address", reads=reference.reads, addressed=reference.addressed)
-        return Reference(base=reference.base, is_address=True, reads=reference.reads,
-                         addressed=[*reference.addressed, reference.base])
+            return Reference(
+                constant="address", reads=reference.reads, addressed=reference.addressed
+            )
+        return Reference(
+            base=reference.base,
+            is_address=True,
+            reads=reference.reads,
+            addressed=[*reference.addressed, reference.base],
+        )
 
-    def bracketed(self):
+    def bracketed(self) -> Reference:
         """A place in brackets, or a cast before one."""
         start = self.at
         try:
@@ -239,7 +255,7 @@ class Parser:
         self.skip_to(")")
         return self.place()
 
-    def memory(self):
+    def memory(self) -> Reference:
         """MEM[(type)pointer + offset] or MEM <type> [..]."""
         if self.next_is("<"):
             self.skip_to(">")
@@ -248,7 +264,7 @@ class Parser:
         self.skip_to("]")
         return self.behind(pointer)
 
-    def elements(self):
+    def elements(self) -> Reference:
         """A constructor in braces."""
         whole = Reference(constant="elements")
         while not self.next_is("}"):
@@ -263,15 +279,18 @@ class Parser:
         return whole
 
 
-def names_read(reference):
-    """The names that are read when the value of a reference is taken; not what is behind a pointer."""
+def names_read(reference: Reference) -> list[str]:
+    """The names that are read for the value of a reference; not what is behind a pointer."""
     own = [reference.base] if reference.base and not reference.is_address else []
     return own + reference.reads
 
 
 @functools.lru_cache(maxsize=1 << 16)
-def parse(text):
-    """The Reference of an operand without places, or None where its form is not known. It is shared: nobody changes it."""
+def parse(text: str) -> Reference:
+    """The Reference of an operand without places, or None where its form is not known.
+
+    It is shared: nobody changes it.
+    """
     if text.startswith("{CLOBBER"):
         return Reference(constant="clobber")
     return Parser(STRING.sub(" string_ ", text)).parse()

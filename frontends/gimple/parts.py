@@ -1,7 +1,9 @@
-"""Parts of locals, and what a pointer leads to, as variables of their own beside those that stand for the whole.
+"""Parts of locals, and what a pointer leads to, as variables of their own beside those that stand
+for the whole.
 
-`s.f` and `a[2]` are parts of a local to which no pointer leads. What may be the same place by another name, as another member of a
-union, is read or written with them. `*p` and `p->f` are what a local pointer leads to: each read of memory reads them, and each call.
+`s.f` and `a[2]` are parts of a local to which no pointer leads. What may be the same place by
+another name, as another member of a union, is read or written with them. `*p` and `p->f` are what a
+local pointer leads to: each read of memory reads them, and each call.
 """
 
 import re
@@ -20,13 +22,15 @@ PART = re.compile(rf"({NAMED})((?:{FIELD}|\[\d+\])+)$")
 BEHIND = re.compile(rf"\*({NAMED})$|({NAMED})->[\w$]*D\.\d+(?:{FIELD}|\[\d+\])*$")
 STEP = re.compile(rf"{FIELD}|\[\d+\]")
 ANONYMOUS = re.compile(r"\.D\.\d+|D\.\d+")
-# Of a variable with more parts than these, and of more than these that pointers lead to, none is told apart.
+# Of a variable with more parts than these, and of more than these that pointers lead to, none is
+# told apart.
 MOST = 16
 
 
 @dataclass(eq=False)
 class Part:
     """A part of a local: how the dump writes it, and the ways to it from the whole."""
+
     word: str
     path: list[str]
     variable: Variable
@@ -56,8 +60,11 @@ class Parts:
         words = procedure.function.words
         self.take_parts(word for word in words if word.endswith("]") or word.count("D.") > 1)
         if any(word.startswith("*") or "->" in word for word in words):
-            stored = Counter(statement.words[1] for statement in statements_in(procedure.function.body)
-                             if statement.kind in ("assign", "call"))
+            stored = Counter(
+                statement.words[1]
+                for statement in statements_in(procedure.function.body)
+                if statement.kind in ("assign", "call")
+            )
             self.take_behind([word for word, count in stored.items() if count > 1])
 
     def variable(self, name: str) -> Variable | None:
@@ -80,8 +87,14 @@ class Parts:
                 continue
             is_in_struct = name in self.procedure.function.structs
             self.of_whole[whole] = [
-                Part(word, STEP.findall(path), self.new(word, whole, whole.is_parameter), is_in_struct)
-                for word, path in named]
+                Part(
+                    word,
+                    STEP.findall(path),
+                    self.new(word, whole, whole.is_parameter),
+                    is_in_struct,
+                )
+                for word, path in named
+            ]
 
     def take_behind(self, words: list[str]) -> None:
         """Makes variables for what these words find behind pointers."""
@@ -97,11 +110,16 @@ class Parts:
     def new(self, word: str, whole: Variable, is_set_at_first: bool) -> Variable:
         """The variable of a part."""
         source = ANONYMOUS.sub("", word)
-        return Variable(f"{self.procedure.wish}__{source}", source, self.procedure, whole=whole,
-                        is_parameter=is_set_at_first)
+        return Variable(
+            f"{self.procedure.wish}__{source}",
+            source,
+            self.procedure,
+            whole=whole,
+            is_parameter=is_set_at_first,
+        )
 
     def read_as(self, word: str, whole: Variable) -> tuple[list[Variable], list[Variable]]:
-        """The parts that an operand reads by their own names, and those that it may read by others."""
+        """The parts that an operand reads by their own names, and may read by others."""
         exact, others = [], []
         for part in self.of_whole.get(whole, ()):
             if part.word == word:
@@ -111,7 +129,9 @@ class Parts:
         return exact, others
 
     def written_as(self, word: str, whole: Variable) -> tuple[list[Variable], list[Variable]]:
-        """The parts that a store to a word writes as they are, and those of which it may write something."""
+        """The parts that a store to a word writes as they are, and those of which it may write
+        something.
+        """
         found = self.of_whole.get(whole, ())
         if operands.is_declared(word):
             return [part.variable for part in found], []
@@ -156,5 +176,5 @@ def reading(step: Step, variables: list[Variable]) -> list[Step]:
     """Steps before this one that read variables."""
     found = []
     for at in range(0, len(variables), 2):
-        found += Step.reading(tuple(variables[at:at + 2]), step.origin)
+        found += Step.reading(tuple(variables[at : at + 2]), step.origin)
     return found

@@ -1,6 +1,9 @@
 """The whole program: the functions of all files, and where it begins."""
 
+from __future__ import annotations
+
 from dataclasses import dataclass
+from typing import TYPE_CHECKING
 
 from . import flow
 from .activations import callees_of, keep_activations_apart
@@ -8,25 +11,38 @@ from .code import Builder, Label, Procedure, Step, Variable
 from .dump import statements_in
 from .faults import Refusal
 from .known_tests import lead_past
-from .services import call_from_outside, called_back, fill_memory, fill_unknown, make_services, read_parameters
+from .services import (
+    call_from_outside,
+    called_back,
+    fill_memory,
+    fill_unknown,
+    make_services,
+    read_parameters,
+)
 from .state import State
 from .translate import Translator
 from .values import Constants
+
+if TYPE_CHECKING:
+    from .dump import Statement, Try
+    from .services import Services
+    from .world import World
 
 
 @dataclass(eq=False)
 class Program:
     """A program before it is written.
 
-    procedures: all that its beginning leads to, `main` first. never_called: the functions to which it does not lead, which are
-    left out. refused: those that stand for unknown code.
+    procedures: all that its beginning leads to, `main` first. never_called: the functions to which
+    it does not lead, which are left out. refused: those that stand for unknown code.
     """
-    procedures: list
-    never_called: list
-    refused: list
+
+    procedures: list[Procedure]
+    never_called: list[Procedure]
+    refused: list[Procedure]
 
 
-def build(world, keeps_temporaries=False):
+def build(world: World, keeps_temporaries: bool = False) -> Program:
     """The program of all files; with variables for gcc's temporaries where they are kept."""
     world.take_addresses()
     prepare_functions(world)
@@ -37,11 +53,17 @@ def build(world, keeps_temporaries=False):
     services.fill_any(world, named_in(functions))
     fill_unknown(services, world)
     helpers = services.all()
-    close_stops(functions, [services.unknown, *services.pointed.values(), *services.any_of.values()])
+    close_stops(
+        functions, [services.unknown, *services.pointed.values(), *services.any_of.values()]
+    )
     called = reached_from(first_calls(services, world))
     kept = [procedure for procedure in functions if procedure in called]
     for procedure in kept:
-        own = [variable for variable in procedure.locals() if not variable.is_parameter and variable is not procedure.result]
+        own = [
+            variable
+            for variable in procedure.locals()
+            if not variable.is_parameter and variable is not procedure.result
+        ]
         flow.mark_unset(procedure.steps, own)
     named = named_in(kept)
     fill_memory(services, [variable for variable in reached if variable in named])
@@ -49,21 +71,30 @@ def build(world, keeps_temporaries=False):
     kept += helpers
     root = Procedure("main")
     fill_root(root, services, world, kept, named | named_in(helpers))
-    changes, single = keep_activations_apart([procedure for procedure in kept if procedure.function], [root, *kept])
+    changes, single = keep_activations_apart(
+        [procedure for procedure in kept if procedure.function], [root, *kept]
+    )
     begin_with(root, single)
     everything = [root, *kept, *changes, *single]
     for procedure in everything:
         tidy(procedure)
-    return Program(everything, [procedure for procedure in functions if procedure not in called], refused)
+    return Program(
+        everything, [procedure for procedure in functions if procedure not in called], refused
+    )
 
 
-def named_in(procedures):
+def named_in(procedures: list[Procedure]) -> set[Variable]:
     """The variables that these procedures name."""
-    named = {part for procedure in procedures for step in procedure.steps for part in (step.variable, *step.operands)}
+    named = {
+        part
+        for procedure in procedures
+        for step in procedure.steps
+        for part in (step.variable, *step.operands)
+    }
     return {part for part in named if isinstance(part, Variable)}
 
 
-def translate_all(world, services):
+def translate_all(world: World, services: Services) -> list[Procedure]:
     """Turns each function; answers those that can't be turned, which stand for unknown code."""
     constants = Constants()
     refused = []
@@ -78,7 +109,7 @@ def translate_all(world, services):
     return refused
 
 
-def reached_from(first):
+def reached_from(first: list[Procedure]) -> dict[Procedure, None]:
     """All procedures that calls from these lead to."""
     found = dict.fromkeys(first)
     waiting = list(found)
@@ -90,36 +121,54 @@ def reached_from(first):
     return found
 
 
-def first_calls(services, world):
+def first_calls(services: Services, world: World) -> list[Procedure]:
     """What the program's beginning calls."""
     main = world.public.get("main")
     return [*([main] if main else called_back(world)), *world.own_starts, services.unknown]
 
 
-def prepare_functions(world):
+def prepare_functions(world: World) -> None:
     """Gives each function its parameters and its result."""
     for (file, _), procedure in world.procedures.items():
         function = procedure.function
         procedure.wish = "main_c" if function.name == "main" else function.name
-        procedure.parameters = [world.variable(file, procedure, name) for name in function.parameters]
+        procedure.parameters = [
+            world.variable(file, procedure, name) for name in function.parameters
+        ]
         returned = returned_words(function.body)
         if not returned and not function.fault and not procedure.refusal:
             continue
         only = returned[0] if len(set(returned)) == 1 else ""
         variable = world.locals.get((procedure, only))
-        if variable is None or variable.source or variable.is_addressed or only in file.symbols.volatile:
+        if (
+            variable is None
+            or variable.source
+            or variable.is_addressed
+            or only in file.symbols.volatile
+        ):
             variable = Variable(f"{procedure.wish}__result", "", procedure)
         procedure.result = variable
 
 
-def returned_words(body):
+def returned_words(body: list[Statement | Try]) -> list[str]:
     """What the returns of a body give."""
-    return [statement.words[0] for statement in statements_in(body)
-            if statement.kind == "return" and statement.words[0] != "NULL"]
+    return [
+        statement.words[0]
+        for statement in statements_in(body)
+        if statement.kind == "return" and statement.words[0] != "NULL"
+    ]
 
 
-def fill_root(root, services, world, procedures, named):
-    """Where the program begins: its variables that are named have values, some code runs by itself, then `main` or code outside."""
+def fill_root(
+    root: Procedure,
+    services: Services,
+    world: World,
+    procedures: list[Procedure],
+    named: set[Variable],
+) -> None:
+    """Where the program begins: its variables that are named have values, some code runs by itself,
+    then `main` or code outside.
+    """
     build = Builder(root)
     for variable in world.globals.values():
         if variable in named:
@@ -127,7 +176,11 @@ def fill_root(root, services, world, procedures, named):
     end = Label()
     main = world.public.get("main")
     first = [main] if main else called_back(world)
-    unset = [procedure for procedure in procedures if procedure not in first and any(step.unset for step in procedure.steps)]
+    unset = [
+        procedure
+        for procedure in procedures
+        if procedure not in first and any(step.unset for step in procedure.steps)
+    ]
     call_from_outside(build, unset, end)
     run_alone(build, world.own_starts)
     if main:
@@ -138,7 +191,7 @@ def fill_root(root, services, world, procedures, named):
     build.call([services.unknown])
 
 
-def begin_with(root, procedures):
+def begin_with(root: Procedure, procedures: list[Procedure]) -> None:
     """Has the program begin with one of these procedures and end, or go on as it was."""
     start = Procedure("start")
     over = Label()
@@ -146,7 +199,7 @@ def begin_with(root, procedures):
     root.steps = [*start.steps, *root.steps, *([Step("label", label=over)] if procedures else [])]
 
 
-def run_alone(build, procedures):
+def run_alone(build: Builder, procedures: dict[Procedure, None]) -> None:
     """Constructors, any number of times in any order."""
     if procedures:
         again, done = Label(), Label()
@@ -157,23 +210,32 @@ def run_alone(build, procedures):
         build.label(done)
 
 
-def close_stops(functions, others):
-    """Takes out the tests for an end of the program behind calls that don't lead to one; adds what such a test leads to.
+def close_stops(functions: list[Procedure], others: list[Procedure]) -> None:
+    """Takes out the tests for an end of the program behind calls that don't lead to one; adds what
+    such a test leads to.
 
     Of the procedures in `others` it is known that they may end the program.
+
     """
     stopping = set(others)
-    leading = {procedure: [step for step in procedure.steps if step.label is procedure.stop]
-               for procedure in functions}
+    leading = {
+        procedure: [step for step in procedure.steps if step.label is procedure.stop]
+        for procedure in functions
+    }
     changed = True
     while changed:
-        found = {procedure for procedure, steps in leading.items()
-                 if any(may_stop(procedure, step, stopping) for step in steps)}
+        found = {
+            procedure
+            for procedure, steps in leading.items()
+            if any(may_stop(procedure, step, stopping) for step in steps)
+        }
         changed = not found <= stopping
         stopping |= found
     for procedure in functions:
         steps = procedure.steps
-        procedure.steps = [step for step in steps if step.role != "stop" or may_stop(procedure, step, stopping)]
+        procedure.steps = [
+            step for step in steps if step.role != "stop" or may_stop(procedure, step, stopping)
+        ]
         if procedure in stopping:
             build = Builder(procedure)
             if not procedure.steps or procedure.steps[-1].kind != "return":
@@ -183,14 +245,16 @@ def close_stops(functions, others):
                 build.set(procedure.result)
 
 
-def may_stop(procedure, step, stopping):
-    """Whether a step may lead to an end of the program, given the procedures of which that is known."""
+def may_stop(procedure: Procedure, step: Step, stopping: set[Procedure]) -> bool:
+    """Whether a step may lead to an end of the program, given the procedures of which that is
+    known.
+    """
     if step.label is not procedure.stop:
         return False
     return step.role != "stop" or any(callee in stopping for callee in step.callees)
 
 
-def tidy(procedure):
+def tidy(procedure: Procedure) -> None:
     """Takes out jumps to the next statement, and notes."""
     steps = [step for step in procedure.steps if step.kind != "note"]
     kept = []
@@ -204,7 +268,7 @@ def tidy(procedure):
     procedure.steps = kept[::-1]
 
 
-def leads_on(label, kept):
+def leads_on(label: Label, kept: list[Step]) -> bool:
     """Whether only labels stand before this one, in a list of steps that is turned round."""
     for step in reversed(kept):
         if step.kind != "label":

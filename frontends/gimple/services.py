@@ -1,34 +1,58 @@
 """What stands for memory, for code that is not known, and for calls through pointers."""
 
+from __future__ import annotations
+
 from dataclasses import dataclass, field
+from typing import TYPE_CHECKING
 
 from .code import Builder, Label, Procedure, Variable
+
+if TYPE_CHECKING:
+    from .world import File, World
 
 
 @dataclass(eq=False)
 class Services:
-    """The procedures for memory, for unknown code and for calls through pointers, and a variable that nobody reads.
+    """The procedures for memory, for unknown code and for calls through pointers, and a variable
+    that nobody reads.
 
-    keeps_temporaries: whether gcc's temporaries are variables of the program. any_of: for each file with a function that is
-    taken as unknown code, what such a function may do.
+    keeps_temporaries: whether gcc's temporaries are variables of the program. any_of: for each file
+    with a function that is taken as unknown code, what such a function may do.
     """
-    reading: Procedure
-    writing: Procedure
+
+    reading: Procedure | None
+    writing: Procedure | None
     unknown: Procedure
     scratch: Variable
     keeps_temporaries: bool
-    pointed: dict = field(default_factory=dict)
-    any_of: dict = field(default_factory=dict)
+    pointed: dict[int, Procedure] = field(default_factory=dict)
+    any_of: dict[File, Procedure] = field(default_factory=dict)
 
-    def all(self):
+    def all(self) -> list[Procedure]:
         """All these procedures."""
-        return [helper for helper in (self.reading, self.writing, self.unknown, *self.pointed.values(), *self.any_of.values()) if helper]
+        return [
+            helper
+            for helper in (
+                self.reading,
+                self.writing,
+                self.unknown,
+                *self.pointed.values(),
+                *self.any_of.values(),
+            )
+            if helper
+        ]
 
-    def through_pointer(self, world, count):
-        """A call through a pointer with so many arguments: of what has its address taken and no more parameters, or unknown."""
+    def through_pointer(self, world: World, count: int) -> Procedure:
+        """A call through a pointer with so many arguments: of what has its address taken and no
+        more parameters, or unknown.
+        """
         if count not in self.pointed:
             self.pointed[count] = procedure = Procedure(f"pointed_{count}")
-            candidates = [found for found in world.addressed_procedures if len(found.function.parameters) <= count]
+            candidates = [
+                found
+                for found in world.addressed_procedures
+                if len(found.function.parameters) <= count
+            ]
             build = Builder(procedure)
             for candidate in candidates:
                 read_parameters(build, candidate)
@@ -36,8 +60,10 @@ class Services:
             build.use(candidate.result for candidate in candidates if candidate.result)
         return self.pointed[count]
 
-    def make_unknown(self, file, procedure):
-        """Has a function's procedure stand for any code of its file: it takes the parameters, and gives any result."""
+    def make_unknown(self, file: File, procedure: Procedure) -> None:
+        """Has a function's procedure stand for any code of its file: it takes the parameters, and
+        gives any result.
+        """
         if file not in self.any_of:
             self.any_of[file] = Procedure(f"any_of_{len(self.any_of) + 1}")
         procedure.steps = []
@@ -49,10 +75,12 @@ class Services:
         if procedure.result:
             build.set(procedure.result)
 
-    def fill_any(self, world, named):
-        """Writes what functions of a file may do of which nothing is known: all that the file can name, any number of times.
+    def fill_any(self, world: World, named: set[Variable]) -> None:
+        """Writes what functions of a file may do of which nothing is known: all that the file can
+        name, any number of times.
 
         Of its variables those count that some function names.
+
         """
         for file, procedure in self.any_of.items():
             build = Builder(procedure)
@@ -69,13 +97,15 @@ class Services:
             build.label(done)
 
 
-def make_services(has_memory, keeps_temporaries):
+def make_services(has_memory: bool, keeps_temporaries: bool) -> Services:
     """Empty procedures for memory, where pointers may lead to any, and for unknown code."""
-    reading, writing = (Procedure("memory_read"), Procedure("memory_written")) if has_memory else (None, None)
+    reading, writing = (
+        (Procedure("memory_read"), Procedure("memory_written")) if has_memory else (None, None)
+    )
     return Services(reading, writing, Procedure("unknown"), Variable("t"), keeps_temporaries)
 
 
-def fill_memory(services, variables):
+def fill_memory(services: Services, variables: list[Variable]) -> None:
     """Reads and writes of what pointers may lead to."""
     if services.reading:
         Builder(services.reading).use(variables)
@@ -84,14 +114,18 @@ def fill_memory(services, variables):
             build_writing.set(variable, weak=True)
 
 
-def called_back(world):
+def called_back(world: World) -> list[Procedure]:
     """The functions that code outside may call."""
     main = world.public.get("main")
     found = dict.fromkeys([*world.addressed_procedures, *world.visible, *world.own_starts])
-    return [procedure for procedure in found if procedure is not main or procedure in world.addressed_procedures]
+    return [
+        procedure
+        for procedure in found
+        if procedure is not main or procedure in world.addressed_procedures
+    ]
 
 
-def fill_unknown(services, world):
+def fill_unknown(services: Services, world: World) -> None:
     """Code outside: any number of times, in any order, all that it can do."""
     build = Builder(services.unknown)
     again, done = Label(), Label()
@@ -105,10 +139,12 @@ def fill_unknown(services, world):
     build.label(done)
 
 
-def call_from_outside(build, procedures, target):
-    """Calls of these procedures with any arguments, eight at a time, each on an outcome of a test, which then leads to `target`."""
+def call_from_outside(build: Builder, procedures: list[Procedure], target: Label | None) -> None:
+    """Calls of these procedures with any arguments, eight at a time, each on an outcome of a test,
+    which then leads to `target`.
+    """
     for at in range(0, len(procedures), 8):
-        some = procedures[at:at + 8]
+        some = procedures[at : at + 8]
         other = Label()
         build.add("fork", label=other)
         for procedure in some:
@@ -120,7 +156,7 @@ def call_from_outside(build, procedures, target):
         build.label(other)
 
 
-def read_parameters(build, procedure):
+def read_parameters(build: Builder, procedure: Procedure) -> None:
     """Parameters that come from outside."""
     for parameter in procedure.parameters:
         if parameter is not None:

@@ -1,6 +1,11 @@
-"""What a function's translation has at hand: the values of operands, and what is written to targets."""
+"""What a function's translation has at hand: the values of operands, and what is written to
+targets.
+"""
+
+from __future__ import annotations
 
 import re
+from typing import TYPE_CHECKING
 
 from . import operands
 from .code import Builder, Variable
@@ -9,17 +14,31 @@ from .labels import Labels
 from .values import Pending, Value
 from .world import function_place
 
+if TYPE_CHECKING:
+    from .code import Number, Procedure
+    from .dump import Statement
+    from .services import Services
+    from .values import Constants
+    from .world import File, World
+
 NUMBER = re.compile(r"-?\d+")
 
 
 class State:
     """The state of one function's translation, with what reads and writes of operands are as steps.
 
-    services: the procedures that stand for memory and for unknown code. Where these keep temporaries, each of gcc's is a variable
-    of its own, and address arithmetic an expression.
+    services: the procedures that stand for memory and for unknown code. Where these keep
+    temporaries, each of gcc's is a variable of its own, and address arithmetic an expression.
     """
 
-    def __init__(self, world, file, procedure, services, constants):
+    def __init__(
+        self,
+        world: World,
+        file: File,
+        procedure: Procedure,
+        services: Services,
+        constants: Constants,
+    ) -> None:
         self.world = world
         self.file = file
         self.procedure = procedure
@@ -37,28 +56,32 @@ class State:
         self.given = self.previous_given = Value()
         self.last_place = None
 
-    def refuse(self, message):
+    def refuse(self, message: str) -> None:
         """Refuses the statement at hand."""
         raise Refusal(message, self.last_place or function_place(self.file, self.procedure))
 
     # Values
 
-    def name_value(self, name):
+    def name_value(self, name: str) -> Value:
         """The value of a temporary, a variable, or a function's name."""
         if name in self.kept:
             return Value((self.kept[name],), self.kept[name])
         if not operands.is_declared(name) and name != "<retval>":
             return self.pending.take(name)
-        if name != "<retval>" and not self.world.is_local(self.procedure, name) and self.world.is_function(self.file, name):
+        if (
+            name != "<retval>"
+            and not self.world.is_local(self.procedure, name)
+            and self.world.is_function(self.file, name)
+        ):
             return Value(exact=self.constants.number(name, self.file.name))
         variable = self.world.variable(self.file, self.procedure, name)
         return Value((variable,), variable) if variable else Value()
 
-    def reads_of(self, names):
+    def reads_of(self, names: list[str]) -> tuple[Variable, ...]:
         """The variables that are read with these names."""
         return tuple(variable for name in names for variable in self.name_value(name).reads)
 
-    def value(self, word):
+    def value(self, word: str) -> Value:
         """The value of an operand. What is behind a pointer is read at once."""
         if word == "NULL":
             return Value()
@@ -83,22 +106,26 @@ class State:
             self.build.add("note", touched=tuple(others))
         return (*exact, *others)
 
-    def element(self, word):
-        """The array and the index, as operands, where a word is an element of a variable at one index; else None."""
+    def element(self, word: str) -> tuple[Variable, Variable] | None:
+        """The array and the index, as operands, where a word is an element of a variable at one
+        index; else None.
+        """
         reference = operands.parse(word)
         if reference.index is None or reference.base is None or NUMBER.fullmatch(reference.index):
             return None
         array = self.name_value(reference.base).exact
         index = self.name_value(reference.index).exact
-        return (array, index) if isinstance(array, Variable) and isinstance(index, Variable) else None
+        return (
+            (array, index) if isinstance(array, Variable) and isinstance(index, Variable) else None
+        )
 
-    def read_memory(self):
+    def read_memory(self) -> None:
         """Reads what pointers may lead to."""
         self.build.use(self.parts.behind.values(), "made")
         if self.services.reading:
             self.build.call([self.services.reading])
 
-    def read_now(self, wanted):
+    def read_now(self, wanted: list[tuple[Statement, tuple[Variable, ...]]]) -> None:
         """Reads what temporaries still had to read, as their own statements do."""
         at_hand = self.build.origin
         for origin, reads in wanted:
@@ -106,34 +133,46 @@ class State:
             self.build.use(reads, "made")
         self.build.origin = at_hand
 
-    def flush_all(self):
+    def flush_all(self) -> None:
         """Reads what the temporaries still have to read."""
         self.read_now(self.pending.flush_all())
 
-    def flush_reached(self):
+    def flush_reached(self) -> None:
         """The same of those whose variables may be written by other code."""
         self.read_now(self.pending.flush_reached())
 
-    def flush_variable(self, variable):
+    def flush_variable(self, variable: Variable) -> None:
         """The same of those that read this variable."""
         self.read_now(self.pending.flush_variable(variable))
 
-    def store(self, target, operator, parts, reads):
-        """Writes to a target the value of an expression, a copy, or something that was made of what is read."""
+    def store(
+        self,
+        target: str,
+        operator: str,
+        parts: tuple[Number | Variable, ...],
+        reads: tuple[Variable, ...],
+    ) -> None:
+        """Writes to a target the value of an expression, a copy, or something that was made of what
+        is read.
+        """
         if operands.is_temporary(target):
             self.hold(target, operator, parts, reads)
             return
         reference = operands.parse(target)
         extra = self.reads_of(reference.reads)
         if reference.is_memory:
-            self.build.use([*[part for part in parts if isinstance(part, Variable)], *reads, *extra])
+            self.build.use(
+                [*[part for part in parts if isinstance(part, Variable)], *reads, *extra]
+            )
             self.write_memory()
             if target in self.parts.behind:
                 self.build.set(self.parts.behind[target])
             return
         variable = self.world.variable(self.file, self.procedure, reference.base)
         if variable is None:
-            self.build.use([*[part for part in parts if isinstance(part, Variable)], *reads, *extra])
+            self.build.use(
+                [*[part for part in parts if isinstance(part, Variable)], *reads, *extra]
+            )
             return
         self.flush_variable(variable)
         if not parts and reads:
@@ -151,8 +190,16 @@ class State:
         for part in exact:
             self.build.set(part, role="made" if operands.is_declared(target) else self.build.role)
 
-    def hold(self, temporary, operator, parts, reads):
-        """A temporary's value: an expression is evaluated at once, into a variable that nobody reads; all else is held."""
+    def hold(
+        self,
+        temporary: str,
+        operator: str,
+        parts: tuple[Number | Variable, ...],
+        reads: tuple[Variable, ...],
+    ) -> None:
+        """A temporary's value: an expression is evaluated at once, into a variable that nobody
+        reads; all else is held.
+        """
         if self.services.keeps_temporaries:
             self.keep(temporary, operator, parts, reads)
         elif operator:
@@ -161,25 +208,37 @@ class State:
             self.pending.put(temporary, Value())
         elif parts:
             exact = parts[0]
-            self.pending.put(temporary, Value((exact,) if isinstance(exact, Variable) else (), exact), self.statement)
+            self.pending.put(
+                temporary,
+                Value((exact,) if isinstance(exact, Variable) else (), exact),
+                self.statement,
+            )
         else:
             self.pending.put(temporary, Value(reads), self.statement)
 
-    def keep(self, temporary, operator, parts, reads):
+    def keep(
+        self,
+        temporary: str,
+        operator: str,
+        parts: tuple[Variable | Number, ...],
+        reads: tuple[Variable, ...],
+    ) -> None:
         """A temporary's value, in a variable of its own."""
-        variable = self.kept.setdefault(temporary, Variable(f"{self.procedure.wish}_{temporary}", owner=self.procedure))
+        variable = self.kept.setdefault(
+            temporary, Variable(f"{self.procedure.wish}_{temporary}", owner=self.procedure)
+        )
         if not parts:
             parts, reads = reads[:1], reads[1:]
         self.build.use(reads)
         self.build.set(variable, parts, operator)
 
-    def write_memory(self):
+    def write_memory(self) -> None:
         """Writes to what pointers may lead to."""
         self.flush_reached()
         if self.services.writing:
             self.build.call([self.services.writing])
 
-    def note_addresses(self, words):
+    def note_addresses(self, words: list[str]) -> None:
         """Notes the locals whose address a statement takes."""
         touched = []
         for word in words:

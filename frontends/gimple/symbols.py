@@ -1,7 +1,10 @@
-"""What gcc's other dumps say of a file: the symbol table, which calls never return, which variables are volatile."""
+"""What gcc's other dumps say of a file: the symbol table, which calls never return, which variables
+are volatile.
+"""
 
 import bisect
 import re
+from collections.abc import Callable, Iterator
 from dataclasses import dataclass, field
 
 from . import operands
@@ -21,7 +24,11 @@ TABLES = (".init_array", ".preinit_array", ".fini_array", ".ctors", ".dtors")
 
 @dataclass
 class Symbol:
-    """A symbol of the table. is_kept: it stays though nothing names it. runs_alone: a constructor or destructor."""
+    """A symbol of the table.
+
+    is_kept: it stays though nothing names it. runs_alone: a constructor or destructor.
+    """
+
     name: str
     linkage: str
     is_function: bool = False
@@ -32,33 +39,37 @@ class Symbol:
     is_kept: bool = False
     section: str = ""
     runs_alone: bool = False
-    alias_of: str = None
+    alias_of: str | None = None
 
 
 @dataclass
 class Symbols:
     """What is known of a file beside its statements.
 
-    by_name: the symbols of the file's own level. addressed: the names of variables of which some initialiser takes the address, or
-    to which something leads that gcc doesn't see.
-    endless: the declared names of functions whose calls never return. volatile: the declared names that are accessed as volatile.
-    volatile_behind: the functions and, by the source's names, their pointers to what is.
-    definitions: by name, file and line where a function is defined. cast_away: pairs of a function's name and that of a
-    variable which it casts to void. sources: the files that it was made of, but for the system's headers.
+    by_name: the symbols of the file's own level. addressed: the names of variables of which some
+    initialiser takes the address, or to which something leads that gcc doesn't see. endless: the
+    declared names of functions whose calls never return. volatile: the declared names that are
+    accessed as volatile. volatile_behind: the functions and, by the source's names, their pointers
+    to what is. definitions: by name, file and line where a function is defined. cast_away: pairs of
+    a function's name and that of a variable which it casts to void. sources: the files that it was
+    made of, but for the system's headers.
     """
-    by_name: dict = field(default_factory=dict)
-    addressed: set = field(default_factory=set)
-    endless: set = field(default_factory=set)
-    volatile: set = field(default_factory=set)
+
+    by_name: dict[str, Symbol] = field(default_factory=dict)
+    addressed: set[str] = field(default_factory=set)
+    endless: set[str] = field(default_factory=set)
+    volatile: set[str] = field(default_factory=set)
     volatile_behind: set[tuple[str, str]] = field(default_factory=set)
-    definitions: dict = field(default_factory=dict)
-    cast_away: set = field(default_factory=set)
-    sources: list = field(default_factory=list)
+    definitions: dict[str, tuple[str, int]] = field(default_factory=dict)
+    cast_away: set[tuple[str, str]] = field(default_factory=set)
+    sources: list[str] = field(default_factory=list)
     starts_by_table: bool = False
 
 
 def loses_section(text: str) -> bool:
-    """Whether a table has a variable in a section that gcc takes out, so that it tells not what it leads to."""
+    """Whether a table has a variable in a section that gcc takes out, so that it tells not what it
+    leads to.
+    """
     parts = IN_SECTION.findall(text) if " section:" in text else []
     return any("\n  Type: variable definition\n" in part for part in parts)
 
@@ -95,10 +106,12 @@ def read_table(text: str, symbols: Symbols, kept: frozenset[str] | None = None) 
 def kept_in(text: str) -> frozenset[str]:
     """The variables of a table that gcc keeps though nothing names them."""
     found = [symbol_in(SYMBOL.match(section[0]), section[1:]) for section in sections_in(text)]
-    return frozenset(symbol.linkage for symbol in found if symbol.is_kept and not symbol.is_function)
+    return frozenset(
+        symbol.linkage for symbol in found if symbol.is_kept and not symbol.is_function
+    )
 
 
-def sections_in(text):
+def sections_in(text: str) -> Iterator[list[str]]:
     """The lines of each symbol in the first table."""
     table = text.split("Initial Symbol table:", 1)[-1].split("\nRemoving unused symbols", 1)[0]
     section = []
@@ -113,7 +126,7 @@ def sections_in(text):
         yield section
 
 
-def symbol_in(head, lines):
+def symbol_in(head: re.Match[str], lines: list[str]) -> Symbol:
     """The symbol of a section."""
     symbol = Symbol(head["name"], head["linkage"].lstrip("*"))
     for line in lines:
@@ -125,15 +138,19 @@ def symbol_in(head, lines):
             symbol.is_public = "public" in words or "external" in words
             symbol.is_weak = "weak" in words
             symbol.is_kept = "force_output" in words and not symbol.is_public
-            symbol.section = next((word.removeprefix("section:") for word in words if word.startswith("section:")), "")
+            symbol.section = next(
+                (word.removeprefix("section:") for word in words if word.startswith("section:")), ""
+            )
             symbol.runs_alone = "constructor" in words or "destructor" in words
         elif line.startswith("  Address is taken."):
             symbol.is_addressed = True
     return symbol
 
 
-def read_blocks(text, symbols):
-    """Reads `-fdump-tree-ssa-lineno-uid-blocks`: calls behind which nothing follows, and volatile accesses."""
+def read_blocks(text: str, symbols: Symbols) -> None:
+    """Reads `-fdump-tree-ssa-lineno-uid-blocks`: calls behind which nothing follows, and volatile
+    accesses.
+    """
     for found in NO_SUCCESSOR.finditer(text):
         callee = ENDLESS.match(operands.without_places(line_at(text, found.start() - 1)))
         if callee:
@@ -147,20 +164,20 @@ def read_blocks(text, symbols):
             take_volatile(operands.without_places(line), names[at] if at >= 0 else "", symbols)
 
 
-def line_at(text, at):
+def line_at(text: str, at: int) -> str:
     """The line of a text that has this place, without the blanks round it."""
-    return text[text.rfind("\n", 0, at + 1) + 1:text.find("\n", at + 1)].strip()
+    return text[text.rfind("\n", 0, at + 1) + 1 : text.find("\n", at + 1)].strip()
 
 
 def take_volatile(line: str, function: str, symbols: Symbols) -> None:
-    """Takes in the variables of a function's statement with a volatile access; fields are left out."""
+    """Takes in the variables of a statement with a volatile access; no fields."""
     for found in re.finditer(operands.DECLARED, operands.STRING.sub("", line)):
-        if not line[:found.start()].endswith((".", "->")):
+        if not line[: found.start()].endswith((".", "->")):
             symbols.volatile.add(found.group())
     symbols.volatile_behind.update((function, name) for name in VERSION.findall(line))
 
 
-def read_definitions(text, symbols, shown):
+def read_definitions(text: str, symbols: Symbols, shown: Callable[[str], str]) -> None:
     """Reads `-aux-info`: where functions are defined, in files as they are shown."""
     for line in text.split("\n"):
         found = DEFINITION.match(line)
@@ -169,8 +186,10 @@ def read_definitions(text, symbols, shown):
             symbols.definitions[name[1]] = (shown(found["file"]), int(found["line"]))
 
 
-def read_casts(text, symbols):
-    """Reads `-fdump-tree-original`: which variables are cast to void, as those are that need not be read."""
+def read_casts(text: str, symbols: Symbols) -> None:
+    """Reads `-fdump-tree-original`: which variables are cast to void, as those are that need not be
+    read.
+    """
     function = ""
     for found in ORIGINAL.finditer(text):
         if found[1]:
@@ -179,7 +198,7 @@ def read_casts(text, symbols):
             symbols.cast_away.add((function, found[2]))
 
 
-def read_sources(text, symbols, shown):
+def read_sources(text: str, symbols: Symbols, shown: Callable[[str], str]) -> None:
     """Reads `-MMD -MF`: the files of which gcc read one C file, as they are shown."""
     names = re.findall(r"(?:\\.|[^\s\\])+", text.partition(": ")[2])
     symbols.sources += [shown(re.sub(r"\\(.)", r"\1", name)) for name in names]

@@ -1,6 +1,9 @@
 """The statements of a C function as steps of a procedure."""
 
+from __future__ import annotations
+
 from collections.abc import Callable
+from typing import TYPE_CHECKING
 
 from . import operands
 from .calls import Calls
@@ -14,16 +17,53 @@ from .state import State
 from .values import Value
 from .world import function_place
 
+if TYPE_CHECKING:
+    from .code import Number
+    from .dump import Assembler
+
 BINARY = {
-    "plus_expr": "+", "minus_expr": "-", "pointer_diff_expr": "-", "mult_expr": "*", "trunc_div_expr": "/", "exact_div_expr": "/",
-    "rdiv_expr": "/", "trunc_mod_expr": "%", "bit_and_expr": "&", "bit_ior_expr": "|", "bit_xor_expr": "^", "lshift_expr": "<<",
-    "rshift_expr": ">>", "lt_expr": "<", "le_expr": "<=", "gt_expr": ">", "ge_expr": ">=", "eq_expr": "==", "ne_expr": "!=",
+    "plus_expr": "+",
+    "minus_expr": "-",
+    "pointer_diff_expr": "-",
+    "mult_expr": "*",
+    "trunc_div_expr": "/",
+    "exact_div_expr": "/",
+    "rdiv_expr": "/",
+    "trunc_mod_expr": "%",
+    "bit_and_expr": "&",
+    "bit_ior_expr": "|",
+    "bit_xor_expr": "^",
+    "lshift_expr": "<<",
+    "rshift_expr": ">>",
+    "lt_expr": "<",
+    "le_expr": "<=",
+    "gt_expr": ">",
+    "ge_expr": ">=",
+    "eq_expr": "==",
+    "ne_expr": "!=",
 }
 ADDRESSES = {"pointer_plus_expr": "+"}
 UNARY = {"negate_expr": "-", "bit_not_expr": "~", "truth_not_expr": "!"}
-COPIES = {"var_decl", "parm_decl", "result_decl", "ssa_name", "integer_cst", "real_cst", "string_cst", "addr_expr", "mem_ref",
-          "component_ref", "array_ref", "bit_field_ref", "realpart_expr", "imagpart_expr", "view_convert_expr", "constructor",
-          "complex_cst", "vector_cst"}
+COPIES = {
+    "var_decl",
+    "parm_decl",
+    "result_decl",
+    "ssa_name",
+    "integer_cst",
+    "real_cst",
+    "string_cst",
+    "addr_expr",
+    "mem_ref",
+    "component_ref",
+    "array_ref",
+    "bit_field_ref",
+    "realpart_expr",
+    "imagpart_expr",
+    "view_convert_expr",
+    "constructor",
+    "complex_cst",
+    "vector_cst",
+}
 HALVES = ("realpart_expr", "imagpart_expr")
 SIMPLE = {"predict", "nop", "debug"}
 DAMAGE = (ValueError, IndexError, AttributeError, TypeError)
@@ -37,12 +77,17 @@ class Translator:
         self.calls = Calls(state)
         self.jumps = Jumps(state)
         self.turns: dict[str, Callable[[Statement], None]] = {
-            "assign": self.turn_assign, "asm": self.turn_asm, "return": self.turn_return,
-            "call": self.calls.turn_call, "cond": self.jumps.turn_cond,
-            "switch": self.jumps.turn_switch, "goto": self.jumps.turn_goto,
-            "label": self.jumps.turn_label}
+            "assign": self.turn_assign,
+            "asm": self.turn_asm,
+            "return": self.turn_return,
+            "call": self.calls.turn_call,
+            "cond": self.jumps.turn_cond,
+            "switch": self.jumps.turn_switch,
+            "goto": self.jumps.turn_goto,
+            "label": self.jumps.turn_label,
+        }
 
-    def translate(self):
+    def translate(self) -> None:
         """Writes the procedure's steps."""
         function = self.state.procedure.function
         self.state.procedure.stop = Label()
@@ -56,9 +101,12 @@ class Translator:
         self.state.parts.add_reads_behind(self.state.services.writing)
         missing = set(self.state.labels.made) - labels_in(function.body)
         if missing:
-            raise Refusal(f"a jump to {missing.pop()}, which is not there", function_place(self.state.file, self.state.procedure))
+            raise Refusal(
+                f"a jump to {missing.pop()}, which is not there",
+                function_place(self.state.file, self.state.procedure),
+            )
 
-    def block(self, body):
+    def block(self, body: list[Statement | Try]) -> None:
         """Statements one after the other."""
         for item in body:
             if isinstance(item, Try):
@@ -66,8 +114,10 @@ class Translator:
             else:
                 self.turn(item)
 
-    def guarded(self, item):
-        """A body whose cleanup runs on each way out: behind its end, and before each jump out of it."""
+    def guarded(self, item: Try) -> None:
+        """A body whose cleanup runs on each way out: behind its end, and before each jump out of
+        it.
+        """
         if not any(self.does_something(statement) for statement in statements_in(item.cleanup)):
             self.block(item.body)
             return
@@ -77,7 +127,10 @@ class Translator:
         self.state.flush_all()
         self.state.labels = outer
         after = Label()
-        if self.state.procedure.steps[-1:] and self.state.procedure.steps[-1].kind not in ("goto", "return"):
+        if self.state.procedure.steps[-1:] and self.state.procedure.steps[-1].kind not in (
+            "goto",
+            "return",
+        ):
             self.cleanup(item)
             self.state.build.add("goto", label=after, role="made")
         for name, label in exits.made.items():
@@ -86,15 +139,19 @@ class Translator:
             self.jumps.jump(name, "made")
         self.state.build.label(after)
 
-    def does_something(self, statement):
+    def does_something(self, statement: Statement) -> bool:
         """Whether a statement of a cleanup leaves anything behind in the program."""
         if statement.kind != "assign" or not statement.words[2].startswith("{CLOBBER"):
             return True
         declared = statement.words[1]
-        variable = self.state.world.variable(self.state.file, self.state.procedure, declared) if operands.is_declared(declared) else None
+        variable = (
+            self.state.world.variable(self.state.file, self.state.procedure, declared)
+            if operands.is_declared(declared)
+            else None
+        )
         return variable is not None and variable.is_addressed
 
-    def cleanup(self, item):
+    def cleanup(self, item: Try) -> None:
         """One copy of a cleanup. Its own labels are new ones each time."""
         outer = self.state.labels
         self.state.labels = Copies(outer, labels_in(item.cleanup))
@@ -102,10 +159,18 @@ class Translator:
         self.state.flush_all()
         self.state.labels = outer
 
-    def turn(self, statement):
+    def turn(self, statement: Statement) -> None:
         """One statement."""
-        self.state.previous, self.state.previous_start, self.state.previous_given = self.state.statement, self.state.start, self.state.given
-        self.state.statement, self.state.start, self.state.given = statement, len(self.state.procedure.steps), Value()
+        self.state.previous, self.state.previous_start, self.state.previous_given = (
+            self.state.statement,
+            self.state.start,
+            self.state.given,
+        )
+        self.state.statement, self.state.start, self.state.given = (
+            statement,
+            len(self.state.procedure.steps),
+            Value(),
+        )
         self.state.last_place = statement.place or self.state.last_place
         self.state.build.origin = statement
         self.state.build.slot = 0
@@ -122,7 +187,7 @@ class Translator:
 
     # Statements
 
-    def turn_assign(self, statement):
+    def turn_assign(self, statement: Statement) -> None:
         """An assignment."""
         operation, target = statement.words[0], statement.words[1]
         words = [word for word in statement.words[2:] if word != "NULL"]
@@ -132,13 +197,25 @@ class Translator:
         self.state.note_addresses(words)
         if operation == "pointer_plus_expr":
             self.pass_over_scaling(words)
-        elif words[0] in self.state.evaluations and (operation == "negate_expr" or operation == "plus_expr" and not self.state.reads_of(words[1:])):
+        elif words[0] in self.state.evaluations and (
+            operation == "negate_expr"
+            or operation == "plus_expr"
+            and not self.state.reads_of(words[1:])
+        ):
             self.state.evaluations[target] = self.state.evaluations[words[0]]
         if operation == "complex_expr" and self.keeps_half(target, words):
             return
         chained = self.chained_value(operation, words[0])
-        element = self.state.element(words[0]) if operation == "array_ref" and chained is None else None
-        values = [] if element else [self.state.value(word) for word in words] if chained is None else [chained]
+        element = (
+            self.state.element(words[0]) if operation == "array_ref" and chained is None else None
+        )
+        values = (
+            []
+            if element
+            else [self.state.value(word) for word in words]
+            if chained is None
+            else [chained]
+        )
         if element:
             operator, parts, reads = "^", element, self.state.part_reads(words[0], element[0])
         else:
@@ -151,13 +228,15 @@ class Translator:
             step.is_element = bool(element)
             step.is_copy = bool(parts) and not operator
         if parts and not operator:
-            self.state.given = Value((parts[0],) if isinstance(parts[0], Variable) else (), parts[0])
+            self.state.given = Value(
+                (parts[0],) if isinstance(parts[0], Variable) else (), parts[0]
+            )
 
     def chained_value(self, operation: str, word: str) -> Value | None:
         """What `y` was just set to in `x = y = 0`, where the setting of `x` is at hand; else None.
 
-        The source does not read `y` then. The sign of `x` stands before that of `y`; whether a sign of assignment stands between
-        them is for those to see who have the source.
+        The source does not read `y` then. The sign of `x` stands before that of `y`; whether a sign
+        of assignment stands between them is for those to see who have the source.
         """
         last, place = self.state.previous, self.state.statement.place
         if operation not in COPIES or operands.is_temporary(word):
@@ -166,13 +245,15 @@ class Translator:
             return None
         if place is None or last.place is None or not place < last.place:
             return None
-        for step in self.state.procedure.steps[self.state.previous_start:]:
+        for step in self.state.procedure.steps[self.state.previous_start :]:
             if step.kind == "set":
                 step.chained = place
         return self.state.previous_given
 
-    def keeps_half(self, target, words):
-        """Whether one half of a complex number is its own older one: then the other half alone is written, as a part is."""
+    def keeps_half(self, target: str, words: list[str]) -> bool:
+        """Whether one half of a complex number is its own older one: then the other half alone is
+        written, as a part is.
+        """
         kept = [word for word in words if self.state.halves.get(word) == target]
         if len(kept) != 1:
             return False
@@ -186,13 +267,17 @@ class Translator:
         self.state.build.set(variable, reads[:1], weak=True)
         return True
 
-    def pass_over_scaling(self, words):
-        """What gcc multiplied or negated, and added a constant to, to add it to a pointer was not evaluated by the source."""
+    def pass_over_scaling(self, words: list[str]) -> None:
+        """What gcc multiplied or negated, and added a constant to, to add it to a pointer was not
+        evaluated by the source.
+        """
         for word in words:
             if word in self.state.evaluations:
                 self.state.evaluations[word].role = "made"
 
-    def expression(self, operation, values):
+    def expression(
+        self, operation: str, values: list[Value]
+    ) -> tuple[str, tuple[Number | Variable, ...], tuple[Variable, ...]]:
         """An operation's operator, '' for none, its operands, and what else it reads."""
         exact = [value.exact for value in values]
         has_variable = any(isinstance(part, Variable) for part in exact)
@@ -207,18 +292,24 @@ class Translator:
             return "", (exact[0],), values[0].reads[1:] if has_variable else ()
         return "", (), reads
 
-    def end_life(self, target):
+    def end_life(self, target: str) -> None:
         """The end of a variable's life: what pointers may have read of it is read no more."""
-        variable = self.state.world.variable(self.state.file, self.state.procedure, target) if operands.is_declared(target) else None
+        variable = (
+            self.state.world.variable(self.state.file, self.state.procedure, target)
+            if operands.is_declared(target)
+            else None
+        )
         if variable and variable.is_addressed:
             self.state.flush_variable(variable)
             self.state.build.set(variable, role="made", ends_life=True)
 
-    def turn_asm(self, statement):
+    def turn_asm(self, statement: Assembler) -> None:
         """Assembler: reads and writes of its operands; what touches memory may do anything."""
         words = [word for _, word in [*statement.inputs, *statement.outputs]]
         self.state.note_addresses(words)
-        self.state.build.use(variable for _, word in statement.inputs for variable in self.state.value(word).reads)
+        self.state.build.use(
+            variable for _, word in statement.inputs for variable in self.state.value(word).reads
+        )
         self.state.flush_all()
         if statement.touches_memory:
             self.calls.call_unknown()
@@ -231,7 +322,7 @@ class Translator:
         for name in statement.labels:
             self.state.build.add("fork", label=self.state.labels.get(label_name(name)), role="made")
 
-    def turn_return(self, statement):
+    def turn_return(self, statement: Statement) -> None:
         """A return, with the result."""
         word = statement.words[0]
         if word != "NULL" and self.state.procedure.result:

@@ -82,39 +82,68 @@ TAKEN = [
 ]
 GLOBALS = ["g0", "g1", "g2", "g3", "g4", "public0"]
 OPERATORS = ["+", "-", "*", "&", "|", "^"]
-CONSTANTS = ["1", "2", "4", "8", "3", "LOW", "MASK", "PALE", "LIGHT", "'a'", "'\\n'", "010", "0x1fu"]
+CONSTANTS = [
+    "1",
+    "2",
+    "4",
+    "8",
+    "3",
+    "LOW",
+    "MASK",
+    "PALE",
+    "LIGHT",
+    "'a'",
+    "'\\n'",
+    "010",
+    "0x1fu",
+]
 COMPARISONS = ["<", ">", "<=", ">=", "==", "!="]
 
 
 class Program:
     """A program of so many functions, made of a seed: the same seed gives the same program."""
 
-    def __init__(self, seed):
+    def __init__(self, seed: int) -> None:
         self.random = random.Random(seed)
         self.count = self.random.randint(2, 5)
         self.addressed = self.random.sample(range(self.count), k=min(2, self.count))
         self.takers = [Taker(self, number) for number in range(self.random.randint(2, 4))]
         self.functions = [Function(self, number) for number in range(self.count)]
 
-    def text(self):
+    def text(self) -> str:
         """The program's text."""
         head = HEAD.replace("FUEL", str(self.random.randint(20, 120)))
-        prototypes = "".join(f"static unsigned f{number}(unsigned p0, unsigned p1);\n" for number in range(self.count))
+        prototypes = "".join(
+            f"static unsigned f{number}(unsigned p0, unsigned p1);\n"
+            for number in range(self.count)
+        )
         calls = ", ".join(f"f{number}" for number in self.addressed)
         tables = f"static unsigned (*const actions[])(unsigned, unsigned) = {{ {calls} }};\n"
         prototypes += "".join(taker.heading() + ";\n" for taker in self.takers)
         bodies = "\n".join(function.text() for function in [*self.takers, *self.functions])
-        parts = [f"{head}{prototypes}{tables}/* functions */", STOP, HOOKS, bodies, self.main_text()]
+        parts = [
+            f"{head}{prototypes}{tables}/* functions */",
+            STOP,
+            HOOKS,
+            bodies,
+            self.main_text(),
+        ]
         return "\n".join(parts)
 
-    def main_text(self):
+    def main_text(self) -> str:
         """The function main, which looks at some of the globals in the end."""
         shown = self.random.sample(GLOBALS, k=3)
-        calls = "".join(f"    sum = sum * 3 + f{self.random.randrange(self.count)}({self.random.randint(0, 9)}, (unsigned)argc);\n"
-                        for _ in range(self.random.randint(1, 4)))
-        shows = "".join(f"    printf(\"{name} %u\\n\", {name});\n" for name in shown)
-        return (f"int main(int argc, char **argv)\n{{\n    unsigned sum = 0;\n{calls}    run_hooks();\n{shows}"
-                f"    printf(\"%u %u\\n\", sum, table[sum & 7]);\n    return 0;\n}}\n")
+        calls = "".join(
+            f"    sum = sum * 3 + f{self.random.randrange(self.count)}"
+            f"({self.random.randint(0, 9)}, (unsigned)argc);\n"
+            for _ in range(self.random.randint(1, 4))
+        )
+        shows = "".join(f'    printf("{name} %u\\n", {name});\n' for name in shown)
+        return (
+            f"int main(int argc, char **argv)\n{{\n    unsigned sum = 0;\n{calls}"
+            f"    run_hooks();\n{shows}"
+            f'    printf("%u %u\\n", sum, table[sum & 7]);\n    return 0;\n}}\n'
+        )
 
 
 class Taker:
@@ -139,30 +168,40 @@ class Taker:
 
     def call(self, function: "Function") -> str:
         """A call of it from a function."""
-        choices = {"name": function.simple, "expression": function.expression,
-                   "target": function.target,
-                   "pair": lambda: self.random.choice(["duo", "box", "kit"])}
-        given = [kind[2].format(**{name: choice() for name, choice in choices.items()})
-                 for kind in self.kinds]
+        choices = {
+            "name": function.simple,
+            "expression": function.expression,
+            "target": function.target,
+            "pair": lambda: self.random.choice(["duo", "box", "kit"]),
+        }
+        given = [
+            kind[2].format(**{name: choice() for name, choice in choices.items()})
+            for kind in self.kinds
+        ]
         return f"{self.name}({', '.join(given)})"
 
 
 class Function:
-    """A function while it is made: its variables, and expressions that it evaluates again and again."""
+    """A function while it is made: its variables, and expressions that it evaluates again and
+    again.
+    """
 
-    def __init__(self, program, number):
+    def __init__(self, program: Program, number: int) -> None:
         self.program = program
         self.random = program.random
         self.name = f"f{number}"
         self.locals = [f"v{count}" for count in range(self.random.randint(2, 5))]
         self.names = [*self.locals, "p0", "p1", "late", *GLOBALS]
-        self.usual = [f"{self.random.choice(self.names)} {self.random.choice(OPERATORS)} {self.random.choice(self.names)}"
-                      for _ in range(3)]
+        self.usual = [
+            f"{self.random.choice(self.names)} {self.random.choice(OPERATORS)} "
+            f"{self.random.choice(self.names)}"
+            for _ in range(3)
+        ]
         self.labels = 0
         self.counters = 0
         self.lines = []
 
-    def text(self):
+    def text(self) -> str:
         """The function's text."""
         self.put("if (fuel-- <= 0)", 1)
         self.put(f"return {self.simple()};", 2)
@@ -170,46 +209,84 @@ class Function:
         self.put(f"return {self.expression()};", 1)
         names = "".join(f"    unsigned {name} = {self.first_value()};\n" for name in self.locals)
         counters = "".join(f"    int k{number};\n" for number in range(self.counters))
-        late = ("    unsigned at = p0 % 3;\n    struct pair kit = { 3 };\n    struct thin slim;\n    _Complex double wave;\n    unsigned late, row[3];\n"
-                "    slim.small = p1;\n    slim.seen = p0;\n    __real__ wave = p0 & 63;\n"
-                "    __imag__ wave = p1 & 63;\n    row[0] = p0;\n    row[1] = p1;\n"
-                "    row[2] = 3;\n    late = row[1];\n")
-        guarded = "    unsigned kept __attribute__((cleanup(leave))) = p0;\n" if self.random.random() < 0.25 else ""
-        return (f"static unsigned {self.name}(unsigned p0, unsigned p1)\n{{\n{names}{counters}    unsigned local[4] = {{ 1, 2, p0, 4 }};\n"
-                f"    struct pair duo = {{ p1, 2, {{ 1 }} }};\n    unsigned *where = {self.target()};\n{guarded}{late}"
-                + "\n".join(self.lines) + "\n}\n")
+        late = (
+            "    unsigned at = p0 % 3;\n    struct pair kit = { 3 };\n    struct thin slim;\n"
+            "    _Complex double wave;\n    unsigned late, row[3];\n"
+            "    slim.small = p1;\n    slim.seen = p0;\n    __real__ wave = p0 & 63;\n"
+            "    __imag__ wave = p1 & 63;\n    row[0] = p0;\n    row[1] = p1;\n"
+            "    row[2] = 3;\n    late = row[1];\n"
+        )
+        guarded = (
+            "    unsigned kept __attribute__((cleanup(leave))) = p0;\n"
+            if self.random.random() < 0.25
+            else ""
+        )
+        return (
+            f"static unsigned {self.name}(unsigned p0, unsigned p1)\n{{\n{names}{counters}"
+            "    unsigned local[4] = { 1, 2, p0, 4 };\n"
+            "    struct pair duo = { p1, 2, { 1 } };\n"
+            f"    unsigned *where = {self.target()};\n{guarded}{late}"
+            + "\n".join(self.lines)
+            + "\n}\n"
+        )
 
-    def put(self, line, depth):
+    def put(self, line: str, depth: int) -> None:
         """Adds a line."""
         self.lines.append("    " * depth + line)
 
-    def first_value(self):
+    def first_value(self) -> str:
         """What a local begins with."""
-        return self.random.choice(["0", "p0", "p1", "p0 + p1", str(self.random.randint(1, 99)), "g0"])
+        return self.random.choice(
+            ["0", "p0", "p1", "p0 + p1", str(self.random.randint(1, 99)), "g0"]
+        )
 
-    def target(self):
+    def target(self) -> str:
         """What a pointer may point to."""
-        return "&" + self.random.choice([*self.locals, "g3", "g4", "table[3]", "local[1]", "duo.second", "box.first"])
+        return "&" + self.random.choice(
+            [*self.locals, "g3", "g4", "table[3]", "local[1]", "duo.second", "box.first"]
+        )
 
     def simple_name(self) -> str:
         """A variable."""
         return self.random.choice(self.names)
 
-    def simple(self):
+    def simple(self) -> str:
         """A variable or a number."""
         return self.random.choice([*self.names, str(self.random.randint(0, 50))])
 
-    def operand(self):
+    def operand(self) -> str:
         """Something with a value."""
         kind = self.random.random()
         if kind < 0.6:
             return self.simple()
         index = self.random.choice(self.names)
-        return self.random.choice([f"table[{index} & 7]", f"local[{index} & 3]", "duo.first", "duo.second", "box.second", "duo.cells[1]",
-                                   "*where", "*aim", "mixed.number", "mixed.bytes[2]", "(unsigned)fuel",
-                                   "row[0]", "row[2]", "kit.first", "kit.cells[1]", "row[p1 % 3]", "row[at]", "row[at]", "kit.cells[at]", "(unsigned)__real__ wave", "slim.small"])
+        return self.random.choice(
+            [
+                f"table[{index} & 7]",
+                f"local[{index} & 3]",
+                "duo.first",
+                "duo.second",
+                "box.second",
+                "duo.cells[1]",
+                "*where",
+                "*aim",
+                "mixed.number",
+                "mixed.bytes[2]",
+                "(unsigned)fuel",
+                "row[0]",
+                "row[2]",
+                "kit.first",
+                "kit.cells[1]",
+                "row[p1 % 3]",
+                "row[at]",
+                "row[at]",
+                "kit.cells[at]",
+                "(unsigned)__real__ wave",
+                "slim.small",
+            ]
+        )
 
-    def expression(self, depth=0):
+    def expression(self, depth: int = 0) -> str:
         """An expression."""
         kind = self.random.random()
         if kind < 0.4:
@@ -219,7 +296,9 @@ class Function:
         if kind < 0.82:
             return f"{self.operand()} / ({self.operand()} | 1)"
         if kind < 0.86:
-            return f"{self.operand()} {self.random.choice(['<<', '>>'])} {self.random.randint(0, 7)}"
+            return (
+                f"{self.operand()} {self.random.choice(['<<', '>>'])} {self.random.randint(0, 7)}"
+            )
         if kind < 0.90:
             sign = self.random.choice(["%", "/", "&", "+", "-", "*"])
             return f"{self.simple_name()} {sign} {self.random.choice(CONSTANTS)}"
@@ -227,7 +306,7 @@ class Function:
             return f"({self.test()} ? {self.expression(1)} : {self.expression(1)})"
         return self.random.choice(["-", "~", "!"]) + self.simple()
 
-    def test(self):
+    def test(self) -> str:
         """A condition."""
         plain = f"{self.operand()} {self.random.choice(COMPARISONS)} {self.operand()}"
         kind = self.random.random()
@@ -235,30 +314,53 @@ class Function:
             return f"{plain} && ({self.random.choice(self.usual)}) > {self.random.randint(0, 9)}"
         return f"{plain} || {self.operand()}" if kind < 0.3 else plain
 
-    def place(self):
+    def place(self) -> str:
         """Something that can be assigned."""
         kind = self.random.random()
         if kind < 0.65:
             return self.random.choice([*self.locals, *self.locals, "p0", "p1", *GLOBALS])
         index = self.random.choice(self.names)
-        return self.random.choice([f"table[{index} & 7]", f"local[{index} & 3]", "duo.first", "duo.cells[2]", "box.first", "box.cells[1]",
-                                   "*where", "*aim", "mixed.number", "mixed.bytes[1]", "row[0]", "row[1]", "late", "kit.first", "kit.cells[1]", "kit.second",
-                                   "row[p0 % 3]", "row[at]", "*where", "*where",
-                                   "slim.small", "duo.second", "box.second"])
+        return self.random.choice(
+            [
+                f"table[{index} & 7]",
+                f"local[{index} & 3]",
+                "duo.first",
+                "duo.cells[2]",
+                "box.first",
+                "box.cells[1]",
+                "*where",
+                "*aim",
+                "mixed.number",
+                "mixed.bytes[1]",
+                "row[0]",
+                "row[1]",
+                "late",
+                "kit.first",
+                "kit.cells[1]",
+                "kit.second",
+                "row[p0 % 3]",
+                "row[at]",
+                "*where",
+                "*where",
+                "slim.small",
+                "duo.second",
+                "box.second",
+            ]
+        )
 
-    def block(self, depth, count, loops):
+    def block(self, depth: int, count: int, loops: int) -> None:
         """Some statements."""
         for _ in range(count):
             self.statement(depth, loops)
 
-    def statement(self, depth, loops):
+    def statement(self, depth: int, loops: int) -> None:
         """A statement of some kind."""
         kinds = [self.assign] * 8 + [self.call] * 2 + [self.point, self.copy, self.show]
         if depth < 4:
             kinds += [self.branch] * 4 + [self.loop, self.switch, self.jump, self.leave_early]
         self.random.choice(kinds)(depth, loops)
 
-    def assign(self, depth, loops):
+    def assign(self, depth: int, loops: int) -> None:
         """An assignment."""
         del loops
         sign = self.random.choice(["=", "=", "=", "=", "+=", "^="])
@@ -266,35 +368,52 @@ class Function:
             value = f"{self.place()} = {self.place()} = {self.expression()}"
             self.put(f"{value};", depth)
             return
-        self.put(self.random.choice([f"{self.place()} {sign} {self.expression()};"] * 5 + [f"{self.place()}++;", f"--{self.place()};"]), depth)
+        self.put(
+            self.random.choice(
+                [f"{self.place()} {sign} {self.expression()};"] * 5
+                + [f"{self.place()}++;", f"--{self.place()};"]
+            ),
+            depth,
+        )
 
-    def call(self, depth, loops):
+    def call(self, depth: int, loops: int) -> None:
         """A call, by name or through the table."""
         del loops
         if self.random.random() < 0.5:
             target = self.random.choice([*self.locals, "g1", "g2", "late"])
             self.put(f"{target} = {self.random.choice(self.program.takers).call(self)};", depth)
             return
-        name = self.random.choice([f"f{self.random.randrange(self.program.count)}"] * 3 + [f"actions[p0 % {len(self.program.addressed)}]"])
-        target = f"{self.random.choice([*self.locals, 'g1', 'g2'])} = " if self.random.random() < 0.8 else ""
+        name = self.random.choice(
+            [f"f{self.random.randrange(self.program.count)}"] * 3
+            + [f"actions[p0 % {len(self.program.addressed)}]"]
+        )
+        target = (
+            f"{self.random.choice([*self.locals, 'g1', 'g2'])} = "
+            if self.random.random() < 0.8
+            else ""
+        )
         self.put(f"{target}{name}({self.expression()}, {self.simple()});", depth)
 
-    def point(self, depth, loops):
+    def point(self, depth: int, loops: int) -> None:
         """A pointer that points elsewhere."""
         del loops
-        self.put(self.random.choice([f"where = {self.target()};", "aim = &g3;", "aim = &g4;"]), depth)
+        self.put(
+            self.random.choice([f"where = {self.target()};", "aim = &g3;", "aim = &g4;"]), depth
+        )
 
-    def copy(self, depth, loops):
+    def copy(self, depth: int, loops: int) -> None:
         """A copy of a struct."""
         del loops
-        self.put(self.random.choice(["box = duo;", "duo = box;", "kit = box;", "box = kit;"]), depth)
+        self.put(
+            self.random.choice(["box = duo;", "duo = box;", "kit = box;", "box = kit;"]), depth
+        )
 
-    def show(self, depth, loops):
+    def show(self, depth: int, loops: int) -> None:
         """Something is printed."""
         del loops
-        self.put(f"printf(\"%u\\n\", {self.operand()});", depth)
+        self.put(f'printf("%u\\n", {self.operand()});', depth)
 
-    def branch(self, depth, loops):
+    def branch(self, depth: int, loops: int) -> None:
         """A test."""
         self.put(f"if ({self.test()}) {{", depth)
         self.block(depth + 1, self.random.randint(1, 3), loops)
@@ -303,7 +422,7 @@ class Function:
             self.block(depth + 1, self.random.randint(1, 3), loops)
         self.put("}", depth)
 
-    def loop(self, depth, loops):
+    def loop(self, depth: int, loops: int) -> None:
         """A loop with a counter of its own."""
         counter = f"k{self.counters}"
         self.counters += 1
@@ -318,10 +437,12 @@ class Function:
         if self.random.random() < 0.3:
             self.put(f"if ({self.test()})", depth + 1)
             # a loop of the last form would not count behind `continue`
-            self.put("break;" if form == "do" else self.random.choice(["break;", "continue;"]), depth + 2)
+            self.put(
+                "break;" if form == "do" else self.random.choice(["break;", "continue;"]), depth + 2
+            )
         self.put(f"}} while (--{counter} > 0);" if form == "do" else "}", depth)
 
-    def switch(self, depth, loops):
+    def switch(self, depth: int, loops: int) -> None:
         """A switch."""
         self.put(f"switch ({self.operand()} & 3) {{", depth)
         for case in self.random.sample(range(4), k=self.random.randint(1, 3)):
@@ -334,7 +455,7 @@ class Function:
             self.block(depth + 1, 1, loops)
         self.put("}", depth)
 
-    def jump(self, depth, loops):
+    def jump(self, depth: int, loops: int) -> None:
         """A jump forward, over statements that are reached or not."""
         label = f"l{self.labels}"
         self.labels += 1
@@ -347,8 +468,13 @@ class Function:
         self.block(depth, self.random.randint(1, 2), loops)
         self.put(f"{label}:;", depth)
 
-    def leave_early(self, depth, loops):
+    def leave_early(self, depth: int, loops: int) -> None:
         """A return, or an end of the program."""
         del loops
         self.put(f"if ({self.test()})", depth)
-        self.put(f"stop({self.simple()});" if self.random.random() < 0.1 else f"return {self.expression()};", depth + 1)
+        self.put(
+            f"stop({self.simple()});"
+            if self.random.random() < 0.1
+            else f"return {self.expression()};",
+            depth + 1,
+        )

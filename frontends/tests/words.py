@@ -1,4 +1,8 @@
-"""Tries the words of check-c, its formats, and what it does where something fails: `run` calls this. Not verified."""
+"""Tries the words of check-c, its formats, and what it does where something fails: `run` calls
+this. Not verified.
+"""
+
+from __future__ import annotations
 
 import json
 import os
@@ -9,6 +13,8 @@ import sys
 import tempfile
 import time
 from collections import Counter
+from collections.abc import Iterator
+from typing import TYPE_CHECKING, Any
 
 HERE = os.path.dirname(os.path.realpath(__file__))
 sys.path.insert(0, os.path.join(HERE, ".."))
@@ -16,11 +22,23 @@ sys.path.insert(0, os.path.join(HERE, ".."))
 from checking import analysis
 from checking.compiling import Input
 
+if TYPE_CHECKING:
+    from checking.analysis import Outcome, Task
+
 CHECK = os.path.join(HERE, "..", "check-c")
-ONE_REMARK = "int printf(const char *, ...);\nint main(int c, char **v)\n{\n\tint gone = c * 2;\n    return 0;\n}\n"
+ONE_REMARK = (
+    "int printf(const char *, ...);\nint main(int c, char **v)\n{\n\tint gone = c * 2;\n"
+    "    return 0;\n}\n"
+)
 BROKEN = "int main(void) { return x; }\n"
 LIBRARY = "int f(int n)\n{\n    int gone = n * 2;\n    return n;\n}\n"
-FILES = {"one.c": ONE_REMARK, "broken.c": BROKEN, "library.c": LIBRARY, "empty.c": "", "other.txt": "x"}
+FILES = {
+    "one.c": ONE_REMARK,
+    "broken.c": BROKEN,
+    "library.c": LIBRARY,
+    "empty.c": "",
+    "other.txt": "x",
+}
 
 # The words, the status, and what standard error has.
 CASES = [
@@ -56,8 +74,16 @@ CASES = [
     ("--together one.c library.c", 0, r"2 remarks on 2 files: 2 dead"),
     ("one.c library.c one.c", 0, r"2 remarks on 2 files: 2 dead"),
     ("one.c broken.c library.c", 3, r"(?s)broken.c: gcc failed.*2 remarks on 3 files: 2 dead"),
-    ("--together one.c broken.c library.c", 3, r"(?s)broken.c: gcc failed.*2 remarks on 3 files: 2 dead"),
-    ("--whole one.c broken.c library.c", 3, r"(?s)the rest is not taken as the whole program.*2 remarks on 3 files: 2 dead"),
+    (
+        "--together one.c broken.c library.c",
+        3,
+        r"(?s)broken.c: gcc failed.*2 remarks on 3 files: 2 dead",
+    ),
+    (
+        "--whole one.c broken.c library.c",
+        3,
+        r"(?s)the rest is not taken as the whole program.*2 remarks on 3 files: 2 dead",
+    ),
     ("--version", 0, r"$"),
 ]
 SHOWN = """one.c:4:6: warning: assignment to 'gone' is dead [tacflow-dead]
@@ -66,48 +92,77 @@ SHOWN = """one.c:4:6: warning: assignment to 'gone' is dead [tacflow-dead]
 """
 
 
-def run(words, folder, **parts):
+def run(words: str, folder: str, **parts: Any) -> subprocess.CompletedProcess:
     """Runs check-c in a folder."""
     parts = {"stdout": subprocess.PIPE, "stderr": subprocess.PIPE} | parts
-    return subprocess.run([sys.executable, CHECK, *words.split()], cwd=folder, text=True, check=False, **parts)
+    return subprocess.run(
+        [sys.executable, CHECK, *words.split()], cwd=folder, text=True, check=False, **parts
+    )
 
 
-def wrong_cases(folder):
+def wrong_cases(folder: str) -> Iterator[str]:
     """The cases of which the outcome is another one."""
     for words, status, pattern in CASES:
         done = run(words, folder)
-        if done.returncode != status or not re.search(pattern, done.stderr.strip()) or status == 2 and done.stderr.count("\n") != 1:
+        if (
+            done.returncode != status
+            or not re.search(pattern, done.stderr.strip())
+            or status == 2
+            and done.stderr.count("\n") != 1
+        ):
             yield f"check-c {words}: status {done.returncode}: {done.stderr.strip()}"
 
 
-def wrong_forms(folder):
+def wrong_forms(folder: str) -> Iterator[str]:
     """What is wrong with the forms of remarks."""
     if run("one.c", folder).stdout != SHOWN:
         yield f"text: {run('one.c', folder).stdout}"
-    rows = [json.loads(line) for line in run("--format json one.c library.c", folder).stdout.splitlines()]
-    if [(row["file"], row["line"], row["column"], row["kind"], row["function"]) for row in rows] != [
-            ("one.c", 4, 6, "dead", "main"), ("library.c", 3, 9, "dead", "f")]:
+    rows = [
+        json.loads(line)
+        for line in run("--format json one.c library.c", folder).stdout.splitlines()
+    ]
+    if [
+        (row["file"], row["line"], row["column"], row["kind"], row["function"]) for row in rows
+    ] != [("one.c", 4, 6, "dead", "main"), ("library.c", 3, 9, "dead", "f")]:
         yield f"json: {rows}"
     sarif = json.loads(run("--format sarif one.c", folder).stdout)["runs"][0]
     result = sarif["results"][0]
     place = result["locations"][0]["physicalLocation"]
     rule = sarif["tool"]["driver"]["rules"][result["ruleIndex"]]
     base = sarif["originalUriBaseIds"]["%SRCROOT%"]["uri"]
-    if (rule["id"] != "tacflow-dead" or place["artifactLocation"] != {"uri": "one.c", "uriBaseId": "%SRCROOT%"}
-            or place["region"] != {"startLine": 4, "startColumn": 6} or base != f"file://{folder}/"):
+    if (
+        rule["id"] != "tacflow-dead"
+        or place["artifactLocation"] != {"uri": "one.c", "uriBaseId": "%SRCROOT%"}
+        or place["region"] != {"startLine": 4, "startColumn": 6}
+        or base != f"file://{folder}/"
+    ):
         yield f"sarif: {result} {base}"
-    weaknesses = {rule["id"].removeprefix("tacflow-"): rule.get("relationships", [{"target": {"id": ""}}])[0]["target"]["id"]
-                  for rule in sarif["tool"]["driver"]["rules"]}
-    if weaknesses != {"dead": "563", "dead-initial": "563", "dead-last": "563", "unset": "457", "maybe-unset": "457", "never": "561",
-                      "computed": "", "busy": ""} or not rule["help"]["markdown"].startswith("**dead**"):
+    weaknesses = {
+        rule["id"].removeprefix("tacflow-"): rule.get("relationships", [{"target": {"id": ""}}])[0][
+            "target"
+        ]["id"]
+        for rule in sarif["tool"]["driver"]["rules"]
+    }
+    if weaknesses != {
+        "dead": "563",
+        "dead-initial": "563",
+        "dead-last": "563",
+        "unset": "457",
+        "maybe-unset": "457",
+        "never": "561",
+        "computed": "",
+        "busy": "",
+    } or not rule["help"]["markdown"].startswith("**dead**"):
         yield f"sarif's rules: {weaknesses} {rule}"
 
 
-def wrong_prints(folder):
+def wrong_prints(folder: str) -> Iterator[str]:
     """What is wrong with SARIF's fingerprints: they stay where lines move, and no two are alike."""
-    def prints():
+
+    def prints() -> list[str]:
         results = json.loads(run("--format sarif one.c", folder).stdout)["runs"][0]["results"]
         return [result["partialFingerprints"]["tacflow/v1"] for result in results]
+
     first = prints()
     with open(os.path.join(folder, "one.c"), "w", encoding="utf-8") as file:
         file.write("\n" + ONE_REMARK.replace("return 0;", "gone = 3; return 0;"))
@@ -116,76 +171,155 @@ def wrong_prints(folder):
         yield f"fingerprints: {first} {later}"
 
 
-def wrong_since(folder):
+def wrong_since(folder: str) -> Iterator[str]:
     """What is wrong with --since: only lines that changed are told of."""
-    def git(*words):
-        subprocess.run(["git", "-c", "user.name=x", "-c", "user.email=x@y.example", *words], cwd=folder, check=True, capture_output=True)
+
+    def git(*words: str) -> None:
+        subprocess.run(
+            ["git", "-c", "user.name=x", "-c", "user.email=x@y.example", *words],
+            cwd=folder,
+            check=True,
+            capture_output=True,
+        )
+
     if run("--since HEAD one.c", folder).returncode != 2:
         yield "--since without a repository"
     git("init", "-q")
     git("add", "one.c", "library.c")
     git("commit", "-q", "-m", "first")
     with open(os.path.join(folder, "library.c"), "w", encoding="utf-8") as file:
-        file.write(LIBRARY.replace("return n;", "n = 3;\n    return 2;") + "int g(int n)\n{\n    n = 4;\n    return 1;\n}\n")
+        file.write(
+            LIBRARY.replace("return n;", "n = 3;\n    return 2;")
+            + "int g(int n)\n{\n    n = 4;\n    return 1;\n}\n"
+        )
     told = run("--since HEAD --format json one.c library.c", folder)
     places = [(row["file"], row["line"]) for row in map(json.loads, told.stdout.splitlines())]
     if places != [("library.c", 4), ("library.c", 9)]:
         yield f"--since: {places} {told.stderr}"
-    for words, pattern in (("--since nothing one.c", "--since: git: "), ("--since=-p one.c", "-p is no revision")):
+    for words, pattern in (
+        ("--since nothing one.c", "--since: git: "),
+        ("--since=-p one.c", "-p is no revision"),
+    ):
         done = run(words, folder)
         if done.returncode != 2 or pattern not in done.stderr:
             yield f"{words}: {done.returncode} {done.stderr}"
 
 
-def wrong_baselines(folder):
-    """What is wrong with baselines: known remarks are not told again, also on other lines; new ones are."""
+def wrong_baselines(folder: str) -> Iterator[str]:
+    """What is wrong with baselines: known remarks are not told again, also on other lines; new ones
+    are.
+    """
     run("--write-baseline known one.c", folder)
     with open(os.path.join(folder, "one.c"), "w", encoding="utf-8") as file:
         file.write("\n\n" + ONE_REMARK.replace("return 0;", "c = 3; return 0;"))
     told = run("--baseline known one.c", folder)
-    if [line for line in told.stdout.splitlines() if "warning" in line] != ["one.c:7:7: warning: assignment to 'c' is dead [tacflow-dead]"]:
+    if [line for line in told.stdout.splitlines() if "warning" in line] != [
+        "one.c:7:7: warning: assignment to 'c' is dead [tacflow-dead]"
+    ]:
         yield f"baseline: {told.stdout}{told.stderr}"
 
 
-def wrong_databases(folder):
+def wrong_databases(folder: str) -> Iterator[str]:
     """What is wrong with a compilation database."""
-    entries = [{"directory": os.path.join(folder, "build"), "file": "../library.c", "command": "gcc -O2 -g -DX='a b' -c -o l.o ../library.c"},
-               {"directory": folder, "file": "one.c", "arguments": ["ccache", "gcc", "-MD", "-MF", "one.d", "-c", "one.c", "-o", "one.o"]},
-               {"directory": folder, "file": "x.cc", "command": "g++ -c x.cc"}]
+    entries = [
+        {
+            "directory": os.path.join(folder, "build"),
+            "file": "../library.c",
+            "command": "gcc -O2 -g -DX='a b' -c -o l.o ../library.c",
+        },
+        {
+            "directory": folder,
+            "file": "one.c",
+            "arguments": ["ccache", "gcc", "-MD", "-MF", "one.d", "-c", "one.c", "-o", "one.o"],
+        },
+        {"directory": folder, "file": "x.cc", "command": "g++ -c x.cc"},
+    ]
     with open(os.path.join(folder, "compile_commands.json"), "w", encoding="utf-8") as file:
         json.dump(entries, file)
-    for words, names in (("-p .", {"library.c", "one.c"}), ("-p compile_commands.json -j 2 library.c", {"library.c"}),
-                         ("-p . --together", {"library.c", "one.c"})):
+    for words, names in (
+        ("-p .", {"library.c", "one.c"}),
+        ("-p compile_commands.json -j 2 library.c", {"library.c"}),
+        ("-p . --together", {"library.c", "one.c"}),
+    ):
         told = run(words + " --format json", folder)
-        if told.returncode or {json.loads(line)["file"] for line in told.stdout.splitlines()} != names:
+        if (
+            told.returncode
+            or {json.loads(line)["file"] for line in told.stdout.splitlines()} != names
+        ):
             yield f"check-c {words}: {told.stdout}{told.stderr}"
 
 
-def wrong_others_words(folder):
-    """What is wrong with a database of another compiler's words, or with words that ask for files."""
-    entry = {"directory": folder, "file": "library.c", "arguments": [
-        "clang", "-Weverything", "-fblocks", "--target=arm-none-eabi", "-target", "arm", "-mthumb", "-march=armv7-a", "-Xclang", "-x",
-        "-specs=not.specs", "-include", "there.h", "-specs=mine.specs", "-fauto-profile", "-Wp,-MD,x.d", "-c", "library.c"]}
-    for name, text in (("compile_commands.json", json.dumps([entry])), ("there.h", "#define n m\n"), ("mine.specs", "*cpp:\n+ -DK\n\n")):
+def wrong_others_words(folder: str) -> Iterator[str]:
+    """What is wrong with another compiler's words, or those that ask for files."""
+    entry = {
+        "directory": folder,
+        "file": "library.c",
+        "arguments": [
+            "clang",
+            "-Weverything",
+            "-fblocks",
+            "--target=arm-none-eabi",
+            "-target",
+            "arm",
+            "-mthumb",
+            "-march=armv7-a",
+            "-Xclang",
+            "-x",
+            "-specs=not.specs",
+            "-include",
+            "there.h",
+            "-specs=mine.specs",
+            "-fauto-profile",
+            "-Wp,-MD,x.d",
+            "-c",
+            "library.c",
+        ],
+    }
+    for name, text in (
+        ("compile_commands.json", json.dumps([entry])),
+        ("there.h", "#define n m\n"),
+        ("mine.specs", "*cpp:\n+ -DK\n\n"),
+    ):
         with open(os.path.join(folder, name), "w", encoding="utf-8") as file:
             file.write(text)
-    left_out = "-target arm -Xclang -x -specs=not.specs -Weverything -fblocks --target=arm-none-eabi -mthumb -march=armv7-a"
+    left_out = (
+        "-target arm -Xclang -x -specs=not.specs -Weverything -fblocks --target=arm-none-eabi "
+        "-mthumb -march=armv7-a"
+    )
     for words, is_told in (("-p .", False), ("-p . --verbose", True)):
         done = run(words, folder)
         named = re.search("left out, as gcc does not know them: (.*)", done.stderr)
-        if "1 remark on 1 file" not in done.stderr or bool(named) != is_told or is_told and set(named[1].split()) != set(left_out.split()):
+        if (
+            "1 remark on 1 file" not in done.stderr
+            or bool(named) != is_told
+            or is_told
+            and set(named[1].split()) != set(left_out.split())
+        ):
             yield f"{words}: {done.stderr}"
-    for words in ("-Wp,-MD,x.d,-DK", "-Xpreprocessor -MD -Xpreprocessor x.d", "-include there.h", "--specs=mine.specs"):
+    for words in (
+        "-Wp,-MD,x.d,-DK",
+        "-Xpreprocessor -MD -Xpreprocessor x.d",
+        "-include there.h",
+        "--specs=mine.specs",
+    ):
         done = run(words + " library.c", folder)
         if "1 remark on 1 file" not in done.stderr or os.path.exists(os.path.join(folder, "x.d")):
             yield f"{words}: {done.stderr}"
 
 
-def wrong_parts(folder):
-    """What is wrong where a program is analysed in parts: a header's remark holds in the copies of all parts, or is not told."""
-    header = "static int state;\nstatic inline void set(int x)\n{\n    int twice = x * 2;\n    state = x;\n}\n"
+def wrong_parts(folder: str) -> Iterator[str]:
+    """What is wrong where a program is analysed in parts: a header's remark holds in the copies of
+    all parts, or is not told.
+    """
+    header = (
+        "static int state;\nstatic inline void set(int x)\n{\n    int twice = x * 2;\n"
+        "    state = x;\n}\n"
+    )
     for name, own in (("first", "set(n); return state;"), ("second", "set(n); return n;")):
-        functions = "".join(f"int {name}{number}(int n)\n{{\n    int gone = n * 2;\n    return n;\n}}\n" for number in range(150))
+        functions = "".join(
+            f"int {name}{number}(int n)\n{{\n    int gone = n * 2;\n    return n;\n}}\n"
+            for number in range(150)
+        )
         with open(os.path.join(folder, name + ".c"), "w", encoding="utf-8") as file:
             file.write(f'#include "parts.h"\nint {name}(int n) {{ {own} }}\n{functions}')
     with open(os.path.join(folder, "parts.h"), "w", encoding="utf-8") as file:
@@ -197,14 +331,26 @@ def wrong_parts(folder):
     files = tuple(Input(os.path.join(folder, name)) for name in ("first.c", "second.c"))
     for processes in (1, 2):
         outcome = in_parts(analysis.Task(files, processes=processes), MANY_STATEMENTS=100, PART=300)
-        places = Counter((os.path.basename(remark.file), remark.text) for remark in outcome.remarks.values() if remark.kind == "dead")
+        places = Counter(
+            (os.path.basename(remark.file), remark.text)
+            for remark in outcome.remarks.values()
+            if remark.kind == "dead"
+        )
         gone = "assignment to 'gone' is dead"
         is_noted = any("analysed in parts" in note for note in outcome.notes)
-        if places != {("first.c", gone): 150, ("second.c", gone): 150, ("parts.h", "assignment to 'twice' is dead"): 1} or not is_noted:
+        if (
+            places
+            != {
+                ("first.c", gone): 150,
+                ("second.c", gone): 150,
+                ("parts.h", "assignment to 'twice' is dead"): 1,
+            }
+            or not is_noted
+        ):
             yield f"parts by {processes}: {places} {outcome.notes} {outcome.faults}"
 
 
-def in_parts(task, **sizes):
+def in_parts(task: Task, **sizes: int) -> Outcome:
     """What comes of a task where less is taken to be a large program."""
     usual = {name: getattr(analysis, name) for name in sizes}
     vars(analysis).update(sizes)
@@ -213,20 +359,33 @@ def in_parts(task, **sizes):
     return outcome
 
 
-def wrong_large(folder):
-    """What is wrong where a function by itself is too large: the others are analysed all the same, and it reads what it may."""
+def wrong_large(folder: str) -> Iterator[str]:
+    """What is wrong where a function by itself is too large: the others are analysed all the same,
+    and it reads what it may.
+    """
     path = os.path.join(folder, "large.c")
     with open(path, "w", encoding="utf-8") as file:
-        file.write("static int kept, lost;\n" + LIBRARY + "void g(int n)\n{\n    kept = n;\n    lost = n;\n}\n"
-                   + "int h(void)\n{\n" + "    kept += 1;\n" * 100 + "    return kept;\n}\n")
+        file.write(
+            "static int kept, lost;\n"
+            + LIBRARY
+            + "void g(int n)\n{\n    kept = n;\n    lost = n;\n}\n"
+            + "int h(void)\n{\n"
+            + "    kept += 1;\n" * 100
+            + "    return kept;\n}\n"
+        )
     outcome = in_parts(analysis.Task((Input(path),)), MANY_STATEMENTS=100, HOPELESS=200)
-    told = sorted((remark.line, remark.text) for remark in outcome.remarks.values() if remark.kind == "dead")
+    told = sorted(
+        (remark.line, remark.text) for remark in outcome.remarks.values() if remark.kind == "dead"
+    )
     is_noted = any("'h' is left out" in note for note in outcome.notes)
-    if told != [(4, "assignment to 'gone' is dead"), (10, "assignment to 'lost' is dead")] or not is_noted:
+    if (
+        told != [(4, "assignment to 'gone' is dead"), (10, "assignment to 'lost' is dead")]
+        or not is_noted
+    ):
         yield f"a large function: {told} {outcome.notes} {outcome.faults}"
 
 
-def wrong_ends(folder):
+def wrong_ends(folder: str) -> Iterator[str]:
     """What is wrong where the answer can't be written, or where the run is interrupted."""
     with open("/dev/full", "w", encoding="utf-8") as full:
         done = run("one.c", folder, stdout=full)
@@ -243,9 +402,15 @@ def wrong_ends(folder):
         file.write("#!/bin/sh\nexec sleep 20\n")
     os.chmod(slow, 0o755)
     for words in ("one.c", "-j2 one.c library.c"):
-        started = subprocess.Popen([sys.executable, CHECK, *words.split()], cwd=folder, stderr=subprocess.PIPE, text=True,
-                                   env=dict(os.environ, TACVIEW=slow), start_new_session=True,
-                                   preexec_fn=lambda: signal.signal(signal.SIGINT, signal.SIG_DFL))  # a shell may have it ignored
+        started = subprocess.Popen(
+            [sys.executable, CHECK, *words.split()],
+            cwd=folder,
+            stderr=subprocess.PIPE,
+            text=True,
+            env=dict(os.environ, TACVIEW=slow),
+            start_new_session=True,
+            preexec_fn=lambda: signal.signal(signal.SIGINT, signal.SIG_DFL),
+        )  # a shell may have it ignored
         time.sleep(1.5)
         os.killpg(started.pid, signal.SIGINT)
         told = started.communicate()[1]
@@ -253,11 +418,21 @@ def wrong_ends(folder):
             yield f"an interrupt of {words}: status {started.returncode}: {told}"
 
 
-def differences():
+def differences() -> list[list[str]]:
     """What is wrong, for each group of trials the lines that say so."""
     wrong = []
-    groups = (wrong_cases, wrong_forms, wrong_prints, wrong_since, wrong_baselines, wrong_databases, wrong_others_words, wrong_parts,
-              wrong_large, wrong_ends)
+    groups = (
+        wrong_cases,
+        wrong_forms,
+        wrong_prints,
+        wrong_since,
+        wrong_baselines,
+        wrong_databases,
+        wrong_others_words,
+        wrong_parts,
+        wrong_large,
+        wrong_ends,
+    )
     for group in groups:
         with tempfile.TemporaryDirectory() as folder:
             os.mkdir(os.path.join(folder, "folder.c"))
