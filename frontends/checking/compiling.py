@@ -165,41 +165,13 @@ def run_gcc(given: Input, folder: str) -> str | None:
 
 def dump_into(given: Input, folder: str, order: str) -> None:
     """Runs gcc for a file's dumps in a folder, without the words of a database that it refuses."""
-    gcc = os.environ.get("GCC", "gcc")
+    written = ["-o", os.path.join(folder, "out.s"), "-dumpdir", folder + "/", "-dumpbase", "c"]
+    written += ["-aux-info", os.path.join(folder, "c.aux")]
+    written += ["-MMD", "-MF", os.path.join(folder, "c.sources")]
     while True:
         options = [word for word in given.options if word not in unknown]
-        command = [
-            gcc,
-            "-S",
-            "-o",
-            os.path.join(folder, "out.s"),
-            "-w",
-            *options,
-            *given.words,
-            *ASKED,
-            order,
-            "-aux-info",
-            os.path.join(folder, "c.aux"),
-            "-MMD",
-            "-MF",
-            os.path.join(folder, "c.sources"),
-            "-dumpdir",
-            folder + "/",
-            "-dumpbase",
-            "c",
-            given.file,
-        ]
-        try:
-            done = subprocess.run(
-                command,
-                cwd=given.directory,
-                capture_output=True,
-                text=True,
-                errors="surrogateescape",
-                check=False,
-            )
-        except OSError as fault:
-            raise Refusal(f"{fault.filename or gcc}: {fault.strerror}") from None
+        asked = ["-S", "-w", *options, *given.words, *ASKED, order, *written, given.file]
+        done = run(asked, given.directory)
         if not done.returncode:
             return
         refused = {word for word in options if is_refused(word, done.stderr)}
@@ -209,6 +181,16 @@ def dump_into(given: Input, folder: str, order: str) -> None:
             first = next((line for line in told if "error" in line), told[0] if told else status)
             raise Refusal(f"gcc failed: {first}", given.shown(given.file))
         unknown.update(dict.fromkeys(word for word in options if word in refused))
+
+
+def run(words: list[str], directory: str) -> subprocess.CompletedProcess:
+    """Runs gcc in a folder."""
+    gcc = os.environ.get("GCC", "gcc")
+    how = {"capture_output": True, "text": True, "errors": "surrogateescape", "check": False}
+    try:
+        return subprocess.run([gcc, *words], cwd=directory, **how)
+    except OSError as fault:
+        raise Refusal(f"{fault.filename or gcc}: {fault.strerror}") from None
 
 
 def is_refused(word: str, said: str) -> bool:

@@ -161,49 +161,35 @@ class Findings:
             self.remarks[key] = remark
             self.texts.add(text)
 
-    def take_dead(self, line: tuple[int, Step, Procedure]) -> None:
+    def take_dead(self, line: Line) -> None:
         """An assignment whose value nobody reads."""
         _, step, procedure = line
         name = self.name(step.variable)
         claim = (step.origin.place, "dead", name)
-        if (
-            not name
-            or step.role not in SHOWN_ROLES
-            and not self.shows_all
-            or not self.is_new(claim)
-        ):
+        if not name or step.role not in SHOWN_ROLES and not self.shows_all:
             return
-        if not self.holds(claim, lambda copy: self.has_fact(copy, "dead", copy[1].variable.name)):
-            return
-        if (
-            self.is_meant(procedure, step.variable)
-            or not self.holds_for_macro(step)
-            or not self.is_chain(step)
-        ):
-            return
-        if step.variable.whole and self.is_dead_whole(
-            (claim[0], "dead", step.variable.whole.source)
-        ):
+        if not self.is_new(claim) or not self.is_dead(claim) or not self.is_worth(line):
             return
         kind = self.kind_of_dead(claim, procedure)
-        shown = part_named(step) or name
-        text = (
-            f"initial value of '{shown}' is dead"
-            if kind == "dead-initial"
-            else f"assignment to '{shown}' is dead"
-        )
-        notes = (
-            ()
-            if step.variable.owner is not procedure
-            else tuple(
-                Note(place.file, place.line, place.column, "overwritten here")
-                for place in self.traces.overwritten(procedure, step)
-            )
-        )
+        what = "initial value of" if kind == "dead-initial" else "assignment to"
+        places = []
+        if step.variable.owner is procedure:
+            places = self.traces.overwritten(procedure, step)
+        notes = tuple(Note(*place, "overwritten here") for place in places)
+        text = f"{what} '{part_named(step) or name}' is dead"
         self.put(claim, self.remark(line, kind, text, notes))
 
-    def is_dead_whole(self, claim: tuple[Place, str, str]) -> bool:
-        """Whether the whole of a part is told as dead at its place."""
+    def is_worth(self, line: Line) -> bool:
+        """Whether a dead assignment is the source's, not meant to be, and not told of the whole."""
+        _, step, procedure = line
+        if self.is_meant(procedure, step.variable) or not self.holds_for_macro(step):
+            return False
+        whole = step.variable.whole
+        is_told = whole and self.is_dead((step.origin.place, "dead", whole.source))
+        return not is_told and self.is_chain(step)
+
+    def is_dead(self, claim: Claim) -> bool:
+        """Whether an assignment is dead in all copies of its place."""
         return claim in self.by_claim and self.holds(
             claim, lambda copy: self.has_fact(copy, "dead", copy[1].variable.name)
         )

@@ -2,6 +2,8 @@
 for one another.
 """
 
+from dataclasses import replace
+
 from . import flow
 from .code import Builder, Procedure, Step, Variable
 
@@ -98,16 +100,7 @@ def one_activation(procedure: Procedure, variables: list[Variable]) -> Procedure
     single = Procedure(
         f"{procedure.wish}__once", procedure.source, procedure.function, is_once=True
     )
-    copies = {
-        variable: Variable(
-            variable.wish,
-            variable.source,
-            single,
-            is_array=variable.is_array,
-            is_parameter=variable.is_parameter,
-        )
-        for variable in variables
-    }
+    copies = {variable: replace(variable, owner=single, name="") for variable in variables}
     build = Builder(single)
     for step in procedure.steps:
         reads = tuple(copies[part] for part in step.reads() if part in copies)
@@ -118,14 +111,8 @@ def one_activation(procedure: Procedure, variables: list[Variable]) -> Procedure
         else:
             build.use(reads)
         if is_own_set(step) and step.variable in copies:
-            build.add(
-                "set",
-                variable=copies[step.variable],
-                weak=step.weak,
-                ends_life=step.ends_life,
-                role=step.role,
-            )
-            single.steps[-1].origin, single.steps[-1].slot = step.origin, step.slot
+            own = replace(step, variable=copies[step.variable], operator="", operands=())
+            single.steps.append(own)
             step.told_once = True
     return single
 

@@ -7,7 +7,7 @@ from typing import TYPE_CHECKING
 
 from . import operands
 from .calls import Calls
-from .code import Label, Variable
+from .code import Label, Number, Variable
 from .dump import Statement, Try, statements_in
 from .faults import Refusal
 from .jumps import Jumps
@@ -18,7 +18,6 @@ from .values import Value
 from .world import function_place
 
 if TYPE_CHECKING:
-    from .code import Number
     from .dump import Assembler
 
 BINARY = {
@@ -195,42 +194,47 @@ class Translator:
             self.end_life(target)
             return
         self.state.note_addresses(words)
-        if operation == "pointer_plus_expr":
-            self.pass_over_scaling(words)
-        elif words[0] in self.state.evaluations and (
-            operation == "negate_expr"
-            or operation == "plus_expr"
-            and not self.state.reads_of(words[1:])
-        ):
-            self.state.evaluations[target] = self.state.evaluations[words[0]]
+        self.follow_scaling(operation, target, words)
         if operation == "complex_expr" and self.keeps_half(target, words):
             return
-        chained = self.chained_value(operation, words[0])
-        element = (
-            self.state.element(words[0]) if operation == "array_ref" and chained is None else None
-        )
-        values = (
-            []
-            if element
-            else [self.state.value(word) for word in words]
-            if chained is None
-            else [chained]
-        )
-        if element:
-            operator, parts, reads = "^", element, self.state.part_reads(words[0], element[0])
-        else:
-            operator, parts, reads = self.expression(operation, values)
+        operator, parts, reads, is_element = self.right_side(operation, words)
         start = len(self.state.procedure.steps)
         self.state.store(target, operator, parts, reads)
         if operation in HALVES and operands.is_temporary(target):
             self.state.halves[target] = operands.parse(words[0]).base
         for step in self.state.procedure.steps[start:]:
-            step.is_element = bool(element)
+            step.is_element = is_element
             step.is_copy = bool(parts) and not operator
         if parts and not operator:
             self.state.given = Value(
                 (parts[0],) if isinstance(parts[0], Variable) else (), parts[0]
             )
+
+    def follow_scaling(self, operation: str, target: str, words: list[str]) -> None:
+        """Follows what gcc multiplies, negates or adds to, as it may add that to a pointer."""
+        evaluations = self.state.evaluations
+        if operation == "pointer_plus_expr":
+            self.pass_over_scaling(words)
+        elif words[0] in evaluations and (
+            operation == "negate_expr"
+            or operation == "plus_expr"
+            and not self.state.reads_of(words[1:])
+        ):
+            evaluations[target] = evaluations[words[0]]
+
+    def right_side(
+        self, operation: str, words: list[str]
+    ) -> tuple[str, tuple[Variable | Number, ...], tuple[Variable, ...], bool]:
+        """The operator of an assignment, '' for none, its operands, and what else it reads.
+
+        Behind these whether it is an element of an array at an index.
+        """
+        chained = self.chained_value(operation, words[0])
+        element = self.state.element(words[0]) if operation == "array_ref" else None
+        if element and chained is None:
+            return "^", element, self.state.part_reads(words[0], element[0]), True
+        values = [chained] if chained is not None else [self.state.value(word) for word in words]
+        return *self.expression(operation, values), False
 
     def chained_value(self, operation: str, word: str) -> Value | None:
         """What `y` was just set to in `x = y = 0`, where the setting of `x` is at hand; else None.

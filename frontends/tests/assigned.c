@@ -33,7 +33,16 @@ static int kept(int n)
     return a;
 }
 
+static int again(int n)
+{
+    int a = n, b, c, d;
+    for (; n > 2; a = b) b = n--;   /* this b is read by a = b */
+    c = d = n > 0 ? again(n - 1) : 0; /* expect: assignment to 'd' is dead */
+    d = a;
+    return a + c + d;
+}
+
 int main(int argc, char **argv)
 {
-    return itself(argc, 2) + *chained(argv[0], argc) + kept(argc);
+    return itself(argc, 2) + *chained(argv[0], argc) + kept(argc) + again(argc);
 }
