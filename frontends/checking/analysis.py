@@ -23,6 +23,7 @@ from gimple.world import World
 
 from .compiling import BadWords, Input, run_gcc, unknown
 from .findings import Claim, Findings
+from .remark import KINDS
 from .sources import Sources
 
 if TYPE_CHECKING:
@@ -49,7 +50,7 @@ class Task:
     """A program to be analysed.
 
     is_alone: there are no other programs, so that nothing of it has copies there. repeated: those
-    of its own files that are compiled for another program too.
+    of its own files that are compiled for another program too. kinds: what is told.
     """
 
     inputs: tuple[Input, ...]
@@ -59,6 +60,7 @@ class Task:
     is_alone: bool = True
     repeated: frozenset[str] = frozenset()
     processes: int = 1
+    kinds: frozenset[str] = frozenset(KINDS)
 
 
 @dataclass
@@ -316,7 +318,12 @@ class Analysis:
         if self.task.keep:
             keep(self.task.keep, written, told)
         found = Findings.of(
-            built, written, read_facts(told), self.sources, self.files, self.task.shows_all
+            built,
+            written,
+            read_facts(told, self.task.kinds),
+            self.sources,
+            self.files,
+            self.task.shows_all,
         )
         said += [
             f"{procedure.refusal}; '{procedure.source}' is taken as unknown code"
@@ -380,17 +387,21 @@ def run_tacview(text: str, workers: int) -> tuple[str, list[str]]:
     return done.stdout.decode("ascii"), said
 
 
-def read_facts(told: str) -> dict[int, list[tuple[str, str]]]:
-    """The remarks in tacview's answer, by the line of the program: pairs of a kind and a name or
-    expression.
+def read_facts(
+    told: str, kinds: frozenset[str] = frozenset(KINDS)
+) -> dict[int, list[tuple[str, str]]]:
+    """The remarks in tacview's answer, by the line of the program: a kind and a name or expression.
+
+    Of expressions only those that are of these kinds.
     """
-    facts = {}
+    left_out = [kind for kind in ("computed", "busy") if kind not in kinds]
+    facts: dict[int, list[tuple[str, str]]] = {}
     for line in told.splitlines():
         if line.startswith('{"type":"remark"'):
             row = json.loads(line)
-            facts.setdefault(row["line"], []).append(
-                (row["kind"], row.get("variable") or row.get("expression") or "")
-            )
+            if row["kind"] not in left_out:
+                name = row.get("variable") or row.get("expression") or ""
+                facts.setdefault(row["line"], []).append((row["kind"], name))
     return facts
 
 

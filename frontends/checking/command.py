@@ -57,7 +57,8 @@ def tasks_of(words: Words) -> list[Task]:
     if not given:
         raise BadWords("the compilation database has no C file")
     if is_whole or words.flags["--together"]:
-        return [Task(tuple(given), is_whole, shows_all, folder, processes=words.processes)]
+        task = Task(tuple(given), is_whole, shows_all, folder, processes=words.processes)
+        return [replace(task, kinds=frozenset(words.kinds))]
     counts = Counter(one.shown(one.file) for one in given)
     repeated = frozenset(file for file, count in counts.items() if count > 1)
     return [
@@ -69,6 +70,7 @@ def tasks_of(words: Words) -> list[Task]:
             len(given) == 1,
             repeated,
             words.processes if len(given) == 1 else 1,
+            frozenset(words.kinds),
         )
         for one in given
     ]
