@@ -34,7 +34,9 @@ def enumerators_in(text: str) -> dict[str, int | None]:
         for entry in COMMENT.sub("", inside).split(","):
             name, equals, given = (part.strip() for part in entry.partition("="))
             known = value_of(given) if equals else value + 1 if value is not None else None
-            value = known if isinstance(known, int) else None
+            is_plain = NAME.fullmatch(name) and isinstance(known, int)
+            # behind a line of the preprocessor, or a macro's name, values are not known
+            value = known if is_plain else None
             if name:
                 found[name] = None if name in found else value
     return found
@@ -70,6 +72,10 @@ class Macros:
                 )
                 waiting += NAME.findall(texts[name])
         return "".join(texts.values())
+
+    def names_in(self, name: str) -> list[str]:
+        """The names that a macro's text has, with those of other macros that it names."""
+        return NAME.findall(self.text_of(name))
 
     def value_of(self, name: str) -> int | None:
         """The value of a macro or an enumerator, None where it is no plain number."""

@@ -78,7 +78,9 @@ class Source:
         """
 
         def meaning(name: str) -> float | None:
-            return NO_VALUE if name in variables else macros.value_of(name)
+            if name in variables or not variables.isdisjoint(macros.names_in(name)):
+                return NO_VALUE
+            return macros.value_of(name)
 
         above = "".join(self.line(number) + "\n" for number in range(line - 1, line))
         below = "\n".join(self.line(number) for number in range(line, line + 3))

@@ -34,6 +34,21 @@ static int constants(int c, int other, double d)
     return first + flagged + shade + (half > whole);
 }
 
+enum ranks {
+    LOWEST,
+#ifdef MIDDLE
+    BETWEEN,
+#endif
+    HIGHER, HIGHEST
+};
+
+static int ranked(int r, int s)
+{
+    int first = r + HIGHEST;
+    first += r + HIGHEST;   /* expect: 'r + HIGHEST' is already computed */
+    return first + (r + 3) + s;
+}
+
 static int folded(int p, int v)
 {
     int sum = v + 1;
@@ -44,5 +59,5 @@ static int folded(int p, int v)
 int main(int argc, char **argv)
 {
     printf("%d %d\n", constants(argc, argc + 1, argc), RED);
-    return remainders(argc, argc + 3) + folded(argc, 4);
+    return remainders(argc, argc + 3) + folded(argc, 4) + ranked(argc, 2);
 }
