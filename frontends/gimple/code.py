@@ -50,7 +50,7 @@ class Number(NamedTuple):
     text: str
 
 
-@dataclass(eq=False)
+@dataclass(eq=False, slots=True)
 class Label:
     """A place in a procedure."""
 

@@ -6,6 +6,7 @@ from __future__ import annotations
 
 import functools
 import re
+import sys
 from collections.abc import Callable, Iterator
 from dataclasses import dataclass, field
 from typing import NamedTuple
@@ -215,6 +216,7 @@ class Reader:
         self.number = function.number
         self.at = 0
         self.last_place = None
+        self.known: dict[str, str] = {}
 
     def next_line(self) -> str:
         """The next line, which has to be there."""
@@ -282,14 +284,12 @@ class Reader:
         found = STATEMENT.match(line)
         if not found:
             raise Refusal(f"a statement that is not known: {line[:60]}", place or self.last_place)
-        return Statement(
-            found["kind"],
-            operands.split_words(operands.without_places(found["words"])),
-            place,
-            self.number + self.at,
-            self.file,
-            found["rest"],
-        )
+        words = operands.split_words(operands.without_places(found["words"]))
+        # most words stand in many statements: one of each is kept
+        words = [self.known.setdefault(word, word) for word in words]
+        kind = sys.intern(found["kind"])
+        number = self.number + self.at
+        return Statement(kind, words, place, number, self.file, found["rest"])
 
     def assembler(self, place: Place) -> Assembler:
         """A statement of assembler, its first line passed."""

@@ -75,16 +75,6 @@ class Translator:
         self.state = state
         self.calls = Calls(state)
         self.jumps = Jumps(state)
-        self.turns: dict[str, Callable[[Statement], None]] = {
-            "assign": self.turn_assign,
-            "asm": self.turn_asm,
-            "return": self.turn_return,
-            "call": self.calls.turn_call,
-            "cond": self.jumps.turn_cond,
-            "switch": self.jumps.turn_switch,
-            "goto": self.jumps.turn_goto,
-            "label": self.jumps.turn_label,
-        }
 
     def translate(self) -> None:
         """Writes the procedure's steps."""
@@ -176,11 +166,11 @@ class Translator:
         self.state.build.role = "plain"
         if statement.kind in SIMPLE:
             return
-        turn = self.turns.get(statement.kind)
+        turn = TURNS.get(statement.kind)
         if turn is None:
             self.state.refuse(f"gimple_{statement.kind} can't be turned")
         try:
-            turn(statement)
+            turn(self, statement)
         except DAMAGE:
             self.state.refuse(f"a gimple_{statement.kind} that is not written as expected")
 
@@ -337,3 +327,16 @@ class Translator:
                 self.state.build.set(self.state.procedure.result, value.reads[:1])
         self.state.flush_all()
         self.state.build.add("return", role="jump")
+
+
+# What turns a statement of each kind.
+TURNS: dict[str, Callable[[Translator, Statement], None]] = {
+    "assign": Translator.turn_assign,
+    "asm": Translator.turn_asm,
+    "return": Translator.turn_return,
+    "call": lambda own, statement: own.calls.turn_call(statement),
+    "cond": lambda own, statement: own.jumps.turn_cond(statement),
+    "switch": lambda own, statement: own.jumps.turn_switch(statement),
+    "goto": lambda own, statement: own.jumps.turn_goto(statement),
+    "label": lambda own, statement: own.jumps.turn_label(statement),
+}
