@@ -168,12 +168,12 @@ def analyse(task: Task) -> Outcome:
         outcome.faults.append(f"{fault.filename or task.inputs[0].file}: {fault.strerror}")
     except BadWords:
         raise
-    except (
-        Exception
-    ) as fault:  # one file on which this front end itself fails does not lose the others
-        outcome.faults.append(
-            f"{task.inputs[0].file}: a fault of check-c itself: {type(fault).__name__}: {fault}"
-        )
+    except Exception as fault:
+        # one file on which this front end itself fails does not lose the others
+        told = f"a fault of check-c itself: {type(fault).__name__}: {fault}"
+        outcome.faults.append(f"{task.inputs[0].file}: {told}")
+    if not task.is_alone:
+        gc.collect()  # nothing of this program is in use for the next one
     return outcome
 
 
@@ -296,6 +296,7 @@ class Analysis:
             if weight > HOPELESS:
                 raise emit.TooLarge(f"{weight} statements are more than tacflow takes")
             self.analyse_part(frozenset(self.functions()) - frozenset(part))
+            gc.collect()  # the next part makes its own
         except emit.TooLarge as fault:
             if len(part) == 1:
                 self.leave_out(part[0], fault)

@@ -132,7 +132,7 @@ def check(words: Words) -> int:
     """Does what the words ask for; answers the status."""
     tasks = tasks_of(words)
     prepare_tacview()
-    gc.disable()  # most of what is made is in use until its program is done
+    gc.disable()  # what is made is in use until its program is done, and then collected
     outcomes = outcomes_of(tasks, words.processes)
     files = [given.shown(given.file) for task in tasks for given in task.inputs]
     told = [
