@@ -291,7 +291,7 @@ class Findings:
     def is_meant(self, procedure: Procedure, variable: Variable) -> bool:
         """Whether the source says that a variable need not be read."""
         function = procedure.function
-        if function is None or variable.owner is not procedure:
+        if function is None or procedure not in (variable.owner, variable.home):
             return False
         file = self.files[function.file]
         if (function.name, whole_name(variable)) in file.symbols.cast_away:

@@ -80,6 +80,7 @@ TAKEN = [
     ("_Complex double {}", "(unsigned)__real__ {}", "wave"),
     ("volatile _Complex double {}", "(unsigned)__imag__ {}", "wave"),
 ]
+POINTED = ["aim = &g3;", "aim = &g4;", "to = &box;", "to = &duo;"]
 GLOBALS = ["g0", "g1", "g2", "g3", "g4", "public0"]
 OPERATORS = ["+", "-", "*", "&", "|", "^"]
 CONSTANTS = [
@@ -225,7 +226,8 @@ class Function:
             f"static unsigned {self.name}(unsigned p0, unsigned p1)\n{{\n{names}{counters}"
             "    unsigned local[4] = { 1, 2, p0, 4 };\n"
             "    struct pair duo = { p1, 2, { 1 } };\n"
-            f"    unsigned *where = {self.target()};\n{guarded}{late}"
+            f"    unsigned *where = {self.target()};\n"
+            f"    struct pair *to = &{self.random.choice(['box', 'box', 'duo'])};\n{guarded}{late}"
             + "\n".join(self.lines)
             + "\n}\n"
         )
@@ -355,7 +357,9 @@ class Function:
 
     def statement(self, depth: int, loops: int) -> None:
         """A statement of some kind."""
-        kinds = [self.assign] * 8 + [self.call] * 2 + [self.point, self.copy, self.show]
+        kinds = (
+            [self.assign] * 8 + [self.call] * 2 + [self.behind, self.point, self.copy, self.show]
+        )
         if depth < 4:
             kinds += [self.branch] * 4 + [self.loop, self.switch, self.jump, self.leave_early]
         self.random.choice(kinds)(depth, loops)
@@ -397,9 +401,7 @@ class Function:
     def point(self, depth: int, loops: int) -> None:
         """A pointer that points elsewhere."""
         del loops
-        self.put(
-            self.random.choice([f"where = {self.target()};", "aim = &g3;", "aim = &g4;"]), depth
-        )
+        self.put(self.random.choice(POINTED + [f"where = {self.target()};"]), depth)
 
     def copy(self, depth: int, loops: int) -> None:
         """A copy of a struct."""
@@ -407,6 +409,15 @@ class Function:
         self.put(
             self.random.choice(["box = duo;", "duo = box;", "kit = box;", "box = kit;"]), depth
         )
+
+    def behind(self, depth: int, loops: int) -> None:
+        """Two stores to what a pointer leads to, with something between that may read it."""
+        place = self.random.choice(["*where", "to->first", "to->cells[1]"])
+        self.put(f"{place} = {self.expression()};", depth)
+        between = [self.call, self.call, self.show, self.point, self.copy, self.assign]
+        for _ in range(self.random.randint(0, 2)):
+            self.random.choice(between)(depth, loops)
+        self.put(f"{place} = {self.expression()};", depth)
 
     def show(self, depth: int, loops: int) -> None:
         """Something is printed."""

@@ -42,6 +42,9 @@ int main(int argc, char **argv)
     int check_list = argc;
     // cppcheck-suppress unusedFunction
     int check_other = argc; /* expect: assignment to 'check_other' is dead */
+    static int kept;
+    kept = argc;
+    (void)((unsigned)kept);
     (void)cast;
     state = argc;
     return 0;
