@@ -250,7 +250,6 @@ class Findings:
         this name are dead.
 
         Where a macro sets a variable to zero, as one that frees does, that is meant for other uses.
-
         """
         word = self.macro_at(step)
         if not word:

@@ -10,7 +10,6 @@ class Kind(NamedTuple):
 
     is_told: whether it is told where none are chosen. weakness: its number in the list CWE, 0 where
     it has none there. act: what to do about it.
-
     """
 
     says: str

@@ -57,7 +57,6 @@ def variables_in_use(
     lead to.
 
     Beside them those of which some value seems to be read by nobody, as far as one activation goes.
-
     """
     own = list(
         dict.fromkeys(

@@ -70,7 +70,6 @@ def live_before(
     bit of each variable.
 
     What a step reads of the result of a call is left out: that value was made by the callee.
-
     """
     numbers = {variable: 1 << number for number, variable in enumerate(variables)}
     reads = [

@@ -215,7 +215,6 @@ def close_stops(functions: list[Procedure], others: list[Procedure]) -> None:
     such a test leads to.
 
     Of the procedures in `others` it is known that they may end the program.
-
     """
     stopping = set(others)
     leading = {

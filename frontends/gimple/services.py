@@ -80,7 +80,6 @@ class Services:
         name, any number of times.
 
         Of its variables those count that some function names.
-
         """
         for file, procedure in self.any_of.items():
             build = Builder(procedure)
