@@ -56,6 +56,7 @@ class Findings:
         self.remarks: dict[Claim, Remark] = {}
         self.tried: set[Claim] = set()
         self.texts: set[tuple] = set()
+        self.words: dict[Place, str] = {}
         self.named: dict[Function, frozenset[str]] = {}
 
     @classmethod
@@ -246,8 +247,8 @@ class Findings:
         return bool(re.match(rf"(?:\w+\s*)?=[\s(]*{name}\s*=(?!=)", text))
 
     def holds_for_macro(self, step: Step) -> bool:
-        """Whether an assignment is no macro's, or all of this macro's in its file to variables of
-        this name are dead.
+        """Whether an assignment is no macro's, or each use of this macro in its file makes one that
+        is dead.
 
         Where a macro sets a variable to zero, as one that frees does, that is meant for other uses.
         """
@@ -257,35 +258,37 @@ class Findings:
         if has_plain_value(step):
             return False
         name, file = step.variable.source, step.origin.place.file
-        return all(
-            self.has_fact(line, "dead", line[1].variable.name)
-            for line in [*self.lines, *self.lines_once]
-            if line[0] not in self.never
-            and line[1].kind == "set"
-            and not line[1].told_once
-            and line[1].role in SHOWN_ROLES
-            and line[1].variable.source == name
-            and line[1].origin.place.file == file
-            and self.macro_at(line[1]) == word
-        )
+        uses: dict[Place, bool] = {}
+        for line in [*self.lines, *self.lines_once]:
+            _, other, _ = line
+            place = other.origin.place
+            if line[0] in self.never or place.file != file or self.word_at(place) != word:
+                continue
+            is_set = other.kind == "set" and not other.told_once and other.role in SHOWN_ROLES
+            is_set = is_set and bool(other.variable.source)
+            is_dead = is_set and self.has_fact(line, "dead", other.variable.name)
+            if is_set and other.variable.source == name and not is_dead:
+                return False
+            uses[place] = uses.get(place, False) or is_dead
+        return all(uses.values())
+
+    def word_at(self, place: Place) -> str:
+        """The word that stands at a place."""
+        if place not in self.words:
+            source = self.sources.get(place.file)
+            found = WORD.match(source.behind(place.line, place.column))
+            self.words[place] = found.group() if found else ""
+        return self.words[place]
 
     def macro_at(self, step: Step) -> str:
-        """The macro at whose name an assignment stands, '' where it stands at its own sign, its
-        variable or the function it calls.
+        """The macro at whose name an assignment stands.
+
+        '' where it stands at its own sign, its variable or the function it calls.
         """
         statement = step.origin
-        behind = self.sources.get(statement.place.file).behind(
-            statement.place.line, statement.place.column
-        )
-        word = WORD.match(behind)
-        is_callee = (
-            word and statement.kind == "call" and statement.words[0].startswith(word.group() + "D.")
-        )
-        return (
-            ""
-            if not word or is_callee or word.group() == whole_name(step.variable)
-            else word.group()
-        )
+        word = self.word_at(statement.place)
+        is_callee = word and statement.kind == "call" and statement.words[0].startswith(word + "D.")
+        return "" if is_callee or word == whole_name(step.variable) else word
 
     def is_meant(self, procedure: Procedure, variable: Variable) -> bool:
         """Whether the source says that a variable need not be read."""

@@ -79,6 +79,20 @@ static int by_macro(int i, int n)
     return n + LOST(n, z);  /* expect: assignment to 'z' is dead */
 }
 
+struct context { int error; };
+#define PUT(c, n) ((n) > 3 ? ((c)->error = (n) + 1, 0) : (n))
+
+static int put(struct context *c, int n)
+{
+    return PUT(c, n);
+}
+
+static int ignored(int n)
+{
+    struct context own;
+    return PUT(&own, n);    /* own.error is not read, but what put sets by the macro is */
+}
+
 static int freed(int n)
 {
     char *p = malloc(n);
@@ -100,6 +114,9 @@ static int steps(int i, int n)
 
 int main(int argc, char **argv)
 {
+    struct context all = { 0 };
+    if (put(&all, argc) + ignored(argc) > all.error)
+        return 1;
     return elements(argc, items, argc) + constants(argc, argc) + macros(argc) + steps(argc, 2)
         + by_macro(argc, 1) + other_constants(argc, 5) + scaled(items, 3) + freed(argc);
 }
