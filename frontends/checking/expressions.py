@@ -9,6 +9,11 @@ NUMBER = re.compile(r"(-?)(0[xX][0-9A-Fa-f]+|\d+)[uUlL]*$")
 REAL = re.compile(r"-?(?:\d+\.\d*|\.\d+|\d+)(?:[eE][-+]?\d+)?[fFlL]?$")
 NAME = re.compile(r"[A-Za-z_$][\w$]*$")
 ADDRESS = re.compile(r"&?([A-Za-z_$][\w$]*?)D\.\d+(?:\[0\])?$")
+# What a type begins with, as that of a cast.
+TYPE_WORDS = frozenset(
+    """void char short int long float double signed unsigned struct union enum const volatile
+    _Bool bool sizeof""".split()
+)
 ESCAPES = {"n": 10, "t": 9, "r": 13, "a": 7, "b": 8, "f": 12, "v": 11, "e": 27}
 BEFORE = r"(?<![\w$.])(?<!->)"
 AFTER = r"(?![\w$]|\s*(?:\(|\[|\.\w|->))"
@@ -157,8 +162,15 @@ def binary(text: str, form: Form, meaning: Meaning) -> Iterator[Candidate]:
         same = [agrees(told, operand, form.is_taken_away, meaning) for told, operand in pairs]
         if False not in same:
             is_same = None if None in same or form.is_exact else True
-            shown = f"{found[1]} {form.sign} {found[3]}"
+            is_address = not form.first.is_name and is_behind_ampersand(text, found.start())
+            shown = f"{'&' * is_address}{found[1]} {form.sign} {found[3]}"
             yield Candidate(shown, *spots(found, 2), is_same)
+
+
+def is_behind_ampersand(text: str, at: int) -> bool:
+    """Whether the address of what stands at a place is meant."""
+    before = text[:at].rstrip()
+    return before.endswith("&") and not before.endswith("&&")
 
 
 def stepped(text: str, form: Form) -> Iterator[Candidate]:
@@ -178,9 +190,12 @@ def agrees(told: str, operand: Operand, is_taken_away: bool, meaning: Meaning) -
     if operand.is_name:
         return True
     known = value_of(operand.text)
+    if told in TYPE_WORDS:
+        return False
     if known is None:
+        # the name of an array or a function is its address, that of another variable is not
         address = ADDRESS.match(operand.text)
-        return bool(address) and address[1] == told
+        return None if address and address[1] == told else False
     value = meaning(told) if NAME.match(told) else value_of(told)
     if value is None:
         return None

@@ -318,6 +318,11 @@ class Changes:
         if not shown:
             return
         names = {part.source: self.name_of(part, procedure) for part in step.reads()}
+        for part in step.operands:
+            if isinstance(part, Number):
+                for declared in operands.DECLARED_FIRST.findall(part.text):
+                    name = self.body_of(procedure).name_all(declared)
+                    names[operands.split_declared(declared)[0]] = name
         text = SOURCE_NAME.sub(lambda found: names.get(found.group(), found.group()), shown)
         self.before.setdefault(step.origin, []).append(
             f"if (({text}) != ({form})) __builtin_trap();"

@@ -56,8 +56,18 @@ static int folded(int p, int v)
     return p + sum;
 }
 
+static int pointed(char *p, char *q)
+{
+    char here = 1, row[4] = { 1 };  /* expect: initial value of 'here' is dead */
+    int first = (p == &here) + (q == row);
+    first += p == (void *)0;
+    here = (p == &here) + (&here == q) + (&here == q);  /* expect: '&here == q' is already computed */
+    first += p == (void *)0;
+    return first + (q == row) + here + row[1];  /* expect: 'q == row' is already computed */
+}
+
 int main(int argc, char **argv)
 {
     printf("%d %d\n", constants(argc, argc + 1, argc), RED);
-    return remainders(argc, argc + 3) + folded(argc, 4) + ranked(argc, 2);
+    return remainders(argc, argc + 3) + folded(argc, 4) + ranked(argc, 2) + pointed(argv[0], argv[1]);
 }
