@@ -183,7 +183,7 @@ class Findings:
     def is_worth(self, line: Line) -> bool:
         """Whether a dead assignment is the source's, not meant to be, and not told of the whole."""
         _, step, procedure = line
-        if self.is_meant(procedure, step.variable) or not self.holds_for_macro(step):
+        if self.is_meant(procedure, step.variable) or not self.holds_for_macro(step, procedure):
             return False
         whole = step.variable.whole
         is_told = whole and self.is_dead((step.origin.place, "dead", whole.source))
@@ -246,11 +246,11 @@ class Findings:
         )
         return bool(re.match(rf"(?:\w+\s*)?=[\s(]*{name}\s*=(?!=)", text))
 
-    def holds_for_macro(self, step: Step) -> bool:
-        """Whether an assignment is no macro's, or each use of this macro in its file makes one that
-        is dead.
+    def holds_for_macro(self, step: Step, procedure: Procedure) -> bool:
+        """Whether an assignment is no macro's, or each use of the macro makes one that is dead.
 
-        Where a macro sets a variable to zero, as one that frees does, that is meant for other uses.
+        Where a macro sets a variable to zero, as one that frees does, that is meant for other uses;
+        so is what a macro of a header sets.
         """
         word = self.macro_at(step)
         if not word:
@@ -258,6 +258,8 @@ class Findings:
         if has_plain_value(step):
             return False
         name, file = step.variable.source, step.origin.place.file
+        if self.macros[procedure.function.file].is_of_other(word, file):
+            return False
         uses: dict[Place, bool] = {}
         for line in [*self.lines, *self.lines_once]:
             _, other, _ = line

@@ -73,6 +73,11 @@ class Macros:
                 waiting += NAME.findall(texts[name])
         return "".join(texts.values())
 
+    def is_of_other(self, name: str, file: str) -> bool:
+        """Whether another file than this one defines a macro of a name."""
+        others = [other for other in self.files if other != file]
+        return any(name in self.sources.get(other).macros() for other in others)
+
     def names_in(self, name: str) -> list[str]:
         """The names that a macro's text has, with those of other macros that it names."""
         return NAME.findall(self.text_of(name))

@@ -19,3 +19,5 @@ static int helper_of_both(int x)
 {
     return x;
 }
+
+#define KEEP(x, y) ((y) = (x) + 1)
