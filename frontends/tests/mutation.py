@@ -381,15 +381,7 @@ class Changes:
         kinds: tuple[str, ...],
     ) -> None:
         """The same of one expression."""
-        tests = [
-            (step, procedure)
-            for _, step, procedure in self.notes
-            if step.role == "test"
-            and "busy" in kinds
-            and self.holds(step, "busy", text)
-            and self.body_of(procedure)
-            and self.shown(next(iter(places.values())), procedure)
-        ]
+        tests = self.tests_of(text, next(iter(places.values()))) if "busy" in kinds else []
         again = {
             key
             for key, step in places.items()
@@ -397,40 +389,55 @@ class Changes:
         }
         if not tests and not again:
             return
-        old, known, next_value, awaited = (
-            f"{name}_{number}" for name in ("old", "known", "next", "awaited")
-        )
-        is_local = any(
-            isinstance(part, Variable) and part.owner
-            for part in next(iter(places.values())).operands
-        )
-        first_step, first_procedure = next(iter(places.items()))[1], next(iter(places))[1]
+        (_, first_procedure), first_step = next(iter(places.items()))
+        is_local = any(isinstance(part, Variable) and part.owner for part in first_step.operands)
         form = shown[first_step.origin, first_procedure]
         lines = [
-            f"__typeof__{form if form.startswith('(') else '(' + form + ')'} {old}, {next_value};",
-            f"int {known} = 0, {awaited} = 0;",
+            f"__typeof__({form}) old_{number}, next_{number};",
+            f"int known_{number} = 0, awaited_{number} = 0;",
         ]
         if is_local:
             self.top.setdefault(first_procedure.function.uid, []).extend(lines)
         else:
             self.globals += ["static " + line for line in lines]
-        for (statement, procedure), expression in shown.items():
-            added = [
-                f"if ({awaited} && {next_value} != {expression}) __builtin_trap(); {awaited} = 0;"
-            ]
-            if (statement, procedure) in again:
-                self.counts["computed"] += 1
-                added.append(f"if (!{known} || {old} != {expression}) __builtin_trap();")
-            self.before.setdefault(statement, []).extend(
-                [*added, f"{old} = {expression}; {known} = 1;"]
-            )
+        self.compare_evaluations(shown, again, number)
         for step, procedure in tests:
             self.counts["busy"] += 1
             expression = self.shown(first_step, procedure)
             self.before.setdefault(step.origin, []).append(
-                f"{next_value} = {expression}; {awaited} = 1;"
+                f"next_{number} = {expression}; awaited_{number} = 1;"
             )
-        self.at_ends(first_procedure if is_local else None, awaited)
+        self.at_ends(first_procedure if is_local else None, f"awaited_{number}")
+
+    def tests_of(self, text: str, evaluation: Step) -> list[tuple[Step, Procedure]]:
+        """The tests before which an expression is very busy, where it can be written."""
+        return [
+            (step, procedure)
+            for _, step, procedure in self.notes
+            if step.role == "test"
+            and self.holds(step, "busy", text)
+            and self.body_of(procedure)
+            and self.shown(evaluation, procedure)
+        ]
+
+    def compare_evaluations(
+        self,
+        shown: dict[tuple[Statement, Procedure], str],
+        again: set[tuple[Statement, Procedure]],
+        number: int,
+    ) -> None:
+        """Compares where an expression is evaluated what it gave, and what was awaited."""
+        for key, expression in shown.items():
+            added = [
+                f"if (awaited_{number} && next_{number} != {expression}) __builtin_trap();",
+                f"awaited_{number} = 0;",
+            ]
+            if key in again:
+                self.counts["computed"] += 1
+                test = f"!known_{number} || old_{number} != {expression}"
+                added.append(f"if ({test}) __builtin_trap();")
+            added.append(f"old_{number} = {expression}; known_{number} = 1;")
+            self.before.setdefault(key[0], []).extend(added)
 
     def at_ends(self, procedure: Procedure | None, awaited: str) -> None:
         """Where a function ends, or main for what is no local, no expression is awaited."""

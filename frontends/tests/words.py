@@ -86,6 +86,30 @@ CASES = [
     ),
     ("--version", 0, r"$"),
 ]
+# The numbers of the kinds in CWE.
+WEAKNESSES = {
+    **dict.fromkeys(("dead", "dead-initial", "dead-last"), "563"),
+    **dict.fromkeys(("unset", "maybe-unset"), "457"),
+    "never": "561",
+    **dict.fromkeys(("computed", "busy"), ""),
+}
+# What clang's words in a database are, and which of them gcc does not know.
+OTHERS_COMMAND = (
+    "clang -Weverything -fblocks --target=arm-none-eabi -target arm -mthumb -march=armv7-a "
+    "-Xclang -x -specs=not.specs -include there.h -specs=mine.specs -fauto-profile -Wp,-MD,x.d "
+    "-c library.c"
+)
+LEFT_OUT = (
+    "-target arm -Xclang -x -specs=not.specs -Weverything -fblocks --target=arm-none-eabi "
+    "-mthumb -march=armv7-a"
+)
+# Words of the command that ask for files or take them.
+FILE_WORDS = (
+    "-Wp,-MD,x.d,-DK",
+    "-Xpreprocessor -MD -Xpreprocessor x.d",
+    "-include there.h",
+    "--specs=mine.specs",
+)
 SHOWN = """one.c:4:6: warning: assignment to 'gone' is dead [tacflow-dead]
     4 | \tint gone = c * 2;
       | \t    ^
@@ -125,10 +149,14 @@ def wrong_forms(folder: str) -> Iterator[str]:
         (row["file"], row["line"], row["column"], row["kind"], row["function"]) for row in rows
     ] != [("one.c", 4, 6, "dead", "main"), ("library.c", 3, 9, "dead", "f")]:
         yield f"json: {rows}"
+
+
+def wrong_sarif(folder: str) -> Iterator[str]:
+    """What is wrong with SARIF: the place of a result, the rules with their numbers and help."""
     sarif = json.loads(run("--format sarif one.c", folder).stdout)["runs"][0]
-    result = sarif["results"][0]
+    result, rules = sarif["results"][0], sarif["tool"]["driver"]["rules"]
     place = result["locations"][0]["physicalLocation"]
-    rule = sarif["tool"]["driver"]["rules"][result["ruleIndex"]]
+    rule = rules[result["ruleIndex"]]
     base = sarif["originalUriBaseIds"]["%SRCROOT%"]["uri"]
     if (
         rule["id"] != "tacflow-dead"
@@ -137,23 +165,11 @@ def wrong_forms(folder: str) -> Iterator[str]:
         or base != f"file://{folder}/"
     ):
         yield f"sarif: {result} {base}"
-    weaknesses = {
-        rule["id"].removeprefix("tacflow-"): rule.get("relationships", [{"target": {"id": ""}}])[0][
-            "target"
-        ]["id"]
-        for rule in sarif["tool"]["driver"]["rules"]
-    }
-    if weaknesses != {
-        "dead": "563",
-        "dead-initial": "563",
-        "dead-last": "563",
-        "unset": "457",
-        "maybe-unset": "457",
-        "never": "561",
-        "computed": "",
-        "busy": "",
-    } or not rule["help"]["markdown"].startswith("**dead**"):
-        yield f"sarif's rules: {weaknesses} {rule}"
+    none = [{"target": {"id": ""}}]
+    numbers = [rule.get("relationships", none)[0]["target"]["id"] for rule in rules]
+    found = dict(zip((rule["id"].removeprefix("tacflow-") for rule in rules), numbers))
+    if found != WEAKNESSES or not rule["help"]["markdown"].startswith("**dead**"):
+        yield f"sarif's rules: {found} {rule}"
 
 
 def wrong_prints(folder: str) -> Iterator[str]:
@@ -251,30 +267,7 @@ def wrong_databases(folder: str) -> Iterator[str]:
 
 def wrong_others_words(folder: str) -> Iterator[str]:
     """What is wrong with another compiler's words, or those that ask for files."""
-    entry = {
-        "directory": folder,
-        "file": "library.c",
-        "arguments": [
-            "clang",
-            "-Weverything",
-            "-fblocks",
-            "--target=arm-none-eabi",
-            "-target",
-            "arm",
-            "-mthumb",
-            "-march=armv7-a",
-            "-Xclang",
-            "-x",
-            "-specs=not.specs",
-            "-include",
-            "there.h",
-            "-specs=mine.specs",
-            "-fauto-profile",
-            "-Wp,-MD,x.d",
-            "-c",
-            "library.c",
-        ],
-    }
+    entry = {"directory": folder, "file": "library.c", "command": OTHERS_COMMAND}
     for name, text in (
         ("compile_commands.json", json.dumps([entry])),
         ("there.h", "#define n m\n"),
@@ -282,35 +275,20 @@ def wrong_others_words(folder: str) -> Iterator[str]:
     ):
         with open(os.path.join(folder, name), "w", encoding="utf-8") as file:
             file.write(text)
-    left_out = (
-        "-target arm -Xclang -x -specs=not.specs -Weverything -fblocks --target=arm-none-eabi "
-        "-mthumb -march=armv7-a"
-    )
-    for words, is_told in (("-p .", False), ("-p . --verbose", True)):
+    for words, wanted in (("-p .", set()), ("-p . --verbose", set(LEFT_OUT.split()))):
         done = run(words, folder)
         named = re.search("left out, as gcc does not know them: (.*)", done.stderr)
-        if (
-            "1 remark on 1 file" not in done.stderr
-            or bool(named) != is_told
-            or is_told
-            and set(named[1].split()) != set(left_out.split())
-        ):
+        found = set(named[1].split()) if named else set()
+        if "1 remark on 1 file" not in done.stderr or found != wanted:
             yield f"{words}: {done.stderr}"
-    for words in (
-        "-Wp,-MD,x.d,-DK",
-        "-Xpreprocessor -MD -Xpreprocessor x.d",
-        "-include there.h",
-        "--specs=mine.specs",
-    ):
+    for words in FILE_WORDS:
         done = run(words + " library.c", folder)
         if "1 remark on 1 file" not in done.stderr or os.path.exists(os.path.join(folder, "x.d")):
             yield f"{words}: {done.stderr}"
 
 
-def wrong_parts(folder: str) -> Iterator[str]:
-    """What is wrong where a program is analysed in parts: a header's remark holds in the copies of
-    all parts, or is not told.
-    """
+def make_parts(folder: str) -> None:
+    """Makes two files of many functions, with a header of both."""
     header = (
         "static int state;\nstatic inline void set(int x)\n{\n    int twice = x * 2;\n"
         "    state = x;\n}\n"
@@ -324,6 +302,13 @@ def wrong_parts(folder: str) -> Iterator[str]:
             file.write(f'#include "parts.h"\nint {name}(int n) {{ {own} }}\n{functions}')
     with open(os.path.join(folder, "parts.h"), "w", encoding="utf-8") as file:
         file.write(header)
+
+
+def wrong_parts(folder: str) -> Iterator[str]:
+    """What is wrong where a program is analysed in parts: a header's remark holds in the copies of
+    all parts, or is not told.
+    """
+    make_parts(folder)
     for weights in ((1, 1, 10), (10, 1, 1), (1, 10), (5, 1, 1, 9)):
         halves = analysis.cut(list(range(len(weights))), dict(enumerate(weights)), 2)
         if len(halves) != 2 or sum(halves, []) != list(range(len(weights))):
@@ -424,6 +409,7 @@ def differences() -> list[list[str]]:
     groups = (
         wrong_cases,
         wrong_forms,
+        wrong_sarif,
         wrong_prints,
         wrong_since,
         wrong_baselines,
