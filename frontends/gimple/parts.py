@@ -63,7 +63,7 @@ class Parts:
             stored = Counter(
                 statement.words[1]
                 for statement in statements_in(procedure.function.body)
-                if statement.kind in ("assign", "call")
+                if statement.kind in ("assign", "call") and len(statement.words) > 1
             )
             self.take_behind([word for word, count in stored.items() if count > 1])
 
