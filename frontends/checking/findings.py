@@ -187,7 +187,25 @@ class Findings:
             return False
         whole = step.variable.whole
         is_told = whole and self.is_dead((step.origin.place, "dead", whole.source))
-        return not is_told and self.is_chain(step)
+        return not is_told and self.is_chain(step) and self.is_part_written(step)
+
+    def is_part_written(self, step: Step) -> bool:
+        """Whether the source writes a part by its name, or sets it in a declaration or a macro.
+
+        gcc writes a whole one part by part where it is set to `(struct point){ 1, 2 }`.
+        """
+        place = step.origin.place
+        source = self.sources.get(place.file)
+        if not step.variable.whole or not source.lines or self.is_plain_initial(step):
+            return True
+        if self.macro_at(step):
+            return True
+        name = spaced(step.variable.source)
+        behind = source.behind(place.line, place.column)
+        line = source.line(place.line)
+        before = f"{source.line(place.line - 1)}\n{line[: len(line) - len(behind)]}"
+        is_target = re.search(rf"{name}[\s)]*(?:=[^=;][^;]*)?$", before)
+        return bool(is_target or re.match(rf"(?:\+\+|--)[\s(]*{name}", behind))
 
     def is_dead(self, claim: Claim) -> bool:
         """Whether an assignment is dead in all copies of its place."""
@@ -241,9 +259,7 @@ class Findings:
             + source.line(place.line + 1)
             + source.line(place.line + 2)
         )
-        name = r"\s*".join(
-            map(re.escape, re.findall(r"\w+|\S", part_named(step) or step.variable.source))
-        )
+        name = spaced(part_named(step) or step.variable.source)
         return bool(re.match(rf"(?:\w+\s*)?=[\s(]*{name}\s*=(?!=)", text))
 
     def holds_for_macro(self, step: Step, procedure: Procedure) -> bool:
@@ -593,6 +609,11 @@ class Findings:
             if place and is_shared((*place[:2], 0)):
                 found.add(((*place[:2], 0), "never", procedure.source))
         return found
+
+
+def spaced(text: str) -> str:
+    """A pattern of a text with blanks or none between its words and signs."""
+    return r"\s*".join(map(re.escape, re.findall(r"\w+|\S", text)))
 
 
 def is_own_copy(step: Step) -> bool:

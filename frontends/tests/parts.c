@@ -116,6 +116,18 @@ static void to_fields(struct point *p, int c)
     p->x = 4;
 }
 
+static struct point given_at_once(struct point *p, struct point q)
+{
+    struct point own;
+    *p = (struct point){ 1, 2 };    /* gcc sets p->x and p->y, the source does not */
+    p->x = 3;
+    own = (struct point){ q.x, 4 };
+    own.x = 5;
+    own.y += q.y;           /* expect: assignment to 'own.y' is dead */
+    own.y = 6;
+    return own;
+}
+
 static void called(struct point *p)
 {
     p->x = 1;
@@ -138,6 +150,7 @@ int main(int c, char **v)
     int m = 3, n = 4;
     by_volatile(&m, &a);
     called(&a);
+    a = given_at_once(&b, a);
     to_fields(&b, c);
     return fields(c) + unset_field(c) + unset_element() + by_index(c) + read_by_index(c & 1) + tested_by_index(c) + members(c) + inner(c)
         + whole(a) + given(c).x + behind(&m, &n) + m + n + b.x + a.x + a.y;
