@@ -332,8 +332,10 @@ class Changes:
     def name_of(self, part: Variable | Number, procedure: Procedure) -> str:
         """An operand as C, '' where it has no name in the procedure."""
         if not isinstance(part, Variable):
-            is_wide = part.text.isdigit() and 1 << 31 <= int(part.text) < 1 << 32
-            return self.body_of(procedure).name_all(part.text) + "u" * is_wide
+            named = self.body_of(procedure).name_all(part.text)
+            number = int(part.text) if part.text.isdigit() else 0
+            # a number has gcc's type, and not the next wider one with a sign
+            return named + ("u" if number >> 31 == 1 else "ull" if number >> 63 == 1 else "")
         if part.owner is None:
             return part.source
         if part.owner is procedure and part in self.declared:
