@@ -1,5 +1,5 @@
 // What is asked of a graph, and what solves it.
-ghost use Rattle.std.specs.Prelude.{◌≡◌, ℕ, ◌-◌, ◌*◌, ◌^◌, ◌<◌, ◌≤◌, ◌↔◌, true, false, Some, length, slice_get, slice_index, IfOk, IfErr};
+ghost use Rattle.std.specs.Prelude.{◌≡◌, ℕ, ◌*◌, ◌^◌, ◌<◌, ◌≤◌, ◌↔◌, true, false, Some, length, slice_get, slice_index, IfOk, IfErr};
 ghost use Rattle.bit_rows.specs.RowSet.{contains};
 ghost use Rattle.bit_rows.specs.RowTable.{set_at};
 ghost use Rattle.flow_graph.specs.Universes.{bits as bits_of};
@@ -102,8 +102,8 @@ impl<'g, 'p> AskedWords<'g, 'p> {
         }
     }
 
-    // The ask of a number in the order in which they are solved.
-    fn ask(&self, j: u32) -> Ask
+    /// The ask of a number in the order in which they are solved.
+    pub(crate) fn ask(&self, j: u32) -> Ask
         requires { j < length self.now.order }
         ensures ask { slice_get self.now.order j ≡ Some result }
         ensures asks { AreAsksOf self.now.program self.now.order }
@@ -120,16 +120,15 @@ impl<'g, 'p> AskedWords<'g, 'p> {
         self.places.len() as u32
     }
 
-    /// Whether a slice of this plan begins at the ask of a number in that order: where the analysis or the slice's words change.
-    pub(crate) fn begins_slice(&self, plan: SlicePlan, j: u32) -> bool
-        requires first { 0 < j }
-        requires there { j < length self.now.order }
-        ensures { result ≡ false → AreAlike self.now.order (j - 1) j }
+    /// Whether a slice of this plan ends between two asks that follow one another: where the analysis or the slice's words change.
+    pub(crate) fn ends_between(&self, plan: SlicePlan, before: Ask, here: Ask) -> bool
+        ensures { result ≡ false → before.analysis ≡ here.analysis }
     {
-        let before = self.ask(j - 1);
-        let here = self.ask(j);
         if before.analysis != here.analysis {
             return true;
+        }
+        if before.word == here.word {
+            return false;
         }
         let bits = self.solvers.solver(here.analysis).problem().bits();
         let width = plan.slice_words(bits);

@@ -21,10 +21,17 @@ fn ends(alloc: Global, asked: &AskedWords<'_, '_>, plan: SlicePlan) -> Result<Ve
     ensures { IfOk result (λ ends. EndTo asked.now.order (length asked.now.order) (length asked.now.order) ends.items) }
 {
     let mut ends = Vec::new(alloc);
-    for j in 1..asked.count() {
-        if asked.begins_slice(plan, j) {
+    let count = asked.count();
+    if count == 0 {
+        return Ok(ends);
+    }
+    let mut before = asked.ask(0);
+    for j in 1..count {
+        let here = asked.ask(j);
+        if asked.ends_between(plan, before, here) {
             ends.push(64 * j)?;
         }
+        before = here;
     }
     Ok(ends)
 }

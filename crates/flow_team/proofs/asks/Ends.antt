@@ -24,6 +24,19 @@ none_end order count = record {
   each = λ i j next low. absurd (omega (arith, next, low));
 }
 
+-- of no asks none
+pub no_ends : (order : List Ask) (ends : List ℕ) → length order ≡ 0 → ends ≡ [] → EndTo order (length order) (length order) ends
+no_ends order ends none empty = subst (EndTo order (length order) (length order)) (sym empty) (record {
+  places = record {
+    rising = λ j k before there. absurd (omega (arith, there));
+    positive = λ k there. absurd (omega (arith, there));
+    below = λ k there. absurd (omega (arith, there));
+  };
+  whole = λ k there. absurd (omega (arith, there));
+  highest = λ k there. absurd (omega (arith, there));
+  each = λ i j next low. absurd (omega (arith, next, low, none));
+})
+
 module _ (order : List Ask) (count done : ℕ) (ends : List ℕ) (before : EndTo order count done ends) where
   -- no slice ends before an ask that is like the one before it
   pub no_more_end : (last : ℕ) → done ≡ last + 1 → AreAlike order last done → EndTo order count (done + 1) ends

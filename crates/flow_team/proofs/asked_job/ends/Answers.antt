@@ -1,12 +1,19 @@
 -- Where each slice ends.
-use Rattle.std.proofs.Common.{◌-◌, length, refl, arith}
-use Rattle.flow_team.proofs.asks.Ends.{all_ends, no_more_end, none_end, one_more_end}
+use Rattle.std.proofs.Common.{◌≡◌, ◌∙◌, ◌-◌, ◌+◌, ℕ, Some, length, slice_get, refl, sym, ap, subst, arith}
+use Rattle.flow_team.specs.code.Cuts.{AreAlike, EndTo}
+use Rattle.flow_team.specs.declared.ask.Ask.{Ask}
+use Rattle.flow_team.proofs.asks.Ends.{all_ends, no_ends, no_more_end, none_end, one_more_end}
 use Rattle.flow_team.proofs.asked_job.ends.Goals as goal
-use Rattle.flow_team.proofs.asked_job.ends.Goals.{then-begins_slice+in_ok-push, else-begins_slice}
+use Rattle.flow_team.proofs.asked_job.ends.Goals.{then-ends_between+in_ok-push, else-ends_between}
+
+pub returns-then-count-eq0 : goal.returns-then-count-eq0
+returns-then-count-eq0 c =
+    no_ends c.args.asked.now.order c.new-ends.result.items (sym c.count-count.ensures.count ∙ c.if-count-eq0.true) c.new-ends.ensures.items
 
 pub loop-j-init : goal.loop-j-init
 loop-j-init c = record {
   first = omega arith;
+  before = c.ask-before.ensures.ask;
   ends = rw (c.new-ends.ensures.items) (none_end c.args.asked.now.order (length c.args.asked.now.order));
 }
 
@@ -14,17 +21,21 @@ pub loop-j-preserved : goal.loop-j-preserved
 loop-j-preserved c =
     let order = c.args.asked.now.order in
     let before = c.loop-j.invariant in
+    let next : c.loop-j.j + 1 - 1 ≡ c.loop-j.j = omega arith in
     record {
       first = omega arith;
-      ends = elim c.if-begins_slice.branch [
-        | then-begins_slice+in_ok-push w ↦
+      before = ap (slice_get order) next ∙ c.ask-here.ensures.ask;
+      ends = elim c.if-ends_between.branch [
+        | then-ends_between+in_ok-push w ↦
             rw (w.ends-is, w.in_ok-push.ensures.items)
             (one_more_end order (length order) c.loop-j.j c.loop-j.ends.items before.ends before.first
-            (omega (arith, c.loop-j-test.true, c.count-j-end.ensures.count)))
-        | else-begins_slice w ↦
-            rw (w.ends-is)
-            (no_more_end order (length order) c.loop-j.j c.loop-j.ends.items before.ends (c.loop-j.j - 1) (omega (arith, before.first))
-            (w.if-begins_slice.ensures refl))
+            (omega (arith, c.loop-j-test.true, c.count-count.ensures.count)))
+        | else-ends_between w ↦
+            let alike : AreAlike order (c.loop-j.j - 1) c.loop-j.j = λ one other is there.
+                let first : one ≡ c.loop-j.before = cc (sym is ∙ before.before) in
+                let second : other ≡ c.ask-here.result = cc (sym there ∙ c.ask-here.ensures.ask) in
+                ap (λ (ask : Ask). ask.analysis) first ∙ w.if-ends_between.ensures refl ∙ ap (λ (ask : Ask). ask.analysis) (sym second) in
+            rw (w.ends-is) (no_more_end order (length order) c.loop-j.j c.loop-j.ends.items before.ends (c.loop-j.j - 1) (omega (arith, before.first)) alike)
       ];
     }
 
@@ -32,4 +43,4 @@ pub returns : goal.returns
 returns c =
     let order = c.args.asked.now.order in
     all_ends order (length order) c.loop-j.j c.loop-j.ends.items c.loop-j.invariant.ends
-    (omega (arith, c.loop-j-test.false, c.count-j-end.ensures.count))
+    (omega (arith, c.loop-j-test.false, c.count-count.ensures.count))
