@@ -1,6 +1,8 @@
-"""Checks the documents against the sources: names, paths, links, counts, lists of definitions, widths and sizes.
+"""Checks the documents against the sources: names, paths, links, counts, lists of definitions,
+widths and sizes.
 
-    checks/docs              one line for each fault, as FILE:LINE: what is wrong; status 1 where there is one
+    checks/docs              one line for each fault, as FILE:LINE: what is wrong; status 1 where
+                             there is one
     checks/docs --self-test  plants a fault of each kind in a copy, and sees that each is told
 """
 import os
@@ -12,17 +14,29 @@ import tempfile
 
 WIDTH = 140
 # How long a document may be; all others below docs/ may have OTHER_SIZE lines.
-SIZES = {"docs/ARCHITECTURE.md": 200, "docs/TRUST.md": 200, "docs/PROVING.md": 350, "docs/GLOSSARY.md": 80, "README.md": 180}
+SIZES = {
+    "docs/ARCHITECTURE.md": 200,
+    "docs/TRUST.md": 200,
+    "docs/PROVING.md": 350,
+    "docs/GLOSSARY.md": 80,
+    "README.md": 180,
+}
 OTHER_SIZE = 300
 CRATE_PAGE = (10, 60)
-# The page that lists the definitions a contract rests on, table by table: each is closed under imports with those above it.
+# The page that lists the definitions a contract rests on, table by table: each is closed under
+# imports with those above it.
 READING = "docs/TRUST.md"
 PASSED_OVER = {".git", "out", "target", "__pycache__", "lib"}
 TEXT_ENDINGS = (".rt", ".antt", ".rs", ".c", ".h", ".py", ".sh", ".toml", ".tac", ".edit", "")
 PATH_ENDINGS = re.compile(r"\.(rt|antt|rs|c|h|py|md|tac|edit|svg|txt|report|a)$")
-# Names of the C library and of this system, files that are made, and words that stand for any: no source of the repository has them.
-OUTSIDE = set("rustc perf valgrind memset errno atexit qsort signal fopencookie libtacflow.a program.tac unop binop relop".split())
-# What is made and not kept here: what a build leaves, runs of benchmarks, and what stands below the folder of an installation.
+# Names of the C library and of this system, files that are made, and words that stand for any: no
+# source of the repository has them.
+OUTSIDE = set(
+    "rustc perf valgrind memset errno atexit qsort signal fopencookie libtacflow.a program.tac"
+    " unop binop relop".split()
+)
+# What is made and not kept here: what a build leaves, runs of benchmarks, and what stands below the
+# folder of an installation.
 MADE = re.compile(r"(^|/)out(/|$)|^bench/runs\b|^(bin|lib|libexec|include|share)/")
 PLACEHOLDER = re.compile(r"\b(NAME|CRATE|FILE|F|M|X|PREFIX)\b")
 SPAN = re.compile(r"`([^`]+)`")
@@ -61,7 +75,13 @@ class Repository:
                 folder = os.path.dirname(folder)
                 self.folders.add(folder)
         self.known = set(self.files)
-        self.crates = sorted({path.split("/")[1] for path in self.files if path.startswith("crates/") and path.count("/") > 1})
+        self.crates = sorted(
+            {
+                path.split("/")[1]
+                for path in self.files
+                if path.startswith("crates/") and path.count("/") > 1
+            }
+        )
         self.texts = {}
         self.words = set()
         self.bench_words = set()
@@ -75,7 +95,11 @@ class Repository:
 
     @staticmethod
     def is_source(path):
-        return os.path.splitext(path)[1] in TEXT_ENDINGS and not path.endswith(".md") and path != "checks/docs.py"
+        return (
+            os.path.splitext(path)[1] in TEXT_ENDINGS
+            and not path.endswith(".md")
+            and path != "checks/docs.py"
+        )
 
     def text(self, path):
         if path not in self.texts:
@@ -102,29 +126,48 @@ class Repository:
         return words
 
     def edits(self, crate=None):
-        return [path for path in self.files if path.endswith(".edit") and (crate is None or path.startswith(f"crates/{crate}/"))]
+        return [
+            path
+            for path in self.files
+            if path.endswith(".edit") and (crate is None or path.startswith(f"crates/{crate}/"))
+        ]
 
     def found(self, name, crates, near):
         """The files and folders that a path in a document may mean."""
         name = name.removeprefix("./")
         if PLACEHOLDER.search(name) or "*" in name:
             pattern = re.escape(PLACEHOLDER.sub("*", name).rstrip("/")).replace(r"\*", "[^/]*")
-            return [path for path in self.files + sorted(self.folders) if re.search(rf"(^|/){pattern}$", path)]
+            return [
+                path
+                for path in self.files + sorted(self.folders)
+                if re.search(rf"(^|/){pattern}$", path)
+            ]
         name = name.rstrip("/")
         tries = [name, os.path.normpath(os.path.join(near, name))]
-        tries += [f"crates/{crate}/{part}{name}" for crate in crates for part in ("", "src/", "specs/", "proofs/", "must-fail/")]
+        tries += [
+            f"crates/{crate}/{part}{name}"
+            for crate in crates
+            for part in ("", "src/", "specs/", "proofs/", "must-fail/")
+        ]
         hits = [path for path in tries if path in self.known or path in self.folders]
         if hits:
             return list(dict.fromkeys(hits))
         return [path for path in self.files + sorted(self.folders) if path.endswith("/" + name)]
 
     def has_member(self, owner, member):
-        """Whether some source file declares an item of this name for a type, a trait, a module or a crate of that one."""
+        """Whether some source file declares an item of this name for a type, a trait, a module or a
+        crate of that one."""
         owns = re.compile(rf"\b(impl\b.*|struct |enum |trait |type ){owner}\b")
-        declares = re.compile(rf"\b(fn|const|static|struct|enum|trait|type) {member}\b|^\s*(pub )?{member}\b\s*(,|:|\(|\{{)", re.M)
+        declares = re.compile(
+            rf"\b(fn|const|static|struct|enum|trait|type) {member}\b"
+            rf"|^\s*(pub )?{member}\b\s*(,|:|\(|\{{)",
+            re.M,
+        )
         for path in self.files:
             if path.endswith((".rt", ".rs")) and member in self.words_in(path):
-                is_module = owner == os.path.splitext(os.path.basename(path))[0] or owner in path.split("/")
+                is_module = owner == os.path.splitext(os.path.basename(path))[
+                    0
+                ] or owner in path.split("/")
                 if (is_module or owns.search(self.text(path))) and declares.search(self.text(path)):
                     return True
         return False
@@ -162,10 +205,15 @@ def names_told(page, number, line, crates, faults):
     repository = page.repository
     last, at = None, 0
     for match in SPAN.finditer(line):
-        between, span = line[at:match.start()], match.group(1)
+        between, span = line[at : match.start()], match.group(1)
         at = match.end()
         # behind "FILE: " or "CRATE: " stand names of that file or crate
-        if last and not (re.fullmatch(r":\s+\*?", between) and last[1] == 0 or JOINS_NAMES.match(between) and last[1] > 0):
+        if last and not (
+            re.fullmatch(r":\s+\*?", between)
+            and last[1] == 0
+            or JOINS_NAMES.match(between)
+            and last[1] > 0
+        ):
             last = None
         fault = fault_of_span(page, span, crates)
         if fault:
@@ -176,13 +224,25 @@ def names_told(page, number, line, crates, faults):
         is_path = bool(PATH_ENDINGS.search(name)) and " " not in name
         if last and IDENTIFIER.match(name) and not is_path:
             words = last[0]
-            missing = [part for part in re.split(r"::", name) if part not in words and part.split(".")[-1] not in words]
+            missing = [
+                part
+                for part in re.split(r"::", name)
+                if part not in words and part.split(".")[-1] not in words
+            ]
             if missing:
                 faults.append((page.path, number, f"`{span}` is not in `{last[2]}`"))
             last = (last[0], 1, last[2])
         elif is_path:
-            hits = [path for path in repository.found(name, crates, page.near) if path in repository.known and repository.is_source(path)]
-            last = (set().union(*(repository.words_in(path) for path in hits)), 0, name) if hits else None
+            hits = [
+                path
+                for path in repository.found(name, crates, page.near)
+                if path in repository.known and repository.is_source(path)
+            ]
+            last = (
+                (set().union(*(repository.words_in(path) for path in hits)), 0, name)
+                if hits
+                else None
+            )
         elif name in repository.crates and page.path != "docs/DECISIONS.md":
             last = (repository.words_of_crate(name), 0, name)
         else:
@@ -195,8 +255,12 @@ def fault_of_span(page, span, crates):
     name = span.strip().removesuffix("()")
     if " " in name:
         for word in name.split():
-            if re.match(r"^(\./[a-z]|(crates|docs|checks|bench|bindings|frontends|examples|\.ci)/)", word):
-                if not MADE.search(word) and not repository.found(word.rstrip(",;:."), crates, page.near):
+            if re.match(
+                r"^(\./[a-z]|(crates|docs|checks|bench|bindings|frontends|examples|\.ci)/)", word
+            ):
+                if not MADE.search(word) and not repository.found(
+                    word.rstrip(",;:."), crates, page.near
+                ):
                     return f"`{span}`: there is no {word}"
         return None
     if name.startswith(("/", "-", "~", "<")) or "://" in name or MADE.search(name):
@@ -204,27 +268,47 @@ def fault_of_span(page, span, crates):
     if re.match(r"^[A-Za-z0-9_.*+/-]+$", name) and ("/" in name or PATH_ENDINGS.search(name)):
         if name in OUTSIDE or re.fullmatch(r"[0-9/+*-]+", name):
             return None
-        return None if repository.found(name, crates, page.near) else f"`{span}`: there is no such file"
-    if not IDENTIFIER.match(name) or len(name) < 3 or PLACEHOLDER.fullmatch(name) or GOAL.match(name):
+        return (
+            None
+            if repository.found(name, crates, page.near)
+            else f"`{span}`: there is no such file"
+        )
+    if (
+        not IDENTIFIER.match(name)
+        or len(name) < 3
+        or PLACEHOLDER.fullmatch(name)
+        or GOAL.match(name)
+    ):
         return None
     parts = name.split("::")
     if len(parts) > 1:
         if parts[0] in ("std", "core", "u32", "u64", "usize"):
             return None
-        return None if repository.has_member(parts[-2], parts[-1]) else f"`{span}`: there is no such item"
-    words = repository.words | repository.bench_words if page.path.startswith("bench/") else repository.words
+        return (
+            None
+            if repository.has_member(parts[-2], parts[-1])
+            else f"`{span}`: there is no such item"
+        )
+    words = (
+        repository.words | repository.bench_words
+        if page.path.startswith("bench/")
+        else repository.words
+    )
     if name in words or all(part in words for part in name.split(".") if part):
         return None
     return f"`{span}`: no source has this name"
 
 
 def benchmarks_of(root):
-    """The words of `bench/run --list`: benchmarks, kinds and shapes; none where it cannot be run."""
+    """The words of `bench/run --list`: benchmarks, kinds and shapes; none where it cannot be
+    run."""
     command = os.path.join(root, "bench/run")
     if not os.access(command, os.X_OK):
         return set()
     try:
-        listed = subprocess.run([command, "--list"], capture_output=True, text=True, timeout=60, check=False)
+        listed = subprocess.run(
+            [command, "--list"], capture_output=True, text=True, timeout=60, check=False
+        )
     except (OSError, subprocess.TimeoutExpired):
         return set()
     return set(re.findall(r"[a-z][a-z-]*[a-z]", listed.stdout))
@@ -235,8 +319,14 @@ def benchmarks_told(page, number, line, benchmarks, faults):
     for words in re.findall(r"`bench/run ([^`]+)`", line):
         for name in re.sub(r"--\S+ \S+", "", words).split():
             parts = re.fullmatch(r"([a-z]+)-([a-z-]*[a-z])(-[0-9]+)?", name.split(":")[0])
-            if benchmarks and re.match(r"[a-z]", name) and not (parts and {parts.group(1), parts.group(2)} <= benchmarks):
-                faults.append((page.path, number, f"`bench/run {name}`: there is no such benchmark"))
+            if (
+                benchmarks
+                and re.match(r"[a-z]", name)
+                and not (parts and {parts.group(1), parts.group(2)} <= benchmarks)
+            ):
+                faults.append(
+                    (page.path, number, f"`bench/run {name}`: there is no such benchmark")
+                )
 
 
 def links_told(page, number, line, faults):
@@ -264,7 +354,13 @@ def counts_told(page, number, line, crates, headline, faults):
             faults.append((page.path, number, f"{text} crates: there are {len(repository.crates)}"))
     for text in re.findall(r"\b([\d,]*\d) lines of definitions\b", line):
         if number_of(text) != headline:
-            faults.append((page.path, number, f"{text} lines of definitions: the first list of {READING} has {headline}"))
+            faults.append(
+                (
+                    page.path,
+                    number,
+                    f"{text} lines of definitions: the first list of {READING} has {headline}",
+                )
+            )
 
 
 def cells(line):
@@ -272,7 +368,8 @@ def cells(line):
 
 
 def reading_lists(page):
-    """The tables of a page whose head begins with File and Lines, each with the line before it that tells their sum; and the types."""
+    """The tables of a page whose head begins with File and Lines, each with the line before it that
+    tells their sum; and the types."""
     lists, types, at = [], set(), 0
     while at < len(page.lines):
         head = cells(page.lines[at]) if page.lines[at].startswith("|") else []
@@ -285,7 +382,12 @@ def reading_lists(page):
                 told = next((n for n in range(at - 1, -1, -1) if page.lines[n].strip()), 0)
                 lists.append((told + 1, rows))
             else:
-                types |= {(file, name) for _, cell in rows for file in SPAN.findall(cell[0]) for name in SPAN.findall(cell[1])}
+                types |= {
+                    (file, name)
+                    for _, cell in rows
+                    for file in SPAN.findall(cell[0])
+                    for name in SPAN.findall(cell[1])
+                }
             at = row
         at += 1
     return lists, types
@@ -314,7 +416,8 @@ def imports_of(repository, path):
 
 
 def reading_told(page, faults):
-    """Looks at the lists of definitions: the lines of each file, the sums, and that each list is closed. The sum of the first one."""
+    """Looks at the lists of definitions: the lines of each file, the sums, and that each list is
+    closed. The sum of the first one."""
     repository = page.repository
     lists, types = reading_lists(page)
     listed, headline = set(), 0
@@ -339,9 +442,17 @@ def reading_told(page, faults):
             if file in repository.known and file.endswith(".antt"):
                 definitions, used = imports_of(repository, file)
                 for other in sorted(definitions - listed):
-                    faults.append((page.path, number, f"{file} imports {other}, which is not listed"))
+                    faults.append(
+                        (page.path, number, f"{file} imports {other}, which is not listed")
+                    )
                 for source, name in sorted(used - types):
-                    faults.append((page.path, number, f"{file} uses `{name}` of {source}, which is not among the types"))
+                    faults.append(
+                        (
+                            page.path,
+                            number,
+                            f"{file} uses `{name}` of {source}, which is not among the types",
+                        )
+                    )
     if not lists:
         faults.append((page.path, 1, "it has no list of definitions"))
     return headline
@@ -358,10 +469,20 @@ def pages_named(repository, faults):
 
 
 def size_told(page, faults):
-    least, most = CRATE_PAGE if page.own and page.path.endswith("README.md") else (1, SIZES.get(page.path, OTHER_SIZE))
+    least, most = (
+        CRATE_PAGE
+        if page.own and page.path.endswith("README.md")
+        else (1, SIZES.get(page.path, OTHER_SIZE))
+    )
     if page.path.startswith("docs/") or page.path == "README.md" or page.own:
         if not least <= len(page.lines) <= most:
-            faults.append((page.path, len(page.lines), f"{len(page.lines)} lines: it may have {least} to {most}"))
+            faults.append(
+                (
+                    page.path,
+                    len(page.lines),
+                    f"{len(page.lines)} lines: it may have {least} to {most}",
+                )
+            )
 
 
 def faults_of(root):
@@ -413,29 +534,90 @@ def without_first_row(root):
     number, row = rows[0]
     old = re.search(r"\b([\d,]*\d) lines\b", page.lines[told - 1]).group(0)
     new = f"{number_of(old.split()[0]) - number_of(row[1]):,} lines"
-    lines = [line.replace(old, new, 1) if n == told else line for n, line in enumerate(page.lines, 1) if n != number]
+    lines = [
+        line.replace(old, new, 1) if n == told else line
+        for n, line in enumerate(page.lines, 1)
+        if n != number
+    ]
     with open(os.path.join(root, READING), "w", encoding="utf-8") as target:
         target.write("\n".join(lines) + "\n")
 
 
 def plants():
-    """The faults that are planted: what each is called, how it is planted, and what has to be told."""
+    """The faults that are planted: what each is called, how it is planted, and what has to be
+    told."""
     return [
-        ("a name that is gone", lambda root: appended(root, "docs/GLOSSARY.md", "\n`no_such_function_here`\n"), "no source has this name"),
-        ("a member that is gone", lambda root: appended(root, "docs/GLOSSARY.md", "\n`Graph::no_such_call`\n"), "no such item"),
-        ("a name of another file", lambda root: appended(root, "docs/GLOSSARY.md", "\n`graph.rt`: `take_up`\n"), "is not in"),
-        ("an edit that is gone", lambda root: appended(root, READING, "\n`bit_rows`: `row_that_never_was`\n"), "no source has this name"),
-        ("a file that is gone", lambda root: appended(root, "docs/GLOSSARY.md", "\n`docs/GONE.md`\n"), "no such file"),
-        ("a link that leads nowhere", lambda root: appended(root, "README.md", "\n[gone](docs/GONE.md)\n"), "leads nowhere"),
-        ("a wrong count of edits", lambda root: appended(root, "crates/bit_rows/README.md", "\nIt has 9,999 edits.\n"), "9,999 edits"),
-        ("a wrong count of crates", lambda root: appended(root, "README.md", "\nThere are 9,999 crates.\n"), "9,999 crates"),
-        ("a wrong sum of definitions", lambda root: appended(root, "README.md", "\nOn 3 lines of definitions.\n"), "3 lines of definitions"),
-        ("a definition that grew", lambda root: appended(root, "crates/flow_graph/specs/Paths.antt", "\n-- more\n"), "Paths.antt has"),
+        (
+            "a name that is gone",
+            lambda root: appended(root, "docs/GLOSSARY.md", "\n`no_such_function_here`\n"),
+            "no source has this name",
+        ),
+        (
+            "a member that is gone",
+            lambda root: appended(root, "docs/GLOSSARY.md", "\n`Graph::no_such_call`\n"),
+            "no such item",
+        ),
+        (
+            "a name of another file",
+            lambda root: appended(root, "docs/GLOSSARY.md", "\n`graph.rt`: `take_up`\n"),
+            "is not in",
+        ),
+        (
+            "an edit that is gone",
+            lambda root: appended(root, READING, "\n`bit_rows`: `row_that_never_was`\n"),
+            "no source has this name",
+        ),
+        (
+            "a file that is gone",
+            lambda root: appended(root, "docs/GLOSSARY.md", "\n`docs/GONE.md`\n"),
+            "no such file",
+        ),
+        (
+            "a link that leads nowhere",
+            lambda root: appended(root, "README.md", "\n[gone](docs/GONE.md)\n"),
+            "leads nowhere",
+        ),
+        (
+            "a wrong count of edits",
+            lambda root: appended(root, "crates/bit_rows/README.md", "\nIt has 9,999 edits.\n"),
+            "9,999 edits",
+        ),
+        (
+            "a wrong count of crates",
+            lambda root: appended(root, "README.md", "\nThere are 9,999 crates.\n"),
+            "9,999 crates",
+        ),
+        (
+            "a wrong sum of definitions",
+            lambda root: appended(root, "README.md", "\nOn 3 lines of definitions.\n"),
+            "3 lines of definitions",
+        ),
+        (
+            "a definition that grew",
+            lambda root: appended(root, "crates/flow_graph/specs/Paths.antt", "\n-- more\n"),
+            "Paths.antt has",
+        ),
         ("a list that is not closed", without_first_row, "which is not listed"),
-        ("a type that is not listed", lambda root: replaced(root, READING, "`StmtKind`", "-"), "not among the types"),
-        ("a line that is too long", lambda root: appended(root, "docs/GLOSSARY.md", "\n" + "long " * 40 + "\n"), "a line has at most"),
-        ("a page that is too long", lambda root: appended(root, "docs/ARCHITECTURE.md", "\n" * 200), "it may have"),
-        ("a crate without a page", lambda root: os.remove(os.path.join(root, "crates/bit_rows/README.md")), "has no README.md"),
+        (
+            "a type that is not listed",
+            lambda root: replaced(root, READING, "`StmtKind`", "-"),
+            "not among the types",
+        ),
+        (
+            "a line that is too long",
+            lambda root: appended(root, "docs/GLOSSARY.md", "\n" + "long " * 40 + "\n"),
+            "a line has at most",
+        ),
+        (
+            "a page that is too long",
+            lambda root: appended(root, "docs/ARCHITECTURE.md", "\n" * 200),
+            "it may have",
+        ),
+        (
+            "a crate without a page",
+            lambda root: os.remove(os.path.join(root, "crates/bit_rows/README.md")),
+            "has no README.md",
+        ),
     ]
 
 
@@ -461,7 +643,9 @@ def self_test(root):
         copied(root, target)
         for name, plant, wanted in plants():
             plant(target)
-            told = [fault for fault in faults_of(target) if fault not in before and wanted in fault[2]]
+            told = [
+                fault for fault in faults_of(target) if fault not in before and wanted in fault[2]
+            ]
             if not told:
                 failed += 1
                 print(f"not told: {name}")

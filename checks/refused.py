@@ -1,14 +1,17 @@
-"""Refuses memory to the programs and to the tests of refused memory, as they were built: the first request of a run, the second, and so on
-until a run meets no refusal; and in the same way each request with all behind it (refuse.c, which is preloaded, does that).
+"""Refuses memory to the programs and to the tests of refused memory, as they were built: the first
+request of a run, the second, and so on until a run meets no refusal; and in the same way each
+request with all behind it (refuse.c, which is preloaded, does that).
 
-A program has to answer as with ample memory, or to say in one line that it is out of memory, with status 1 and nothing written. A test has
-to pass, or to fail by want of memory, or to fail by the name of the call that was refused, once all that it asserts of that call holds. Each
-call of CALLS has to be named so in some run.
+A program has to answer as with ample memory, or to say in one line that it is out of memory, with
+status 1 and nothing written. A test has to pass, or to fail by want of memory, or to fail by the
+name of the call that was refused, once all that it asserts of that call holds. Each call of CALLS
+has to be named so in some run.
 
     checks/refused           a line for each fault, and then `N passed, M failed`
     checks/refused --table   the same, and a table of the requests that were met
 
-TACFLOW=/path/to/program and TACVIEW=/path/to/program take other programs than those in crates/NAME/out.
+TACFLOW=/path/to/program and TACVIEW=/path/to/program take other programs than those in
+crates/NAME/out.
 """
 
 import collections
@@ -27,42 +30,81 @@ CRATES = os.path.join(os.path.dirname(HERE), "crates")
 SECONDS = 60
 LAST = 2**64 - 1
 
-# A recursive procedure, an expression on both sides of a call, one on both sides of a test, and a text that is refused.
+# A recursive procedure, an expression on both sides of a call, one on both sides of a test, and a
+# text that is refused.
 TEXTS = [
     b"proc main\nx = 1\ncall f\nprint x\nend\nproc f\nif x goto L\ncall f\nx = 2\nL:\nend\n",
     b"proc main\na = b + c\ncall p\nd = b + c\nend\nproc p\nif c goto L\nb = 1\nL:\nend\n",
-    b"proc main\nread b\nread c\nif c goto L\nx = b + c\nprint x\nreturn\nL: y = b + c\nprint y\nend\n",
+    b"proc main\nread b\nread c\nif c goto L\nx = b + c\nprint x\nreturn\n"
+    b"L: y = b + c\nprint y\nend\n",
     b"proc main\nx =\nend\n",
 ]
 WORDS = {
     "tacflow": [f"--show {kind}" for kind in ("report", "list", "reach", "live", "avail", "busy")],
     "tacview": [
-        *("--format dot", "--format dot --facts all", "--format json", "--format json --procedure main", "--format report"),
+        "--format dot",
+        "--format dot --facts all",
+        "--format json",
+        "--format json --procedure main",
+        "--format report",
     ],
 }
 WORKERS = (1, 3)
 
-# The calls that each crate's tests of refused memory make, as patterns: some run has to name each of them.
+# The calls that each crate's tests of refused memory make, as patterns: some run has to name each
+# of them.
 CALLS = {
-    "bit_rows_tests": {"Row::empty", "Row::full", "Row::cut", "Row::copy", "Rows::blank, or its flags", "Cut::even", "Cut::at"},
+    "bit_rows_tests": {
+        "Row::empty",
+        "Row::full",
+        "Row::cut",
+        "Row::copy",
+        "Rows::blank, or its flags",
+        "Cut::even",
+        "Cut::at",
+    },
     "flow_commands_tests": {"run of tacflow", "fault_line", "Options::from_words"},
-    "flow_graph_tests": {"Graph::build", "Graph::succ", "Graph::leads_to", "Problem::of", "Problem::edges"},
+    "flow_graph_tests": {
+        "Graph::build",
+        "Graph::succ",
+        "Graph::leads_to",
+        "Problem::of",
+        "Problem::edges",
+    },
     "flow_team_answers_tests": {"answer", "answer_here", "Answers::of_tables"},
     "flow_team_tests": {"Job::open", "analyse", "table_at"},
     "flow_texts_tests": {
-        *("table_of", "TableText::of", "table_text", "Tables::of", "ReportAnswers::of", "ReportAnswers::answered_here", "ReportAnswers::of_tables"),
-        *("ReportText::of", "report", "report_here"),
+        "table_of",
+        "TableText::of",
+        "table_text",
+        "Tables::of",
+        "ReportAnswers::of",
+        "ReportAnswers::answered_here",
+        "ReportAnswers::of_tables",
+        "ReportText::of",
+        "report",
+        "report_here",
     },
     "gk_solve_tests": {
-        *("Links::of", "Routes::of", "Solver::of", "Solver::flags", "Solver::slice", "solve", "solve_slice", "solve_counted"),
-        *("Order::of, or its list", "Marks::none", "group"),
+        "Links::of",
+        "Routes::of",
+        "Solver::of",
+        "Solver::flags",
+        "Solver::slice",
+        "solve",
+        "solve_slice",
+        "solve_counted",
+        "Order::of, or its list",
+        "Marks::none",
+        "group",
     },
     "slice_board_tests": {"Board::open, its rows or its cut"},
     "tac_reader_tests": {"read", "listing", "write_unary_expression", "write_binary_expression"},
     "text_pieces_tests": {"deliver", "pull_all", "pull_all, a longer block"},
     "view_commands_tests": {"run of tacview"},
 }
-# The same of single tests of a job of three slices, or of four: by one worker each slice is left in some run, by two some slice is.
+# The same of single tests of a job of three slices, or of four: by one worker each slice is left in
+# some run, by two some slice is.
 CALLS_OF_TESTS = {
     "a_refused_call_goes_on": {f"Job::work of slice {slice}" for slice in range(3)},
     "one_worker_is_refused": {f"analyse, which leaves slice {slice}" for slice in range(3)},
@@ -73,22 +115,33 @@ CALLS_OF_TESTS = {
 # How a test ends that answers a fault; a wrong assertion ends by a signal.
 FAILED = 101
 REFUSED = re.compile(rb"refused: (.*)\nthe test failed: its result gives status 1\n")
-WANT_OF_MEMORY = re.compile(rb"error: (OutOfMemory|AllocError|AllocFailed { .. })\nthe test failed: its result gives status 1\n")
+WANT_OF_MEMORY = re.compile(
+    rb"error: (OutOfMemory|AllocError|AllocFailed { .. })\n"
+    rb"the test failed: its result gives status 1\n"
+)
 
 Outcome = collections.namedtuple("Outcome", "status wrote said")
-# What is tried: its name and the words it is told under, the command, what that reads, whether it is a test, and whether all requests behind
-# the first that is refused are refused too.
+# What is tried: its name and the words it is told under, the command, what that reads, whether it
+# is a test, and whether all requests behind the first that is refused are refused too.
 Case = collections.namedtuple("Case", "name words command given is_test is_all")
 Found = collections.namedtuple("Found", "case requests refused calls faults")
 
 
 def run(library, notes, case, first, last):
-    """What comes of a run with these requests refused, how many requests it made, and how many of them were refused."""
+    """What comes of a run with these requests refused, how many requests it made, and how many of
+    them were refused."""
     with open(notes, "wb") as file:
         file.write(struct.pack("4Q", first, last, 0, 0))
     environment = {"LD_PRELOAD": library, "REFUSE_NOTES": notes}
     try:
-        done = subprocess.run(case.command, input=case.given, capture_output=True, env=environment, timeout=SECONDS, check=False)
+        done = subprocess.run(
+            case.command,
+            input=case.given,
+            capture_output=True,
+            env=environment,
+            timeout=SECONDS,
+            check=False,
+        )
         outcome = Outcome(done.returncode, done.stdout, done.stderr)
     except subprocess.TimeoutExpired:
         outcome = Outcome(f"none after {SECONDS} seconds", b"", b"")
@@ -98,7 +151,8 @@ def run(library, notes, case, first, last):
 
 
 def call_named(case, outcome, ample):
-    """The call that a run names as refused, an empty name where there is none, and None where the run may not end so."""
+    """The call that a run names as refused, an empty name where there is none, and None where the
+    run may not end so."""
     if outcome == ample:
         return ""
     if not case.is_test:
@@ -119,12 +173,19 @@ def tried(library, case):
         if case.is_test and ample.status != 0:
             faults.append(f"with ample memory it ended with {ample}")
         if not requests:
-            faults.append("none of its requests could be refused: is it linked to the C library's malloc?")
+            faults.append(
+                "none of its requests could be refused: is it linked to the C library's malloc?"
+            )
         for first in itertools.count(1):
-            outcome, _, refused = run(library, notes.name, case, first, LAST if case.is_all else first)
+            outcome, _, refused = run(
+                library, notes.name, case, first, LAST if case.is_all else first
+            )
             call = call_named(case, outcome, ample)
             if call is None:
-                faults.append(f"request {first}{' and all behind it' if case.is_all else ''}: it ended with {outcome}")
+                faults.append(
+                    f"request {first}{' and all behind it' if case.is_all else ''}:"
+                    f" it ended with {outcome}"
+                )
             if not refused:
                 break
             calls[call or ""] += 1
@@ -139,11 +200,15 @@ def built(name):
 
 
 def programs():
-    """The runs of both programs: each text and words, by each number of workers, in slices of one bit."""
+    """The runs of both programs: each text and words, by each number of workers, in slices of one
+    bit."""
     for name, words in WORDS.items():
         for word, workers, given in itertools.product(words, WORKERS, TEXTS):
             command = [built(name), *word.split(), "--workers", str(workers), "--cut", "1"]
-            yield from (Case(name, f"{word} --workers {workers}", command, given, False, is_all) for is_all in (False, True))
+            yield from (
+                Case(name, f"{word} --workers {workers}", command, given, False, is_all)
+                for is_all in (False, True)
+            )
 
 
 def tests():
@@ -152,31 +217,58 @@ def tests():
         program = built(name)
         named = subprocess.run([program, "--list"], capture_output=True, check=True).stdout.decode()
         for test in re.findall(r"^(.*refusal_tests::.*): test$", named, re.MULTILINE):
-            yield from (Case(name, test, [program, test], b"", True, is_all) for is_all in (False, True))
+            yield from (
+                Case(name, test, [program, test], b"", True, is_all) for is_all in (False, True)
+            )
 
 
 def library_in(folder):
     library = os.path.join(folder, "refuse.so")
-    command = ["cc", "-std=c11", "-O2", "-Wall", "-Wextra", "-Werror", "-shared", "-fPIC", "-o", library, os.path.join(HERE, "refuse.c")]
+    command = [
+        "cc",
+        "-std=c11",
+        "-O2",
+        "-Wall",
+        "-Wextra",
+        "-Werror",
+        "-shared",
+        "-fPIC",
+        "-o",
+        library,
+        os.path.join(HERE, "refuse.c"),
+    ]
     subprocess.run(command, check=True)
     return library
 
 
 def missing_calls(found):
-    """The calls that no run named, each with the crate or the test whose it is; and how many calls are wanted."""
+    """The calls that no run named, each with the crate or the test whose it is; and how many calls
+    are wanted."""
     named = collections.defaultdict(set)
     for one in found:
         named[one.case.name] |= set(one.calls)
         named[one.case.words.split("::")[-1]] |= set(one.calls)
-    wanted = [(name, call) for name, calls in [*CALLS.items(), *CALLS_OF_TESTS.items()] for call in sorted(calls)]
-    return [(name, call) for name, call in wanted if not any(re.fullmatch(call, one) for one in named[name])], len(wanted)
+    wanted = [
+        (name, call)
+        for name, calls in [*CALLS.items(), *CALLS_OF_TESTS.items()]
+        for call in sorted(calls)
+    ]
+    return [
+        (name, call)
+        for name, call in wanted
+        if not any(re.fullmatch(call, one) for one in named[name])
+    ], len(wanted)
 
 
 def listed(found):
-    """The lines of the table: a line for the words of a program, with the requests of each text, and one for a crate's tests."""
+    """The lines of the table: a line for the words of a program, with the requests of each text,
+    and one for a crate's tests."""
     rows = collections.defaultdict(lambda: [[], 0])
     for one in found:
-        row = rows[one.case.name, "its tests of refused memory, together" if one.case.is_test else f"`{one.case.words}`"]
+        row = rows[
+            one.case.name,
+            "its tests of refused memory, together" if one.case.is_test else f"`{one.case.words}`",
+        ]
         if not one.case.is_all:
             row[0].append(one.requests)
         row[1] += one.refused
@@ -193,7 +285,10 @@ def main():
         return 2
     absent = [name for name in [*WORDS, *CALLS] if not os.access(built(name), os.X_OK)]
     if absent:
-        print(f"failed: not built: {', '.join(absent)}; `rt ci` builds them, and `rt test` the tests of a crate")
+        print(
+            f"failed: not built: {', '.join(absent)};"
+            " `rt ci` builds them, and `rt test` the tests of a crate"
+        )
         return 1
     with tempfile.TemporaryDirectory(prefix="refused-") as folder:
         library = library_in(folder)

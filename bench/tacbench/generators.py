@@ -46,11 +46,18 @@ def generate(name, keys):
     return text if isinstance(text, bytes) else text.encode()
 
 
+def told_of(maker):
+    """What its first words say, in one line."""
+    return " ".join((inspect.getdoc(maker) or "").split())
+
+
 def catalogue():
     lines = []
     for title, shapes in GROUPS:
         lines.append(title + ":")
         for name, maker in shapes.items():
-            lines.append("  %-18s %s" % (name, inspect.getdoc(maker)))
-            lines.append("  %-18s %s" % ("", " ".join("%s=%s" % pair for pair in defaults_of(name).items())))
+            lines.append("  %-18s %s" % (name, told_of(maker)))
+            lines.append(
+                "  %-18s %s" % ("", " ".join("%s=%s" % pair for pair in defaults_of(name).items()))
+            )
     return "\n".join(lines) + "\n"

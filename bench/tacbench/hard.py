@@ -6,7 +6,8 @@ from .writing import Procedure, most_procedures, name_of, need, text_of
 
 
 class Definitions:
-    """Assignments to `count` variables, each of an expression of its own, dealt out evenly over `places`."""
+    """Assignments to `count` variables, each of an expression of its own, dealt out evenly over
+    `places`."""
 
     def __init__(self, count, places):
         self.count = max(1, min(count, places))
@@ -55,20 +56,30 @@ def step(number, count):
 
 
 def shuffled(points=16000, bits=4000, far=0, callees=0, seed=1):
-    """blocks in a random order, each of which may go away (far=0 anywhere, 1 back by one in two jumps, 2 in one), and with callees=N calls"""
+    """blocks in a random order, each of which may go away (far=0 anywhere, 1 back by one in two
+    jumps, 2 in one), and with callees=N calls"""
     size = 4 if callees else 3
     count = (points - 4 - callees) // size
     # two jumps over half of an odd number of blocks lead back by one
     count -= far % 3 == 1 and count % 2 == 0
-    need(count >= 2 and callees <= 8, "so few points are too few for this shape, or so many callees too many for one call")
+    need(
+        count >= 2 and callees <= 8,
+        "so few points are too few for this shape, or so many callees too many for one call",
+    )
     draw = random.Random(seed)
     definitions = Definitions(variables_for(bits), count)
     call = ["call " + " | ".join("q%d" % callee for callee in range(callees))] if callees else []
     blocks = []
     for number in range(count):
-        target = {0: draw.randrange(count), 1: (number + count // 2) % count, 2: max(0, number - 1)}[far % 3]
+        target = {
+            0: draw.randrange(count),
+            1: (number + count // 2) % count,
+            2: max(0, number - 1),
+        }[far % 3]
         test = "if v%d goto b%d" % (number * definitions.count // count, target)
-        blocks.append(("b%d" % number, [definitions.statement(number), *call, test, step(number, count)]))
+        blocks.append(
+            ("b%d" % number, [definitions.statement(number), *call, test, step(number, count)])
+        )
     draw.shuffle(blocks)
     main = Procedure("main")
     main.add("goto b0")
@@ -82,12 +93,19 @@ def upward(points=16000, bits=4000, size=1):
     count = (points - 4) // (size + 1)
     need(count >= 1, "so few points are too few for this shape")
     definitions = Definitions(variables_for(bits), count)
-    blocks = [("b%d" % number, [definitions.statement(number)] + ["skip"] * (size - 1) + [step(number, count)]) for number in range(count)]
+    blocks = [
+        (
+            "b%d" % number,
+            [definitions.statement(number)] + ["skip"] * (size - 1) + [step(number, count)],
+        )
+        for number in range(count)
+    ]
     return one_procedure(blocks[::-1], points, "b0")
 
 
 def zigzag(points=16000, bits=4000, tests=1):
-    """definitions, then blocks that are gone over from both ends by turns; with tests=1 each may leave"""
+    """definitions, then blocks that are gone over from both ends by turns; with tests=1 each may
+    leave"""
     count = (points - 4) * 2 // (3 if tests else 2) // 2
     kinds = Definitions(min(variables_for(bits), count // 3), count)
     count = (points - 4 - kinds.count) // (2 if tests else 1)
@@ -100,7 +118,8 @@ def zigzag(points=16000, bits=4000, tests=1):
 
 
 def nest(points=16000, bits=4000, reversed=0):
-    """loops within one another, as deep as there is room; with reversed=1 their blocks in reverse order"""
+    """loops within one another, as deep as there is room; with reversed=1 their blocks in reverse
+    order"""
     depth = (points - 4) // 5
     need(depth >= 1, "so few points are too few for this shape")
     definitions = Definitions(variables_for(bits), depth)
@@ -109,7 +128,12 @@ def nest(points=16000, bits=4000, reversed=0):
         inner = "h%d" % (level + 1) if level + 1 < depth else "t%d" % level
         outer = "t%d" % (level - 1) if level else "out"
         heads.append(("h%d" % level, ["if v0 goto t%d" % level, "goto " + inner]))
-        tails.append(("t%d" % level, [definitions.statement(level), "if v0 goto h%d" % level, "goto " + outer]))
+        tails.append(
+            (
+                "t%d" % level,
+                [definitions.statement(level), "if v0 goto h%d" % level, "goto " + outer],
+            )
+        )
     blocks = heads + tails[::-1]
     return one_procedure(blocks[::-1] if reversed else blocks, points, "h0")
 
@@ -124,7 +148,16 @@ def irreducible(points=16000, bits=4000, seed=1):
     for number in range(count):
         last = number + 1 == count
         test = "if v0 goto u%d" % draw.randrange(count)
-        down.append(("d%d" % number, [definitions.statement(number), test, "goto out" if last else "goto d%d" % (number + 1)]))
+        down.append(
+            (
+                "d%d" % number,
+                [
+                    definitions.statement(number),
+                    test,
+                    "goto out" if last else "goto d%d" % (number + 1),
+                ],
+            )
+        )
         test = "if v0 goto d%d" % draw.randrange(count)
         up.append(("u%d" % number, [test, "goto out" if last else "goto u%d" % (number + 1)]))
     begin = ("fork", ["if v0 goto d0", "goto u0"])
@@ -132,7 +165,8 @@ def irreducible(points=16000, bits=4000, seed=1):
 
 
 def feeders(points=16000, bits=4000, far=0, loop=0):
-    """each definition takes one jump back more than the one before to a long chain of tests; far=1: every second jump is long; loop=1: round it"""
+    """each definition takes one jump back more than the one before to a long chain of tests; far=1:
+    every second jump is long; loop=1: round it"""
     count = max(1, min(variables_for(bits), points // 8))
     length = points - 3 * count - 6
     need(length >= 2, "so few points are too few for this shape")
@@ -141,37 +175,70 @@ def feeders(points=16000, bits=4000, far=0, loop=0):
     for number in range(count):
         onward = "h%d" % (number + 1) if number + 1 < count else "d%d" % number
         heads.append(("h%d" % number, ["if v0 goto " + onward]))
-        heads.append(("d%d" % number, [definitions.definition(number), "goto h%d" % (number - 1) if number else "goto c0"]))
-    chain = [("c%d" % at, ["if v0 goto " + ("c%d" % (at + 2) if at + 2 < length else "out")]) for at in range(length)]
+        heads.append(
+            (
+                "d%d" % number,
+                [
+                    definitions.definition(number),
+                    "goto h%d" % (number - 1) if number else "goto c0",
+                ],
+            )
+        )
+    chain = [
+        ("c%d" % at, ["if v0 goto " + ("c%d" % (at + 2) if at + 2 < length else "out")])
+        for at in range(length)
+    ]
     chain.append(("leave", ["if v0 goto h0" if loop else "goto out"]))
-    pairs = [heads[at:at + 2] for at in range(0, len(heads), 2)]
+    pairs = [heads[at : at + 2] for at in range(0, len(heads), 2)]
     if far:
-        blocks = [block for pair in pairs[::2] for block in pair] + chain + [block for pair in pairs[1::2] for block in pair]
+        blocks = (
+            [block for pair in pairs[::2] for block in pair]
+            + chain
+            + [block for pair in pairs[1::2] for block in pair]
+        )
     else:
         blocks = chain + heads
     return one_procedure([*blocks, ("after", ["goto out"])], points, "h0")
 
 
 def ladder(points=16000, bits=4000):
-    """ways into a ladder of assignments, each of which kills one definition less than the one before, and behind it a chain of tests"""
+    """ways into a ladder of assignments, each of which kills one definition less than the one
+    before, and behind it a chain of tests"""
     count = max(1, min(variables_for(bits), points // 8))
     length = points - 3 * count - 8
     need(length >= 2, "so few points are too few for this shape")
     definitions = Definitions(count, count)
-    chain = [("c%d" % at, ["if v0 goto " + ("c%d" % (at + 2) if at + 2 < length else "out")]) for at in range(length)]
-    ways = [("w%d" % number, ["if v0 goto r%d" % number, "goto " + ("w%d" % (number + 1) if number + 1 < count else "c0")])
-            for number in range(count)]
+    chain = [
+        ("c%d" % at, ["if v0 goto " + ("c%d" % (at + 2) if at + 2 < length else "out")])
+        for at in range(length)
+    ]
+    ways = [
+        (
+            "w%d" % number,
+            [
+                "if v0 goto r%d" % number,
+                "goto " + ("w%d" % (number + 1) if number + 1 < count else "c0"),
+            ],
+        )
+        for number in range(count)
+    ]
     rungs = [("r%d" % number, [definitions.definition(number)]) for number in range(count)]
-    return one_procedure([*chain, ("leave", ["goto out"]), *ways[::-1], *rungs, ("back", ["goto c0"])], points, "w0")
+    return one_procedure(
+        [*chain, ("leave", ["goto out"]), *ways[::-1], *rungs, ("back", ["goto c0"])], points, "w0"
+    )
 
 
 def points_each(points, procedures):
-    need(procedures <= most_procedures(points), "a program has at most 256 procedures, and one of more than 16,384 points 16,384")
+    need(
+        procedures <= most_procedures(points),
+        "a program has at most 256 procedures, and one of more than 16,384 points 16,384",
+    )
     return points // procedures
 
 
 def procedures_with(points, bits, procedures, order, calls_of):
-    """Procedures in an order, each with its part of the definitions, and the calls that `calls_of` tells, each behind a test."""
+    """Procedures in an order, each with its part of the definitions, and the calls that `calls_of`
+    tells, each behind a test."""
     size = points_each(points, procedures)
     share = max(0, min(size - 12, variables_for(bits) // procedures))
     definitions = Definitions(max(1, share * procedures), max(1, share * procedures))
@@ -197,18 +264,30 @@ def order_of(procedures, seed):
 
 def ring(points=16000, bits=4000, procedures=256, seed=1):
     """procedures in a random order; each may call the next, and the last the first"""
-    return procedures_with(points, bits, procedures, order_of(procedures, seed), lambda number: [name_of((number + 1) % procedures)])
+    return procedures_with(
+        points,
+        bits,
+        procedures,
+        order_of(procedures, seed),
+        lambda number: [name_of((number + 1) % procedures)],
+    )
 
 
 def tower(points=16000, bits=4000, procedures=256, seed=1):
     """procedures in a random order; each but the last may call the next: no recursion"""
-    onward = lambda number: [name_of(number + 1)] if number + 1 < procedures else []
+
+    def onward(number):
+        return [name_of(number + 1)] if number + 1 < procedures else []
+
     return procedures_with(points, bits, procedures, order_of(procedures, seed), onward)
 
 
 def neighbours(points=16000, bits=4000, procedures=256, seed=1):
     """each procedure may call the next one and the one before"""
-    both = lambda number: [name_of(min(number + 1, procedures - 1)), name_of(max(0, number - 1))]
+
+    def both(number):
+        return [name_of(min(number + 1, procedures - 1)), name_of(max(0, number - 1))]
+
     return procedures_with(points, bits, procedures, order_of(procedures, seed), both)
 
 
@@ -235,12 +314,16 @@ def web(points=16000, bits=4000, procedures=256, seed=1):
 def rungs_for(points, bits, heads, period):
     """How many heads there are, and how many rungs of two tests each."""
     heads = max(1, min(heads, bits // 4))
-    need(2 * heads * period <= points, "so few points are too few for so many heads and such a period")
+    need(
+        2 * heads * period <= points,
+        "so few points are too few for so many heads and such a period",
+    )
     return heads, heads * period
 
 
 def drip_ladder(procedure, heads, period, head, forward):
-    """Two rows of tests that jump into one another, so that what stands at rung n comes out n jumps back later, one head each `period` rungs."""
+    """Two rows of tests that jump into one another, so that what stands at rung n comes out n jumps
+    back later, one head each `period` rungs."""
     rungs = heads * period
     row = range(rungs) if forward else range(rungs - 1, -1, -1)
     for rung in row:
@@ -253,7 +336,8 @@ def drip_ladder(procedure, heads, period, head, forward):
 
 
 def drip(points=16000, bits=4000, heads=256, callees=8, period=6, recursive=0):
-    """one bit after the other comes late to the exits of eight callees, which thousands of calls list; recursive=1: they may call `main`"""
+    """one bit after the other comes late to the exits of eight callees, which thousands of calls
+    list; recursive=1: they may call `main`"""
     source = Procedure("q0")
     heads, rungs = rungs_for(points, bits, heads, period)
     if recursive:
@@ -267,7 +351,10 @@ def drip(points=16000, bits=4000, heads=256, callees=8, period=6, recursive=0):
     source.add("goto stuck")
     source.label("z")
     relays = [relay(number, True) for number in range(1, callees)]
-    evaluated = ["x = w%d + %d" % (at % heads, at // heads) for at in range(max(0, bits - 2 * heads - 4) // 2)]
+    evaluated = [
+        "x = w%d + %d" % (at % heads, at // heads)
+        for at in range(max(0, bits - 2 * heads - 4) // 2)
+    ]
     return calls_of_all(points, [source, *relays], evaluated)
 
 
@@ -292,12 +379,16 @@ def drip_back(points=16000, bits=4000, heads=256, callees=8, period=6, recursive
         if rung % period == 0:
             source.add("w%d = w%d - 1" % (rung // period, rung // period))
     relays = [relay(number, False) for number in range(1, callees)]
-    evaluated = ["x = w%d + %d" % (at % heads, at // heads) for at in range(max(0, bits - 3 * heads - 4) // 2)]
+    evaluated = [
+        "x = w%d + %d" % (at % heads, at // heads)
+        for at in range(max(0, bits - 3 * heads - 4) // 2)
+    ]
     return calls_of_all(points, [source, *relays], evaluated)
 
 
 def relay(number, forward):
-    """Calls the one before, and comes out behind it by a step that is one back for whoever goes with the text, or against it."""
+    """Calls the one before, and comes out behind it by a step that is one back for whoever goes
+    with the text, or against it."""
     procedure = Procedure("q%d" % number)
     call = "call q%d" % (number - 1)
     if forward:
@@ -330,14 +421,18 @@ def calls_of_all(points, callees, evaluated):
 
 
 def hops(points=16000, bits=4000, calls=0):
-    """a chain of jumps over its own length, each behind a test that leaves for an endless loop, and never reached jumps to each of its blocks"""
+    """a chain of jumps over its own length, each behind a test that leaves for an endless loop, and
+    never reached jumps to each of its blocks"""
     count = (points - 40 - calls) // 5
     need(count >= 4, "so few points are too few for this shape")
     kinds = Definitions(min(variables_for(bits), count), count)
     order = list(range(0, count, 2)) + list(range(1, count, 2))[::-1]
     blocks = [("defs", [kinds.definition(number) for number in range(kinds.count)] + ["goto b0"])]
     blocks += [("b%d" % number, ["if v0 goto endless", step(number, count)]) for number in order]
-    blocks += [("endless", ["goto endless"]), ("never", ["if v1 goto b%d" % number for number in range(count)] + ["goto endless"])]
+    blocks += [
+        ("endless", ["goto endless"]),
+        ("never", ["if v1 goto b%d" % number for number in range(count)] + ["goto endless"]),
+    ]
     main = Procedure("main")
     main.add("goto defs")
     put_blocks(main, blocks)
@@ -350,7 +445,8 @@ def hops(points=16000, bits=4000, calls=0):
 
 
 def laid_out(count, order, draw):
-    """The numbers of blocks in an order of the text: as they run, reversed, from both ends by turns, or at random."""
+    """The numbers of blocks in an order of the text: as they run, reversed, from both ends by
+    turns, or at random."""
     numbers = list(range(count))
     if order == 1:
         return numbers[::-1]
@@ -362,17 +458,48 @@ def laid_out(count, order, draw):
 
 
 def woven_callees(kind, number, procedures, callees, draw):
-    near = {0: [], 1: [number + 1], 2: [(number + 1) % procedures], 3: draw.sample(range(procedures), min(callees, procedures)),
-            4: [number + 1, number - 1]}[kind]
+    near = {
+        0: [],
+        1: [number + 1],
+        2: [(number + 1) % procedures],
+        3: draw.sample(range(procedures), min(callees, procedures)),
+        4: [number + 1, number - 1],
+    }[kind]
     first = [callee for callee in near if 0 <= callee < procedures]
-    more = [(first[0] + step) % procedures for step in range(1, callees)] if first and kind in (2, 4) else []
-    later = [callee for callee in range(number + 2, number + 1 + callees) if callee < procedures] if kind == 1 else []
+    more = (
+        [(first[0] + step) % procedures for step in range(1, callees)]
+        if first and kind in (2, 4)
+        else []
+    )
+    later = (
+        [callee for callee in range(number + 2, number + 1 + callees) if callee < procedures]
+        if kind == 1
+        else []
+    )
     return list(dict.fromkeys(first + more + later))[:8]
 
 
-def woven(points=16000, bits=4000, procedures=16, order=0, jump=3, stride=7, calls=1, callees=1, guard=1, every=4, late=0, seed=1):
-    """a pattern for the search: `order` of the text 0 to 3, `jump` 0 to 4 by `stride`, `calls` 0 to 4 in every `every`th block, `late` 0 to 2"""
-    procedures, every, callees = max(1, min(procedures, most_procedures(points))), max(1, every), max(1, min(callees, 8))
+def woven(
+    points=16000,
+    bits=4000,
+    procedures=16,
+    order=0,
+    jump=3,
+    stride=7,
+    calls=1,
+    callees=1,
+    guard=1,
+    every=4,
+    late=0,
+    seed=1,
+):
+    """a pattern for the search: `order` of the text 0 to 3, `jump` 0 to 4 by `stride`, `calls` 0 to
+    4 in every `every`th block, `late` 0 to 2"""
+    procedures, every, callees = (
+        max(1, min(procedures, most_procedures(points))),
+        max(1, every),
+        max(1, min(callees, 8)),
+    )
     draw = random.Random(seed)
     size = points // procedures
     count = (size - 3) // 4
@@ -384,11 +511,21 @@ def woven(points=16000, bits=4000, procedures=16, order=0, jump=3, stride=7, cal
     for number in range(procedures):
         blocks = []
         for at in range(count):
-            target = {0: at + 1, 1: at + stride, 2: at - stride, 3: draw.randrange(count), 4: count - 1 - at}[jump % 5]
+            target = {
+                0: at + 1,
+                1: at + stride,
+                2: at - stride,
+                3: draw.randrange(count),
+                4: count - 1 - at,
+            }[jump % 5]
             target = "b%d" % max(0, target) if target < count else "out"
             place = defined.index(number) * count + at if number in defined else None
             statements = ["skip" if place is None else definitions.statement(place)]
-            called = woven_callees(calls % 5, number, procedures, callees, draw) if at % every == 0 else []
+            called = (
+                woven_callees(calls % 5, number, procedures, callees, draw)
+                if at % every == 0
+                else []
+            )
             if called:
                 call = "call " + " | ".join(name_of(callee) for callee in called)
                 around = ["if v0 goto a%d" % at, call, "a%d: %s" % (at, step(at, count))]
@@ -405,24 +542,36 @@ def woven(points=16000, bits=4000, procedures=16, order=0, jump=3, stride=7, cal
 
 
 def waiting(points=16000, bits=4000, early=0, seed=1):
-    """each procedure may call the one before it; no way leads to calls of eight each that wait for all; early=1: these stand first"""
+    """each procedure may call the one before it; no way leads to calls of eight each that wait for
+    all; early=1: these stand first"""
     procedures = max(255, points // 65)
     uses = max(1, min(15, variables_for(bits) // procedures, points // (4 * procedures)))
     count = uses * procedures
     size = (points - count // 2 - 8) // procedures - uses - 6
     need(size >= 1, "so few points are too few for this shape")
     places = order_of(procedures, seed)
-    name = lambda number: name_of(1 + places[number % procedures])
+
+    def name(number):
+        return name_of(1 + places[number % procedures])
+
     main = Procedure("main")
     main.add("call " + name(-1), "return")
-    main.add(*["if v%d < v%d goto stop" % (first, min(first + 1, count - 1)) for first in range(0, count, 2)])
+    main.add(
+        *[
+            "if v%d < v%d goto stop" % (first, min(first + 1, count - 1))
+            for first in range(0, count, 2)
+        ]
+    )
     main.label("stop")
     main.add("goto stop")
     made = [main]
     for place, number in sorted((place, number) for number, place in enumerate(places)):
         procedure = Procedure(name(number))
         onward = ["if 0 goto last", "call " + name(number - 1), "goto last"]
-        waits = ["call " + " | ".join(name(8 * (size * place + at) + one) for one in range(8)) for at in range(size)]
+        waits = [
+            "call " + " | ".join(name(8 * (size * place + at) + one) for one in range(8))
+            for at in range(size)
+        ]
         if early:
             procedure.add("goto first", *waits, "goto last")
             procedure.label("first")
@@ -435,6 +584,21 @@ def waiting(points=16000, bits=4000, early=0, seed=1):
     return filled(made, points)
 
 
-SHAPES = {"shuffled": shuffled, "upward": upward, "zigzag": zigzag, "nest": nest, "irreducible": irreducible, "feeders": feeders,
-          "ladder": ladder, "ring": ring, "tower": tower, "neighbours": neighbours, "web": web, "drip": drip, "drip-back": drip_back,
-          "hops": hops, "waiting": waiting, "woven": woven}
+SHAPES = {
+    "shuffled": shuffled,
+    "upward": upward,
+    "zigzag": zigzag,
+    "nest": nest,
+    "irreducible": irreducible,
+    "feeders": feeders,
+    "ladder": ladder,
+    "ring": ring,
+    "tower": tower,
+    "neighbours": neighbours,
+    "web": web,
+    "drip": drip,
+    "drip-back": drip_back,
+    "hops": hops,
+    "waiting": waiting,
+    "woven": woven,
+}

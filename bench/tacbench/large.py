@@ -1,4 +1,5 @@
-"""Large programs of ordinary shapes: exactly so many points and, where there is room, definitions."""
+"""Large programs of ordinary shapes: exactly so many points and, where there is room,
+definitions."""
 
 import random
 
@@ -8,11 +9,18 @@ SIMPLE = object()
 
 
 class Skeleton:
-    """Procedures whose simple statements are still to be chosen: each is the place of one in a procedure's lines."""
+    """Procedures whose simple statements are still to be chosen: each is the place of one in a
+    procedure's lines."""
 
     def __init__(self, points, bits, procedures, variables, seed):
-        need(procedures >= 1 and points >= 2 * procedures, "a procedure takes two points: fewer procedures or more points")
-        need(procedures <= 16384, "a program has at most 16,384 procedures, and within the standard limits 256")
+        need(
+            procedures >= 1 and points >= 2 * procedures,
+            "a procedure takes two points: fewer procedures or more points",
+        )
+        need(
+            procedures <= 16384,
+            "a program has at most 16,384 procedures, and within the standard limits 256",
+        )
         need(bits >= 2, "two definitions are needed")
         self.random = random.Random(seed)
         self.bits = bits
@@ -37,7 +45,8 @@ class Skeleton:
         return "if %s %s %s goto %s" % (left, self.random.choice(COMPARISON), right, label)
 
     def region(self, procedure, room, shape, depth=0):
-        """Fills so many points with statements, branches, loops and calls; the room is used up to the last point."""
+        """Fills so many points with statements, branches, loops and calls; the room is used up to
+        the last point."""
         while room > 0:
             draw = self.random.random()
             inner = self.random.randint(1, max(1, min(room - 2, shape["longest"])))
@@ -60,7 +69,8 @@ class Skeleton:
                 room -= 1
 
     def call(self, procedure, shape):
-        """A call; one of a procedure that may call this one is gone round by a branch, so that each procedure comes to its end."""
+        """A call; one of a procedure that may call this one is gone round by a branch, so that each
+        procedure comes to its end."""
         own = len(self.procedures)
         count = self.random.randint(2, 8) if shape["several"] else 1
         onward = range(own + 1, len(self.names))
@@ -73,19 +83,27 @@ class Skeleton:
             return 1
         callees = self.random.sample(range(len(self.names)), min(count, len(self.names)))
         beyond = procedure.fresh()
-        procedure.add(self.test(beyond), "call " + " | ".join(self.names[callee] for callee in callees))
+        procedure.add(
+            self.test(beyond), "call " + " | ".join(self.names[callee] for callee in callees)
+        )
         procedure.label(beyond)
         return 2
 
     def fill(self):
         """Makes definitions of so many simple statements, and prints of the others."""
-        places = [(procedure, at) for procedure in self.procedures for at in range(len(procedure.lines))
-                  if procedure.lines[at] is None]
+        places = [
+            (procedure, at)
+            for procedure in self.procedures
+            for at in range(len(procedure.lines))
+            if procedure.lines[at] is None
+        ]
         wanted = min(len(places), max(0, self.bits - self.variables))
         defined = set(self.random.sample(range(len(places)), wanted))
         for number, (procedure, at) in enumerate(places):
             statement = self.definition() if number in defined else self.use()
-            procedure.lines[at] = "".join(name + ": " for name in procedure.labelled.get(at, [])) + statement
+            procedure.lines[at] = (
+                "".join(name + ": " for name in procedure.labelled.get(at, [])) + statement
+            )
 
     def definition(self):
         draw = self.random.random()
@@ -93,7 +111,9 @@ class Skeleton:
         if draw < 0.1 and self.recent:
             return "%s = %s" % (target, self.random.choice(self.recent[-40:]))
         if draw < 0.85:
-            right = self.variable() if self.random.random() < 0.8 else str(self.random.randrange(1000))
+            right = (
+                self.variable() if self.random.random() < 0.8 else str(self.random.randrange(1000))
+            )
             self.recent.append("%s %s %s" % (self.variable(), self.random.choice(BINARY), right))
             return "%s = %s" % (target, self.recent[-1])
         if draw < 0.9:
@@ -101,7 +121,11 @@ class Skeleton:
         return "%s = %s" % (target, self.variable()) if draw < 0.95 else "read " + target
 
     def use(self):
-        return "skip" if self.random.random() < 0.25 and not self.unused else "print " + self.variable()
+        return (
+            "skip"
+            if self.random.random() < 0.25 and not self.unused
+            else "print " + self.variable()
+        )
 
 
 class Outline(Procedure):
@@ -124,11 +148,12 @@ class Outline(Procedure):
 
 
 def build(shape, opening, points, bits, procedures, variables, seed):
-    """`opening` gives the calls with which a procedure of this number begins, and those in its middle."""
+    """`opening` gives the calls with which a procedure of this number begins, and those in its
+    middle."""
     skeleton = Skeleton(points, bits, procedures, variables, seed)
     for number, size in enumerate(skeleton.sizes):
         procedure = Outline(skeleton.names[number])
-        calls = opening(number, procedures)[:max(0, size - 1)]
+        calls = opening(number, procedures)[: max(0, size - 1)]
         parts = len(calls) + 1
         rooms = [(size - len(calls)) // parts] * parts
         rooms[0] += size - len(calls) - sum(rooms)
@@ -142,7 +167,15 @@ def build(shape, opening, points, bits, procedures, variables, seed):
 
 
 def shape(loops=0.0, branches=0.0, calls=0.0, back=0.0, several=0, longest=24, depth=3):
-    return {"loops": loops, "branches": branches, "calls": calls, "back": back, "several": several, "longest": longest, "depth": depth}
+    return {
+        "loops": loops,
+        "branches": branches,
+        "calls": calls,
+        "back": back,
+        "several": several,
+        "longest": longest,
+        "depth": depth,
+    }
 
 
 def none(number, procedures):
@@ -174,12 +207,22 @@ def straight(points=16000, bits=4000, variables=1024, seed=1):
 
 def loops(points=16000, bits=4000, procedures=16, variables=1024, seed=1):
     """loops up to six deep, and one call of each procedure"""
-    return build(shape(loops=0.08, branches=0.05, longest=200, depth=6), all_others, points, bits, procedures, variables, seed)
+    return build(
+        shape(loops=0.08, branches=0.05, longest=200, depth=6),
+        all_others,
+        points,
+        bits,
+        procedures,
+        variables,
+        seed,
+    )
 
 
 def chain(points=16000, bits=4000, procedures=256, variables=1024, seed=1):
     """each procedure calls the next one twice"""
-    return build(shape(loops=0.06, branches=0.1), next_twice, points, bits, procedures, variables, seed)
+    return build(
+        shape(loops=0.06, branches=0.1), next_twice, points, bits, procedures, variables, seed
+    )
 
 
 def dense(points=16000, bits=4000, procedures=128, variables=1024, several=0, seed=1):
@@ -190,7 +233,9 @@ def dense(points=16000, bits=4000, procedures=128, variables=1024, several=0, se
 
 def flat(points=16000, bits=4000, procedures=32, variables=1024, seed=1):
     """`main` calls all others, which call nothing"""
-    return build(shape(loops=0.05, branches=0.12), all_others, points, bits, procedures, variables, seed)
+    return build(
+        shape(loops=0.05, branches=0.12), all_others, points, bits, procedures, variables, seed
+    )
 
 
 def mixed_several(points=16000, bits=4000, procedures=64, variables=1024, seed=1):
@@ -203,5 +248,13 @@ def dense_several(points=16000, bits=4000, procedures=128, variables=1024, seed=
     return dense(points, bits, procedures, variables, 1, seed)
 
 
-SHAPES = {"mixed": mixed, "straight": straight, "loops": loops, "chain": chain, "dense": dense, "flat": flat,
-          "mixed-several": mixed_several, "dense-several": dense_several}
+SHAPES = {
+    "mixed": mixed,
+    "straight": straight,
+    "loops": loops,
+    "chain": chain,
+    "dense": dense,
+    "flat": flat,
+    "mixed-several": mixed_several,
+    "dense-several": dense_several,
+}

@@ -1,4 +1,5 @@
-"""One run of a program: its time by the clock and by the processor, its answer, its memory, its instructions."""
+"""One run of a program: its time by the clock and by the processor, its answer, its memory, its
+instructions."""
 
 import hashlib
 import os
@@ -28,7 +29,11 @@ class Answer(NamedTuple):
 def timed(command, text, environment):
     """Milliseconds; standard output goes to /dev/null."""
     source, sink = os.open(text, os.O_RDONLY), os.open(os.devnull, os.O_WRONLY)
-    actions = [(os.POSIX_SPAWN_DUP2, source, 0), (os.POSIX_SPAWN_DUP2, sink, 1), (os.POSIX_SPAWN_DUP2, sink, 2)]
+    actions = [
+        (os.POSIX_SPAWN_DUP2, source, 0),
+        (os.POSIX_SPAWN_DUP2, sink, 1),
+        (os.POSIX_SPAWN_DUP2, sink, 2),
+    ]
     begin = time.perf_counter()
     process = os.posix_spawn(command[0], command, environment, file_actions=actions)
     _, _, usage = os.wait4(process, 0)
@@ -44,18 +49,23 @@ def limited(command, seconds):
 
 
 def least(command, text, environment, times, seconds=None):
-    """Milliseconds of the processor, the least of so many runs; where seconds are said, of fewer if they are long, and None if stopped."""
+    """Milliseconds of the processor, the least of so many runs; where seconds are said, of fewer if
+    they are long, and None if stopped."""
     command, runs = limited(command, seconds), []
     while len(runs) < times and not (seconds and sum(run.clock for run in runs) > LONG):
         runs.append(timed(command, text, environment))
-    return None if seconds and runs[0].clock >= 1000 * seconds else min(run.processor for run in runs)
+    return (
+        None if seconds and runs[0].clock >= 1000 * seconds else min(run.processor for run in runs)
+    )
 
 
 def answer(command, text, environment):
     """The answer's digest, as it may be of gigabytes."""
     digest = hashlib.blake2b()
     with open(text, "rb") as source, tempfile.TemporaryFile() as errors:
-        process = subprocess.Popen(command, stdin=source, stdout=subprocess.PIPE, stderr=errors, env=environment, bufsize=0)
+        process = subprocess.Popen(
+            command, stdin=source, stdout=subprocess.PIPE, stderr=errors, env=environment, bufsize=0
+        )
         while piece := process.stdout.read(1 << 20):
             digest.update(piece)
         process.stdout.close()
@@ -67,7 +77,13 @@ def answer(command, text, environment):
 def peak(helper, command, text, environment):
     """The most memory of a run, in KiB."""
     with open(text, "rb") as source, tempfile.NamedTemporaryFile() as told:
-        subprocess.run([helper, told.name, *command], stdin=source, stdout=subprocess.DEVNULL, stderr=subprocess.DEVNULL, env=environment)
+        subprocess.run(
+            [helper, told.name, *command],
+            stdin=source,
+            stdout=subprocess.DEVNULL,
+            stderr=subprocess.DEVNULL,
+            env=environment,
+        )
         return int(told.read() or 0)
 
 
@@ -75,6 +91,12 @@ def instructions(command, text, environment):
     """As callgrind counts them; None where it cannot."""
     counted = ["valgrind", "--tool=callgrind", "--callgrind-out-file=/dev/null", *command]
     with open(text, "rb") as source:
-        run = subprocess.run(counted, stdin=source, stdout=subprocess.DEVNULL, stderr=subprocess.PIPE, env=environment)
+        run = subprocess.run(
+            counted,
+            stdin=source,
+            stdout=subprocess.DEVNULL,
+            stderr=subprocess.PIPE,
+            env=environment,
+        )
     found = re.search(rb"Collected : (\d+)", run.stderr)
     return int(found.group(1)) if found else None

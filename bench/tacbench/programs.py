@@ -41,16 +41,22 @@ def launcher_environment():
 
 
 def proved_program(name):
-    """The program that $TACFLOW or $TACVIEW names, or the one that was proved and built from the sources as they are."""
+    """The program that $TACFLOW or $TACVIEW names, or the one that was proved and built from the
+    sources as they are."""
     variable = name.upper()
     named = os.environ.get(variable)
     if named:
         if not os.access(named, os.X_OK):
             raise Unready("%s names %s, which is no program" % (variable, named))
         return os.path.abspath(named)
-    told = subprocess.run([str(ROOT / name), "--version"], stdout=subprocess.PIPE, stderr=subprocess.DEVNULL).stdout
+    told = subprocess.run(
+        [str(ROOT / name), "--version"], stdout=subprocess.PIPE, stderr=subprocess.DEVNULL
+    ).stdout
     if b", proved with " not in told:
-        raise Unready("%s is not proved and built: ./%s --prove does that; or %s=PATH names another program" % (name, name, variable))
+        raise Unready(
+            "%s is not proved and built: ./%s --prove does that; or %s=PATH names another program"
+            % (name, name, variable)
+        )
     return str(ROOT / "crates" / name / "out" / name)
 
 
@@ -63,13 +69,29 @@ def tacview():
 
 
 def build_plain(target="native", large=False):
-    """Compiles the plain program for this machine, or for any of its kind, and gives the folder of the programs."""
+    """Compiles the plain program for this machine, or for any of its kind, and gives the folder of
+    the programs."""
     if shutil.which("cargo") is None:
         raise Unready("cargo, which compiles the plain program, is not on the path")
     folder = OUT / ("plain-" + target + ("-large" if large else ""))
     environment = dict(os.environ, RUSTFLAGS="-C target-cpu=" + TARGETS[target])
-    command = ["cargo", "build", "--release", "--offline", "--quiet", "--target-dir", str(folder), *(["--features", "large"] if large else [])]
-    built = subprocess.run(command, cwd=BENCH / "plain", env=environment, stdout=subprocess.PIPE, stderr=subprocess.STDOUT)
+    command = [
+        "cargo",
+        "build",
+        "--release",
+        "--offline",
+        "--quiet",
+        "--target-dir",
+        str(folder),
+        *(["--features", "large"] if large else []),
+    ]
+    built = subprocess.run(
+        command,
+        cwd=BENCH / "plain",
+        env=environment,
+        stdout=subprocess.PIPE,
+        stderr=subprocess.STDOUT,
+    )
     if built.returncode != 0:
         log = OUT / "plain.log"
         log.write_bytes(built.stdout)
@@ -79,7 +101,9 @@ def build_plain(target="native", large=False):
 
 def plain(target="native", large=False):
     """The plain program; `large` takes what `tacview --limits large` takes."""
-    return Program("plain", build_plain(target, large) / "tacflow-plain", environment=launcher_environment())
+    return Program(
+        "plain", build_plain(target, large) / "tacflow-plain", environment=launcher_environment()
+    )
 
 
 def other(word):

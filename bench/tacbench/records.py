@@ -34,16 +34,24 @@ def processor():
 def header(programs, target):
     """What a reader of the run has to know, as lines of a comment."""
     # a file that is listed is changed; where none is, nothing is told
-    changed = "" if told_by(["git", "status", "--porcelain", "--untracked-files=no"]) == "unknown" else ", changed"
+    changed = (
+        ""
+        if told_by(["git", "status", "--porcelain", "--untracked-files=no"]) == "unknown"
+        else ", changed"
+    )
     lines = [
         "date " + time.strftime("%Y-%m-%d %H:%M:%S UTC", time.gmtime()),
-        "machine %s, %s, %s %s" % (platform.node(), processor(), platform.system(), platform.release()),
+        "machine %s, %s, %s %s"
+        % (platform.node(), processor(), platform.system(), platform.release()),
         "load " + " ".join("%.1f" % load for load in os.getloadavg()),
         "commit " + told_by(["git", "rev-parse", "HEAD"]) + changed,
         "kit " + told_by(["rt", "version"]),
         "plain program compiled by %s for %s" % (told_by(["rustc", "--version"]), target),
     ]
-    return lines + ["program %s: %s" % (program.label, " ".join([program.path, *program.words])) for program in programs]
+    return lines + [
+        "program %s: %s" % (program.label, " ".join([program.path, *program.words]))
+        for program in programs
+    ]
 
 
 class Record:
@@ -54,12 +62,20 @@ class Record:
         self.rows = []
 
     def add(self, benchmark, program, round_number, clock="", cpu="", peak="", instructions=""):
-        shown = ["%.3f" % value if isinstance(value, float) else value for value in (clock, cpu, peak, instructions)]
+        shown = [
+            "%.3f" % value if isinstance(value, float) else value
+            for value in (clock, cpu, peak, instructions)
+        ]
         self.rows.append(dict(zip(FIELDS, [benchmark, program, round_number, *shown])))
 
     def values(self, benchmark, program, field):
-        return [float(row[field]) for row in self.rows
-                if row["benchmark"] == benchmark and row["program"] == program and row[field] not in ("", None)]
+        return [
+            float(row[field])
+            for row in self.rows
+            if row["benchmark"] == benchmark
+            and row["program"] == program
+            and row[field] not in ("", None)
+        ]
 
     def least(self, benchmark, program, field):
         return min(self.values(benchmark, program, field), default=None)
@@ -102,7 +118,10 @@ def read(path):
 def free_path():
     """DATE-MACHINE.csv, with a number where that is taken."""
     stem = time.strftime("%Y-%m-%d", time.gmtime()) + "-" + (platform.node() or "machine")
-    paths = (BENCH / "runs" / (stem + ("-%d" % number if number > 1 else "") + ".csv") for number in range(1, 10000))
+    paths = (
+        BENCH / "runs" / (stem + ("-%d" % number if number > 1 else "") + ".csv")
+        for number in range(1, 10000)
+    )
     return next(path for path in paths if not path.exists())
 
 
@@ -115,8 +134,11 @@ def shown(value, scale=1.0, form="%.1f"):
 
 
 def table_of(record, first):
-    """A line for each benchmark: the first program's measurements, and by each other's its ratios."""
-    others = [program for program in record.programs() if program != first and record.has_times(program)]
+    """A line for each benchmark: the first program's measurements, and by each other's its
+    ratios."""
+    others = [
+        program for program in record.programs() if program != first and record.has_times(program)
+    ]
     rows = [["benchmark", first + " ms", "median", "cpu", "MiB"]]
     for other in others:
         rows[0] += ["| " + other + " ms", "ratio", "median", "cpu", "MiB"]
@@ -124,17 +146,32 @@ def table_of(record, first):
         row = [name] + cells(record, name, first)
         for other in others:
             row += ["| " + shown(record.least(name, other, "clock_ms"))]
-            row += [ratio(record.least(name, first, "clock_ms"), record.least(name, other, "clock_ms"))]
-            row += [ratio(record.median(name, first, "clock_ms"), record.median(name, other, "clock_ms"))]
-            row += [ratio(record.least(name, first, "processor_ms"), record.least(name, other, "processor_ms"))]
+            row += [
+                ratio(record.least(name, first, "clock_ms"), record.least(name, other, "clock_ms"))
+            ]
+            row += [
+                ratio(
+                    record.median(name, first, "clock_ms"), record.median(name, other, "clock_ms")
+                )
+            ]
+            row += [
+                ratio(
+                    record.least(name, first, "processor_ms"),
+                    record.least(name, other, "processor_ms"),
+                )
+            ]
             row += [shown(record.least(name, other, "peak_kib"), 1024)]
         rows.append(row)
     return aligned(rows)
 
 
 def cells(record, name, program):
-    return [shown(record.least(name, program, "clock_ms")), shown(record.median(name, program, "clock_ms")),
-            shown(record.least(name, program, "processor_ms")), shown(record.least(name, program, "peak_kib"), 1024)]
+    return [
+        shown(record.least(name, program, "clock_ms")),
+        shown(record.median(name, program, "clock_ms")),
+        shown(record.least(name, program, "processor_ms")),
+        shown(record.least(name, program, "peak_kib"), 1024),
+    ]
 
 
 def aligned(rows):
@@ -142,7 +179,10 @@ def aligned(rows):
     lines = []
     for row in rows:
         first = row[0].ljust(widths[0])
-        rest = [cell.ljust(width) if cell.startswith("|") else cell.rjust(width) for cell, width in zip(row[1:], widths[1:])]
+        rest = [
+            cell.ljust(width) if cell.startswith("|") else cell.rjust(width)
+            for cell, width in zip(row[1:], widths[1:])
+        ]
         lines.append(("  ".join([first, *rest])).rstrip())
     return "\n".join(lines) + "\n"
 
@@ -151,7 +191,11 @@ def instruction_table(record, first):
     names = [name for name in record.benchmarks() if record.values(name, first, "instructions")]
     if not names:
         return ""
-    others = [program for program in record.programs() if program != first and any(record.values(name, program, "instructions") for name in names)]
+    others = [
+        program
+        for program in record.programs()
+        if program != first and any(record.values(name, program, "instructions") for name in names)
+    ]
     rows = [["instructions, millions", first]]
     for other in others:
         rows[0] += ["| " + other, "ratio"]
@@ -170,11 +214,21 @@ def comparison(before, after):
     rows = [["benchmark", "program", "least ms", "then", "ratio", "median", "cpu", "memory"]]
     for name in after.benchmarks():
         for program in after.programs():
-            if not before.values(name, program, "clock_ms") or not after.values(name, program, "clock_ms"):
+            if not before.values(name, program, "clock_ms") or not after.values(
+                name, program, "clock_ms"
+            ):
                 continue
             pair = [(record.least(name, program, "clock_ms")) for record in (before, after)]
             row = [name, program, shown(pair[0]), shown(pair[1]), ratio(pair[1], pair[0])]
-            row += [ratio(after.median(name, program, "clock_ms"), before.median(name, program, "clock_ms"))]
-            row += [ratio(after.least(name, program, field), before.least(name, program, field)) for field in ("processor_ms", "peak_kib")]
+            row += [
+                ratio(
+                    after.median(name, program, "clock_ms"),
+                    before.median(name, program, "clock_ms"),
+                )
+            ]
+            row += [
+                ratio(after.least(name, program, field), before.least(name, program, field))
+                for field in ("processor_ms", "peak_kib")
+            ]
             rows.append(row)
     return aligned(rows)

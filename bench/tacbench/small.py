@@ -1,4 +1,5 @@
-"""Small random programs, of all forms of statements and any layout, and small texts that are mostly refused."""
+"""Small random programs, of all forms of statements and any layout, and small texts that are mostly
+refused."""
 
 import random
 import re
@@ -26,7 +27,11 @@ class Small:
 
     def operand(self):
         draw = self.draw
-        return draw.choice(["0", "1", "01", "7", "9223372036854775807"]) if draw.random() < 0.15 else self.variable()
+        return (
+            draw.choice(["0", "1", "01", "7", "9223372036854775807"])
+            if draw.random() < 0.15
+            else self.variable()
+        )
 
     def value(self):
         draw = self.draw
@@ -35,7 +40,11 @@ class Small:
             return self.operand()
         if kind < 0.4:
             return draw.choice(UNARY) + " " + self.operand()
-        return "%s %s %s" % (self.operand(), draw.choice(BINARY[:2] if draw.random() < 0.7 else BINARY), self.operand())
+        return "%s %s %s" % (
+            self.operand(),
+            draw.choice(BINARY[:2] if draw.random() < 0.7 else BINARY),
+            self.operand(),
+        )
 
     def statement(self, labels):
         draw, kind = self.draw, self.draw.random()
@@ -45,13 +54,20 @@ class Small:
         if kind < self.calls + self.jumps and labels:
             target = draw.choice(labels)
             return ("%s goto %s" % ("" if draw.random() < 0.1 else self.test(), target)).strip()
-        rest = ["print %s" % self.operand(), "read %s" % self.variable(), "skip"] + ["%s = %s" % (self.variable(), self.value())] * 6
+        rest = ["print %s" % self.operand(), "read %s" % self.variable(), "skip"] + [
+            "%s = %s" % (self.variable(), self.value())
+        ] * 6
         return "return" if draw.random() < 0.02 else draw.choice(rest)
 
     def test(self):
         draw = self.draw
-        return draw.choice(["if %s" % self.operand(), "ifFalse %s" % self.operand(),
-                            "if %s %s %s" % (self.operand(), draw.choice(COMPARISON), self.operand())])
+        return draw.choice(
+            [
+                "if %s" % self.operand(),
+                "ifFalse %s" % self.operand(),
+                "if %s %s %s" % (self.operand(), draw.choice(COMPARISON), self.operand()),
+            ]
+        )
 
     def guarded(self, statement, number):
         """A call is often gone round by a test, so that recursion can end."""
@@ -114,13 +130,15 @@ class Layout:
 
 
 def small(procedures=4, statements=12, variables=5, seed=1):
-    """a random program with recursion, several callees, unreached procedures and all forms of statements"""
+    """a random program with recursion, several callees, unreached procedures and all forms of
+    statements"""
     program = Small(seed, procedures, statements, variables)
     return Layout(program.draw).text(program.lines())
 
 
 def broken(procedures=4, statements=12, variables=5, seed=1):
-    """such a program with one to three changes of bytes, tokens or lines, which most are refused for"""
+    """such a program with one to three changes of bytes, tokens or lines, which most are refused
+    for"""
     program = Small(seed, procedures, statements, variables)
     draw, lines = program.draw, program.lines()
     if draw.random() < 0.6:
@@ -130,7 +148,7 @@ def broken(procedures=4, statements=12, variables=5, seed=1):
     text = bytearray(Layout(draw).text(lines))
     for _ in range(draw.randint(1, 3)):
         at = draw.randrange(len(text) + 1)
-        text[at:at + draw.randint(0, 2)] = draw.choices(ODD_BYTES, k=draw.randint(0, 2))
+        text[at : at + draw.randint(0, 2)] = draw.choices(ODD_BYTES, k=draw.randint(0, 2))
     return bytes(text)
 
 
@@ -142,13 +160,28 @@ def change_line(draw, lines):
     place = draw.randrange(len(tokens) + 1)
     change = draw.randrange(6)
     if change == 0:
-        tokens[place:place + 1] = []
+        tokens[place : place + 1] = []
     elif change == 1:
-        tokens[place:place] = tokens[place:place + 1]
+        tokens[place:place] = tokens[place : place + 1]
     elif change == 2:
-        tokens[place:place + 1] = [draw.choice(other)]
+        tokens[place : place + 1] = [draw.choice(other)]
     elif change == 3:
-        tokens[place:place] = [draw.choice(["n" * 64, "n" * 65, "9223372036854775808", "00009", "if", "=", "|", "L0", "call", "goto"])]
+        tokens[place:place] = [
+            draw.choice(
+                [
+                    "n" * 64,
+                    "n" * 65,
+                    "9223372036854775808",
+                    "00009",
+                    "if",
+                    "=",
+                    "|",
+                    "L0",
+                    "call",
+                    "goto",
+                ]
+            )
+        ]
     lines[at] = " ".join(tokens)
     if change == 4:
         del lines[at]

@@ -11,7 +11,8 @@ SIGNS = LETTERS + "_0123456789"
 
 
 def width(size, least):
-    """How many digits number the names of a text, which may be longer than the standard limits allow."""
+    """How many digits number the names of a text, which may be longer than the standard limits
+    allow."""
     return least if size <= LIMIT else least + 1
 
 
@@ -57,7 +58,9 @@ def variables(size=LIMIT):
 
 def long_names(size=LIMIT):
     """variables of 64 bytes that differ at their ends alone"""
-    return repeated("proc main\n", lambda number: "print %s%06d\n" % ("n" * 58, number), "end\n", size)
+    return repeated(
+        "proc main\n", lambda number: "print %s%06d\n" % ("n" * 58, number), "end\n", size
+    )
 
 
 def jumps(size=LIMIT):
@@ -70,7 +73,10 @@ def far_jumps(size=LIMIT):
     digits = width(size, 6)
     count = (size - 20) // len("n:goto n\n" + 2 * digits * "0")
     need(count >= 1, "so few bytes are too few for this text")
-    lines = ["n%0*d:goto n%0*d\n" % (digits, number, digits, count - 1 - number) for number in range(count)]
+    lines = [
+        "n%0*d:goto n%0*d\n" % (digits, number, digits, count - 1 - number)
+        for number in range(count)
+    ]
     return "proc main\n" + "".join(lines) + "end\n"
 
 
@@ -149,19 +155,25 @@ def unknown_label(size=LIMIT):
 def procedures(size=LIMIT):
     """more procedures than a program may have, refused at the first that is too many"""
     digits = width(size, 6)
-    return repeated("proc main\nend\n", lambda number: "proc n%0*d\nend\n" % (digits, number), "", size)
+    return repeated(
+        "proc main\nend\n", lambda number: "proc n%0*d\nend\n" % (digits, number), "", size
+    )
 
 
 def by_factor(factor, size):
-    """Names that are one under hash * factor + byte: pairs of signs that are so, one after the other."""
+    """Names that are one under hash * factor + byte: pairs of signs that are so, one after the
+    other."""
     second = next((sign for sign in SIGNS if chr(ord(sign) + factor) in SIGNS), None)
     need(second is not None, "there is no such pair of signs for this factor")
     pairs = ("b" + second, "a" + chr(ord(second) + factor))
-    return ("".join(choice) for choice in itertools.product(pairs, repeat=15 if size <= LIMIT else 21))
+    return (
+        "".join(choice) for choice in itertools.product(pairs, repeat=15 if size <= LIMIT else 21)
+    )
 
 
 def by_fnv(bits):
-    """Names whose hashes by FNV-1a end with the same bits: blocks of signs that lead from one end to another."""
+    """Names whose hashes by FNV-1a end with the same bits: blocks of signs that lead from one end
+    to another."""
     prime, mask = 0x100000001B3 & ((1 << bits) - 1), (1 << bits) - 1
     state = 0xCBF29CE484222325 & mask
     draw, blocks = random.Random(bits), []
@@ -182,14 +194,34 @@ def by_fnv(bits):
 
 
 def colliding(size=LIMIT, hash=31, as_labels=0):
-    """variables that fall together under hash * 31 + byte (hash=31, as in Java; 33 as well), or under FNV-1a (hash=0); as_labels=1: labels"""
+    """variables that fall together under hash * 31 + byte (hash=31, as in Java; 33 as well), or
+    under FNV-1a (hash=0); as_labels=1: labels"""
     names = by_fnv(12) if hash == 0 else by_factor(hash, size)
     line = "%s:\n" if as_labels else "print %s\n"
     return filled("proc main\n", (line % name for name in names), "end\n", size)
 
 
-SHAPES = {"labels": labels, "labels-in-a-row": labels_in_a_row, "variables": variables, "long-names": long_names, "jumps": jumps,
-          "far-jumps": far_jumps, "comment": comment, "comments": comments, "blanks": blanks, "empty-lines": empty_lines,
-          "returns": returns, "digits": digits, "numbers": numbers, "skips": skips, "expressions": expressions, "calls": calls,
-          "colliding": colliding, "name-too-long": name_too_long, "tokens-in-a-row": tokens_in_a_row, "unclosed": unclosed,
-          "unknown-label": unknown_label, "procedures": procedures}
+SHAPES = {
+    "labels": labels,
+    "labels-in-a-row": labels_in_a_row,
+    "variables": variables,
+    "long-names": long_names,
+    "jumps": jumps,
+    "far-jumps": far_jumps,
+    "comment": comment,
+    "comments": comments,
+    "blanks": blanks,
+    "empty-lines": empty_lines,
+    "returns": returns,
+    "digits": digits,
+    "numbers": numbers,
+    "skips": skips,
+    "expressions": expressions,
+    "calls": calls,
+    "colliding": colliding,
+    "name-too-long": name_too_long,
+    "tokens-in-a-row": tokens_in_a_row,
+    "unclosed": unclosed,
+    "unknown-label": unknown_label,
+    "procedures": procedures,
+}

@@ -1,4 +1,5 @@
-"""Texts of whole programs: more procedures, and longer texts against a reader, than the standard limits allow."""
+"""Texts of whole programs: more procedures, and longer texts against a reader, than the standard
+limits allow."""
 
 import itertools
 
@@ -45,7 +46,9 @@ def short_procedures(size=LARGE_LIMIT):
 
 def label_tables(size=LARGE_LIMIT):
     """procedures with a label each, refused at the first that is too many"""
-    return filled("proc main\nend\n", ("proc %s\na:\nend\n" % name for name in short_names()), "", size)
+    return filled(
+        "proc main\nend\n", ("proc %s\na:\nend\n" % name for name in short_names()), "", size
+    )
 
 
 def label_fault(size=LARGE_LIMIT):
@@ -55,11 +58,15 @@ def label_fault(size=LARGE_LIMIT):
 
 
 def by_fold(count):
-    """Names that fall together in a small table of the kit's hash, which has no seed: eight of its bits, which are compared first, and
-    the three lowest, which say where the search begins, are the same."""
+    """Names that fall together in a small table of the kit's hash, which has no seed: eight of its
+    bits, which are compared first, and the three lowest, which say where the search begins, are the
+    same."""
     for signs in itertools.product(LETTERS, SIGNS, SIGNS, SIGNS, SIGNS):
         name = "".join(signs)
-        word = int.from_bytes(name[:4].encode(), "little") | int.from_bytes(name[1:].encode(), "little") << 32
+        word = (
+            int.from_bytes(name[:4].encode(), "little")
+            | int.from_bytes(name[1:].encode(), "little") << 32
+        )
         product = (0x243F6A8885A308D3 ^ word) * (0x9E3779B97F4A7C15 ^ 2 * len(name))
         state = (product ^ product >> 64) & (1 << 64) - 1
         if (state ^ state >> 32) & 0xFF000007 == 0xA7000000:
@@ -70,23 +77,32 @@ def by_fold(count):
 
 
 def falling_labels(size=LARGE_LIMIT):
-    """procedures of 64 labels that fall together in a table without a seed, and of jumps to the last, refused where these are too many"""
+    """procedures of 64 labels that fall together in a table without a seed, and of jumps to the
+    last, refused where these are too many"""
     names = list(by_fold(64))
     inner = "".join(name + ":" for name in names) + "\n" + "goto %s\n" % names[-1] * 400
-    return filled("proc main\nend\n", ("proc %s\n%send\n" % (name, inner) for name in short_names()), "", size)
+    return filled(
+        "proc main\nend\n", ("proc %s\n%send\n" % (name, inner) for name in short_names()), "", size
+    )
 
 
-# Names of sixteen signs, eight that vary and eight that do not. The kit's hash multiplies the first eight, joined to what the text's digest
-# made, by the last eight, joined to a fixed number. These leave runs of bits that are 0 in that product's factor, so that the first eight
-# change few of the bits that say where a search begins, whatever the digest is. By the count of names for which that was found to hold.
+# Names of sixteen signs, eight that vary and eight that do not. The kit's hash multiplies the first
+# eight, joined to what the text's digest made, by the last eight, joined to a fixed number. These
+# leave runs of bits that are 0 in that product's factor, so that the first eight change few of the
+# bits that say where a search begins, whatever the digest is. By the count of names for which that
+# was found to hold.
 CROWDS = {
     60_000: (["y", "b", SIGNS, "26", "7", "_", SIGNS, SIGNS], "XzJOwy7N"),
-    5_000_000: (["N", "3", "hijkxyzHIJKXYZ89", SIGNS, "01234567", "v", "fgvwFGVW67", SIGNS], "mvJoLp7N"),
+    5_000_000: (
+        ["N", "3", "hijkxyzHIJKXYZ89", SIGNS, "01234567", "v", "fgvwFGVW67", SIGNS],
+        "mvJoLp7N",
+    ),
 }
 
 
 def crowding(size=LARGE_LIMIT, as_labels=1):
-    """names that fall together in a table of the kit's hash behind any digest, as labels on one line, or with as_labels=0 as variables"""
+    """names that fall together in a table of the kit's hash behind any digest, as labels on one
+    line, or with as_labels=0 as variables"""
     line = "%s:" if as_labels else "read %s\n"
     tail = "\nend\n" if as_labels else "end\n"
     signs, end = CROWDS[60_000 if size <= LIMIT else 5_000_000]
@@ -95,17 +111,33 @@ def crowding(size=LARGE_LIMIT, as_labels=1):
 
 
 def row(procedures=16384, back=0, ring=0):
-    """procedures of which each calls the next, or with back=1 the one before; with ring=1 the last may call the first"""
+    """procedures of which each calls the next, or with back=1 the one before; with ring=1 the last
+    may call the first"""
     need(1 <= procedures <= 16384, "a program has at most 16,384 procedures")
-    order = list(range(procedures))[::-1 if back else 1]
+    order = list(range(procedures))[:: -1 if back else 1]
     texts = {}
     for number in range(procedures):
-        onward = "call p%d\n" % (number + 1) if number + 1 < procedures else "if x goto L\ncall main\nL:\n" if ring else ""
+        onward = (
+            "call p%d\n" % (number + 1)
+            if number + 1 < procedures
+            else "if x goto L\ncall main\nL:\n"
+            if ring
+            else ""
+        )
         own = "main" if number == 0 else "p%d" % number
         texts[number] = "proc %s\nx = x + %d\n%sprint x\nend\n" % (own, number, onward)
     return "".join(texts[number] for number in order)
 
 
-SHAPES = {"short-labels": short_labels, "short-copies": short_copies, "short-sums": short_sums, "short-variables": short_variables,
-          "short-procedures": short_procedures, "label-tables": label_tables, "label-fault": label_fault, "falling-labels": falling_labels,
-          "crowding": crowding, "row": row}
+SHAPES = {
+    "short-labels": short_labels,
+    "short-copies": short_copies,
+    "short-sums": short_sums,
+    "short-variables": short_variables,
+    "short-procedures": short_procedures,
+    "label-tables": label_tables,
+    "label-fault": label_fault,
+    "falling-labels": falling_labels,
+    "crowding": crowding,
+    "row": row,
+}
