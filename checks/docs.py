@@ -5,12 +5,21 @@ widths and sizes.
                              there is one
     checks/docs --self-test  plants a fault of each kind in a copy, and sees that each is told
 """
+
+from __future__ import annotations
+
 import os
 import re
 import shutil
 import subprocess
 import sys
 import tempfile
+from collections.abc import Callable, Iterator
+
+Fault = tuple[str, int, str]  # a file, a line, what is wrong
+Row = tuple[int, list[str]]  # a row of a table: its line, and its cells
+Reading = tuple[int, list[Row]]  # the line that tells a table's sum, and the table
+Plant = tuple[str, Callable[[str], None], str]
 
 WIDTH = 140
 # How long a document may be; all others below docs/ may have OTHER_SIZE lines.
@@ -47,10 +56,10 @@ JOINS_NAMES = re.compile(r"^\*{0,2}(,| and|, and|, or| or)\s+\*{0,2}$")
 
 
 # The words of each text that was looked at.
-WORDS = {}
+WORDS: dict[str, set[str]] = {}
 
 
-def words_of(path, text):
+def words_of(path: str, text: str) -> set[str]:
     if path.endswith((".rt", ".rs", ".c", ".h")):
         text = re.sub(r"//.*", "", text)
     elif path.endswith(".antt"):
@@ -62,7 +71,7 @@ def words_of(path, text):
 class Repository:
     """The files of the repository, and the words of its sources."""
 
-    def __init__(self, root):
+    def __init__(self, root: str) -> None:
         self.root = root
         self.files = []
         for folder, folders, names in os.walk(root):
@@ -82,9 +91,9 @@ class Repository:
                 if path.startswith("crates/") and path.count("/") > 1
             }
         )
-        self.texts = {}
-        self.words = set()
-        self.bench_words = set()
+        self.texts: dict[str, str] = {}
+        self.words: set[str] = set()
+        self.bench_words: set[str] = set()
         for path in self.files:
             # what a name means is never the plain program's, which has functions of the same names
             words = self.bench_words if path.startswith("bench/") else self.words
@@ -94,30 +103,30 @@ class Repository:
         self.words |= set(self.crates) | OUTSIDE
 
     @staticmethod
-    def is_source(path):
+    def is_source(path: str) -> bool:
         return (
             os.path.splitext(path)[1] in TEXT_ENDINGS
             and not path.endswith(".md")
             and path != "checks/docs.py"
         )
 
-    def text(self, path):
+    def text(self, path: str) -> str:
         if path not in self.texts:
             with open(os.path.join(self.root, path), encoding="utf-8", errors="replace") as file:
                 self.texts[path] = file.read()
         return self.texts[path]
 
-    def lines(self, path):
+    def lines(self, path: str) -> list[str]:
         return self.text(path).splitlines()
 
-    def words_in(self, path):
+    def words_in(self, path: str) -> set[str]:
         """The words of a file, without those of its comments."""
         text = self.text(path)
         if text not in WORDS:
             WORDS[text] = words_of(path, text)
         return WORDS[text]
 
-    def words_of_crate(self, crate):
+    def words_of_crate(self, crate: str) -> set[str]:
         words = set()
         for path in self.files:
             if path.startswith(f"crates/{crate}/"):
@@ -125,14 +134,14 @@ class Repository:
                 words |= self.words_in(path) if self.is_source(path) else set()
         return words
 
-    def edits(self, crate=None):
+    def edits(self, crate: str | None = None) -> list[str]:
         return [
             path
             for path in self.files
             if path.endswith(".edit") and (crate is None or path.startswith(f"crates/{crate}/"))
         ]
 
-    def found(self, name, crates, near):
+    def found(self, name: str, crates: list[str], near: str) -> list[str]:
         """The files and folders that a path in a document may mean."""
         name = name.removeprefix("./")
         if PLACEHOLDER.search(name) or "*" in name:
@@ -154,7 +163,7 @@ class Repository:
             return list(dict.fromkeys(hits))
         return [path for path in self.files + sorted(self.folders) if path.endswith("/" + name)]
 
-    def has_member(self, owner, member):
+    def has_member(self, owner: str, member: str) -> bool:
         """Whether some source file declares an item of this name for a type, a trait, a module or a
         crate of that one."""
         owns = re.compile(rf"\b(impl\b.*|struct |enum |trait |type ){owner}\b")
@@ -176,7 +185,7 @@ class Repository:
 class Page:
     """A document: its lines, which of them are code, and the crates that its headings name."""
 
-    def __init__(self, repository, path):
+    def __init__(self, repository: Repository, path: str) -> None:
         self.repository = repository
         self.path = path
         self.near = os.path.dirname(path)
@@ -184,7 +193,7 @@ class Page:
         own = re.match(r"crates/([^/]+)/", path)
         self.own = [own.group(1)] if own else []
 
-    def prose(self):
+    def prose(self) -> Iterator[tuple[int, str, list[str]]]:
         """The lines that are no code, each with its number and the crates at hand."""
         crates, fenced, blank = list(self.own), False, True
         for number, line in enumerate(self.lines, 1):
@@ -200,7 +209,7 @@ class Page:
                 yield number, line, crates
 
 
-def names_told(page, number, line, crates, faults):
+def names_told(page: Page, number: int, line: str, crates: list[str], faults: list[Fault]) -> None:
     """Looks at each name between backticks."""
     repository = page.repository
     last, at = None, 0
@@ -249,7 +258,7 @@ def names_told(page, number, line, crates, faults):
             last = None
 
 
-def fault_of_span(page, span, crates):
+def fault_of_span(page: Page, span: str, crates: list[str]) -> str | None:
     """What is wrong with the text between two backticks, or None."""
     repository = page.repository
     name = span.strip().removesuffix("()")
@@ -299,7 +308,7 @@ def fault_of_span(page, span, crates):
     return f"`{span}`: no source has this name"
 
 
-def benchmarks_of(root):
+def benchmarks_of(root: str) -> set[str]:
     """The words of `bench/run --list`: benchmarks, kinds and shapes; none where it cannot be
     run."""
     command = os.path.join(root, "bench/run")
@@ -314,7 +323,9 @@ def benchmarks_of(root):
     return set(re.findall(r"[a-z][a-z-]*[a-z]", listed.stdout))
 
 
-def benchmarks_told(page, number, line, benchmarks, faults):
+def benchmarks_told(
+    page: Page, number: int, line: str, benchmarks: set[str], faults: list[Fault]
+) -> None:
     """A benchmark is KIND-SHAPE or KIND-SHAPE-WORKERS, and a colon and keys may follow."""
     for words in re.findall(r"`bench/run ([^`]+)`", line):
         for name in re.sub(r"--\S+ \S+", "", words).split():
@@ -329,7 +340,7 @@ def benchmarks_told(page, number, line, benchmarks, faults):
                 )
 
 
-def links_told(page, number, line, faults):
+def links_told(page: Page, number: int, line: str, faults: list[Fault]) -> None:
     for target in re.findall(r"\]\(([^)\s]+)\)", line):
         if re.match(r"^(https?:|mailto:|#)", target):
             continue
@@ -338,11 +349,13 @@ def links_told(page, number, line, faults):
             faults.append((page.path, number, f"the link to {target} leads nowhere"))
 
 
-def number_of(text):
+def number_of(text: str) -> int:
     return int(text.replace(",", ""))
 
 
-def counts_told(page, number, line, crates, headline, faults):
+def counts_told(
+    page: Page, number: int, line: str, crates: list[str], headline: int, faults: list[Fault]
+) -> None:
     """Looks at each count that has a form of its own."""
     repository = page.repository
     for text in re.findall(r"\b([\d,]*\d) edits\b", line):
@@ -363,11 +376,11 @@ def counts_told(page, number, line, crates, headline, faults):
             )
 
 
-def cells(line):
+def cells(line: str) -> list[str]:
     return [cell.strip() for cell in line.strip().strip("|").split("|")]
 
 
-def reading_lists(page):
+def reading_lists(page: Page) -> tuple[list[Reading], set[tuple[str, str]]]:
     """The tables of a page whose head begins with File and Lines, each with the line before it that
     tells their sum; and the types."""
     lists, types, at = [], set(), 0
@@ -393,7 +406,7 @@ def reading_lists(page):
     return lists, types
 
 
-def imports_of(repository, path):
+def imports_of(repository: Repository, path: str) -> tuple[set[str], set[tuple[str, str]]]:
     """The definitions and the types of this repository that a file imports."""
     definitions, types = set(), set()
     for text in re.findall(r"^(?:pub )?use Rattle\.([A-Za-z0-9_.]+)", repository.text(path), re.M):
@@ -415,7 +428,7 @@ def imports_of(repository, path):
     return definitions, types
 
 
-def reading_told(page, faults):
+def reading_told(page: Page, faults: list[Fault]) -> int:
     """Looks at the lists of definitions: the lines of each file, the sums, and that each list is
     closed. The sum of the first one."""
     repository = page.repository
@@ -458,7 +471,7 @@ def reading_told(page, faults):
     return headline
 
 
-def pages_named(repository, faults):
+def pages_named(repository: Repository, faults: list[Fault]) -> None:
     """The documents that sources name are there."""
     for path in repository.files:
         if repository.is_source(path):
@@ -468,7 +481,7 @@ def pages_named(repository, faults):
                         faults.append((path, number, f"there is no {name}"))
 
 
-def size_told(page, faults):
+def size_told(page: Page, faults: list[Fault]) -> None:
     least, most = (
         CRATE_PAGE
         if page.own and page.path.endswith("README.md")
@@ -485,10 +498,10 @@ def size_told(page, faults):
             )
 
 
-def faults_of(root):
+def faults_of(root: str) -> list[Fault]:
     repository = Repository(root)
     benchmarks = benchmarks_of(root)
-    faults = []
+    faults: list[Fault] = []
     headline = reading_told(Page(repository, READING), faults) if READING in repository.known else 0
     for path in repository.files:
         if not path.endswith(".md"):
@@ -512,7 +525,7 @@ def faults_of(root):
     return sorted(set(faults))
 
 
-def replaced(root, path, old, new):
+def replaced(root: str, path: str, old: str, new: str) -> None:
     file = os.path.join(root, path)
     with open(file, encoding="utf-8") as source:
         text = source.read()
@@ -522,17 +535,17 @@ def replaced(root, path, old, new):
         target.write(text.replace(old, new, 1))
 
 
-def appended(root, path, text):
+def appended(root: str, path: str, text: str) -> None:
     with open(os.path.join(root, path), "a", encoding="utf-8") as target:
         target.write(text)
 
 
-def without_first_row(root):
+def without_first_row(root: str) -> None:
     """Takes the first file of the first list away, and its lines from the sum."""
     page = Page(Repository(root), READING)
     told, rows = reading_lists(page)[0][0]
     number, row = rows[0]
-    old = re.search(r"\b([\d,]*\d) lines\b", page.lines[told - 1]).group(0)
+    old = re.findall(r"\b[\d,]*\d lines\b", page.lines[told - 1])[0]
     new = f"{number_of(old.split()[0]) - number_of(row[1]):,} lines"
     lines = [
         line.replace(old, new, 1) if n == told else line
@@ -543,7 +556,7 @@ def without_first_row(root):
         target.write("\n".join(lines) + "\n")
 
 
-def plants():
+def plants() -> list[Plant]:
     """The faults that are planted: what each is called, how it is planted, and what has to be
     told."""
     return [
@@ -621,7 +634,7 @@ def plants():
     ]
 
 
-def copied(root, target):
+def copied(root: str, target: str) -> None:
     """Puts what the check reads into a folder."""
     for path in Repository(root).files:
         if not os.path.islink(os.path.join(root, path)):
@@ -629,14 +642,14 @@ def copied(root, target):
             shutil.copyfile(os.path.join(root, path), os.path.join(target, path))
 
 
-def restored(root, target):
+def restored(root: str, target: str) -> None:
     """Takes a planted fault back: faults stand in documents and definitions."""
     for path in Repository(root).files:
         if path.endswith((".md", "Paths.antt")):
             shutil.copyfile(os.path.join(root, path), os.path.join(target, path))
 
 
-def self_test(root):
+def self_test(root: str) -> int:
     before = faults_of(root)
     failed = 0
     with tempfile.TemporaryDirectory() as target:
@@ -654,7 +667,7 @@ def self_test(root):
     return 1 if failed else 0
 
 
-def main():
+def main() -> int:
     root = os.path.dirname(os.path.dirname(os.path.realpath(__file__)))
     if sys.argv[1:] == ["--self-test"]:
         return self_test(root)

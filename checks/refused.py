@@ -14,6 +14,8 @@ TACFLOW=/path/to/program and TACVIEW=/path/to/program take other programs than t
 crates/NAME/out.
 """
 
+from __future__ import annotations
+
 import collections
 import concurrent.futures
 import itertools
@@ -23,6 +25,8 @@ import struct
 import subprocess
 import sys
 import tempfile
+from collections.abc import Iterator
+from typing import NamedTuple
 
 HERE = os.path.dirname(os.path.realpath(__file__))
 CRATES = os.path.join(os.path.dirname(HERE), "crates")
@@ -120,14 +124,38 @@ WANT_OF_MEMORY = re.compile(
     rb"the test failed: its result gives status 1\n"
 )
 
-Outcome = collections.namedtuple("Outcome", "status wrote said")
-# What is tried: its name and the words it is told under, the command, what that reads, whether it
-# is a test, and whether all requests behind the first that is refused are refused too.
-Case = collections.namedtuple("Case", "name words command given is_test is_all")
-Found = collections.namedtuple("Found", "case requests refused calls faults")
+
+class Outcome(NamedTuple):
+    """How a run ended, and what it wrote to standard output and standard error."""
+
+    status: int | str
+    wrote: bytes
+    said: bytes
 
 
-def run(library, notes, case, first, last):
+class Case(NamedTuple):
+    """What is tried: its name and the words it is told under, the command, what that reads, whether
+    it is a test, and whether all requests behind the first that is refused are refused too."""
+
+    name: str
+    words: str
+    command: list[str]
+    given: bytes
+    is_test: bool
+    is_all: bool
+
+
+class Found(NamedTuple):
+    """What came of a case: its requests, those refused, the calls that runs named, and faults."""
+
+    case: Case
+    requests: int
+    refused: int
+    calls: collections.Counter[str]
+    faults: list[str]
+
+
+def run(library: str, notes: str, case: Case, first: int, last: int) -> tuple[Outcome, int, int]:
     """What comes of a run with these requests refused, how many requests it made, and how many of
     them were refused."""
     with open(notes, "wb") as file:
@@ -150,7 +178,7 @@ def run(library, notes, case, first, last):
     return outcome, requests, refused
 
 
-def call_named(case, outcome, ample):
+def call_named(case: Case, outcome: Outcome, ample: Outcome) -> str | None:
     """The call that a run names as refused, an empty name where there is none, and None where the
     run may not end so."""
     if outcome == ample:
@@ -165,9 +193,10 @@ def call_named(case, outcome, ample):
     return "" if WANT_OF_MEMORY.fullmatch(outcome.said) else None
 
 
-def tried(library, case):
+def tried(library: str, case: Case) -> Found:
     """A case with each of its requests refused."""
-    calls, faults = collections.Counter(), []
+    calls: collections.Counter[str] = collections.Counter()
+    faults: list[str] = []
     with tempfile.NamedTemporaryFile(prefix="refused-") as notes:
         ample, requests, _ = run(library, notes.name, case, 0, 0)
         if case.is_test and ample.status != 0:
@@ -192,14 +221,14 @@ def tried(library, case):
     return Found(case, requests, first - 1, calls, faults)
 
 
-def built(name):
+def built(name: str) -> str:
     """The program of this name, or the one of a crate's tests."""
     if name in CALLS:
         return os.path.join(CRATES, name, "out", f"{name}_tests")
     return os.environ.get(name.upper(), os.path.join(CRATES, name, "out", name))
 
 
-def programs():
+def programs() -> Iterator[Case]:
     """The runs of both programs: each text and words, by each number of workers, in slices of one
     bit."""
     for name, words in WORDS.items():
@@ -211,7 +240,7 @@ def programs():
             )
 
 
-def tests():
+def tests() -> Iterator[Case]:
     """The tests of refused memory of each crate."""
     for name in CALLS:
         program = built(name)
@@ -222,7 +251,7 @@ def tests():
             )
 
 
-def library_in(folder):
+def library_in(folder: str) -> str:
     library = os.path.join(folder, "refuse.so")
     command = [
         "cc",
@@ -241,10 +270,10 @@ def library_in(folder):
     return library
 
 
-def missing_calls(found):
+def missing_calls(found: list[Found]) -> tuple[list[tuple[str, str]], int]:
     """The calls that no run named, each with the crate or the test whose it is; and how many calls
     are wanted."""
-    named = collections.defaultdict(set)
+    named: dict[str, set[str]] = collections.defaultdict(set)
     for one in found:
         named[one.case.name] |= set(one.calls)
         named[one.case.words.split("::")[-1]] |= set(one.calls)
@@ -260,26 +289,26 @@ def missing_calls(found):
     ], len(wanted)
 
 
-def listed(found):
+def listed(found: list[Found]) -> Iterator[str]:
     """The lines of the table: a line for the words of a program, with the requests of each text,
     and one for a crate's tests."""
-    rows = collections.defaultdict(lambda: [[], 0])
+    requests_of: dict[tuple[str, str], list[int]] = collections.defaultdict(list)
+    refused_of: dict[tuple[str, str], int] = collections.defaultdict(int)
     for one in found:
-        row = rows[
+        row = (
             one.case.name,
             "its tests of refused memory, together" if one.case.is_test else f"`{one.case.words}`",
-        ]
-        if not one.case.is_all:
-            row[0].append(one.requests)
-        row[1] += one.refused
+        )
+        requests_of[row] += [] if one.case.is_all else [one.requests]
+        refused_of[row] += one.refused
     yield "| Program | Words | Requests | Refused runs |"
     yield "|---|---|---|---|"
-    for (name, words), (requests, refused) in rows.items():
+    for (name, words), requests in requests_of.items():
         each = f"{sum(requests):,}" if name in CALLS else ", ".join(map(str, requests))
-        yield f"| `{name}` | {words} | {each} | {refused:,} |"
+        yield f"| `{name}` | {words} | {each} | {refused_of[name, words]:,} |"
 
 
-def main():
+def main() -> int:
     if sys.argv[1:] not in ([], ["--table"]):
         print("usage: checks/refused [--table]", file=sys.stderr)
         return 2

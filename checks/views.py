@@ -5,6 +5,8 @@ the memory of its points, and the report of a program with many tests and expres
 the words that have a bit. TACVIEW=/path/to/program and TACFLOW=/path/to/program take other programs
 than ./tacview and ./tacflow. Prints `N passed, M failed`."""
 
+from __future__ import annotations
+
 import json
 import os
 import re
@@ -12,6 +14,9 @@ import shutil
 import subprocess
 import sys
 import tempfile
+from typing import Any
+
+Row = dict[str, Any]  # an object of a line of JSON
 
 HERE = os.path.dirname(os.path.realpath(__file__))
 ROOT = os.path.join(HERE, "..")
@@ -28,7 +33,7 @@ REMARKS = {
 }
 
 
-def run(program, words, source):
+def run(program: str, words: list[str], source: bytes) -> bytes:
     """What the program writes on a source; it has to end well and say nothing else."""
     done = subprocess.run([program, *words], input=source, capture_output=True)
     if done.returncode or done.stderr:
@@ -36,7 +41,7 @@ def run(program, words, source):
     return done.stdout
 
 
-def objects(source, *words):
+def objects(source: bytes, *words: str) -> tuple[Row, list[Row], list[Row]]:
     """The objects of tacview's JSON: the program, its points, its remarks."""
     rows = [
         json.loads(row)
@@ -48,7 +53,7 @@ def objects(source, *words):
     return rows[0], rows[1 : 1 + points], rows[1 + points :]
 
 
-def report_of(program, remarks):
+def report_of(program: Row, remarks: list[Row]) -> str:
     """The report that these objects tell."""
     counts = (
         f"points {program['points']}, variables {len(program['variables'])},"
@@ -68,7 +73,7 @@ def report_of(program, remarks):
     )
 
 
-def table_of(points, analysis):
+def table_of(points: list[Row], analysis: str) -> str:
     """The table that these objects tell."""
     lines = []
     for point in points:
@@ -83,7 +88,7 @@ def table_of(points, analysis):
     return "".join(lines)
 
 
-def statements_of(listing):
+def statements_of(listing: str) -> list[str | None]:
     """The statements of a listing, in order, with None for each procedure's end."""
     rows = [
         row for row in listing.splitlines() if not row.endswith(":") and not row.startswith("proc ")
@@ -91,7 +96,7 @@ def statements_of(listing):
     return [None if row == "end" else row.strip() for row in rows]
 
 
-def check_spans(source, rows):
+def check_spans(source: bytes, rows: list[Row]) -> None:
     """Each statement's first and last byte spell it, but for blanks."""
     for row in rows:
         if row["line"] is None:
@@ -102,7 +107,7 @@ def check_spans(source, rows):
             assert source[: row["first"] - 1].count(b"\n") + 1 == row["line"], row
 
 
-def check_edges(points):
+def check_edges(points: list[Row]) -> None:
     """Steps stay in their procedure; calls begin at their site, and each has a return to the point
     behind the site."""
     calls, returns = set(), set()
@@ -124,12 +129,13 @@ def check_edges(points):
     assert calls == returns, (calls, returns)
 
 
-def check_json(source):
+def check_json(source: bytes) -> None:
     """The objects tell what tacflow tells."""
     program, points, remarks = objects(source)
     assert [point["point"] for point in points] == list(range(program["points"]))
     assert report_of(program, remarks) == run(TACFLOW, [], source).decode()
-    for words in [], ["--limits", "large"], ["--procedure", "main", "--facts", "all"]:
+    whole: list[list[str]] = [[], ["--limits", "large"]]
+    for words in [*whole, ["--procedure", "main", "--facts", "all"]]:
         assert run(TACVIEW, ["--format", "report", *words], source) == run(
             TACFLOW, [], source
         ), words
@@ -156,23 +162,21 @@ def check_json(source):
         assert objects(source, "--procedure", name, "--facts", "live")[1] == live, name
 
 
-def check_dot(source):
+def check_dot(source: bytes) -> None:
     """Graphviz takes each picture."""
     if not shutil.which("dot"):
         return
     names = objects(source)[0]["procedures"]
-    for words in [
-        [],
-        ["--facts", "all"],
-        *(["--procedure", name, "--facts", "reach,busy"] for name in names),
-    ]:
+    pictures: list[list[str]] = [[], ["--facts", "all"]]
+    pictures += (["--procedure", name, "--facts", "reach,busy"] for name in names)
+    for words in pictures:
         done = subprocess.run(
             ["dot", "-Tsvg"], input=run(TACVIEW, words, source), capture_output=True
         )
         assert done.returncode == 0 and not done.stderr, done.stderr.decode()
 
 
-def run_within(kilobytes, words, source):
+def run_within(kilobytes: int, words: list[str], source: bytes) -> bytes:
     """What tacview writes within the large limits, and in so much memory."""
     with tempfile.TemporaryFile() as file:
         file.write(source)
@@ -180,6 +184,7 @@ def run_within(kilobytes, words, source):
         started = subprocess.Popen(
             [TACVIEW, "--limits", "large", *words], stdin=file, stdout=subprocess.PIPE
         )
+        assert started.stdout is not None
         written = started.stdout.read()
         _, status, used = os.wait4(started.pid, 0)
         started.returncode = os.waitstatus_to_exitcode(status)
@@ -188,7 +193,7 @@ def run_within(kilobytes, words, source):
     return written
 
 
-def check_memory(source):
+def check_memory(source: bytes) -> None:
     """The facts of one procedure take at most 100 MB, where a table of all points would take 150 by
     itself."""
     written = run_within(100000, ["--format", "json", "--procedure", "p7"], source)
@@ -196,7 +201,7 @@ def check_memory(source):
     assert points == 101, points
 
 
-def check_rounds(source):
+def check_rounds(source: bytes) -> None:
     """Of 20,003 expressions three are very busy at each of 30,000 tests. One worker asks for them
     in ten rounds, three in seven. A block of all words of all tests would take 75 MB by itself, and
     350 with what is asked for each."""
@@ -216,7 +221,7 @@ def check_rounds(source):
         assert busy == wanted, (len(busy), busy[:3])
 
 
-def many_procedures():
+def many_procedures() -> bytes:
     """200 procedures of 100 assignments, each of a variable of its own."""
     rows = ["proc main", *(f"call p{k}" for k in range(200)), "end"]
     for k in range(200):
@@ -224,7 +229,7 @@ def many_procedures():
     return ("\n".join(rows) + "\n").encode()
 
 
-def many_tests():
+def many_tests() -> bytes:
     """30,000 tests that lead on either way, and behind them 20,003 expressions, of which the first,
     one in the middle and the last have their operands before the tests."""
     rows = ["proc main", "read s", "read t"]
@@ -234,7 +239,7 @@ def many_tests():
     return ("\n".join(rows) + "\n").encode()
 
 
-def main():
+def main() -> int:
     """Tries all examples, and two larger programs."""
     tries = [
         ("many procedures", check_memory, many_procedures()),
