@@ -1,6 +1,8 @@
 """Benchmarks by name: KIND-SHAPE, with :KEY=VALUE,.. behind it where keys are not the shape's own,
 and -WORKERS where there are several."""
 
+from __future__ import annotations
+
 import re
 
 from . import generators, hard, large, texts
@@ -24,7 +26,7 @@ SIZES = ("points", "bits", "size", "procedures", "heads")
 
 
 class Benchmark:
-    def __init__(self, name, divisor=1):
+    def __init__(self, name: str, divisor: int = 1) -> None:
         found = NAME.fullmatch(name)
         if (
             found is None
@@ -44,11 +46,11 @@ class Benchmark:
         }
         self.keys = {**sizes, **given}
 
-    def words(self):
+    def words(self) -> list[str]:
         workers = ["--workers", str(self.workers)] if self.workers > 1 else []
         return ["--show", self.kind, *workers]
 
-    def text(self):
+    def text(self) -> str:
         """The path of its text, which is made where it is not there."""
         name = "-".join([self.shape, *("%s%d" % pair for pair in self.keys.items())])
         path = OUT / "texts" / (name + ".tac")
@@ -59,7 +61,7 @@ class Benchmark:
         return str(path)
 
 
-def standard():
+def standard() -> list[str]:
     """The names that are run where none is given."""
     reports = ["report-" + shape for shape in large.SHAPES]
     tables = ["%s-%s" % (kind, shape) for kind in KINDS[2:] for shape in TABLE_SHAPES]

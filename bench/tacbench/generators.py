@@ -1,11 +1,15 @@
 """All generators by name."""
 
+from __future__ import annotations
+
 import inspect
+from collections.abc import Callable, Mapping, Sequence
 
 from . import hard, large, small, texts, whole
 from .writing import Fault
 
-GROUPS = [
+Maker = Callable[..., "str | bytes"]
+GROUPS: list[tuple[str, Mapping[str, Maker]]] = [
     ("large programs of ordinary shapes", large.SHAPES),
     ("programs that are laid out against a solver", hard.SHAPES),
     ("long texts that are hard on a reader", texts.SHAPES),
@@ -16,7 +20,7 @@ POSITIVE = {"points", "bits", "procedures", "variables", "statements", "heads", 
 ALL = {name: maker for _, shapes in GROUPS for name, maker in shapes.items()}
 
 
-def keys_of(words):
+def keys_of(words: Sequence[str]) -> dict[str, int]:
     keys = {}
     for word in words:
         key, sign, value = word.partition("=")
@@ -27,12 +31,12 @@ def keys_of(words):
     return keys
 
 
-def defaults_of(name):
+def defaults_of(name: str) -> dict[str, int]:
     parameters = inspect.signature(ALL[name]).parameters.values()
     return {parameter.name: parameter.default for parameter in parameters}
 
 
-def generate(name, keys):
+def generate(name: str, keys: dict[str, int]) -> bytes:
     """The text of a shape, in bytes."""
     if name not in ALL:
         raise Fault("there is no %r; generate --list tells all" % name)
@@ -46,12 +50,12 @@ def generate(name, keys):
     return text if isinstance(text, bytes) else text.encode()
 
 
-def told_of(maker):
+def told_of(maker: Maker) -> str:
     """What its first words say, in one line."""
     return " ".join((inspect.getdoc(maker) or "").split())
 
 
-def catalogue():
+def catalogue() -> str:
     lines = []
     for title, shapes in GROUPS:
         lines.append(title + ":")

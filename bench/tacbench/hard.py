@@ -1,28 +1,34 @@
 """Programs that are laid out against a solver: so many points, at most so many definitions."""
 
+from __future__ import annotations
+
 import random
+from collections.abc import Callable
 
 from .writing import Procedure, most_procedures, name_of, need, text_of
+
+
+Block = tuple[str, list[str]]  # a label and statements
 
 
 class Definitions:
     """Assignments to `count` variables, each of an expression of its own, dealt out evenly over
     `places`."""
 
-    def __init__(self, count, places):
+    def __init__(self, count: int, places: int) -> None:
         self.count = max(1, min(count, places))
         self.places = max(1, places)
 
-    def statement(self, place):
+    def statement(self, place: int) -> str:
         number = place * self.count // self.places
         is_first = place == 0 or (place - 1) * self.count // self.places != number
         return self.definition(number) if is_first else "skip"
 
-    def definition(self, number):
+    def definition(self, number: int) -> str:
         return "v%d = v%d + %d" % (number, (number + 1) % self.count, number)
 
 
-def filled(procedures, points, at=0):
+def filled(procedures: list[Procedure], points: int, at: int = 0) -> str:
     """With `skip` at the end of one procedure, up to the number of points."""
     used = sum(procedure.points for procedure in procedures)
     need(used <= points, "so few points are too few for this shape")
@@ -30,19 +36,19 @@ def filled(procedures, points, at=0):
     return text_of(procedures)
 
 
-def variables_for(bits):
+def variables_for(bits: int) -> int:
     """Each variable has two definitions: at the beginning, and its own."""
     return max(1, bits // 2 - 1)
 
 
-def put_blocks(procedure, blocks):
+def put_blocks(procedure: Procedure, blocks: list[Block]) -> None:
     """Blocks of a label and statements, in this order."""
     for label, statements in blocks:
         procedure.label(label)
         procedure.add(*statements)
 
 
-def one_procedure(blocks, points, first):
+def one_procedure(blocks: list[Block], points: int, first: str) -> str:
     main = Procedure("main")
     main.add("goto " + first)
     put_blocks(main, blocks)
@@ -51,11 +57,13 @@ def one_procedure(blocks, points, first):
     return filled([main], points)
 
 
-def step(number, count):
+def step(number: int, count: int) -> str:
     return "goto b%d" % (number + 1) if number + 1 < count else "goto out"
 
 
-def shuffled(points=16000, bits=4000, far=0, callees=0, seed=1):
+def shuffled(
+    points: int = 16000, bits: int = 4000, far: int = 0, callees: int = 0, seed: int = 1
+) -> str:
     """blocks in a random order, each of which may go away (far=0 anywhere, 1 back by one in two
     jumps, 2 in one), and with callees=N calls"""
     size = 4 if callees else 3
@@ -88,7 +96,7 @@ def shuffled(points=16000, bits=4000, far=0, callees=0, seed=1):
     return filled([main, *(Procedure("q%d" % callee) for callee in range(callees))], points)
 
 
-def upward(points=16000, bits=4000, size=1):
+def upward(points: int = 16000, bits: int = 4000, size: int = 1) -> str:
     """blocks of `size` statements in reverse order, each with a jump to the one above"""
     count = (points - 4) // (size + 1)
     need(count >= 1, "so few points are too few for this shape")
@@ -103,7 +111,7 @@ def upward(points=16000, bits=4000, size=1):
     return one_procedure(blocks[::-1], points, "b0")
 
 
-def zigzag(points=16000, bits=4000, tests=1):
+def zigzag(points: int = 16000, bits: int = 4000, tests: int = 1) -> str:
     """definitions, then blocks that are gone over from both ends by turns; with tests=1 each may
     leave"""
     count = (points - 4) * 2 // (3 if tests else 2) // 2
@@ -117,7 +125,7 @@ def zigzag(points=16000, bits=4000, tests=1):
     return one_procedure([begin, *blocks], points, "defs")
 
 
-def nest(points=16000, bits=4000, reversed=0):
+def nest(points: int = 16000, bits: int = 4000, reversed: int = 0) -> str:
     """loops within one another, as deep as there is room; with reversed=1 their blocks in reverse
     order"""
     depth = (points - 4) // 5
@@ -138,7 +146,7 @@ def nest(points=16000, bits=4000, reversed=0):
     return one_procedure(blocks[::-1] if reversed else blocks, points, "h0")
 
 
-def irreducible(points=16000, bits=4000, seed=1):
+def irreducible(points: int = 16000, bits: int = 4000, seed: int = 1) -> str:
     """two chains that may jump into one another anywhere, one downwards in the text, one upwards"""
     count = (points - 6) // 5
     need(count >= 2, "so few points are too few for this shape")
@@ -164,7 +172,7 @@ def irreducible(points=16000, bits=4000, seed=1):
     return one_procedure([begin, *down, *up[::-1]], points, "fork")
 
 
-def feeders(points=16000, bits=4000, far=0, loop=0):
+def feeders(points: int = 16000, bits: int = 4000, far: int = 0, loop: int = 0) -> str:
     """each definition takes one jump back more than the one before to a long chain of tests; far=1:
     every second jump is long; loop=1: round it"""
     count = max(1, min(variables_for(bits), points // 8))
@@ -201,7 +209,7 @@ def feeders(points=16000, bits=4000, far=0, loop=0):
     return one_procedure([*blocks, ("after", ["goto out"])], points, "h0")
 
 
-def ladder(points=16000, bits=4000):
+def ladder(points: int = 16000, bits: int = 4000) -> str:
     """ways into a ladder of assignments, each of which kills one definition less than the one
     before, and behind it a chain of tests"""
     count = max(1, min(variables_for(bits), points // 8))
@@ -228,7 +236,7 @@ def ladder(points=16000, bits=4000):
     )
 
 
-def points_each(points, procedures):
+def points_each(points: int, procedures: int) -> int:
     need(
         procedures <= most_procedures(points),
         "a program has at most 256 procedures, and one of more than 16,384 points 16,384",
@@ -236,7 +244,9 @@ def points_each(points, procedures):
     return points // procedures
 
 
-def procedures_with(points, bits, procedures, order, calls_of):
+def procedures_with(
+    points: int, bits: int, procedures: int, order: list[int], calls_of: Callable[[int], list[str]]
+) -> str:
     """Procedures in an order, each with its part of the definitions, and the calls that `calls_of`
     tells, each behind a test."""
     size = points_each(points, procedures)
@@ -256,13 +266,13 @@ def procedures_with(points, bits, procedures, order, calls_of):
     return filled(made, points, at=order.index(0))
 
 
-def order_of(procedures, seed):
+def order_of(procedures: int, seed: int) -> list[int]:
     order = list(range(procedures))
     random.Random(seed).shuffle(order)
     return order
 
 
-def ring(points=16000, bits=4000, procedures=256, seed=1):
+def ring(points: int = 16000, bits: int = 4000, procedures: int = 256, seed: int = 1) -> str:
     """procedures in a random order; each may call the next, and the last the first"""
     return procedures_with(
         points,
@@ -273,25 +283,25 @@ def ring(points=16000, bits=4000, procedures=256, seed=1):
     )
 
 
-def tower(points=16000, bits=4000, procedures=256, seed=1):
+def tower(points: int = 16000, bits: int = 4000, procedures: int = 256, seed: int = 1) -> str:
     """procedures in a random order; each but the last may call the next: no recursion"""
 
-    def onward(number):
+    def onward(number: int) -> list[str]:
         return [name_of(number + 1)] if number + 1 < procedures else []
 
     return procedures_with(points, bits, procedures, order_of(procedures, seed), onward)
 
 
-def neighbours(points=16000, bits=4000, procedures=256, seed=1):
+def neighbours(points: int = 16000, bits: int = 4000, procedures: int = 256, seed: int = 1) -> str:
     """each procedure may call the next one and the one before"""
 
-    def both(number):
+    def both(number: int) -> list[str]:
         return [name_of(min(number + 1, procedures - 1)), name_of(max(0, number - 1))]
 
     return procedures_with(points, bits, procedures, order_of(procedures, seed), both)
 
 
-def web(points=16000, bits=4000, procedures=256, seed=1):
+def web(points: int = 16000, bits: int = 4000, procedures: int = 256, seed: int = 1) -> str:
     """each statement of a procedure is a call of eight others, near and far, both ways"""
     draw = random.Random(seed)
     size = points_each(points, procedures)
@@ -311,7 +321,7 @@ def web(points=16000, bits=4000, procedures=256, seed=1):
     return filled(made, points)
 
 
-def rungs_for(points, bits, heads, period):
+def rungs_for(points: int, bits: int, heads: int, period: int) -> tuple[int, int]:
     """How many heads there are, and how many rungs of two tests each."""
     heads = max(1, min(heads, bits // 4))
     need(
@@ -321,7 +331,9 @@ def rungs_for(points, bits, heads, period):
     return heads, heads * period
 
 
-def drip_ladder(procedure, heads, period, head, forward):
+def drip_ladder(
+    procedure: Procedure, heads: int, period: int, head: Callable[[int], list[str]], forward: bool
+) -> None:
     """Two rows of tests that jump into one another, so that what stands at rung n comes out n jumps
     back later, one head each `period` rungs."""
     rungs = heads * period
@@ -335,7 +347,14 @@ def drip_ladder(procedure, heads, period, head, forward):
             procedure.add(*head(rung // period))
 
 
-def drip(points=16000, bits=4000, heads=256, callees=8, period=6, recursive=0):
+def drip(
+    points: int = 16000,
+    bits: int = 4000,
+    heads: int = 256,
+    callees: int = 8,
+    period: int = 6,
+    recursive: int = 0,
+) -> str:
     """one bit after the other comes late to the exits of eight callees, which thousands of calls
     list; recursive=1: they may call `main`"""
     source = Procedure("q0")
@@ -358,7 +377,14 @@ def drip(points=16000, bits=4000, heads=256, callees=8, period=6, recursive=0):
     return calls_of_all(points, [source, *relays], evaluated)
 
 
-def drip_back(points=16000, bits=4000, heads=256, callees=8, period=6, recursive=0):
+def drip_back(
+    points: int = 16000,
+    bits: int = 4000,
+    heads: int = 256,
+    callees: int = 8,
+    period: int = 6,
+    recursive: int = 0,
+) -> str:
     """`drip` against the flow of control, for the backward analyses"""
     source = Procedure("q0")
     heads, rungs = rungs_for(points, bits, heads, period)
@@ -386,7 +412,7 @@ def drip_back(points=16000, bits=4000, heads=256, callees=8, period=6, recursive
     return calls_of_all(points, [source, *relays], evaluated)
 
 
-def relay(number, forward):
+def relay(number: int, forward: bool) -> Procedure:
     """Calls the one before, and comes out behind it by a step that is one back for whoever goes
     with the text, or against it."""
     procedure = Procedure("q%d" % number)
@@ -408,7 +434,7 @@ def relay(number, forward):
     return procedure
 
 
-def calls_of_all(points, callees, evaluated):
+def calls_of_all(points: int, callees: list[Procedure], evaluated: list[str]) -> str:
     need(len(callees) <= 8, "a call lists at most eight procedures")
     main = Procedure("main")
     main.add("read c")
@@ -420,7 +446,7 @@ def calls_of_all(points, callees, evaluated):
     return filled([main, *callees], points)
 
 
-def hops(points=16000, bits=4000, calls=0):
+def hops(points: int = 16000, bits: int = 4000, calls: int = 0) -> str:
     """a chain of jumps over its own length, each behind a test that leaves for an endless loop, and
     never reached jumps to each of its blocks"""
     count = (points - 40 - calls) // 5
@@ -444,7 +470,7 @@ def hops(points=16000, bits=4000, calls=0):
     return filled([main, *idle, unused], points)
 
 
-def laid_out(count, order, draw):
+def laid_out(count: int, order: int, draw: random.Random) -> list[int]:
     """The numbers of blocks in an order of the text: as they run, reversed, from both ends by
     turns, or at random."""
     numbers = list(range(count))
@@ -457,15 +483,17 @@ def laid_out(count, order, draw):
     return numbers
 
 
-def woven_callees(kind, number, procedures, callees, draw):
-    near = {
+def woven_callees(
+    kind: int, number: int, procedures: int, callees: int, draw: random.Random
+) -> list[int]:
+    ways: dict[int, list[int]] = {
         0: [],
         1: [number + 1],
         2: [(number + 1) % procedures],
         3: draw.sample(range(procedures), min(callees, procedures)),
         4: [number + 1, number - 1],
-    }[kind]
-    first = [callee for callee in near if 0 <= callee < procedures]
+    }
+    first = [callee for callee in ways[kind] if 0 <= callee < procedures]
     more = (
         [(first[0] + step) % procedures for step in range(1, callees)]
         if first and kind in (2, 4)
@@ -480,19 +508,19 @@ def woven_callees(kind, number, procedures, callees, draw):
 
 
 def woven(
-    points=16000,
-    bits=4000,
-    procedures=16,
-    order=0,
-    jump=3,
-    stride=7,
-    calls=1,
-    callees=1,
-    guard=1,
-    every=4,
-    late=0,
-    seed=1,
-):
+    points: int = 16000,
+    bits: int = 4000,
+    procedures: int = 16,
+    order: int = 0,
+    jump: int = 3,
+    stride: int = 7,
+    calls: int = 1,
+    callees: int = 1,
+    guard: int = 1,
+    every: int = 4,
+    late: int = 0,
+    seed: int = 1,
+) -> str:
     """a pattern for the search: `order` of the text 0 to 3, `jump` 0 to 4 by `stride`, `calls` 0 to
     4 in every `every`th block, `late` 0 to 2"""
     procedures, every, callees = (
@@ -511,14 +539,14 @@ def woven(
     for number in range(procedures):
         blocks = []
         for at in range(count):
-            target = {
+            onward = {
                 0: at + 1,
                 1: at + stride,
                 2: at - stride,
                 3: draw.randrange(count),
                 4: count - 1 - at,
             }[jump % 5]
-            target = "b%d" % max(0, target) if target < count else "out"
+            target = "b%d" % max(0, onward) if onward < count else "out"
             place = defined.index(number) * count + at if number in defined else None
             statements = ["skip" if place is None else definitions.statement(place)]
             called = (
@@ -541,7 +569,7 @@ def woven(
     return filled(made, points)
 
 
-def waiting(points=16000, bits=4000, early=0, seed=1):
+def waiting(points: int = 16000, bits: int = 4000, early: int = 0, seed: int = 1) -> str:
     """each procedure may call the one before it; no way leads to calls of eight each that wait for
     all; early=1: these stand first"""
     procedures = max(255, points // 65)
@@ -551,7 +579,7 @@ def waiting(points=16000, bits=4000, early=0, seed=1):
     need(size >= 1, "so few points are too few for this shape")
     places = order_of(procedures, seed)
 
-    def name(number):
+    def name(number: int) -> str:
         return name_of(1 + places[number % procedures])
 
     main = Procedure("main")
@@ -584,7 +612,7 @@ def waiting(points=16000, bits=4000, early=0, seed=1):
     return filled(made, points)
 
 
-SHAPES = {
+SHAPES: dict[str, Callable[..., str]] = {
     "shuffled": shuffled,
     "upward": upward,
     "zigzag": zigzag,

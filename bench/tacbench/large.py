@@ -1,18 +1,35 @@
 """Large programs of ordinary shapes: exactly so many points and, where there is room,
 definitions."""
 
+from __future__ import annotations
+
 import random
+from collections.abc import Callable
+from typing import TypedDict
 
 from .writing import BINARY, COMPARISON, UNARY, Procedure, name_of, need, text_of
 
-SIMPLE = object()
+SIMPLE = ""  # a statement that is still to be chosen
+Opening = Callable[[int, int], list[int]]
+
+
+class Mix(TypedDict):
+    """How often each kind of region begins, and how long and deep it is."""
+
+    loops: float
+    branches: float
+    calls: float
+    back: float
+    several: int
+    longest: int
+    depth: int
 
 
 class Skeleton:
     """Procedures whose simple statements are still to be chosen: each is the place of one in a
     procedure's lines."""
 
-    def __init__(self, points, bits, procedures, variables, seed):
+    def __init__(self, points: int, bits: int, procedures: int, variables: int, seed: int) -> None:
         need(
             procedures >= 1 and points >= 2 * procedures,
             "a procedure takes two points: fewer procedures or more points",
@@ -31,20 +48,20 @@ class Skeleton:
         self.names = [name_of(number) for number in range(procedures)]
         self.unused = ["v%d" % number for number in range(self.variables)]
         self.random.shuffle(self.unused)
-        self.recent = []
-        self.procedures = []
+        self.recent: list[str] = []
+        self.procedures: list[Outline] = []
 
-    def variable(self):
+    def variable(self) -> str:
         """One that does not occur yet, as long as there is one, every second time."""
         if self.unused and self.random.random() < 0.5:
             return self.unused.pop()
         return "v%d" % self.random.randrange(self.variables)
 
-    def test(self, label):
+    def test(self, label: str) -> str:
         left, right = self.variable(), self.variable()
         return "if %s %s %s goto %s" % (left, self.random.choice(COMPARISON), right, label)
 
-    def region(self, procedure, room, shape, depth=0):
+    def region(self, procedure: Outline, room: int, shape: Mix, depth: int = 0) -> None:
         """Fills so many points with statements, branches, loops and calls; the room is used up to
         the last point."""
         while room > 0:
@@ -68,7 +85,7 @@ class Skeleton:
                 procedure.add(SIMPLE)
                 room -= 1
 
-    def call(self, procedure, shape):
+    def call(self, procedure: Outline, shape: Mix) -> int:
         """A call; one of a procedure that may call this one is gone round by a branch, so that each
         procedure comes to its end."""
         own = len(self.procedures)
@@ -89,13 +106,13 @@ class Skeleton:
         procedure.label(beyond)
         return 2
 
-    def fill(self):
+    def fill(self) -> None:
         """Makes definitions of so many simple statements, and prints of the others."""
         places = [
             (procedure, at)
             for procedure in self.procedures
             for at in range(len(procedure.lines))
-            if procedure.lines[at] is None
+            if procedure.lines[at] == SIMPLE
         ]
         wanted = min(len(places), max(0, self.bits - self.variables))
         defined = set(self.random.sample(range(len(places)), wanted))
@@ -105,7 +122,7 @@ class Skeleton:
                 "".join(name + ": " for name in procedure.labelled.get(at, [])) + statement
             )
 
-    def definition(self):
+    def definition(self) -> str:
         draw = self.random.random()
         target = self.variable()
         if draw < 0.1 and self.recent:
@@ -120,7 +137,7 @@ class Skeleton:
             return "%s = %s%s" % (target, self.random.choice(UNARY), self.variable())
         return "%s = %s" % (target, self.variable()) if draw < 0.95 else "read " + target
 
-    def use(self):
+    def use(self) -> str:
         return (
             "skip"
             if self.random.random() < 0.25 and not self.unused
@@ -131,23 +148,25 @@ class Skeleton:
 class Outline(Procedure):
     """A procedure in which simple statements are left open."""
 
-    def __init__(self, name):
+    def __init__(self, name: str) -> None:
         super().__init__(name)
-        self.labelled = {}
+        self.labelled: dict[int, list[str]] = {}
 
-    def add(self, *statements):
+    def add(self, *statements: str) -> None:
         for statement in statements:
-            if statement is not SIMPLE:
+            if statement != SIMPLE:
                 super().add(statement)
                 continue
             if self.waiting:
                 self.labelled[len(self.lines)] = self.waiting
                 self.waiting = []
-            self.lines.append(None)
+            self.lines.append(SIMPLE)
             self.points += 1
 
 
-def build(shape, opening, points, bits, procedures, variables, seed):
+def build(
+    shape: Mix, opening: Opening, points: int, bits: int, procedures: int, variables: int, seed: int
+) -> str:
     """`opening` gives the calls with which a procedure of this number begins, and those in its
     middle."""
     skeleton = Skeleton(points, bits, procedures, variables, seed)
@@ -166,7 +185,15 @@ def build(shape, opening, points, bits, procedures, variables, seed):
     return text_of(skeleton.procedures)
 
 
-def shape(loops=0.0, branches=0.0, calls=0.0, back=0.0, several=0, longest=24, depth=3):
+def shape(
+    loops: float = 0.0,
+    branches: float = 0.0,
+    calls: float = 0.0,
+    back: float = 0.0,
+    several: int = 0,
+    longest: int = 24,
+    depth: int = 3,
+) -> Mix:
     return {
         "loops": loops,
         "branches": branches,
@@ -178,34 +205,47 @@ def shape(loops=0.0, branches=0.0, calls=0.0, back=0.0, several=0, longest=24, d
     }
 
 
-def none(number, procedures):
+def none(number: int, procedures: int) -> list[int]:
     return []
 
 
-def all_others(number, procedures):
+def all_others(number: int, procedures: int) -> list[int]:
     return list(range(1, procedures)) if number == 0 else []
 
 
-def next_twice(number, procedures):
+def next_twice(number: int, procedures: int) -> list[int]:
     return [number + 1] * 2 if number + 1 < procedures else []
 
 
-def mixed(points=16000, bits=4000, procedures=64, variables=1024, several=0, seed=1):
+def mixed(
+    points: int = 16000,
+    bits: int = 4000,
+    procedures: int = 64,
+    variables: int = 1024,
+    several: int = 0,
+    seed: int = 1,
+) -> str:
     """loops, branches, and calls of later procedures, every tenth of any procedure"""
     mix = shape(loops=0.05, branches=0.12, calls=0.08, back=0.1, several=several)
     return build(mix, next_once, points, bits, procedures, variables, seed)
 
 
-def next_once(number, procedures):
+def next_once(number: int, procedures: int) -> list[int]:
     return [number + 1] if number + 1 < procedures else []
 
 
-def straight(points=16000, bits=4000, variables=1024, seed=1):
+def straight(points: int = 16000, bits: int = 4000, variables: int = 1024, seed: int = 1) -> str:
     """one line of statements, no jump"""
     return build(shape(), none, points, bits, 1, variables, seed)
 
 
-def loops(points=16000, bits=4000, procedures=16, variables=1024, seed=1):
+def loops(
+    points: int = 16000,
+    bits: int = 4000,
+    procedures: int = 16,
+    variables: int = 1024,
+    seed: int = 1,
+) -> str:
     """loops up to six deep, and one call of each procedure"""
     return build(
         shape(loops=0.08, branches=0.05, longest=200, depth=6),
@@ -218,37 +258,68 @@ def loops(points=16000, bits=4000, procedures=16, variables=1024, seed=1):
     )
 
 
-def chain(points=16000, bits=4000, procedures=256, variables=1024, seed=1):
+def chain(
+    points: int = 16000,
+    bits: int = 4000,
+    procedures: int = 256,
+    variables: int = 1024,
+    seed: int = 1,
+) -> str:
     """each procedure calls the next one twice"""
     return build(
         shape(loops=0.06, branches=0.1), next_twice, points, bits, procedures, variables, seed
     )
 
 
-def dense(points=16000, bits=4000, procedures=128, variables=1024, several=0, seed=1):
+def dense(
+    points: int = 16000,
+    bits: int = 4000,
+    procedures: int = 128,
+    variables: int = 1024,
+    several: int = 0,
+    seed: int = 1,
+) -> str:
     """as many calls, of any procedure, as other statements"""
     mix = shape(loops=0.04, branches=0.08, calls=0.4, back=0.9, several=several)
     return build(mix, next_once, points, bits, procedures, variables, seed)
 
 
-def flat(points=16000, bits=4000, procedures=32, variables=1024, seed=1):
+def flat(
+    points: int = 16000,
+    bits: int = 4000,
+    procedures: int = 32,
+    variables: int = 1024,
+    seed: int = 1,
+) -> str:
     """`main` calls all others, which call nothing"""
     return build(
         shape(loops=0.05, branches=0.12), all_others, points, bits, procedures, variables, seed
     )
 
 
-def mixed_several(points=16000, bits=4000, procedures=64, variables=1024, seed=1):
+def mixed_several(
+    points: int = 16000,
+    bits: int = 4000,
+    procedures: int = 64,
+    variables: int = 1024,
+    seed: int = 1,
+) -> str:
     """`mixed`, where a call lists two to eight procedures"""
     return mixed(points, bits, procedures, variables, 1, seed)
 
 
-def dense_several(points=16000, bits=4000, procedures=128, variables=1024, seed=1):
+def dense_several(
+    points: int = 16000,
+    bits: int = 4000,
+    procedures: int = 128,
+    variables: int = 1024,
+    seed: int = 1,
+) -> str:
     """`dense`, where a call lists two to eight procedures"""
     return dense(points, bits, procedures, variables, 1, seed)
 
 
-SHAPES = {
+SHAPES: dict[str, Callable[..., str]] = {
     "mixed": mixed,
     "straight": straight,
     "loops": loops,

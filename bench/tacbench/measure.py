@@ -1,6 +1,8 @@
 """One run of a program: its time by the clock and by the processor, its answer, its memory, its
 instructions."""
 
+from __future__ import annotations
+
 import hashlib
 import os
 import re
@@ -26,7 +28,7 @@ class Answer(NamedTuple):
     error: bytes
 
 
-def timed(command, text, environment):
+def timed(command: list[str], text: str, environment: dict[str, str]) -> Times:
     """Milliseconds; standard output goes to /dev/null."""
     source, sink = os.open(text, os.O_RDONLY), os.open(os.devnull, os.O_WRONLY)
     actions = [
@@ -43,15 +45,22 @@ def timed(command, text, environment):
     return Times(1000 * clock, 1000 * (usage.ru_utime + usage.ru_stime))
 
 
-def limited(command, seconds):
+def limited(command: list[str], seconds: int | None) -> list[str]:
     """The command, stopped after so many seconds where some are said."""
-    return [shutil.which("timeout"), str(seconds), *command] if seconds else command
+    return [shutil.which("timeout") or "timeout", str(seconds), *command] if seconds else command
 
 
-def least(command, text, environment, times, seconds=None):
+def least(
+    command: list[str],
+    text: str,
+    environment: dict[str, str],
+    times: int,
+    seconds: int | None = None,
+) -> float | None:
     """Milliseconds of the processor, the least of so many runs; where seconds are said, of fewer if
     they are long, and None if stopped."""
-    command, runs = limited(command, seconds), []
+    command = limited(command, seconds)
+    runs: list[Times] = []
     while len(runs) < times and not (seconds and sum(run.clock for run in runs) > LONG):
         runs.append(timed(command, text, environment))
     return (
@@ -59,13 +68,14 @@ def least(command, text, environment, times, seconds=None):
     )
 
 
-def answer(command, text, environment):
+def answer(command: list[str], text: str, environment: dict[str, str]) -> Answer:
     """The answer's digest, as it may be of gigabytes."""
     digest = hashlib.blake2b()
     with open(text, "rb") as source, tempfile.TemporaryFile() as errors:
         process = subprocess.Popen(
             command, stdin=source, stdout=subprocess.PIPE, stderr=errors, env=environment, bufsize=0
         )
+        assert process.stdout is not None
         while piece := process.stdout.read(1 << 20):
             digest.update(piece)
         process.stdout.close()
@@ -74,7 +84,7 @@ def answer(command, text, environment):
         return Answer(status, digest.hexdigest(), errors.read())
 
 
-def peak(helper, command, text, environment):
+def peak(helper: str, command: list[str], text: str, environment: dict[str, str]) -> int:
     """The most memory of a run, in KiB."""
     with open(text, "rb") as source, tempfile.NamedTemporaryFile() as told:
         subprocess.run(
@@ -87,7 +97,7 @@ def peak(helper, command, text, environment):
         return int(told.read() or 0)
 
 
-def instructions(command, text, environment):
+def instructions(command: list[str], text: str, environment: dict[str, str]) -> int | None:
     """As callgrind counts them; None where it cannot."""
     counted = ["valgrind", "--tool=callgrind", "--callgrind-out-file=/dev/null", *command]
     with open(text, "rb") as source:

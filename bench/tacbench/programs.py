@@ -1,10 +1,17 @@
 """The programs that are measured, and how each is started."""
 
+from __future__ import annotations
+
 import os
 import re
 import shutil
 import subprocess
+from collections.abc import Sequence
 from pathlib import Path
+from typing import TYPE_CHECKING
+
+if TYPE_CHECKING:
+    from .benchmarks import Benchmark
 
 BENCH = Path(__file__).resolve().parent.parent
 ROOT = BENCH.parent
@@ -19,17 +26,23 @@ class Unready(Exception):
 class Program:
     """`words` are added to those of a benchmark."""
 
-    def __init__(self, label, path, words=(), environment=None):
+    def __init__(
+        self,
+        label: str,
+        path: str | Path,
+        words: Sequence[str] = (),
+        environment: dict[str, str] | None = None,
+    ) -> None:
         self.label = label
         self.path = str(path)
         self.words = list(words)
         self.environment = environment or dict(os.environ)
 
-    def command(self, benchmark):
+    def command(self, benchmark: Benchmark) -> list[str]:
         return [self.path, *benchmark.words(), *self.words]
 
 
-def launcher_environment():
+def launcher_environment() -> dict[str, str]:
     """As the script `./tacflow` starts its program: the settings of memory are read from there."""
     environment = dict(os.environ)
     text = (ROOT / "tacflow").read_text()
@@ -40,7 +53,7 @@ def launcher_environment():
     return environment
 
 
-def proved_program(name):
+def proved_program(name: str) -> str:
     """The program that $TACFLOW or $TACVIEW names, or the one that was proved and built from the
     sources as they are."""
     variable = name.upper()
@@ -60,15 +73,15 @@ def proved_program(name):
     return str(ROOT / "crates" / name / "out" / name)
 
 
-def tacflow():
+def tacflow() -> Program:
     return Program("tacflow", proved_program("tacflow"), environment=launcher_environment())
 
 
-def tacview():
+def tacview() -> Program:
     return Program("tacview", proved_program("tacview"), environment=launcher_environment())
 
 
-def build_plain(target="native", large=False):
+def build_plain(target: str = "native", large: bool = False) -> Path:
     """Compiles the plain program for this machine, or for any of its kind, and gives the folder of
     the programs."""
     if shutil.which("cargo") is None:
@@ -99,14 +112,14 @@ def build_plain(target="native", large=False):
     return folder / "release"
 
 
-def plain(target="native", large=False):
+def plain(target: str = "native", large: bool = False) -> Program:
     """The plain program; `large` takes what `tacview --limits large` takes."""
     return Program(
         "plain", build_plain(target, large) / "tacflow-plain", environment=launcher_environment()
     )
 
 
-def other(word):
+def other(word: str) -> Program:
     """Of PATH or LABEL=PATH."""
     label, sign, path = word.partition("=")
     if not sign:

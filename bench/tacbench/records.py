@@ -1,20 +1,24 @@
 """Runs as lines of CSV behind a header, and tables of their ratios."""
 
+from __future__ import annotations
+
 import csv
 import os
 import platform
 import statistics
 import subprocess
 import time
+from collections.abc import Sequence
 from pathlib import Path
+from typing import Any
 
-from .programs import BENCH, ROOT
+from .programs import BENCH, ROOT, Program
 from .writing import Fault
 
 FIELDS = ["benchmark", "program", "round", "clock_ms", "processor_ms", "peak_kib", "instructions"]
 
 
-def told_by(command):
+def told_by(command: list[str]) -> str:
     try:
         run = subprocess.run(command, cwd=ROOT, stdout=subprocess.PIPE, stderr=subprocess.DEVNULL)
     except OSError:
@@ -22,7 +26,7 @@ def told_by(command):
     return run.stdout.decode(errors="replace").strip().split("\n")[0] or "unknown"
 
 
-def processor():
+def processor() -> str:
     try:
         lines = Path("/proc/cpuinfo").read_text().split("\n")
     except OSError:
@@ -31,7 +35,7 @@ def processor():
     return "%d of %s" % (os.cpu_count() or 1, names[0] if names else platform.machine())
 
 
-def header(programs, target):
+def header(programs: Sequence[Program], target: str) -> list[str]:
     """What a reader of the run has to know, as lines of a comment."""
     # a file that is listed is changed; where none is, nothing is told
     changed = (
@@ -57,18 +61,27 @@ def header(programs, target):
 class Record:
     """The measurements of a run: by benchmark and program a list of the fields behind them."""
 
-    def __init__(self, lines):
+    def __init__(self, lines: list[str]) -> None:
         self.header = lines
-        self.rows = []
+        self.rows: list[dict[str, Any]] = []
 
-    def add(self, benchmark, program, round_number, clock="", cpu="", peak="", instructions=""):
+    def add(
+        self,
+        benchmark: str,
+        program: str,
+        round_number: int | str,
+        clock: float | str = "",
+        cpu: float | str = "",
+        peak: int | str = "",
+        instructions: int | str = "",
+    ) -> None:
         shown = [
             "%.3f" % value if isinstance(value, float) else value
             for value in (clock, cpu, peak, instructions)
         ]
         self.rows.append(dict(zip(FIELDS, [benchmark, program, round_number, *shown])))
 
-    def values(self, benchmark, program, field):
+    def values(self, benchmark: str, program: str, field: str) -> list[float]:
         return [
             float(row[field])
             for row in self.rows
@@ -77,23 +90,23 @@ class Record:
             and row[field] not in ("", None)
         ]
 
-    def least(self, benchmark, program, field):
+    def least(self, benchmark: str, program: str, field: str) -> float | None:
         return min(self.values(benchmark, program, field), default=None)
 
-    def median(self, benchmark, program, field):
+    def median(self, benchmark: str, program: str, field: str) -> float | None:
         values = self.values(benchmark, program, field)
         return statistics.median(values) if values else None
 
-    def has_times(self, program):
+    def has_times(self, program: str) -> bool:
         return any(row["program"] == program and row["clock_ms"] != "" for row in self.rows)
 
-    def benchmarks(self):
+    def benchmarks(self) -> list[str]:
         return list(dict.fromkeys(row["benchmark"] for row in self.rows))
 
-    def programs(self):
+    def programs(self) -> list[str]:
         return list(dict.fromkeys(row["program"] for row in self.rows))
 
-    def write(self, path):
+    def write(self, path: Path) -> None:
         path.parent.mkdir(parents=True, exist_ok=True)
         with open(path, "w", newline="") as file:
             file.writelines("# %s\n" % line for line in self.header)
@@ -102,7 +115,7 @@ class Record:
             writer.writerows(self.rows)
 
 
-def read(path):
+def read(path: str | Path) -> Record:
     try:
         lines = Path(path).read_text().split("\n")
     except OSError as error:
@@ -115,7 +128,7 @@ def read(path):
     return record
 
 
-def free_path():
+def free_path() -> Path:
     """DATE-MACHINE.csv, with a number where that is taken."""
     stem = time.strftime("%Y-%m-%d", time.gmtime()) + "-" + (platform.node() or "machine")
     paths = (
@@ -125,15 +138,15 @@ def free_path():
     return next(path for path in paths if not path.exists())
 
 
-def ratio(value, other):
+def ratio(value: float | None, other: float | None) -> str:
     return "%.2f" % (value / other) if value is not None and other else "-"
 
 
-def shown(value, scale=1.0, form="%.1f"):
+def shown(value: float | None, scale: float = 1.0, form: str = "%.1f") -> str:
     return form % (value / scale) if value is not None else "-"
 
 
-def table_of(record, first):
+def table_of(record: Record, first: str) -> str:
     """A line for each benchmark: the first program's measurements, and by each other's its
     ratios."""
     others = [
@@ -165,7 +178,7 @@ def table_of(record, first):
     return aligned(rows)
 
 
-def cells(record, name, program):
+def cells(record: Record, name: str, program: str) -> list[str]:
     return [
         shown(record.least(name, program, "clock_ms")),
         shown(record.median(name, program, "clock_ms")),
@@ -174,7 +187,7 @@ def cells(record, name, program):
     ]
 
 
-def aligned(rows):
+def aligned(rows: list[list[str]]) -> str:
     widths = [max(len(row[column]) for row in rows) for column in range(len(rows[0]))]
     lines = []
     for row in rows:
@@ -187,7 +200,7 @@ def aligned(rows):
     return "\n".join(lines) + "\n"
 
 
-def instruction_table(record, first):
+def instruction_table(record: Record, first: str) -> str:
     names = [name for name in record.benchmarks() if record.values(name, first, "instructions")]
     if not names:
         return ""
@@ -209,7 +222,7 @@ def instruction_table(record, first):
     return aligned(rows)
 
 
-def comparison(before, after):
+def comparison(before: Record, after: Record) -> str:
     """The second run by the first, for what both have."""
     rows = [["benchmark", "program", "least ms", "then", "ratio", "median", "cpu", "memory"]]
     for name in after.benchmarks():

@@ -1,8 +1,11 @@
 """Small random programs, of all forms of statements and any layout, and small texts that are mostly
 refused."""
 
+from __future__ import annotations
+
 import random
 import re
+from collections.abc import Callable
 
 from .writing import BINARY, COMPARISON, UNARY, name_of
 
@@ -11,7 +14,7 @@ ODD_BYTES = b"\0\t\r\n #:;=@$\\\xff\xc3xX_0189|<>"
 
 
 class Small:
-    def __init__(self, seed, procedures, statements, variables):
+    def __init__(self, seed: int, procedures: int, statements: int, variables: int) -> None:
         draw = self.draw = random.Random(seed)
         self.names = [name_of(number) for number in range(draw.randint(1, procedures))]
         draw.shuffle(self.names)
@@ -22,10 +25,10 @@ class Small:
         self.jumps = draw.choice([0.1, 0.25, 0.5])
         self.endless = draw.choice([0.05, 0.3, 1])
 
-    def variable(self):
+    def variable(self) -> str:
         return self.draw.choice(self.variables)
 
-    def operand(self):
+    def operand(self) -> str:
         draw = self.draw
         return (
             draw.choice(["0", "1", "01", "7", "9223372036854775807"])
@@ -33,7 +36,7 @@ class Small:
             else self.variable()
         )
 
-    def value(self):
+    def value(self) -> str:
         draw = self.draw
         kind = draw.random()
         if kind < 0.25:
@@ -46,7 +49,7 @@ class Small:
             self.operand(),
         )
 
-    def statement(self, labels):
+    def statement(self, labels: list[str]) -> str:
         draw, kind = self.draw, self.draw.random()
         if kind < self.calls:
             most = min(8, len(self.names)) if self.several else 1
@@ -59,7 +62,7 @@ class Small:
         ] * 6
         return "return" if draw.random() < 0.02 else draw.choice(rest)
 
-    def test(self):
+    def test(self) -> str:
         draw = self.draw
         return draw.choice(
             [
@@ -69,13 +72,13 @@ class Small:
             ]
         )
 
-    def guarded(self, statement, number):
+    def guarded(self, statement: str, number: int) -> list[str]:
         """A call is often gone round by a test, so that recursion can end."""
         if not statement.startswith("call") or self.draw.random() < self.endless:
             return [statement]
         return ["%s goto G%d" % (self.test(), number), statement, "G%d :" % number]
 
-    def procedure(self, name):
+    def procedure(self, name: str) -> list[str]:
         """Lines of tokens."""
         draw = self.draw
         size = draw.randint(0, self.most)
@@ -89,27 +92,28 @@ class Small:
             lines += made
         return [*lines, "end"]
 
-    def lines(self):
+    def lines(self) -> list[str]:
         return [line for name in self.names for line in self.procedure(name)]
 
 
 class Layout:
     """How tokens become lines: blanks, tabs, comments, CR LF, empty lines."""
 
-    def __init__(self, draw):
+    def __init__(self, draw: random.Random) -> None:
         self.draw = draw
         self.is_tight = draw.random() < 0.3
         self.has_comments = draw.random() < 0.3
         self.has_returns = draw.random() < 0.2
         self.has_end = draw.random() < 0.9
 
-    def blank(self, before, after):
-        joined = TOKEN.match(before + after).group() != before
+    def blank(self, before: str, after: str) -> str:
+        found = TOKEN.match(before + after)
+        joined = found is None or found.group() != before
         if self.is_tight and not joined:
             return ""
         return self.draw.choice([" ", " ", " ", "  ", "\t"])
 
-    def line(self, tokens):
+    def line(self, tokens: list[str]) -> str:
         draw = self.draw
         text = draw.choice(["", "", "  ", "\t"]) + tokens[0] if tokens else ""
         for before, after in zip(tokens, tokens[1:]):
@@ -118,7 +122,7 @@ class Layout:
             text += " #" + draw.choice(["", " x = y", "#", "proc"])
         return text + ("\r" if self.has_returns and draw.random() < 0.8 else "")
 
-    def text(self, lines):
+    def text(self, lines: list[str]) -> bytes:
         made = []
         for line in lines:
             if self.has_comments and self.draw.random() < 0.1:
@@ -129,14 +133,14 @@ class Layout:
         return (text + "\n" if is_whole else text).encode()
 
 
-def small(procedures=4, statements=12, variables=5, seed=1):
+def small(procedures: int = 4, statements: int = 12, variables: int = 5, seed: int = 1) -> bytes:
     """a random program with recursion, several callees, unreached procedures and all forms of
     statements"""
     program = Small(seed, procedures, statements, variables)
     return Layout(program.draw).text(program.lines())
 
 
-def broken(procedures=4, statements=12, variables=5, seed=1):
+def broken(procedures: int = 4, statements: int = 12, variables: int = 5, seed: int = 1) -> bytes:
     """such a program with one to three changes of bytes, tokens or lines, which most are refused
     for"""
     program = Small(seed, procedures, statements, variables)
@@ -152,7 +156,7 @@ def broken(procedures=4, statements=12, variables=5, seed=1):
     return bytes(text)
 
 
-def change_line(draw, lines):
+def change_line(draw: random.Random, lines: list[str]) -> None:
     """A token lost, doubled, or one of another line's in its place; or a line lost or doubled."""
     at = draw.randrange(len(lines))
     tokens = TOKEN.findall(lines[at])
@@ -191,4 +195,4 @@ def change_line(draw, lines):
         lines.append("end")
 
 
-SHAPES = {"small": small, "broken": broken}
+SHAPES: dict[str, Callable[..., bytes]] = {"small": small, "broken": broken}

@@ -1,7 +1,10 @@
 """Texts of whole programs: more procedures, and longer texts against a reader, than the standard
 limits allow."""
 
+from __future__ import annotations
+
 import itertools
+from collections.abc import Callable, Iterator
 
 from .texts import LETTERS, LIMIT, SIGNS, filled, repeated, width
 from .writing import need
@@ -10,7 +13,7 @@ LARGE_LIMIT = 1 << 26
 KEYWORDS = "proc end goto if ifFalse call return read print skip main".split()
 
 
-def short_names():
+def short_names() -> Iterator[str]:
     """Names from the shortest on."""
     for length in itertools.count(1):
         for signs in itertools.product(LETTERS + "_", *[SIGNS] * (length - 1)):
@@ -19,45 +22,45 @@ def short_names():
                 yield name
 
 
-def short_labels(size=LARGE_LIMIT):
+def short_labels(size: int = LARGE_LIMIT) -> str:
     """labels with the shortest names, all on one line"""
     return filled("proc main\n", (name + ":" for name in short_names()), "\nend\n", size)
 
 
-def short_copies(size=LARGE_LIMIT):
+def short_copies(size: int = LARGE_LIMIT) -> str:
     """the shortest statements that name two variables"""
     return repeated("proc main\n", lambda number: "a=b\n", "end\n", size)
 
 
-def short_sums(size=LARGE_LIMIT):
+def short_sums(size: int = LARGE_LIMIT) -> str:
     """the shortest statements of five tokens"""
     return repeated("proc main\n", lambda number: "a=b+c\n", "end\n", size)
 
 
-def short_variables(size=LARGE_LIMIT):
+def short_variables(size: int = LARGE_LIMIT) -> str:
     """a new variable of the shortest name in each statement"""
     return filled("proc main\n", (name + "=1\n" for name in short_names()), "end\n", size)
 
 
-def short_procedures(size=LARGE_LIMIT):
+def short_procedures(size: int = LARGE_LIMIT) -> str:
     """procedures with the shortest names, refused at the first that is too many"""
     return filled("proc main\nend\n", ("proc %s\nend\n" % name for name in short_names()), "", size)
 
 
-def label_tables(size=LARGE_LIMIT):
+def label_tables(size: int = LARGE_LIMIT) -> str:
     """procedures with a label each, refused at the first that is too many"""
     return filled(
         "proc main\nend\n", ("proc %s\na:\nend\n" % name for name in short_names()), "", size
     )
 
 
-def label_fault(size=LARGE_LIMIT):
+def label_fault(size: int = LARGE_LIMIT) -> str:
     """labels on one line, at the end of which a bad byte stands"""
     digits = width(size, 6)
     return repeated("proc main\n", lambda number: "n%0*d:" % (digits, number), "@\nend\n", size)
 
 
-def by_fold(count):
+def by_fold(count: int) -> Iterator[str]:
     """Names that fall together in a small table of the kit's hash, which has no seed: eight of its
     bits, which are compared first, and the three lowest, which say where the search begins, are the
     same."""
@@ -76,7 +79,7 @@ def by_fold(count):
                 return
 
 
-def falling_labels(size=LARGE_LIMIT):
+def falling_labels(size: int = LARGE_LIMIT) -> str:
     """procedures of 64 labels that fall together in a table without a seed, and of jumps to the
     last, refused where these are too many"""
     names = list(by_fold(64))
@@ -100,7 +103,7 @@ CROWDS = {
 }
 
 
-def crowding(size=LARGE_LIMIT, as_labels=1):
+def crowding(size: int = LARGE_LIMIT, as_labels: int = 1) -> str:
     """names that fall together in a table of the kit's hash behind any digest, as labels on one
     line, or with as_labels=0 as variables"""
     line = "%s:" if as_labels else "read %s\n"
@@ -110,7 +113,7 @@ def crowding(size=LARGE_LIMIT, as_labels=1):
     return filled("proc main\n", (line % name for name in names), tail, size)
 
 
-def row(procedures=16384, back=0, ring=0):
+def row(procedures: int = 16384, back: int = 0, ring: int = 0) -> str:
     """procedures of which each calls the next, or with back=1 the one before; with ring=1 the last
     may call the first"""
     need(1 <= procedures <= 16384, "a program has at most 16,384 procedures")
@@ -129,7 +132,7 @@ def row(procedures=16384, back=0, ring=0):
     return "".join(texts[number] for number in order)
 
 
-SHAPES = {
+SHAPES: dict[str, Callable[..., str]] = {
     "short-labels": short_labels,
     "short-copies": short_copies,
     "short-sums": short_sums,
