@@ -32,9 +32,9 @@ loop-j-preserved c =
             (omega (arith, c.loop-j-test.true, c.count-count.ensures.count)))
         | else-ends_between w ↦
             let alike : AreAlike order (c.loop-j.j - 1) c.loop-j.j = λ one other is there.
-                let first : one ≡ c.loop-j.before = cc (sym is ∙ before.before) in
-                let second : other ≡ c.ask-here.result = cc (sym there ∙ c.ask-here.ensures.ask) in
-                ap (λ (ask : Ask). ask.analysis) first ∙ w.if-ends_between.ensures refl ∙ ap (λ (ask : Ask). ask.analysis) (sym second) in
+            let first : one ≡ c.loop-j.before = cc (sym is ∙ before.before) in
+            let second : other ≡ c.ask-here.result = cc (sym there ∙ c.ask-here.ensures.ask) in
+            ap (λ (ask : Ask). ask.analysis) first ∙ w.if-ends_between.ensures refl ∙ ap (λ (ask : Ask). ask.analysis) (sym second) in
             rw (w.ends-is) (no_more_end order (length order) c.loop-j.j c.loop-j.ends.items before.ends (c.loop-j.j - 1) (omega (arith, before.first)) alike)
       ];
     }
