@@ -1,5 +1,5 @@
 -- What is posted of asks.
-use Rattle.std.proofs.Common.{◌≡◌, ◌∙◌, ℕ, ◌+◌, ◌*◌, ◌/◌, ◌%◌, ◌<◌, ◌≤◌, true, List, Some, slice_get, refl, sym, ap, subst, arith}
+use Rattle.std.proofs.Common.{◌≡◌, ◌∙◌, ℕ, ◌+◌, ◌*◌, ◌/◌, ◌%◌, ◌<◌, ◌≤◌, true, Some, slice_get, refl, sym, ap, subst, arith}
 use mathlib.Core.Logic.{dite}
 use native.Mathlib.Decide.{ℕ_discrete}
 use Rattle.bit_rows.specs.Words.{has_bit}
@@ -7,13 +7,10 @@ use Rattle.flow_team.specs.code.Directions.{form_of}
 use Rattle.flow_team.specs.code.Boards.{AreDone, Asked, IsWanted}
 use Rattle.flow_team.specs.declared.ask.Ask.{Ask}
 use Rattle.flow_graph.specs.Universes.{bits}
-use Rattle.flow_graph.specs.declared.analysis.Analysis.{Analysis}
-use Rattle.flow_graph.specs.declared.analysis.Analysis.TheVariants.{Reach, Live, Avail, Busy}
 use Rattle.flow_team.specs.Sets.{IsInMaySet}
 use Rattle.slice_team.specs.Teams.{PostsMore}
 use Rattle.gk_solve.specs.Solved.{SliceTable, TellWords, word_at}
 use Rattle.slice_board.specs.Passes.{PassState, IsLogged}
-use Rattle.slice_board.specs.declared.view.LoggedWord.{LoggedWord}
 use Rattle.slice_board.proofs.words.Sums.{marked_still}
 
 -- what is wanted of an ask's number is wanted of the ask

@@ -1,5 +1,5 @@
 -- Where slices of asks end.
-use Rattle.std.proofs.Common.{◌≡◌, ◌∙◌, ◌⊎◌, ◌+◌, ◌*◌, ◌/◌, ◌<◌, ◌≤◌, ℕ, zero, suc, List, [], ◌∷◌, ◌++◌, Some, length, slice_get, slice_index, inl, inr}
+use Rattle.std.proofs.Common.{◌≡◌, ◌∙◌, ◌⊎◌, ◌+◌, ◌*◌, ◌/◌, ◌<◌, ◌≤◌, ℕ, zero, suc, List, [], ◌∷◌, ◌++◌, Some, length, slice_index, inl, inr}
 use Rattle.std.proofs.Common.{arith, ap, sym, subst, get_or, refl, cond, Bool, false}
 use mathlib.Core.Logic.{dite}
 use native.Mathlib.Decide.{ℕ_discrete}
@@ -7,7 +7,7 @@ use Rattle.std.proofs.lemmas.Bool.{cases_eq, cases_lt, ne_eqb}
 use Rattle.std.proofs.lemmas.List.{get_or_append_left, get_or_push, length_push}
 use Rattle.std.proofs.lemmas.Option.{slice_get-get_or}
 use Rattle.bit_rows.proofs.slices.Cuts.{end_le_bits}
-use Rattle.bit_rows.specs.Slices.{ArePlaces, CoverBits, Slices, cut_at, end_of, start_of}
+use Rattle.bit_rows.specs.Slices.{CoverBits, Slices, cut_at, end_of, start_of}
 use Rattle.flow_team.specs.code.Boards.{no_ask}
 use Rattle.flow_team.specs.code.Cuts.{AreAlike, AreApart, EndTo, IsEnd}
 use Rattle.flow_team.specs.declared.ask.Ask.{Ask}

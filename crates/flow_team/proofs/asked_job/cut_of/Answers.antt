@@ -1,4 +1,4 @@
-use Rattle.std.proofs.Common.{◌≡◌, ◌*◌, ◌∙◌, ℕ, ap, ap₂, sym, subst}
+use Rattle.std.proofs.Common.{◌*◌, ◌∙◌, ℕ, ap, ap₂, sym, subst}
 use Rattle.bit_rows.specs.Slices.{CoverBits, cut_at}
 use Rattle.flow_team.specs.code.Cuts.{AreApart}
 use Rattle.flow_team.proofs.asks.Ends.{cut_apart}

@@ -1,6 +1,6 @@
 -- Where each slice ends.
-use Rattle.std.proofs.Common.{◌≡◌, ◌∙◌, ◌-◌, ◌+◌, ℕ, Some, length, slice_get, refl, sym, ap, subst, arith}
-use Rattle.flow_team.specs.code.Cuts.{AreAlike, EndTo}
+use Rattle.std.proofs.Common.{◌≡◌, ◌∙◌, ◌-◌, ◌+◌, length, slice_get, refl, sym, ap, arith}
+use Rattle.flow_team.specs.code.Cuts.{AreAlike}
 use Rattle.flow_team.specs.declared.ask.Ask.{Ask}
 use Rattle.flow_team.proofs.asks.Ends.{all_ends, no_ends, no_more_end, none_end, one_more_end}
 use Rattle.flow_team.proofs.asked_job.ends.Goals as goal
