@@ -1,7 +1,7 @@
 -- Facts of small programs, written out by hand.
 use Rattle.std.specs.Prelude.{ℕ, Bool, List, [], ◌∷◌, slice_index_or, nat_eq}
 use Rattle.std.specs.List.{list_any}
-use Rattle.flow_texts.specs.Reports.{Knowledge}
+use Rattle.flow_reports.specs.Reports.{Knowledge}
 use Rattle.flow_team.specs.Tables.{Facts}
 
 -- whether a number is in a list

@@ -4,7 +4,7 @@ ghost use Rattle.std.specs.Prelude.{◌≡◌, false, codes};
 ghost use Rattle.checked_examples.specs.ProgramExamples.{calls_twice, adds_to_itself, calls_endless, may_loop};
 ghost use Rattle.flow_graph.specs.declared.analysis.Analysis.TheVariants.{Reach, Avail, Busy};
 ghost use Rattle.tac_reader.specs.Parses.{program_of};
-ghost use Rattle.flow_texts.specs.Reports.{IsSafeToDelete, report_of};
+ghost use Rattle.flow_reports.specs.Reports.{IsSafeToDelete, report_of};
 ghost use Rattle.flow_texts.specs.Tables.{table_text_of};
 ghost use Rattle.checked_examples.specs.WorkedTexts.{reach_of_two_calls, known_of_sum, known_of_endless_callee, known_of_loop, known_of_branches};
 

@@ -6,7 +6,7 @@ use Rattle.clap.specs.declared.builder.possible_value.PossibleValue.{PossibleVal
 use Rattle.clap.specs.declared.error.Error.{Error}
 use Rattle.clap.specs.declared.error.kind.ErrorKind.TheVariants.{OutOfMemory}
 use Rattle.flow_runs.specs.Words.{AreKindsOf, NamesNumber, kind_rule, number_rule}
-use Rattle.flow_commands.specs.Shows.{kinds, show_named}
+use Rattle.flow_commands.specs.Kinds.{kinds, show_named}
 use Rattle.flow_commands.specs.declared.options.Options.{Options}
 
 -- `tacflow [--workers N] [--cut N] [--show KIND]`

@@ -1,4 +1,4 @@
 pub mod Runs
-pub mod Shows
+pub mod Kinds
 pub mod Commands
 pub mod code

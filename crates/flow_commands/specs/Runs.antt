@@ -3,7 +3,7 @@ use Rattle.std.specs.Prelude.{◌≡◌, ℕ, List, Bool, true, false}
 use Rattle.flow_graph.specs.declared.analysis.Analysis.TheVariants.{Reach, Live, Avail, Busy}
 use Rattle.tac_program.specs.Listings.{listing_of}
 use Rattle.tac_program.specs.Programs.{Program}
-use Rattle.flow_texts.specs.Reports.{IsReport, ListsSafely}
+use Rattle.flow_reports.specs.Reports.{IsReport, ListsSafely}
 use Rattle.flow_texts.specs.Tables.{IsTableText}
 use Rattle.flow_commands.specs.declared.options.Show.{Show}
 use Rattle.flow_commands.specs.declared.options.Show.TheVariants as show

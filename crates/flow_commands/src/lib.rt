@@ -2,8 +2,8 @@
 #![tactic(auto)]
 
 mod options;
+mod output;
 mod runs;
-mod shows;
 mod words;
 
 pub use options::{Options, Show};

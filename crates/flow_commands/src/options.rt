@@ -1,7 +1,7 @@
 // What the program is asked to do.
 
 ghost use Rattle.std.specs.Prelude.{◌≡◌, ◌≤◌, ◌↔◌, IsSome, IfSome};
-ghost use Rattle.slice_team.specs.Ranges.{AreInRange};
+ghost use Rattle.slice_board.specs.Ranges.{AreInRange};
 
 use flow_team::are_in_range;
 

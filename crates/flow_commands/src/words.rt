@@ -5,7 +5,7 @@ ghost use Rattle.clap.specs.Words.{app_of, first_of, found_of, rows_of, rule_of}
 ghost use Rattle.flow_runs.specs.Words.{AreKindsOf, kind_rule};
 ghost use Rattle.flow_runs.specs.code.Matches.{HoldsKind};
 ghost use Rattle.flow_commands.specs.Commands.{AnswersWords, NamesOptions, tacflow_command};
-ghost use Rattle.flow_commands.specs.Shows.{kinds as known_kinds, show_named};
+ghost use Rattle.flow_commands.specs.Kinds.{kinds as known_kinds, show_named};
 ghost use Rattle.flow_commands.specs.code.Matches.{HoldsOptions};
 
 use crate::options::{Options, Show};

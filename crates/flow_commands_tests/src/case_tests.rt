@@ -1,6 +1,6 @@
 // Values by hand: tables and reports of small programs, and programs at the limits.
 
-use crate::tacflow_tests::{check, check_all, check_by, check_refused, told};
+use crate::tacflow_tests::{check, check_all, check_by, check_refused, output_of};
 use flow_commands::Show;
 use std::process::Abort;
 use std::test::Fail;
@@ -182,7 +182,7 @@ fn check_first_line<R: Threads + Sync + Abort + AllocGlobal>(
     line: &str,
 ) -> Result<(), Fail> {
     let mut page = blank_page(rt.alloc());
-    let got = told(rt, text.as_bytes(), &mut page, show, ALONE)?;
+    let got = output_of(rt, text.as_bytes(), &mut page, show, ALONE)?;
     assert!(rt; got.as_slice().starts_with(line.as_bytes()));
     Ok(())
 }

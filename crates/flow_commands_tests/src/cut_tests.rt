@@ -1,6 +1,6 @@
 // Texts that are cut short, and single bytes that are no text.
 
-use crate::tacflow_tests::{check, check_by, told};
+use crate::tacflow_tests::{check, check_by, output_of};
 use flow_commands::Show;
 use std::alloc::Global;
 use std::process::Abort;
@@ -10,10 +10,10 @@ use test_support::failing_streams::blank_page;
 use test_support::worked_programs::{ALONE, recursion, spacing};
 
 // Whether one line that tells a refusal at a place was written.
-fn is_refusal(told: &[u8]) -> bool {
-    told.starts_with(b"tacflow: ")
-        && matches!(told.get(9), Some(b'0'..=b'9'))
-        && match told.split_last() {
+fn is_refusal(output_of: &[u8]) -> bool {
+    output_of.starts_with(b"tacflow: ")
+        && matches!(output_of.get(9), Some(b'0'..=b'9'))
+        && match output_of.split_last() {
             Some((last, line)) => *last == b'\n' && !line.contains(&b'\n'),
             None => false,
         }
@@ -21,7 +21,7 @@ fn is_refusal(told: &[u8]) -> bool {
 
 // The text is refused by one line and nothing else.
 fn check_refused<R: Threads + Sync + Abort + AllocGlobal>(rt: &R, text: &[u8]) -> Result<(), Fail> {
-    let got = told(rt, text, &mut blank_page(rt.alloc()), Show::List, ALONE)?;
+    let got = output_of(rt, text, &mut blank_page(rt.alloc()), Show::List, ALONE)?;
     assert!(rt;
         is_refusal(got.as_slice()),
         "the first {} bytes",

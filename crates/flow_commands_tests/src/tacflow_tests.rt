@@ -32,7 +32,7 @@ pub(crate) fn run_to_page<R: Threads + Sync + AllocGlobal, D: Read + Drop>(
 }
 
 // The line of the fault, if there was one, and behind it what was written, by so many workers in slices of this width.
-pub(crate) fn told<R: Threads + Sync + AllocGlobal, D: Read + Drop>(
+pub(crate) fn output_of<R: Threads + Sync + AllocGlobal, D: Read + Drop>(
     rt: &R,
     reader: D,
     page: &mut Page,
@@ -59,7 +59,7 @@ pub(crate) fn check_by<R: Threads + Sync + Abort + AllocGlobal, D: Read + Drop>(
 ) -> Result<(), Fail> {
     let mut page = blank_page(rt.alloc());
     page.piece = piece;
-    let got = told(rt, reader, &mut page, show, team)?;
+    let got = output_of(rt, reader, &mut page, show, team)?;
     check_team(rt, &got, answer, team);
     Ok(())
 }
@@ -328,7 +328,7 @@ fn check_page<R: Threads + Sync + Abort + AllocGlobal>(
     mut page: Page,
     beginning: &[u8],
 ) -> Result<(), Fail> {
-    let got = told(rt, text, &mut page, show, ALONE)?;
+    let got = output_of(rt, text, &mut page, show, ALONE)?;
     let line = b"tacflow: write fault\n";
     check_fault(rt, &got, line, &page.taken, beginning);
     Ok(())

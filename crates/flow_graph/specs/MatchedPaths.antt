@@ -21,8 +21,8 @@ IsEnteringPath shape path procedure =
     × (((path ≡ []) × (procedure ≡ shape.root_procedure)) ⊎ EndsInCallOf shape path procedure)
 
 -- whether no step of a path kills the bit
-abbrev pub is_kept_along : (ℕ → ℕ → Bool) → List Edge → Bool
-is_kept_along kill [] = true
-is_kept_along kill (Step source target ∷ path) = not (kill source target) && is_kept_along kill path
-is_kept_along kill (Call site source target ∷ path) = is_kept_along kill path
-is_kept_along kill (Ret site source target ∷ path) = is_kept_along kill path
+abbrev pub is_preserved_along : (ℕ → ℕ → Bool) → List Edge → Bool
+is_preserved_along kill [] = true
+is_preserved_along kill (Step source target ∷ path) = not (kill source target) && is_preserved_along kill path
+is_preserved_along kill (Call site source target ∷ path) = is_preserved_along kill path
+is_preserved_along kill (Ret site source target ∷ path) = is_preserved_along kill path

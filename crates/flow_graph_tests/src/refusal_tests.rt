@@ -28,7 +28,7 @@ const THREE_CALLEES: &str =
     "proc main\ncall p | q | r\nend\nproc p\nend\nproc q\nend\nproc r\nend\n";
 
 /// The edges out of the first point.
-fn told_of_edges(
+fn lines_of_edges(
     text: &mut String,
     alloc: Global,
     graph: &Graph<'_>,
@@ -42,7 +42,7 @@ fn told_of_edges(
 }
 
 /// The points that lead to those that are marked.
-fn told_of_leads(
+fn lines_of_leads(
     text: &mut String,
     alloc: Global,
     graph: &Graph<'_>,
@@ -55,7 +55,7 @@ fn told_of_leads(
     write_flags(text, leads.as_slice())
 }
 
-fn told_of_problem<'g, 'p>(
+fn lines_of_problem<'g, 'p>(
     text: &mut String,
     alloc: Global,
     graph: &'g Graph<'p>,
@@ -70,7 +70,7 @@ fn told_of_problem<'g, 'p>(
     write_frame(text, &problem, edges.as_slice())
 }
 
-fn told_of_graph(
+fn lines_of_graph(
     text: &mut String,
     alloc: Global,
     graph: &Graph<'_>,
@@ -79,17 +79,17 @@ fn told_of_graph(
 ) -> Result<(), OutOfMemory> {
     match call {
         Call::Build => write_answer(text, alloc, graph, Question::Edges),
-        Call::Succ => told_of_edges(text, alloc, graph, refused),
+        Call::Succ => lines_of_edges(text, alloc, graph, refused),
         Call::LeadsTo => {
             let marked = marks(alloc, graph, &[2])?;
-            told_of_leads(text, alloc, graph, marked.as_slice(), refused)
+            lines_of_leads(text, alloc, graph, marked.as_slice(), refused)
         }
-        Call::ProblemOf => told_of_problem(text, alloc, graph, refused),
+        Call::ProblemOf => lines_of_problem(text, alloc, graph, refused),
     }
 }
 
 /// Writes what a call on the program's graph answers, the second time where it was refused.
-fn told_of_program<'p>(
+fn lines_of_program<'p>(
     text: &mut String,
     alloc: Global,
     program: &'p Program,
@@ -97,7 +97,7 @@ fn told_of_program<'p>(
     refused: &mut Refused,
 ) -> Result<(), Fail> {
     let graph = again!(*refused, "Graph::build", Graph::build(alloc, program));
-    Ok(told_of_graph(text, alloc, &graph, call, refused)?)
+    Ok(lines_of_graph(text, alloc, &graph, call, refused)?)
 }
 
 /// The answer to a text is this; where a call was refused, the test fails by its name.
@@ -105,7 +105,7 @@ fn check<R: Abort + AllocGlobal>(rt: &R, source: &str, call: Call, want: &str) -
     let mut refused = None;
     let mut got = String::new(rt.alloc());
     let program = read(rt.alloc(), source.as_bytes())?;
-    told_of_program(&mut got, rt.alloc(), &program, call, &mut refused)?;
+    lines_of_program(&mut got, rt.alloc(), &program, call, &mut refused)?;
     assert_eq!(rt; got.as_str(), want);
     named(refused)
 }

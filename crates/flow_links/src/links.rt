@@ -19,7 +19,7 @@ use std::alloc::Global;
 use std::marker::Model;
 use std::snapshot::Snapshot;
 use tac_program::Program;
-use work_list::Order;
+use worklist::Order;
 
 /// The edges of a problem by point, in the direction in which it is solved, and an order in which to take its points and
 /// one in which to take its procedures. It stands for the program and the direction: two analyses of one direction have

@@ -14,7 +14,7 @@ use crate::values::{links, sites, sources, targets};
 use flow_graph::Edge;
 use gen_kill::Problem;
 use std::alloc::Global;
-use work_list::Groups;
+use worklist::Groups;
 
 /// Points by point: those of a point `x` are `items[starts[x]..starts[x + 1]]`.
 #[derive(Drop)]

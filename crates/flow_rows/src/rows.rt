@@ -58,7 +58,7 @@ fn solve_words<'a, 'g, 'p>(
     Ok((filling.rows, slice.visits()))
 }
 
-// The solution of a slice, and how often a point was visited to find what is kept and made.
+// The solution of a slice, and how often a point was visited to find what is preserved and generated.
 fn solved_slice<'a, 'g, 'p>(
     alloc: Global,
     solver: &'a Solver<'g, 'p>,
@@ -109,7 +109,7 @@ fn solver_of<'g, 'p>(
     Solver::of(alloc, same)
 }
 
-/// The solution of a problem on its bits `lo..hi`, and how often a point was visited to find what is reached, kept and made.
+/// The solution of a problem on its bits `lo..hi`, and how often a point was visited to find what is reached, preserved and generated.
 ///
 /// The number tells how much work it was. It stops at the largest number that there is.
 pub fn solve_counted(

@@ -29,7 +29,7 @@ IsOverLimit limits program graph_fault.OutOfMemory = ⊥
 
 -- The text is a program that is shown, and this is what is written for it. Whether its graph is needed, and what is written of a
 -- program, is each program's own.
-pub record Shows (limits : Limits) (is_needed : Bool) (IsShown : Program → List ℕ → Type 0) (text out : List ℕ) : Type 0 where
+pub record Outputs (limits : Limits) (is_needed : Bool) (IsShown : Program → List ℕ → Type 0) (text out : List ℕ) : Type 0 where
   pub faultless : refusal_within limits text ≡ None
   pub fits : HasItsGraph limits is_needed (program_of text)
   pub answer : IsShown (program_of text) out
@@ -51,7 +51,7 @@ pub record WritesAnswer (limits : Limits) (is_needed : Bool) (IsShown : Program 
   pub text : List ℕ
   pub out : List ℕ
   pub pulls : PullsAll limits before after ended text
-  pub shows : Shows limits is_needed IsShown text out
+  pub outputs : Outputs limits is_needed IsShown text out
   pub writes : Appends held holds out
 
 -- The whole text was pulled, and a beginning of the answer to it was written.
@@ -60,7 +60,7 @@ pub record WritesBeginning (limits : Limits) (is_needed : Bool) (IsShown : Progr
   pub text : List ℕ
   pub out : List ℕ
   pub pulls : PullsAll limits before after ended text
-  pub shows : Shows limits is_needed IsShown text out
+  pub outputs : Outputs limits is_needed IsShown text out
   pub writes : AppendsBeginning held holds out
 
 -- The whole text was pulled, and it is refused so.

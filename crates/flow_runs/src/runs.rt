@@ -7,8 +7,8 @@ ghost use Rattle.flow_runs.specs.Runs.{PullsNoProcedure, PullsOverLimit, PullsRe
 
 use crate::answer::answer;
 use crate::fault::Fault;
+use crate::output::Output;
 use crate::parts::pull_text;
-use crate::showing::Shown;
 use std::alloc::Global;
 use std::thread::Threads;
 use text_pieces::{Sink, Source};
@@ -23,32 +23,32 @@ use text_pieces::{Sink, Source};
 /// - `OutOfMemory`: memory was refused.
 /// - `Read`: a pull was answered by a fault. `Write`: a push or the flush was; a beginning of what
 ///   is to be shown was pushed. After every other fault nothing was.
-pub fn run<R: Threads + Sync, S: Source, K: Sink, W: Shown>(
+pub fn run<R: Threads + Sync, S: Source, K: Sink, W: Output>(
     rt: &R,
     alloc: Global,
     source: &mut S,
     sink: &mut K,
-    shown: &W,
+    output: &W,
 ) -> Result<(), Fault>
     requires running { S.ended source.old ≡ false }
     requires source_below { S.faults source.old < 2 ^ 32 - 1 }
     requires sink_below { K.faults sink.old < 2 ^ 32 - 1 }
-    ensures written { OnOk result (WritesAnswer (W.limits shown.now) (W.needs_graph shown.now) (W.is_shown shown.now)
+    ensures written { OnOk result (WritesAnswer (W.limits output.now) (W.needs_graph output.now) (W.is_output output.now)
         (S.remaining source.old) (S.remaining source.new) (S.ended source.new) (K.contents sink.old) (K.contents sink.new)) }
     ensures flushed { OnOk result (K.flushed sink.new ≡ true) }
     ensures refused { IfErr result
-        (WhereRefused (PullsRefused (W.limits shown.now) (S.remaining source.old) (S.remaining source.new) (S.ended source.new))) }
-    ensures no_graph { IfErr result (WhereNoGraph (PullsOverLimit (W.limits shown.now) (W.needs_graph shown.now)
+        (WhereRefused (PullsRefused (W.limits output.now) (S.remaining source.old) (S.remaining source.new) (S.ended source.new))) }
+    ensures no_graph { IfErr result (WhereNoGraph (PullsOverLimit (W.limits output.now) (W.needs_graph output.now)
         (S.remaining source.old) (S.remaining source.new) (S.ended source.new))) }
-    ensures no_procedure { IfErr result (WhereNoProcedure (PullsNoProcedure (W.limits shown.now) (W.lacks shown.now)
+    ensures no_procedure { IfErr result (WhereNoProcedure (PullsNoProcedure (W.limits output.now) (W.lacks output.now)
         (S.remaining source.old) (S.remaining source.new) (S.ended source.new))) }
-    ensures beginning { IfErr result (WhereWrite (WritesBeginning (W.limits shown.now) (W.needs_graph shown.now) (W.is_shown shown.now)
+    ensures beginning { IfErr result (WhereWrite (WritesBeginning (W.limits output.now) (W.needs_graph output.now) (W.is_output output.now)
         (S.remaining source.old) (S.remaining source.new) (S.ended source.new) (K.contents sink.old) (K.contents sink.new))) }
     ensures unwritten { IfErr result (UnlessWrite (Keeps (K.contents sink.old) (K.contents sink.new))) }
     ensures source_faults { S.faults source.new ≡ S.faults source.old + read_faults_in result }
     ensures sink_faults { K.faults sink.new ≡ K.faults sink.old + write_faults_in result }
 {
-    let most = shown.limits().text() as usize + 1;
+    let most = output.limits().text() as usize + 1;
     let text = pull_text(alloc, source, most)?;
-    answer(rt, alloc, text, shown, sink)
+    answer(rt, alloc, text, output, sink)
 }

@@ -1,4 +1,3 @@
-pub mod asks
 pub mod complements
 pub mod facts
 pub mod posts

@@ -1,3 +1,4 @@
 pub mod OneTable
+pub mod ByNumber
 pub mod ExcerptTables
 pub mod Words

@@ -1,13 +1,11 @@
--- The tables of the four analyses of a program.
-use Rattle.std.specs.Prelude.{◌≡◌}
-use Rattle.flow_graph.specs.declared.analysis.Analysis.TheVariants.{Reach, Live, Avail, Busy}
+-- The tables of all analyses of a program.
+use Rattle.std.specs.Prelude.{◌≡◌, List, Some, slice_get}
+use Rattle.flow_graph.specs.AnalysisNumbers.{analysis_number}
+use Rattle.flow_graph.specs.declared.analysis.Analysis.{Analysis}
 use Rattle.tac_program.specs.Programs.{Program}
-use Rattle.flow_team.specs.Tables.{IsTableOf}
-use Rattle.flow_team.specs.declared.tables.Tables.{Tables}
+use Rattle.flow_team.specs.Tables.{IsTableOf, TableFacts}
 
--- each is this program's table of its analysis
-pub record AreTablesOf (program : Program) (tables : Tables) : Type 0 where
-  pub reach : (tables.reach.analysis ≡ Reach) × IsTableOf program tables.reach
-  pub live : (tables.live.analysis ≡ Live) × IsTableOf program tables.live
-  pub avail : (tables.avail.analysis ≡ Avail) × IsTableOf program tables.avail
-  pub busy : (tables.busy.analysis ≡ Busy) × IsTableOf program tables.busy
+-- The table at each analysis's number is this program's table of that analysis.
+abbrev pub AreTablesOf : Program → List TableFacts → Type 0
+AreTablesOf program tables = (analysis : Analysis) (table : TableFacts) → slice_get tables (analysis_number analysis) ≡ Some table
+    → (table.analysis ≡ analysis) × IsTableOf program table

@@ -1,5 +1,4 @@
 pub mod AllTables
-pub mod Asks
 pub mod Excerpts
 pub mod Laws
 pub mod Sets

@@ -1,6 +1,4 @@
 pub mod Boards
-pub mod Directions
 pub mod Excerpts
 pub mod Posting
 pub mod Complements
-pub mod Cuts

@@ -29,7 +29,7 @@ impl Model for ComplementedWords {
 }
 
 /// By what a word's places are complemented: where the join is the intersection, those of its bits.
-pub(crate) fn complement_mask(bits: u32, join: Join, word: u32) -> u64
+pub fn complement_mask(bits: u32, join: Join, word: u32) -> u64
     ensures { (k : ℕ) → k < 64 → has_bit result k ≡ (is_intersection join && nat_lt (64 * word + k) bits) }
 {
     match join {

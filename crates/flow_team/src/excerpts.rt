@@ -14,8 +14,9 @@ use crate::table::Table;
 use crate::tables::even_cut;
 use bit_rows::Cut;
 use flow_graph::{Analysis, Graph};
-use slice_board::{Pass, PostedWords, Unfinished, Wanted, WordBoard};
-use slice_team::{Gate, SliceJob, Solve, Team, run_workers};
+use slice_board::{
+    Gate, Pass, PostedWords, SliceJob, Solve, Team, Unfinished, Wanted, WordBoard, run_workers,
+};
 use std::alloc::Global;
 use std::marker::Model;
 use std::thread::Threads;

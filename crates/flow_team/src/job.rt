@@ -6,15 +6,14 @@ ghost use Rattle.slice_board.specs.Boards.{IsOf, IsPlace, CountsOnce, fresh_pass
 ghost use Rattle.slice_board.specs.Passes.{IsLogged, joined, logged_word, times};
 ghost use Rattle.flow_team.specs.Sets.{IsInMaySet};
 ghost use Rattle.flow_team.specs.Tables.{IsTableOf};
-ghost use Rattle.slice_team.specs.Teams.{Works, Idles, Holds, IsDrained};
+ghost use Rattle.slice_board.specs.Teams.{Works, Idles, Holds, IsDrained};
 
 use crate::OutOfMemory;
 use crate::sets::GraphSets;
 use crate::table::Table;
 use bit_rows::Cut;
 use flow_graph::{Analysis, Graph};
-use slice_board::{Pass, Unfinished, WordBoard};
-use slice_team::{Gate, SliceJob, Team, run_workers};
+use slice_board::{Gate, Pass, SliceJob, Team, Unfinished, WordBoard, run_workers};
 use std::alloc::Global;
 use std::marker::Model;
 use std::thread::Threads;

@@ -3,7 +3,7 @@ ghost use Rattle.std.specs.Prelude.{◌≡◌, ℕ, ◌+◌, ◌*◌, ◌/◌, �
 ghost use Rattle.gk_solve.specs.Solved.{IsSliceOf, direction_of};
 ghost use Rattle.slice_board.specs.Boards.{IsOf, IsPlace, board_points};
 ghost use Rattle.flow_team.specs.code.Posting.{CanPost, HasPosted, IsPosted, TellPoint};
-ghost use Rattle.slice_team.specs.Teams.{PostsMore};
+ghost use Rattle.slice_board.specs.Teams.{PostsMore};
 
 use gen_kill::Problem;
 use gk_solve::{Routes, SliceWords, Solver, TakeWords};

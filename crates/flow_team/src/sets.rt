@@ -12,7 +12,7 @@ ghost use Rattle.flow_team.specs.Tables.{IsTableOf};
 ghost use Rattle.flow_team.specs.code.Boards.{IsTableBoard};
 ghost use Rattle.flow_team.specs.code.Excerpts.{HasFlagsFrom};
 ghost use Rattle.flow_team.specs.code.Posting.{CanPost};
-ghost use Rattle.slice_team.specs.Teams.{PostsMore};
+ghost use Rattle.slice_board.specs.Teams.{PostsMore};
 
 use crate::OutOfMemory;
 use crate::complemented_words::ComplementedWords;
@@ -21,8 +21,7 @@ use crate::table::Table;
 use flow_graph::{Analysis, Graph};
 use gen_kill::Problem;
 use gk_solve::{Routes, Solver};
-use slice_board::{Pass, PostedWords, Wanted, WordBoard};
-use slice_team::Solve;
+use slice_board::{Pass, PostedWords, Solve, Wanted, WordBoard};
 use std::alloc::Global;
 use std::marker::Model;
 

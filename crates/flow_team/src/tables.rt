@@ -1,4 +1,5 @@
-ghost use Rattle.std.specs.Prelude.{◌≡◌, ◌<◌, IfOk};
+ghost use Rattle.std.specs.Prelude.{◌≡◌, ◌<◌, Some, slice_get, IfOk};
+ghost use Rattle.flow_graph.specs.AnalysisNumbers.{analysis_number};
 ghost use Rattle.flow_team.specs.Tables.{IsTableOf};
 ghost use Rattle.flow_team.specs.AllTables.{AreTablesOf};
 
@@ -7,8 +8,9 @@ use crate::table::Table;
 use crate::team::worked_table;
 use bit_rows::{Cut, CutFault};
 use flow_graph::{Analysis, Graph};
-use slice_team::{Gate, Team};
+use slice_board::{Gate, Team};
 use std::alloc::Global;
+use std::marker::Model;
 use std::thread::Threads;
 
 /// So many bits in slices of one width. The condition: a slice has a bit. Fails only where memory runs out.
@@ -37,16 +39,21 @@ pub fn table_of<R: Threads + Sync, G: Gate>(
     worked_table(team, alloc, graph, analysis, slices)
 }
 
-/// The tables of the four analyses of one program.
+/// The tables of all analyses of a graph.
 pub struct Tables {
-    /// Reaching definitions.
-    pub reach: Table,
-    /// Live variables.
-    pub live: Table,
-    /// Available expressions.
-    pub avail: Table,
-    /// Very busy expressions.
-    pub busy: Table,
+    // In the order of the analyses' numbers.
+    tables: Vec<Table>,
+}
+
+impl Model for Tables {
+    ghost use Rattle.std.specs.Prelude.{◌≡◌, List, length};
+    ghost use Rattle.flow_team.specs.Tables.{TableFacts};
+
+    ghost Value = { List TableFacts };
+
+    ghost view = { λ t. t.tables.items };
+
+    ghost invariant = { λ t. length t.tables.items ≡ 4 };
 }
 
 impl Tables {
@@ -58,27 +65,24 @@ impl Tables {
     ) -> Result<Tables, OutOfMemory>
         ensures { IfOk result (AreTablesOf graph.now) }
     {
-        let reach = table_of(team, alloc, graph, Analysis::Reach)?;
-        let live = table_of(team, alloc, graph, Analysis::Live)?;
-        let avail = table_of(team, alloc, graph, Analysis::Avail)?;
-        let busy = table_of(team, alloc, graph, Analysis::Busy)?;
-        Ok(Tables {
-            reach,
-            live,
-            avail,
-            busy,
-        })
+        let mut tables = Vec::new(alloc);
+        for analysis in Analysis::ALL {
+            tables.push(table_of(team, alloc, graph, analysis)?)?;
+        }
+        Ok(Tables { tables })
+    }
+
+    /// The table of an analysis.
+    pub fn table(&self, analysis: Analysis) -> &Table
+        ensures { slice_get self.now (analysis_number analysis) ≡ Some result.now }
+    {
+        &self.tables[analysis.number()]
     }
 }
 
 impl Drop for Tables {
     // By hand: who gives the tables up then makes one call.
     fn drop(self) {
-        let Tables {
-            reach: _,
-            live: _,
-            avail: _,
-            busy: _,
-        } = self;
+        let Tables { tables: _ } = self;
     }
 }

@@ -3,8 +3,8 @@
 #![tactic(auto)]
 
 #[cfg(test)]
-mod ask_tests;
-#[cfg(test)]
 mod overlap_tests;
+#[cfg(test)]
+mod query_tests;
 #[cfg(test)]
 mod refusal_tests;

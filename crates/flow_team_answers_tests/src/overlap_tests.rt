@@ -1,6 +1,6 @@
 // That all workers find answers at the same time: each of the four analyses is a slice.
 
-use crate::ask_tests::{Way, check_way};
+use crate::query_tests::{Way, check_way};
 use std::test::Fail;
 use team_probes::Meeting;
 

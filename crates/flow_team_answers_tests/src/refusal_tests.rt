@@ -1,6 +1,6 @@
 // What is left where memory is refused on the way to an answer, as `test_support` has it.
 
-use crate::ask_tests::{Way, check_way};
+use crate::query_tests::{Way, check_way};
 use std::process::Abort;
 use std::test::Fail;
 use std::thread::Threads;

@@ -33,7 +33,7 @@ fn check_two_slices<'g, 'p, R: Abort>(
     ensures { IfOk result (λ _. IsOf job.now pass.new) }
 {
     assert_eq!(rt; job.work(alloc, pass, 0, gate)?, Some(0));
-    assert_eq!(rt; gate.told(), (1, 1, 1, 1));
+    assert_eq!(rt; gate.counts(), (1, 1, 1, 1));
     assert_eq!(rt; (job.look(pass, 0, 0), job.look(pass, 1, 0)), (1, 0));
     assert_eq!(rt; job.work(alloc, pass, 0, gate)?, Some(1));
     assert_eq!(rt; job.look(pass, 1, 0), 2);
@@ -53,7 +53,7 @@ fn check_last_slice<'g, 'p, R: Abort>(
 {
     assert_eq!(rt; job.work(alloc, pass, 0, gate)?, Some(2));
     assert_eq!(rt; job.work(alloc, pass, 0, gate)?, None);
-    assert_eq!(rt; gate.told(), (7, 7, 3, 3));
+    assert_eq!(rt; gate.counts(), (7, 7, 3, 3));
     Ok(())
 }
 

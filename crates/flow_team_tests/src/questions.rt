@@ -43,9 +43,9 @@ pub fn answered<R: Threads + Sync + Abort, Q: Question>(
 }
 
 /// The text is what is wanted. A failure names the case and the number of workers.
-pub fn check_text<R: Abort>(rt: &R, told: &str, want: &str, case: (u32, u32)) {
+pub fn check_text<R: Abort>(rt: &R, counts: &str, want: &str, case: (u32, u32)) {
     let (case, workers) = case;
-    assert_eq!(rt; told, want, "case {case}, {workers} workers");
+    assert_eq!(rt; counts, want, "case {case}, {workers} workers");
 }
 
 /// The answer of the graph of a text's program is what is wanted. Of the case and the number of workers a failure tells.
@@ -56,7 +56,7 @@ pub fn check<R: Threads + Sync + Abort + AllocGlobal, Q: Question>(
     want: &str,
     case: (u32, u32),
 ) -> Result<(), Fail> {
-    let told = answered(rt, rt.alloc(), text, question)?;
-    check_text(rt, told.as_str(), want, case);
+    let counts = answered(rt, rt.alloc(), text, question)?;
+    check_text(rt, counts.as_str(), want, case);
     Ok(())
 }

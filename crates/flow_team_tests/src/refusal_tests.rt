@@ -14,7 +14,7 @@ use std::alloc::Global;
 use std::process::Abort;
 use std::test::Fail;
 use std::thread::Threads;
-use team_probes::{RECURSIVE_REACH, Recorder, left_by, lines, slices, told_again};
+use team_probes::{RECURSIVE_REACH, Recorder, answered_again, left_by, lines, slices};
 use test_support::worked_programs::recursion;
 
 // The lines of reaching definitions, in three slices by so many workers.
@@ -58,7 +58,7 @@ fn check_by_workers<R: Threads + Sync + Abort + AllocGlobal>(
         workers,
         gate: &gate,
     };
-    check_told(rt, &how)
+    check_counts(rt, &how)
 }
 
 #[test]
@@ -72,10 +72,10 @@ fn two_workers_are_refused(rt: HostRuntime) -> Result<(), Fail> {
 }
 
 // How often slices were told: those that were claimed and finished as bits, and how often each.
-type Told = (u64, u64, u32, u32);
+type Counts = (u64, u64, u32, u32);
 
 // The slices of the recursive program's job, with what is told while one is held and once it is finished.
-const SLICES: &[(u32, Told, Told)] = &[
+const SLICES: &[(u32, Counts, Counts)] = &[
     (0, (1, 0, 1, 0), (1, 1, 1, 1)),
     (1, (3, 1, 2, 1), (3, 3, 2, 2)),
     (2, (7, 3, 3, 2), (7, 7, 3, 3)),
@@ -87,10 +87,10 @@ fn check_held<W: Wanted, R: Abort>(
     pass: &Pass<W>,
     gate: &Recorder,
     slice: u32,
-    told: Told,
+    counts: Counts,
 ) {
     assert_eq!(rt; pass.held(), Some(slice));
-    assert_eq!(rt; gate.told(), told, "slice {slice} is held");
+    assert_eq!(rt; gate.counts(), counts, "slice {slice} is held");
 }
 
 // The call worked this slice, and the pass holds none.
@@ -100,11 +100,11 @@ fn check_worked<W: Wanted, R: Abort>(
     pass: &Pass<W>,
     gate: &Recorder,
     slice: u32,
-    told: Told,
+    counts: Counts,
 ) {
     assert_eq!(rt; worked, Some(slice));
     assert_eq!(rt; pass.held(), None);
-    assert_eq!(rt; gate.told(), told, "slice {slice} is finished");
+    assert_eq!(rt; gate.counts(), counts, "slice {slice} is finished");
 }
 
 // Works a slice, and tells whether the call was refused: the pass then holds the slice, and the next call works it.
@@ -114,7 +114,7 @@ fn work_slice<'g, 'p, R: Abort>(
     job: &Job<'g, 'p>,
     pass: &mut Pass<GraphSets<'g, 'p>>,
     gate: &Recorder,
-    slice: (u32, Told, Told),
+    slice: (u32, Counts, Counts),
 ) -> Result<bool, OutOfMemory>
     requires { IsOf job.now pass.old }
     ensures { IfOk result (λ _. IsOf job.now pass.new) }
@@ -192,7 +192,7 @@ impl Question for WithRefusals {
         let (table, refused) = table_after_refusals(rt, alloc, graph)?;
         let lines = lines(alloc, graph, &table)?;
         match refused {
-            Some(slice) => told_again(Some(lines), RECURSIVE_REACH, name_of_work(slice)),
+            Some(slice) => answered_again(Some(lines), RECURSIVE_REACH, name_of_work(slice)),
             None => Ok(lines),
         }
     }
@@ -208,7 +208,7 @@ fn name_of_work(slice: u32) -> &'static str {
 
 #[test]
 fn a_refused_call_goes_on(rt: HostRuntime) -> Result<(), Fail> {
-    check_told(&rt, &WithRefusals)
+    check_counts(&rt, &WithRefusals)
 }
 
 // A call that takes memory, made once more where it is refused.
@@ -282,7 +282,7 @@ impl<'a> Question for Twice<'a> {
     ) -> Result<String, Fail> {
         match lines_of_call(rt, alloc, graph, self.call)? {
             Some(lines) => Ok(lines),
-            None => told_again(
+            None => answered_again(
                 lines_of_call(rt, alloc, graph, self.call)?,
                 self.want,
                 name_of(self.call),
@@ -303,7 +303,7 @@ impl Question for OpenedJob {
     ) -> Result<String, Fail> {
         match lines_of_opened(rt, alloc, graph)? {
             Some(lines) => Ok(lines),
-            None => told_again(
+            None => answered_again(
                 lines_of_opened(rt, alloc, graph)?,
                 RECURSIVE_REACH,
                 "Job::open",
@@ -313,7 +313,7 @@ impl Question for OpenedJob {
 }
 
 // What is told of the recursive program.
-fn check_told<R: Threads + Sync + Abort + AllocGlobal, Q: Question>(
+fn check_counts<R: Threads + Sync + Abort + AllocGlobal, Q: Question>(
     rt: &R,
     question: &Q,
 ) -> Result<(), Fail> {
@@ -323,12 +323,12 @@ fn check_told<R: Threads + Sync + Abort + AllocGlobal, Q: Question>(
 // The same of a call.
 fn check_call<R: Threads + Sync + Abort + AllocGlobal>(rt: &R, call: Call) -> Result<(), Fail> {
     let want = RECURSIVE_REACH;
-    check_told(rt, &Twice { call, want })
+    check_counts(rt, &Twice { call, want })
 }
 
 #[test]
 fn an_opened_job_is_refused(rt: HostRuntime) -> Result<(), Fail> {
-    check_told(&rt, &OpenedJob)
+    check_counts(&rt, &OpenedJob)
 }
 
 #[test]

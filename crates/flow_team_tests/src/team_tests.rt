@@ -4,7 +4,8 @@ ghost use Rattle.std.specs.Prelude.{◌≡◌};
 
 use crate::questions::{Question, answered, check, check_text};
 use flow_graph::{Analysis, Graph};
-use flow_team::{OpenGate, OutOfMemory, TeamFault, analyse, answer};
+use flow_queries::answer;
+use flow_team::{OpenGate, OutOfMemory, TeamFault, analyse};
 use std::alloc::Global;
 use std::process::Abort;
 use std::test::Fail;
@@ -48,8 +49,8 @@ impl<'a> Question for AgainAndAgain<'a> {
         graph: &Graph<'_>,
     ) -> Result<String, Fail> {
         for turn in 0..200 {
-            let told = noted_lines(rt, alloc, graph, self.width, self.slices)?;
-            check_text(rt, told.as_str(), self.want, (turn, 64));
+            let counts = noted_lines(rt, alloc, graph, self.width, self.slices)?;
+            check_text(rt, counts.as_str(), self.want, (turn, 64));
         }
         Ok(String::new(alloc))
     }
@@ -154,12 +155,12 @@ fn numbers_of_workers(rt: HostRuntime) -> Result<(), Fail> {
 
 // The lines of reaching definitions, in slices of one bit.
 #[derive(Clone, Copy)]
-struct Told<'a> {
+struct Counts<'a> {
     workers: u32,
     gate: &'a Recorder,
 }
 
-impl<'a> Question for Told<'a> {
+impl<'a> Question for Counts<'a> {
     fn answer<R: Threads + Sync + Abort>(
         &self,
         rt: &R,
@@ -176,12 +177,12 @@ impl<'a> Question for Told<'a> {
 fn each_slice_is_told_once(rt: HostRuntime) -> Result<(), Fail> {
     for workers in WORKERS {
         let gate = Recorder::new();
-        let how = Told {
+        let how = Counts {
             workers: *workers,
             gate: &gate,
         };
         check(&rt, recursion::TEXT, &how, RECURSIVE_REACH, (1, *workers))?;
-        assert_eq!(rt; gate.told(), (7, 7, 3, 3), "{workers} workers");
+        assert_eq!(rt; gate.counts(), (7, 7, 3, 3), "{workers} workers");
         assert_eq!(rt; gate.around(), (3, 3), "{workers} workers");
     }
     Ok(())

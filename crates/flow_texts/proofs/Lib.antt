@@ -1,4 +1,1 @@
-pub mod asks
-pub mod busy
-pub mod knowledge
 pub mod sets

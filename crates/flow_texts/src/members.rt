@@ -23,7 +23,7 @@ struct Run {
 }
 
 /// The first place from `from` on at which a word is 1; 64 where there is none.
-pub(crate) fn next_one(word: u64, from: u32) -> u32
+pub fn next_one(word: u64, from: u32) -> u32
     requires { from ≤ 64 }
     ensures ordered { from ≤ result }
     ensures within { result ≤ 64 }

@@ -1,10 +1,10 @@
 // That all workers find at the same time what a report asks.
 
-ghost use Rattle.slice_team.specs.Ranges.{AreInRange};
+ghost use Rattle.slice_board.specs.Ranges.{AreInRange};
 
 use flow_graph::Graph;
+use flow_reports::{ReportAnswers, ReportText};
 use flow_team::Team;
-use flow_texts::{ReportAnswers, ReportText};
 use std::alloc::Global;
 use std::process::Abort;
 use std::test::Fail;

@@ -3,8 +3,8 @@
 ghost use Rattle.flow_team.specs.Tables.{IsTableOf};
 
 use flow_graph::{Analysis, Graph};
-use flow_team::Table;
-use flow_texts::{TableText, table_of, table_text};
+use flow_team::{Table, table_of};
+use flow_texts::{TableText, table_text};
 use std::alloc::Global;
 use std::process::Abort;
 use std::test::Fail;

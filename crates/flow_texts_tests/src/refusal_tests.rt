@@ -3,13 +3,13 @@
 ghost use Rattle.std.specs.Prelude.{◌≡◌, IfOk};
 ghost use Rattle.flow_team.specs.Tables.{IsTableOf};
 ghost use Rattle.flow_team.specs.AllTables.{AreTablesOf};
-ghost use Rattle.flow_texts.specs.code.Reported.{TellReport};
+ghost use Rattle.flow_reports.specs.code.Reported.{TellReport};
 
 use flow_graph::{Analysis, Graph};
-use flow_team::Table;
-use flow_texts::{
-    ReportAnswers, ReportText, TableText, Tables, report, report_here, table_of, table_text,
-};
+use flow_reports::{ReportAnswers, ReportText, report_here};
+use flow_rows::{report, report_answers_of_tables};
+use flow_team::{Table, Tables, table_of};
+use flow_texts::{TableText, table_text};
 use std::alloc::Global;
 use std::process::Abort;
 use std::test::Fail;
@@ -48,7 +48,7 @@ fn reaching_table<R: Threads + Sync>(
     ))
 }
 
-fn told_of_table(
+fn lines_of_table(
     alloc: Global,
     graph: &Graph<'_>,
     table: &Table,
@@ -92,8 +92,8 @@ fn answers_of_tables(
 {
     Ok(again!(
         *refused,
-        "ReportAnswers::of_tables",
-        ReportAnswers::of_tables(alloc, graph, tables)
+        "report_answers_of_tables",
+        report_answers_of_tables(alloc, graph, tables)
     ))
 }
 
@@ -126,7 +126,7 @@ fn answers_here(
     ))
 }
 
-fn told_of_answers(
+fn lines_of_answers(
     alloc: Global,
     graph: &Graph<'_>,
     answers: &ReportAnswers,
@@ -142,7 +142,7 @@ fn told_of_answers(
     Ok(whole_text(alloc, &text)?)
 }
 
-fn told_of_tables(
+fn lines_of_tables(
     alloc: Global,
     graph: &Graph<'_>,
     tables: &Tables,
@@ -154,14 +154,14 @@ fn told_of_tables(
     match written {
         Written::AnswersOfTables => {
             let answers = answers_of_tables(alloc, graph, tables, refused)?;
-            told_of_answers(alloc, graph, &answers, refused)
+            lines_of_answers(alloc, graph, &answers, refused)
         }
         _ => Ok(again!(*refused, "report", report(alloc, graph, tables))),
     }
 }
 
 // What is written of a program, the second time where a call was refused.
-fn told_of_graph<R: Threads + Sync>(
+fn lines_of_graph<R: Threads + Sync>(
     rt: &R,
     alloc: Global,
     graph: &Graph<'_>,
@@ -171,25 +171,25 @@ fn told_of_graph<R: Threads + Sync>(
     match written {
         Written::TextOfTable | Written::WholeTable => {
             let table = reaching_table(rt, alloc, graph, refused)?;
-            told_of_table(alloc, graph, &table, written, refused)
+            lines_of_table(alloc, graph, &table, written, refused)
         }
         Written::ReportOfTables | Written::AnswersOfTables => {
             let tables = four_tables(rt, alloc, graph, refused)?;
-            told_of_tables(alloc, graph, &tables, written, refused)
+            lines_of_tables(alloc, graph, &tables, written, refused)
         }
         Written::Answers => {
             let answers = answers_of_graph(rt, alloc, graph, refused)?;
-            told_of_answers(alloc, graph, &answers, refused)
+            lines_of_answers(alloc, graph, &answers, refused)
         }
         Written::AnswersHere => {
             let answers = answers_here(alloc, graph, refused)?;
-            told_of_answers(alloc, graph, &answers, refused)
+            lines_of_answers(alloc, graph, &answers, refused)
         }
         Written::ReportHere => Ok(again!(*refused, "report_here", report_here(alloc, graph))),
     }
 }
 
-fn told_of_program<R: Threads + Sync>(
+fn lines_of_program<R: Threads + Sync>(
     rt: &R,
     alloc: Global,
     program: &Program,
@@ -197,7 +197,7 @@ fn told_of_program<R: Threads + Sync>(
     refused: &mut Refused,
 ) -> Result<Vec<u8>, Fail> {
     let graph = Graph::build(alloc, program)?;
-    told_of_graph(rt, alloc, &graph, written, refused)
+    lines_of_graph(rt, alloc, &graph, written, refused)
 }
 
 // This is written of the recursive program; where a call was refused, the test fails by its name.
@@ -208,7 +208,7 @@ fn check<R: Threads + Sync + Abort + AllocGlobal>(
 ) -> Result<(), Fail> {
     let mut refused = None;
     let program = read(rt.alloc(), recursion::TEXT.as_bytes())?;
-    let got = told_of_program(rt, rt.alloc(), &program, written, &mut refused)?;
+    let got = lines_of_program(rt, rt.alloc(), &program, written, &mut refused)?;
     assert_eq!(rt; got.as_slice(), want.as_bytes());
     named(refused)
 }

@@ -1,10 +1,10 @@
 // How many slices what a report asks is cut into.
 
-ghost use Rattle.slice_team.specs.Ranges.{AreInRange};
+ghost use Rattle.slice_board.specs.Ranges.{AreInRange};
 
 use flow_graph::Graph;
+use flow_reports::ReportAnswers;
 use flow_team::Team;
-use flow_texts::ReportAnswers;
 use std::alloc::Global;
 use std::test::Fail;
 use std::thread::Threads;
@@ -25,7 +25,7 @@ fn claims<R: Threads + Sync>(rt: &R, alloc: Global, text: &str, workers: u32) ->
         cut: 64,
     };
     let _answers = ReportAnswers::of(&team, alloc, &graph)?;
-    let (_, _, claims, _) = gate.told();
+    let (_, _, claims, _) = gate.counts();
     Ok(claims)
 }
 

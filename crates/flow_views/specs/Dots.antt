@@ -7,14 +7,14 @@ use Rattle.flow_graph.specs.Points.{end_place, entry_point, kind_at, procedure_a
 use Rattle.flow_graph.specs.declared.analysis.Analysis.{Analysis}
 use Rattle.flow_graph.specs.declared.edge.Edge.{Edge}
 use Rattle.flow_graph.specs.declared.edge.Edge.TheVariants.{Step, Call, Ret}
-use Rattle.flow_texts.specs.Reports.{IsKnowledge, Knowledge, dead_at, remark_text, remarks_at, unset_at}
+use Rattle.flow_reports.specs.Reports.{IsKnowledge, Knowledge, dead_at, remark_text, remarks_at, unset_at}
 use Rattle.flow_texts.specs.Tables.{bit_text, bits_at, line_at, listed}
 use Rattle.tac_program.specs.Listings.{statement_text}
 use Rattle.tac_program.specs.Programs.{Program}
 use Rattle.tac_program.specs.declared.program.StmtKind.{StmtKind}
 use Rattle.tac_program.specs.declared.program.StmtKind.TheVariants as kind
 use Rattle.text_pieces.specs.Strings.{escaped, quoted}
-use Rattle.flow_views.specs.Views.{analysis_name, chosen_analyses, names_at, points_in, procedure_name, shown_points, shown_procedures, told_by}
+use Rattle.flow_views.specs.Views.{analysis_name, chosen_analyses, names_at, points_in, procedure_name, shown_points, shown_procedures, known_facts}
 use Rattle.flow_views.specs.declared.view.Chosen.{Chosen}
 use Rattle.flow_views.specs.declared.view.View.{View}
 
@@ -40,7 +40,7 @@ title program point = elim (statement_at program point) [
 abbrev pub fact_line : Program → Knowledge → ℕ → Analysis → List ℕ
 fact_line program known point analysis =
     analysis_name analysis ++ codes ": "
-    ++ listed (map (bit_text program analysis) (bits_at program analysis (told_by known analysis) point))
+    ++ listed (map (bit_text program analysis) (bits_at program analysis (known_facts known analysis) point))
 
 -- the lines of a node: its title, then what the report says of it, then the facts that are chosen
 abbrev pub label_lines : Program → Knowledge → Chosen → ℕ → List (List ℕ)

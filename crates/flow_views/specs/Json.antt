@@ -8,14 +8,14 @@ use Rattle.flow_graph.specs.declared.analysis.Analysis.{Analysis}
 use Rattle.flow_graph.specs.declared.analysis.Analysis.TheVariants.{Avail, Busy}
 use Rattle.flow_graph.specs.declared.edge.Edge.{Edge}
 use Rattle.flow_graph.specs.declared.edge.Edge.TheVariants.{Step, Call, Ret}
-use Rattle.flow_texts.specs.Reports.{IsKnowledge, Knowledge, remarks_at}
+use Rattle.flow_reports.specs.Reports.{IsKnowledge, Knowledge, remarks_at}
 use Rattle.flow_texts.specs.Tables.{bit_text, bits_at, variable_text}
-use Rattle.flow_texts.specs.declared.remark.Remark.{Remark}
-use Rattle.flow_texts.specs.declared.remark.Remark.TheVariants.{NeverReached, Unset, Computed, VeryBusy, Dead}
+use Rattle.flow_reports.specs.declared.remark.Remark.{Remark}
+use Rattle.flow_reports.specs.declared.remark.Remark.TheVariants.{NeverReached, Unset, Computed, VeryBusy, Dead}
 use Rattle.tac_program.specs.Listings.{statement_text}
 use Rattle.tac_program.specs.Programs.{Program}
 use Rattle.text_pieces.specs.Strings.{quoted}
-use Rattle.flow_views.specs.Views.{analysis_name, chosen_analyses, names_at, procedure_name, shown_points, told_by}
+use Rattle.flow_views.specs.Views.{analysis_name, chosen_analyses, names_at, procedure_name, shown_points, known_facts}
 use Rattle.flow_views.specs.declared.view.Chosen.{Chosen}
 use Rattle.flow_views.specs.declared.view.View.{View}
 
@@ -65,10 +65,10 @@ edge_object (Ret site source target) =
 -- whether there is a valid path, and the set: by number, and what its bits are called
 abbrev pub facts_field : Program → Knowledge → ℕ → Analysis → List ℕ
 facts_field program known point analysis =
-    codes ",\"" ++ analysis_name analysis ++ codes "\":{\"path\":" ++ boolean ((told_by known analysis).has_path point)
-    ++ codes ",\"bits\":" ++ array (map decimal (bits_at program analysis (told_by known analysis) point))
+    codes ",\"" ++ analysis_name analysis ++ codes "\":{\"path\":" ++ boolean ((known_facts known analysis).has_path point)
+    ++ codes ",\"bits\":" ++ array (map decimal (bits_at program analysis (known_facts known analysis) point))
     ++ codes ",\"names\":"
-    ++ array (map (λ bit. quoted (bit_text program analysis bit)) (bits_at program analysis (told_by known analysis) point))
+    ++ array (map (λ bit. quoted (bit_text program analysis bit)) (bits_at program analysis (known_facts known analysis) point))
     ++ codes "}"
 
 abbrev pub point_line : Program → Knowledge → Chosen → ℕ → List ℕ

@@ -1,5 +1,5 @@
 pub mod Views
-pub mod ShownTables
+pub mod ViewTables
 pub mod Dots
 pub mod Json
 pub mod code

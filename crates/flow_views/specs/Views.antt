@@ -1,11 +1,12 @@
 -- What is shown of a program, in both texts: which procedures and points, which analyses, and what a statement is called.
-use Rattle.std.specs.Prelude.{ℕ, suc, Bool, List, [], ◌∷◌, ◌++◌, flat_map, length, Some, None, option_map, slice_get, unwrap_or, if◌then◌else◌, codes}
-use Rattle.std.specs.List.{range_with_len}
+use Rattle.std.specs.Prelude.{ℕ, suc, Bool, List, [], ◌∷◌, flat_map, length, Some, None, option_map, slice_get, unwrap_or, if◌then◌else◌, codes}
+use Rattle.std.specs.List.{filter, range_with_len}
+use Rattle.flow_graph.specs.declared.analysis.TheConstants.Analysis as all
 use Rattle.flow_graph.specs.Points.{end_place, entry_point, procedure_at}
 use Rattle.flow_graph.specs.declared.analysis.Analysis.{Analysis}
 use Rattle.flow_graph.specs.declared.analysis.Analysis.TheVariants.{Reach, Live, Avail, Busy}
 use Rattle.flow_team.specs.Tables.{Facts}
-use Rattle.flow_texts.specs.Reports.{Knowledge}
+use Rattle.flow_reports.specs.Reports.{Knowledge}
 use Rattle.tac_program.specs.Listings.{name_at}
 use Rattle.tac_program.specs.Programs.{Program}
 use Rattle.tac_program.specs.Names.{Names}
@@ -27,14 +28,20 @@ points_in program procedure = range_with_len (entry_point program procedure) (su
 abbrev pub shown_points : Program → View → List ℕ
 shown_points program view = flat_map (points_in program) (shown_procedures program view)
 
--- the analyses whose facts are shown, in their order
+-- whether an analysis's facts are shown
+abbrev pub is_chosen : Chosen → Analysis → Bool
+is_chosen chosen Reach = chosen.reach
+is_chosen chosen Live = chosen.live
+is_chosen chosen Avail = chosen.avail
+is_chosen chosen Busy = chosen.busy
+
+-- the analysis where its facts are shown
 abbrev pub analysis_if : Bool → Analysis → List Analysis
 analysis_if is analysis = if is then analysis ∷ [] else []
 
+-- the analyses whose facts are shown, in the order of their numbers
 abbrev pub chosen_analyses : Chosen → List Analysis
-chosen_analyses chosen =
-    analysis_if chosen.reach Reach ++ analysis_if chosen.live Live
-    ++ analysis_if chosen.avail Avail ++ analysis_if chosen.busy Busy
+chosen_analyses chosen = filter (is_chosen chosen) all.ALL
 
 abbrev pub analysis_name : Analysis → List ℕ
 analysis_name Reach = codes "reach"
@@ -42,11 +49,11 @@ analysis_name Live = codes "live"
 analysis_name Avail = codes "avail"
 analysis_name Busy = codes "busy"
 
-abbrev pub told_by : Knowledge → Analysis → Facts
-told_by known Reach = known.reach
-told_by known Live = known.live
-told_by known Avail = known.avail
-told_by known Busy = known.busy
+abbrev pub known_facts : Knowledge → Analysis → Facts
+known_facts known Reach = known.reach
+known_facts known Live = known.live
+known_facts known Avail = known.avail
+known_facts known Busy = known.busy
 
 abbrev pub procedure_name : Program → ℕ → List ℕ
 procedure_name program procedure = name_at program.procedure_names procedure

@@ -1,2 +1,2 @@
 pub mod Names
-pub mod ShownProgram
+pub mod ViewProgram

@@ -5,32 +5,32 @@ ghost use Rattle.flow_graph.specs.Paths.{target_of};
 ghost use Rattle.flow_graph.specs.Points.{point_count, procedure_at, statement_at};
 ghost use Rattle.flow_team.specs.Tables.{facts_of};
 ghost use Rattle.text_pieces.specs.Pieces.{CanWrite, Writes};
-ghost use Rattle.flow_texts.specs.Reports.{dead_at, remark_text, unset_at};
-ghost use Rattle.flow_texts.specs.code.Reported.{TellReport};
+ghost use Rattle.flow_reports.specs.Reports.{dead_at, remark_text, unset_at};
+ghost use Rattle.flow_reports.specs.code.Reported.{TellReport};
 ghost use Rattle.flow_texts.specs.Tables.{line_at};
 ghost use Rattle.tac_program.specs.Listings.{statement_text};
-ghost use Rattle.flow_views.specs.ShownTables.{AreShownTables};
-ghost use Rattle.flow_views.specs.code.ShownProgram.{AreShown, AreShownProcedures, IsShownPoint, IsShownProcedure, IsSiteIn, TellSame, is_chosen};
-ghost use Rattle.flow_views.specs.code.ShownProgram.{known_of, numbers_of};
+ghost use Rattle.flow_views.specs.ViewTables.{AreViewTables};
+ghost use Rattle.flow_views.specs.code.ViewProgram.{AreShown, AreShownProcedures, IsShownPoint, IsShownProcedure, IsSiteIn, TellSame};
+ghost use Rattle.flow_views.specs.code.ViewProgram.{known_of, numbers_of};
 ghost use Rattle.flow_views.specs.declared.names.NameForm.TheVariants.{Escaped};
 ghost use Rattle.flow_views.specs.Dots.{IsDot, arrow, calls_at, cluster, dot_of, edge_line, edge_lines, fact_line, head, is_call, is_edge_shown};
 ghost use Rattle.flow_views.specs.Dots.{label_line, label_lines, marks, node, passed_call, path_marks, shown_edge, text_if_some, title};
 ghost use Rattle.text_pieces.specs.Strings.{escaped};
-ghost use Rattle.flow_views.specs.Views.{analysis_if, chosen_analyses, names_at, procedure_name, told_by};
+ghost use Rattle.flow_views.specs.Views.{analysis_if, chosen_analyses, names_at, procedure_name, known_facts, is_chosen};
 
 use crate::OutOfMemory;
 use crate::names::NameForm;
 use crate::point_form::PointForm;
 use crate::scope::write_escaped_number;
-use crate::shown::{Numbers, ShownProgram, name_of};
-use crate::shown_tables::ShownTables;
 use crate::view::View;
+use crate::view_program::{Numbers, ViewProgram, name_of};
+use crate::view_tables::ViewTables;
 use flow_graph::{Analysis, Edge, Graph};
-use flow_team::Table;
-use flow_texts::{
-    Findings, Remark, RemarkForm, ReportAnswers, line, words_before_name, words_behind_name,
-    write_number, write_set,
+use flow_reports::{
+    Findings, Remark, RemarkForm, ReportAnswers, words_before_name, words_behind_name,
 };
+use flow_team::Table;
+use flow_texts::{line, write_number, write_set};
 use std::alloc::Global;
 use std::marker::Model;
 use tac_program::{Stmt, StmtKind};
@@ -110,7 +110,7 @@ fn is_call(kind: &StmtKind) -> bool
     }
 }
 
-impl ShownProgram<'_> {
+impl ViewProgram<'_> {
     // Writes the title of a statement.
     fn write_statement_title<K: Sink>(&self, out: &mut Pieces<'_, K>, point: u32, stmt: &Stmt)
         requires ready { CanWrite K.Sink out.old }
@@ -161,7 +161,7 @@ impl ShownProgram<'_> {
         requires ready { CanWrite K.Sink out.old }
         requires shown { AreShown self.now }
         requires form { self.now.names.form ≡ Escaped }
-        requires facts { TellSame (facts_of table.now) (told_by (known_of self.now) analysis) point }
+        requires facts { TellSame (facts_of table.now) (known_facts (known_of self.now) analysis) point }
         requires point { point < point_count self.now.found.graph.now }
         requires there { point < length table.now.paths }
         ensures { Writes K.Sink out.old out.new (label_line (fact_line self.now.found.graph.now (known_of self.now) point analysis)) }
@@ -200,10 +200,9 @@ impl ShownProgram<'_> {
         ensures { Writes K.Sink out.old out.new
             (flat_map (λ a. label_line (fact_line self.now.found.graph.now (known_of self.now) point a)) (chosen_analyses self.now.view.facts)) }
     {
-        self.write_fact_if(out, point, Analysis::Reach);
-        self.write_fact_if(out, point, Analysis::Live);
-        self.write_fact_if(out, point, Analysis::Avail);
-        self.write_fact_if(out, point, Analysis::Busy);
+        for analysis in Analysis::ALL {
+            self.write_fact_if(out, point, analysis);
+        }
     }
 
     // Writes the lines of a node.
@@ -436,7 +435,7 @@ impl PointForm for DotNodes {
 
     ghost text = { λ _ shown point. node shown.found.graph.now (known_of shown) shown.view.facts point };
 
-    fn write_point<K: Sink>(&self, out: &mut Pieces<'_, K>, shown: &ShownProgram<'_>, point: u32) {
+    fn write_point<K: Sink>(&self, out: &mut Pieces<'_, K>, shown: &ViewProgram<'_>, point: u32) {
         if out.has_failed() {
             return;
         }
@@ -459,7 +458,7 @@ impl PointForm for DotEdges {
 
     ghost text = { λ _ shown point. edge_lines shown.found.graph.now shown.view point };
 
-    fn write_point<K: Sink>(&self, out: &mut Pieces<'_, K>, shown: &ShownProgram<'_>, point: u32) {
+    fn write_point<K: Sink>(&self, out: &mut Pieces<'_, K>, shown: &ViewProgram<'_>, point: u32) {
         if out.has_failed() {
             return;
         }
@@ -485,12 +484,12 @@ impl PointForm for DotEdges {
 /// very busy expressions.
 #[derive(Drop)]
 pub struct DotText<'a> {
-    shown: ShownProgram<'a>,
+    shown: ViewProgram<'a>,
 }
 
 impl<'a> Model for DotText<'a> {
     ghost use Rattle.std.specs.Prelude.{◌≡◌, List, ℕ};
-    ghost use Rattle.flow_views.specs.code.ShownProgram.{AreShown, known_of};
+    ghost use Rattle.flow_views.specs.code.ViewProgram.{AreShown, known_of};
     ghost use Rattle.flow_views.specs.declared.names.NameForm.TheVariants.{Escaped};
     ghost use Rattle.flow_views.specs.Dots.{dot_of};
 
@@ -509,16 +508,16 @@ impl<'a> DotText<'a> {
     pub fn of(
         alloc: Global,
         graph: &'a Graph<'a>,
-        tables: &'a ShownTables,
+        tables: &'a ViewTables,
         answers: &'a ReportAnswers,
         view: View,
     ) -> Result<DotText<'a>, OutOfMemory>
-        requires tables { AreShownTables graph.now view tables.now }
+        requires tables { AreViewTables graph.now view tables.now }
         requires answers { TellReport graph.now answers.now }
         requires procedure { IfSome view.procedure (λ procedure. procedure < length graph.now.procedure_names) }
         ensures { IfOk result (IsDot graph.now view) }
     {
-        let shown = ShownProgram::of(alloc, graph, tables, answers, view, NameForm::Escaped)?;
+        let shown = ViewProgram::of(alloc, graph, tables, answers, view, NameForm::Escaped)?;
         Ok(DotText { shown })
     }
 }

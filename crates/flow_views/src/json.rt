@@ -4,28 +4,29 @@ ghost use Rattle.flow_team.specs.Tables.{facts_of};
 ghost use Rattle.std.specs.Prelude.{◌≡◌, ◌+◌, ◌++◌, ◌<◌, ◌≤◌, Some, codes, decimal, filter, flat_map, length, map, IfOk, IfSome};
 ghost use Rattle.std.specs.List.{range_with_len};
 ghost use Rattle.flow_graph.specs.Points.{place_of, point_count, procedure_at, statement_at};
-ghost use Rattle.flow_texts.specs.code.Findings.{AreFindings, IsRemarkIn};
+ghost use Rattle.flow_reports.specs.code.Findings.{AreFindings, IsRemarkIn};
 ghost use Rattle.text_pieces.specs.code.Lists.{text_at};
 ghost use Rattle.text_pieces.specs.Pieces.{CanWrite, Writes};
-ghost use Rattle.flow_texts.specs.code.Reported.{TellReport};
+ghost use Rattle.flow_reports.specs.code.Reported.{TellReport};
 ghost use Rattle.tac_program.specs.Listings.{statement_text};
-ghost use Rattle.flow_views.specs.ShownTables.{AreShownTables};
-ghost use Rattle.flow_views.specs.code.ShownProgram.{AreShown, IsShownPoint, TellSame, is_chosen, known_of};
+ghost use Rattle.flow_views.specs.ViewTables.{AreViewTables};
+ghost use Rattle.flow_views.specs.code.ViewProgram.{AreShown, IsShownPoint, TellSame, known_of};
 ghost use Rattle.flow_views.specs.declared.names.NameForm.TheVariants.{Quoted};
 ghost use Rattle.flow_views.specs.Json.{IsJson, array, boolean, edge_object, facts_field, json_of, point_line, program_line, remark_fields};
 ghost use Rattle.flow_views.specs.Json.{remark_lines, remark_object, span_fields, statement_field};
 ghost use Rattle.text_pieces.specs.Strings.{quoted};
-ghost use Rattle.flow_views.specs.Views.{analysis_if, chosen_analyses, names_at, procedure_name, told_by};
+ghost use Rattle.flow_views.specs.Views.{analysis_if, chosen_analyses, names_at, procedure_name, known_facts, is_chosen};
 
 use crate::OutOfMemory;
 use crate::names::NameForm;
 use crate::point_form::PointForm;
-use crate::shown::{ShownProgram, name_of};
-use crate::shown_tables::ShownTables;
 use crate::view::View;
+use crate::view_program::{ViewProgram, name_of};
+use crate::view_tables::ViewTables;
 use flow_graph::{Analysis, Edge, Graph};
+use flow_reports::{Findings, Remark, RemarkForm, ReportAnswers};
 use flow_team::Table;
-use flow_texts::{Findings, Remark, RemarkForm, ReportAnswers, write_members, write_number};
+use flow_texts::{write_members, write_number};
 use itoa::Buffer;
 use std::alloc::Global;
 use std::marker::Model;
@@ -194,7 +195,7 @@ fn write_edges<K: Sink>(out: &mut Pieces<'_, K>, edges: &[Edge])
     out.write(b"]");
 }
 
-impl ShownProgram<'_> {
+impl ViewProgram<'_> {
     // Writes the names of the procedures as an array.
     fn write_procedures<K: Sink>(&self, out: &mut Pieces<'_, K>)
         requires ready { CanWrite K.Sink out.old }
@@ -281,7 +282,7 @@ impl ShownProgram<'_> {
         requires ready { CanWrite K.Sink out.old }
         requires shown { AreShown self.now }
         requires form { self.now.names.form ≡ Quoted }
-        requires facts { TellSame (facts_of table.now) (told_by (known_of self.now) analysis) point }
+        requires facts { TellSame (facts_of table.now) (known_facts (known_of self.now) analysis) point }
         requires point { point < point_count self.now.found.graph.now }
         requires there { point < length table.now.paths }
         ensures { Writes K.Sink out.old out.new (facts_field self.now.found.graph.now (known_of self.now) point analysis) }
@@ -325,10 +326,9 @@ impl ShownProgram<'_> {
         ensures { Writes K.Sink out.old out.new
             (flat_map (facts_field self.now.found.graph.now (known_of self.now) point) (chosen_analyses self.now.view.facts)) }
     {
-        self.write_facts_field_if(out, point, Analysis::Reach);
-        self.write_facts_field_if(out, point, Analysis::Live);
-        self.write_facts_field_if(out, point, Analysis::Avail);
-        self.write_facts_field_if(out, point, Analysis::Busy);
+        for analysis in Analysis::ALL {
+            self.write_facts_field_if(out, point, analysis);
+        }
     }
 
     // Writes which point it is.
@@ -372,7 +372,7 @@ impl PointForm for JsonPoints {
 
     ghost text = { λ _ shown point. point_line shown.found.graph.now (known_of shown) shown.view.facts point };
 
-    fn write_point<K: Sink>(&self, out: &mut Pieces<'_, K>, shown: &ShownProgram<'_>, point: u32) {
+    fn write_point<K: Sink>(&self, out: &mut Pieces<'_, K>, shown: &ViewProgram<'_>, point: u32) {
         if out.has_failed() {
             return;
         }
@@ -396,7 +396,7 @@ impl PointForm for JsonRemarks {
 
     ghost text = { λ _ shown point. remark_lines shown.found.graph.now (known_of shown) point };
 
-    fn write_point<K: Sink>(&self, out: &mut Pieces<'_, K>, shown: &ShownProgram<'_>, point: u32) {
+    fn write_point<K: Sink>(&self, out: &mut Pieces<'_, K>, shown: &ViewProgram<'_>, point: u32) {
         shown.write_remarks_at(&JsonLine, out, point);
     }
 }
@@ -422,12 +422,12 @@ impl PointForm for JsonRemarks {
 /// very busy expressions.
 #[derive(Drop)]
 pub struct JsonText<'a> {
-    shown: ShownProgram<'a>,
+    shown: ViewProgram<'a>,
 }
 
 impl<'a> Model for JsonText<'a> {
     ghost use Rattle.std.specs.Prelude.{◌≡◌, List, ℕ};
-    ghost use Rattle.flow_views.specs.code.ShownProgram.{AreShown, known_of};
+    ghost use Rattle.flow_views.specs.code.ViewProgram.{AreShown, known_of};
     ghost use Rattle.flow_views.specs.declared.names.NameForm.TheVariants.{Quoted};
     ghost use Rattle.flow_views.specs.Json.{json_of};
 
@@ -446,16 +446,16 @@ impl<'a> JsonText<'a> {
     pub fn of(
         alloc: Global,
         graph: &'a Graph<'a>,
-        tables: &'a ShownTables,
+        tables: &'a ViewTables,
         answers: &'a ReportAnswers,
         view: View,
     ) -> Result<JsonText<'a>, OutOfMemory>
-        requires tables { AreShownTables graph.now view tables.now }
+        requires tables { AreViewTables graph.now view tables.now }
         requires answers { TellReport graph.now answers.now }
         requires procedure { IfSome view.procedure (λ procedure. procedure < length graph.now.procedure_names) }
         ensures { IfOk result (IsJson graph.now view) }
     {
-        let shown = ShownProgram::of(alloc, graph, tables, answers, view, NameForm::Quoted)?;
+        let shown = ViewProgram::of(alloc, graph, tables, answers, view, NameForm::Quoted)?;
         Ok(JsonText { shown })
     }
 }

@@ -6,12 +6,12 @@ mod json;
 mod names;
 mod point_form;
 mod scope;
-mod shown;
-mod shown_tables;
 mod view;
+mod view_program;
+mod view_tables;
 
 pub use dots::DotText;
 pub use json::JsonText;
-pub use shown_tables::ShownTables;
 pub use std::alloc::AllocError as OutOfMemory;
 pub use view::{Chosen, View};
+pub use view_tables::ViewTables;

@@ -3,11 +3,11 @@
 ghost use Rattle.std.specs.Prelude.{◌≡◌, ◌<◌, ℕ, List};
 ghost use Rattle.flow_graph.specs.Points.{point_count};
 ghost use Rattle.text_pieces.specs.Pieces.{CanWrite, Writes};
-ghost use Rattle.flow_views.specs.code.ShownProgram.{AreShown, IsShownPoint};
+ghost use Rattle.flow_views.specs.code.ViewProgram.{AreShown, IsShownPoint};
 ghost use Rattle.flow_views.specs.declared.names.NameForm.{NameForm};
-ghost use Rattle.flow_views.specs.declared.shown.ShownProgram.{ShownProgram as ShownValue};
+ghost use Rattle.flow_views.specs.declared.view_program.ViewProgram.{ViewProgram as ViewValue};
 
-use crate::shown::ShownProgram;
+use crate::view_program::ViewProgram;
 use text_pieces::{Pieces, Sink};
 
 /// How one point is written.
@@ -15,10 +15,10 @@ pub(crate) trait PointForm {
     // How the names of bits are written there.
     ghost name_form: { Self → NameForm };
 
-    ghost text: { Self → ShownValue → ℕ → List ℕ };
+    ghost text: { Self → ViewValue → ℕ → List ℕ };
 
     /// Writes a point that is shown.
-    fn write_point<K: Sink>(&self, out: &mut Pieces<'_, K>, shown: &ShownProgram<'_>, point: u32)
+    fn write_point<K: Sink>(&self, out: &mut Pieces<'_, K>, shown: &ViewProgram<'_>, point: u32)
         requires ready { CanWrite K.Sink out.old }
         requires shown { AreShown shown.now }
         requires form { shown.now.names.form ≡ name_form self.now }

@@ -1,3 +1,8 @@
+ghost use Rattle.std.specs.Prelude.{◌≡◌};
+ghost use Rattle.flow_views.specs.Views.{is_chosen};
+
+use flow_graph::Analysis;
+
 /// Which analyses' facts are shown.
 #[derive(Debug, Clone, Copy, PartialEq, Eq)]
 pub struct Chosen {
@@ -9,6 +14,20 @@ pub struct Chosen {
     pub avail: bool,
     /// Very busy expressions.
     pub busy: bool,
+}
+
+impl Chosen {
+    /// Whether an analysis's facts are shown.
+    pub(crate) fn has(self, analysis: Analysis) -> bool
+        ensures { result ≡ is_chosen self analysis }
+    {
+        match analysis {
+            Analysis::Reach => self.reach,
+            Analysis::Live => self.live,
+            Analysis::Avail => self.avail,
+            Analysis::Busy => self.busy,
+        }
+    }
 }
 
 /// What is shown of a program.

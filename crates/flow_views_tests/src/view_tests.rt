@@ -1,13 +1,13 @@
 // Both texts of small programs, by hand.
 
 ghost use Rattle.std.specs.Prelude.{◌<◌, length, IfSome};
-ghost use Rattle.flow_texts.specs.code.Reported.{TellReport};
-ghost use Rattle.flow_views.specs.ShownTables.{AreShownTables};
+ghost use Rattle.flow_reports.specs.code.Reported.{TellReport};
+ghost use Rattle.flow_views.specs.ViewTables.{AreViewTables};
 
 use flow_graph::Graph;
+use flow_reports::ReportAnswers;
 use flow_team::{OpenGate, Team};
-use flow_texts::ReportAnswers;
-use flow_views::{Chosen, DotText, JsonText, ShownTables, View};
+use flow_views::{Chosen, DotText, JsonText, View, ViewTables};
 use std::alloc::Global;
 use std::process::Abort;
 use std::test::Fail;
@@ -28,13 +28,13 @@ enum Format {
 fn write_view(
     alloc: Global,
     graph: &Graph<'_>,
-    tables: &ShownTables,
+    tables: &ViewTables,
     answers: &ReportAnswers,
     format: Format,
     view: View,
     page: &mut Page,
 ) -> Result<bool, Fail>
-    requires tables { AreShownTables graph.now view tables.now }
+    requires tables { AreViewTables graph.now view tables.now }
     requires answers { TellReport graph.now answers.now }
     requires procedure { IfSome view.procedure (λ procedure. procedure < length graph.now.procedure_names) }
 {
@@ -75,7 +75,7 @@ fn write_graph<R: Threads + Sync>(
             None
         },
     };
-    let tables = ShownTables::of(&team, alloc, graph, view)?;
+    let tables = ViewTables::of(&team, alloc, graph, view)?;
     write_view(alloc, graph, &tables, &answers, format, view, page)
 }
 

@@ -6,7 +6,7 @@ ghost use Rattle.flow_graph.specs.Paths.{IsEdge};
 ghost use Rattle.flow_graph.specs.Points.{point_count};
 ghost use Rattle.flow_links.specs.Shapes.{directed_shape};
 ghost use Rattle.flow_links.specs.LinkLists.{IsSiteLink};
-ghost use Rattle.work_list.specs.Marks.{IsMarked};
+ghost use Rattle.worklist.specs.Worklist.{IsMarked};
 ghost use Rattle.gk_solve.specs.Tables.Brought.{AreBroughtOf, AreExactBrought, AreSoundBrought, BroughtSpreads, IsBringSettled, IsBroughtClosedAt};
 ghost use Rattle.gk_solve.specs.Tables.Brought.{brought_word};
 ghost use Rattle.gk_solve.specs.Tables.Flags.{source_procedure};
@@ -15,17 +15,17 @@ ghost use Rattle.gk_solve.specs.Tables.Visits.{IsSettled};
 ghost use Rattle.gk_solve.specs.Tables.Words.{HasBit};
 
 use crate::group_frame::GroupFrame;
-use crate::lanes::{added_words, new_or_kept};
+use crate::lanes::{added_words, new_or_preserved};
 use crate::summary::Summary;
 use flow_links::SiteLink;
-use work_list::Marks;
+use worklist::Worklist;
 
 // Adds to what is brought to a procedure, and where that is anything, marks it.
 fn put_brought<const W: usize>(
     frame: &GroupFrame,
     table: &[Summary<W>],
     brought: &mut [[u64; W]],
-    dirty: &mut Marks,
+    dirty: &mut Worklist,
     procedure: u32,
     more: [u64; W],
 )
@@ -52,7 +52,7 @@ fn visit_site<const W: usize>(
     frame: &GroupFrame,
     table: &[Summary<W>],
     brought: &mut [[u64; W]],
-    dirty: &mut Marks,
+    dirty: &mut Worklist,
     procedure: u32,
     site: SiteLink,
 )
@@ -72,7 +72,7 @@ fn visit_site<const W: usize>(
         return;
     }
     let here = table[site.point as usize];
-    let more = new_or_kept(here.made, brought[procedure as usize], here.kept);
+    let more = new_or_preserved(here.generated, brought[procedure as usize], here.preserved);
     put_brought(frame, table, brought, dirty, site.callee, more);
 }
 
@@ -81,7 +81,7 @@ fn visit_procedure<const W: usize>(
     frame: &GroupFrame,
     table: &[Summary<W>],
     brought: &mut [[u64; W]],
-    dirty: &mut Marks,
+    dirty: &mut Worklist,
     procedure: u32,
 )
     requires frame { IsGroupFrame W frame.now }
@@ -133,12 +133,12 @@ fn begin_brought<const W: usize>(frame: &GroupFrame, brought: &mut [[u64; W]])
     brought[root as usize] = boundary(frame);
 }
 
-/// Finds what is brought to each procedure, given what is kept and made at the points with a path.
+/// Finds what is brought to each procedure, given what is preserved and generated at the points with a path.
 pub(crate) fn brought<const W: usize>(
     frame: &GroupFrame,
     table: &[Summary<W>],
     brought: &mut [[u64; W]],
-    dirty: &mut Marks,
+    dirty: &mut Worklist,
 )
     requires frame { IsGroupFrame W frame.now }
     requires points { length table.now ≡ point_count frame.now.links.now.program }

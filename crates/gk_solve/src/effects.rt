@@ -98,21 +98,24 @@ fn kill_of<const W: usize>(frame: &GroupFrame, point: u32, w: usize) -> u64
 fn across_words<const W: usize>(frame: &GroupFrame, point: u32, before: Summary<W>) -> Summary<W>
     requires frame { IsGroupFrame W frame.now }
     requires within { point < point_count frame.now.problem.now.program }
-    ensures kept { (w k : ℕ) → w < W → k < 64 → has_bit (slice_index result.kept w) k
-        ≡ (has_bit (slice_index before.entry.kept w) k && not (place_kills frame.now.problem.now point (64 * (frame.now.first + w) + k))) }
-    ensures made { (w k : ℕ) → w < W → k < 64 → has_bit (slice_index result.made w) k
+    ensures preserved { (w k : ℕ) → w < W → k < 64 → has_bit (slice_index result.preserved w) k
+        ≡ (has_bit (slice_index before.entry.preserved w) k && not (place_kills frame.now.problem.now point (64 * (frame.now.first + w) + k))) }
+    ensures generated { (w k : ℕ) → w < W → k < 64 → has_bit (slice_index result.generated w) k
         ≡ (place_gens frame.now.problem.now point (64 * (frame.now.first + w) + k)
-        || (has_bit (slice_index before.entry.made w) k && not (place_kills frame.now.problem.now point (64 * (frame.now.first + w) + k)))) }
+        || (has_bit (slice_index before.entry.generated w) k && not (place_kills frame.now.problem.now point (64 * (frame.now.first + w) + k)))) }
 {
-    let mut kept = before.kept;
-    let mut made = before.made;
+    let mut preserved = before.preserved;
+    let mut generated = before.generated;
     for w in 0..W {
-        let generated = gen_of::<W>(frame, point, w);
+        let gens = gen_of::<W>(frame, point, w);
         let kill = kill_of::<W>(frame, point, w);
-        kept[w] = unkilled_word(kept[w], kill);
-        made[w] = across_word(generated, made[w], kill);
+        preserved[w] = unkilled_word(preserved[w], kill);
+        generated[w] = across_word(gens, generated[w], kill);
     }
-    Summary { kept, made }
+    Summary {
+        preserved,
+        generated,
+    }
 }
 
 /// The bits after the step of the statement at a point.
@@ -124,11 +127,11 @@ pub(crate) fn across_step<const W: usize>(
 ) -> Summary<W>
     requires frame { IsGroupFrame W frame.now }
     requires within { point < point_count frame.now.problem.now.program }
-    ensures kept { (w k : ℕ) → w < W → k < 64 → has_bit (slice_index result.kept w) k
-        ≡ (has_bit (slice_index before.entry.kept w) k && not (place_kills frame.now.problem.now point (64 * (frame.now.first + w) + k))) }
-    ensures made { (w k : ℕ) → w < W → k < 64 → has_bit (slice_index result.made w) k
+    ensures preserved { (w k : ℕ) → w < W → k < 64 → has_bit (slice_index result.preserved w) k
+        ≡ (has_bit (slice_index before.entry.preserved w) k && not (place_kills frame.now.problem.now point (64 * (frame.now.first + w) + k))) }
+    ensures generated { (w k : ℕ) → w < W → k < 64 → has_bit (slice_index result.generated w) k
         ≡ (place_gens frame.now.problem.now point (64 * (frame.now.first + w) + k)
-        || (has_bit (slice_index before.entry.made w) k && not (place_kills frame.now.problem.now point (64 * (frame.now.first + w) + k)))) }
+        || (has_bit (slice_index before.entry.generated w) k && not (place_kills frame.now.problem.now point (64 * (frame.now.first + w) + k)))) }
 {
     if frame.effects[point as usize] & frame.mask == 0 {
         return before;

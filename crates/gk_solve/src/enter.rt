@@ -6,19 +6,19 @@ ghost use Rattle.flow_graph.specs.Points.{point_count};
 ghost use Rattle.summary_equations.specs.Equations.{Reached, Entered};
 ghost use Rattle.flow_links.specs.Shapes.{directed_shape};
 ghost use Rattle.flow_links.specs.LinkLists.{IsSiteLink};
-ghost use Rattle.work_list.specs.Marks.{AreClear};
+ghost use Rattle.worklist.specs.Worklist.{AreClear};
 ghost use Rattle.gk_solve.specs.Tables.Flags.{IsFlagged, AreExactly, IsEntryClosedAt, IsSiteSettled, EntrySpreads, source_procedure};
 ghost use Rattle.gk_solve.specs.Tables.Visits.{IsSettled};
 
 use flow_links::{Links, SiteLink};
-use work_list::Marks;
+use worklist::Worklist;
 
 // Sets the flag of a procedure that is entered, and where it was clear, marks it.
 fn enter_procedure(
     links: &Links,
     _reached: &[bool],
     flags: &mut [bool],
-    dirty: &mut Marks,
+    dirty: &mut Worklist,
     procedure: u32,
 )
     requires count { length flags.now ≡ (directed_shape links.now).procedures }
@@ -40,7 +40,7 @@ fn visit_site(
     links: &Links,
     reached: &[bool],
     flags: &mut [bool],
-    dirty: &mut Marks,
+    dirty: &mut Worklist,
     procedure: u32,
     site: SiteLink,
 )
@@ -66,7 +66,7 @@ fn visit_procedure(
     links: &Links,
     reached: &[bool],
     flags: &mut [bool],
-    dirty: &mut Marks,
+    dirty: &mut Worklist,
     procedure: u32,
 )
     requires points { length reached.now ≡ point_count links.now.program }
@@ -86,7 +86,7 @@ fn visit_procedure(
 }
 
 /// Sets the flag of each procedure that is entered, given the points that are reached. No flag is set before.
-pub(crate) fn entered(links: &Links, reached: &[bool], flags: &mut [bool], dirty: &mut Marks)
+pub(crate) fn entered(links: &Links, reached: &[bool], flags: &mut [bool], dirty: &mut Worklist)
     requires points { length reached.now ≡ point_count links.now.program }
     requires count { length flags.now ≡ (directed_shape links.now).procedures }
     requires dirty_count { length dirty.now ≡ (directed_shape links.now).procedures }

@@ -1,4 +1,4 @@
-// What is kept and made, for a group of words, by visits of the points that are changed.
+// What is preserved and generated, for a group of words, by visits of the points that are changed.
 ghost use Rattle.std.specs.Prelude.{◌≡◌, ◌<◌, ◌||◌, ℕ, false, true, length, slice_index};
 ghost use Rattle.bit_rows.specs.Words.{has_bit};
 ghost use Rattle.flow_graph.specs.declared.edge.Edge.{Edge};
@@ -10,29 +10,35 @@ ghost use Rattle.flow_links.specs.Shapes.{directed_shape};
 ghost use Rattle.flow_links.specs.LinkLists.{IsCallLink};
 ghost use Rattle.gk_solve.specs.Tables.Flags.{IsFlagged};
 ghost use Rattle.gk_solve.specs.Tables.Groups.{AreCompleteSummaries, AreJoined, AreOf, AreSameBut, AreSoundSummaries, IsCallerSettled, IsGroupFrame};
-ghost use Rattle.gk_solve.specs.Tables.Groups.{IsSummaryCallSettled, IsSummarySettled, SummarySpreads, WaitsFor, group_of, kept_word, made_word};
+ghost use Rattle.gk_solve.specs.Tables.Groups.{IsSummaryCallSettled, IsSummarySettled, SummarySpreads, WaitsFor, group_of, preserved_word, generated_word};
 ghost use Rattle.gk_solve.specs.Tables.Groups.{room_of_summary};
-ghost use Rattle.gk_solve.specs.Tables.Words.{HasBit, IsKept, IsMade, step_statement};
+ghost use Rattle.gk_solve.specs.Tables.Words.{HasBit, IsPreserved, IsGenerated, step_statement};
 
 use crate::effects::across_step;
 use crate::group_frame::GroupFrame;
-use crate::lanes::{added_words, common_words, new_or_kept};
+use crate::lanes::{added_words, common_words, new_or_preserved};
 use crate::summary::Summary;
 use flow_graph::Direction;
 use flow_links::CallLink;
-use work_list::Marks;
+use worklist::Worklist;
 
 // A summary with bits added, and whether some of those were missing.
 #[inline(always)]
 fn joined_summary<const W: usize>(before: Summary<W>, more: Summary<W>) -> (Summary<W>, bool)
-    ensures kept { AreJoined W before.entry.kept more.entry.kept result.0.kept }
-    ensures made { AreJoined W before.entry.made more.entry.made result.0.made }
-    ensures same { result.1 ≡ false → (result.0.kept ≡ before.entry.kept) × (result.0.made ≡ before.entry.made) }
+    ensures preserved { AreJoined W before.entry.preserved more.entry.preserved result.0.preserved }
+    ensures generated { AreJoined W before.entry.generated more.entry.generated result.0.generated }
+    ensures same { result.1 ≡ false → (result.0.preserved ≡ before.entry.preserved) × (result.0.generated ≡ before.entry.generated) }
     ensures less { result.1 ≡ true → room_of_summary result.0 < room_of_summary before.entry }
 {
-    let (kept, more_kept) = added_words(before.kept, more.kept);
-    let (made, more_made) = added_words(before.made, more.made);
-    (Summary { kept, made }, more_kept || more_made)
+    let (preserved, more_preserved) = added_words(before.preserved, more.preserved);
+    let (generated, more_generated) = added_words(before.generated, more.generated);
+    (
+        Summary {
+            preserved,
+            generated,
+        },
+        more_preserved || more_generated,
+    )
 }
 
 // Adds to the summary of a point, and where that is anything, marks it.
@@ -40,19 +46,19 @@ fn joined_summary<const W: usize>(before: Summary<W>, more: Summary<W>) -> (Summ
 fn put_summary<const W: usize>(
     frame: &GroupFrame,
     table: &mut [Summary<W>],
-    dirty: &mut Marks,
+    dirty: &mut Worklist,
     at: u32,
     more: Summary<W>,
 )
     requires count { length table.now ≡ point_count frame.now.links.now.program }
     requires dirty_count { length dirty.now ≡ point_count frame.now.links.now.program }
     requires within { at < point_count frame.now.links.now.program }
-    requires keeps { AreOf (group_of frame.now W) (IsKept (directed_shape frame.now.links.now)) more.kept at }
-    requires makes { AreOf (group_of frame.now W) (IsMade (directed_shape frame.now.links.now)) more.made at }
+    requires keeps { AreOf (group_of frame.now W) (IsPreserved (directed_shape frame.now.links.now)) more.preserved at }
+    requires makes { AreOf (group_of frame.now W) (IsGenerated (directed_shape frame.now.links.now)) more.generated at }
     ensures spreads { SummarySpreads (group_of frame.now W) frame.now.paths.now table.old dirty.old table.new dirty.new }
     ensures same { AreSameBut at table.old table.new dirty.new }
-    ensures kept_added { (w k : ℕ) → w < W → has_bit (slice_index more.entry.kept w) k ≡ true → HasBit (kept_word table.new w) at k }
-    ensures made_added { (w k : ℕ) → w < W → has_bit (slice_index more.entry.made w) k ≡ true → HasBit (made_word table.new w) at k }
+    ensures preserved_added { (w k : ℕ) → w < W → has_bit (slice_index more.entry.preserved w) k ≡ true → HasBit (preserved_word table.new w) at k }
+    ensures generated_added { (w k : ℕ) → w < W → has_bit (slice_index more.entry.generated w) k ≡ true → HasBit (generated_word table.new w) at k }
 {
     let before = table[at as usize];
     let (after, changed) = joined_summary(before, more);
@@ -78,7 +84,7 @@ fn statement_point(direction: Direction, from: u32, to: u32) -> u32
 fn visit_step<const W: usize>(
     frame: &GroupFrame,
     table: &mut [Summary<W>],
-    dirty: &mut Marks,
+    dirty: &mut Worklist,
     at: u32,
     to: u32,
 )
@@ -102,7 +108,7 @@ fn visit_step<const W: usize>(
 fn visit_call<const W: usize>(
     frame: &GroupFrame,
     table: &mut [Summary<W>],
-    dirty: &mut Marks,
+    dirty: &mut Worklist,
     at: u32,
     call: CallLink,
 )
@@ -121,8 +127,8 @@ fn visit_call<const W: usize>(
     let before = table[at as usize];
     let through = table[call.exit as usize];
     let more = Summary {
-        kept: common_words(before.kept, through.kept),
-        made: new_or_kept(through.made, before.made, through.kept),
+        preserved: common_words(before.preserved, through.preserved),
+        generated: new_or_preserved(through.generated, before.generated, through.preserved),
     };
     put_summary(frame, table, dirty, call.after, more);
 }
@@ -132,7 +138,7 @@ fn visit_call<const W: usize>(
 fn visit_steps<const W: usize>(
     frame: &GroupFrame,
     table: &mut [Summary<W>],
-    dirty: &mut Marks,
+    dirty: &mut Worklist,
     at: u32,
 )
     requires frame { IsGroupFrame W frame.now }
@@ -156,7 +162,7 @@ fn visit_steps<const W: usize>(
 fn visit_calls<const W: usize>(
     frame: &GroupFrame,
     table: &mut [Summary<W>],
-    dirty: &mut Marks,
+    dirty: &mut Worklist,
     at: u32,
 )
     requires frame { IsGroupFrame W frame.now }
@@ -180,7 +186,7 @@ fn visit_calls<const W: usize>(
 fn visit_call_left_at<const W: usize>(
     frame: &GroupFrame,
     table: &mut [Summary<W>],
-    dirty: &mut Marks,
+    dirty: &mut Worklist,
     at: u32,
     exit: u32,
     call: CallLink,
@@ -203,7 +209,7 @@ fn visit_call_left_at<const W: usize>(
 fn visit_caller<const W: usize>(
     frame: &GroupFrame,
     table: &mut [Summary<W>],
-    dirty: &mut Marks,
+    dirty: &mut Worklist,
     at: u32,
     exit: u32,
 )
@@ -232,7 +238,7 @@ fn visit_caller<const W: usize>(
 fn visit_callers<const W: usize>(
     frame: &GroupFrame,
     table: &mut [Summary<W>],
-    dirty: &mut Marks,
+    dirty: &mut Worklist,
     at: u32,
 )
     requires frame { IsGroupFrame W frame.now }
@@ -257,7 +263,7 @@ fn visit_callers<const W: usize>(
 fn visit_point<const W: usize>(
     frame: &GroupFrame,
     table: &mut [Summary<W>],
-    dirty: &mut Marks,
+    dirty: &mut Worklist,
     at: u32,
 )
     requires frame { IsGroupFrame W frame.now }
@@ -276,34 +282,34 @@ fn visit_point<const W: usize>(
     }
 }
 
-// Begins a table: nothing is made, and an entry keeps everything.
+// Begins a table: nothing is generated, and an entry preserves everything.
 fn begin_summaries<const W: usize>(frame: &GroupFrame, table: &mut [Summary<W>])
     requires frame { IsGroupFrame W frame.now }
     requires count { length table.now ≡ point_count frame.now.links.now.program }
     ensures entries { (p w k : ℕ) → p < (directed_shape frame.now.links.now).procedures → w < W → k < 64
-        → HasBit (kept_word table.new w) ((directed_shape frame.now.links.now).entry p) k }
+        → HasBit (preserved_word table.new w) ((directed_shape frame.now.links.now).entry p) k }
     ensures sound { AreSoundSummaries (group_of frame.now W) table.new }
 {
     for point in 0..table.len() {
         table[point] = Summary {
-            kept: [0; W],
-            made: [0; W],
+            preserved: [0; W],
+            generated: [0; W],
         };
     }
     let links = frame.links;
     for procedure in 0..links.procedures() {
         table[links.entry(procedure) as usize] = Summary {
-            kept: [u64::MAX; W],
-            made: [0; W],
+            preserved: [u64::MAX; W],
+            generated: [0; W],
         };
     }
 }
 
-/// Finds what is kept up to each point and made before it, at the points with a path.
-pub(crate) fn kept_and_made<const W: usize>(
+/// Finds what is preserved up to each point and generated before it, at the points with a path.
+pub(crate) fn preserved_and_generated<const W: usize>(
     frame: &GroupFrame,
     table: &mut [Summary<W>],
-    dirty: &mut Marks,
+    dirty: &mut Worklist,
 )
     requires frame { IsGroupFrame W frame.now }
     requires count { length table.now ≡ point_count frame.now.links.now.program }

@@ -12,11 +12,11 @@ fn either_word(first: u64, second: u64) -> u64
     first | second
 }
 
-/// The bits that are new, and those before that are kept.
-pub(crate) fn new_or_kept_word(new: u64, before: u64, kept: u64) -> u64
-    ensures { (k : ℕ) → has_bit result k ≡ (has_bit new k || (has_bit before k && has_bit kept k)) }
+/// The bits that are new, and those before that are preserved.
+pub(crate) fn new_or_preserved_word(new: u64, before: u64, preserved: u64) -> u64
+    ensures { (k : ℕ) → has_bit result k ≡ (has_bit new k || (has_bit before k && has_bit preserved k)) }
 {
-    new | (before & kept)
+    new | (before & preserved)
 }
 
 // The bits of both words.
@@ -75,19 +75,19 @@ pub(crate) fn common_words<const W: usize>(first: [u64; W], second: [u64; W]) ->
     all
 }
 
-/// The bits that are new, and those before that are kept.
+/// The bits that are new, and those before that are preserved.
 #[inline(always)]
-pub(crate) fn new_or_kept<const W: usize>(
+pub(crate) fn new_or_preserved<const W: usize>(
     new: [u64; W],
     before: [u64; W],
-    kept: [u64; W],
+    preserved: [u64; W],
 ) -> [u64; W]
     ensures { (w k : ℕ) → w < W → has_bit (slice_index result w) k
-        ≡ (has_bit (slice_index new.entry w) k || (has_bit (slice_index before.entry w) k && has_bit (slice_index kept.entry w) k)) }
+        ≡ (has_bit (slice_index new.entry w) k || (has_bit (slice_index before.entry w) k && has_bit (slice_index preserved.entry w) k)) }
 {
     let mut all = new;
     for w in 0..W {
-        all[w] = new_or_kept_word(all[w], before[w], kept[w]);
+        all[w] = new_or_preserved_word(all[w], before[w], preserved[w]);
     }
     all
 }

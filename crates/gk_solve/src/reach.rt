@@ -6,16 +6,16 @@ ghost use Rattle.flow_graph.specs.Points.{point_count};
 ghost use Rattle.summary_equations.specs.Equations.{Reached};
 ghost use Rattle.flow_links.specs.Shapes.{directed_shape};
 ghost use Rattle.flow_links.specs.LinkLists.{IsCallLink};
-ghost use Rattle.work_list.specs.Marks.{AreClear};
+ghost use Rattle.worklist.specs.Worklist.{AreClear};
 ghost use Rattle.gk_solve.specs.Tables.Flags.{IsFlagged, AreSound, AreExactly, IsCallSettled, IsReachClosedAt, ReachSpreads};
 ghost use Rattle.gk_solve.specs.Tables.Visits.{IsSettled};
 
 use flow_graph::Edge;
 use flow_links::{CallLink, Links};
-use work_list::Marks;
+use worklist::Worklist;
 
 // Sets the flag of a point that is reached, and where it was clear, marks the point and those that wait for it.
-fn reach_point(links: &Links, flags: &mut [bool], dirty: &mut Marks, at: u32)
+fn reach_point(links: &Links, flags: &mut [bool], dirty: &mut Worklist, at: u32)
     requires count { length flags.now ≡ point_count links.now.program }
     requires dirty_count { length dirty.now ≡ point_count links.now.program }
     requires within { at < point_count links.now.program }
@@ -35,7 +35,7 @@ fn reach_point(links: &Links, flags: &mut [bool], dirty: &mut Marks, at: u32)
 }
 
 // Goes over the steps from a reached point.
-fn visit_steps(links: &Links, flags: &mut [bool], dirty: &mut Marks, at: u32)
+fn visit_steps(links: &Links, flags: &mut [bool], dirty: &mut Worklist, at: u32)
     requires count { length flags.now ≡ point_count links.now.program }
     requires dirty_count { length dirty.now ≡ point_count links.now.program }
     requires within { at < point_count links.now.program }
@@ -50,7 +50,7 @@ fn visit_steps(links: &Links, flags: &mut [bool], dirty: &mut Marks, at: u32)
 }
 
 // Goes over one call from a reached point.
-fn visit_call(links: &Links, flags: &mut [bool], dirty: &mut Marks, at: u32, call: CallLink)
+fn visit_call(links: &Links, flags: &mut [bool], dirty: &mut Worklist, at: u32, call: CallLink)
     requires count { length flags.now ≡ point_count links.now.program }
     requires dirty_count { length dirty.now ≡ point_count links.now.program }
     requires reached { Reached (directed_shape links.now) at }
@@ -68,7 +68,7 @@ fn visit_call(links: &Links, flags: &mut [bool], dirty: &mut Marks, at: u32, cal
 }
 
 // Goes over the calls from a reached point.
-fn visit_calls(links: &Links, flags: &mut [bool], dirty: &mut Marks, at: u32)
+fn visit_calls(links: &Links, flags: &mut [bool], dirty: &mut Worklist, at: u32)
     requires count { length flags.now ≡ point_count links.now.program }
     requires dirty_count { length dirty.now ≡ point_count links.now.program }
     requires within { at < point_count links.now.program }
@@ -85,7 +85,7 @@ fn visit_calls(links: &Links, flags: &mut [bool], dirty: &mut Marks, at: u32)
 }
 
 // Goes over the edges from a point.
-fn visit_point(links: &Links, flags: &mut [bool], dirty: &mut Marks, at: u32)
+fn visit_point(links: &Links, flags: &mut [bool], dirty: &mut Worklist, at: u32)
     requires count { length flags.now ≡ point_count links.now.program }
     requires dirty_count { length dirty.now ≡ point_count links.now.program }
     requires within { at < point_count links.now.program }
@@ -101,7 +101,7 @@ fn visit_point(links: &Links, flags: &mut [bool], dirty: &mut Marks, at: u32)
 }
 
 // Sets the flags of the entries.
-fn grow_entries(links: &Links, flags: &mut [bool], dirty: &mut Marks)
+fn grow_entries(links: &Links, flags: &mut [bool], dirty: &mut Worklist)
     requires count { length flags.now ≡ point_count links.now.program }
     requires dirty_count { length dirty.now ≡ point_count links.now.program }
     ensures spreads { ReachSpreads (directed_shape links.now) links.now.backward flags.old dirty.old flags.new dirty.new }
@@ -116,7 +116,7 @@ fn grow_entries(links: &Links, flags: &mut [bool], dirty: &mut Marks)
 }
 
 /// Sets the flag of each point that is reached inside its procedure. No flag is set before.
-pub(crate) fn reached(links: &Links, flags: &mut [bool], dirty: &mut Marks)
+pub(crate) fn reached(links: &Links, flags: &mut [bool], dirty: &mut Worklist)
     requires count { length flags.now ≡ point_count links.now.program }
     requires dirty_count { length dirty.now ≡ point_count links.now.program }
     requires none { (x : ℕ) → IsFlagged flags.now x → ⊥ }

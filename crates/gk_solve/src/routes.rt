@@ -13,7 +13,7 @@ use flow_links::Links;
 use gen_kill::Problem;
 use std::alloc::Global;
 use std::marker::Model;
-use work_list::Marks;
+use worklist::Worklist;
 
 /// The edges of a problem by point, and for each point whether some valid path leads to it.
 ///
@@ -53,7 +53,7 @@ fn reached_points(alloc: Global, links: &Links) -> Result<(Vec<bool>, u64), OutO
         (λ found. (length found.0.items ≡ point_count links.now.program) × AreExactly (Reached (directed_shape links.now)) found.0.items) }
 {
     let mut flags = vec![in alloc; false; links.points() as usize]?;
-    let mut dirty = Marks::none(alloc, links.order())?;
+    let mut dirty = Worklist::none(alloc, links.order())?;
     reached(links, flags.as_mut_slice(), &mut dirty);
     Ok((flags, dirty.taken()))
 }
@@ -70,7 +70,7 @@ fn entered_procedures(
         (λ flags. (length flags.items ≡ (directed_shape links.now).procedures) × AreExactly (Entered (directed_shape links.now)) flags.items) }
 {
     let mut flags = vec![in alloc; false; links.procedures() as usize]?;
-    let mut dirty = Marks::none(alloc, links.call_order())?;
+    let mut dirty = Worklist::none(alloc, links.call_order())?;
     entered(links, reached, flags.as_mut_slice(), &mut dirty);
     Ok(flags)
 }

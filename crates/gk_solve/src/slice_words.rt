@@ -18,7 +18,7 @@ use flow_links::Links;
 use gen_kill::{BitTable, Problem};
 use std::alloc::Global;
 use std::marker::Model;
-use work_list::Marks;
+use worklist::Worklist;
 
 /// All working memory in which the words of a slice are solved, and the words that were solved last.
 pub struct SliceWords {
@@ -27,8 +27,8 @@ pub struct SliceWords {
     from: u32,
     until: u32,
     tables: Tables,
-    dirty: Marks,
-    callers: Marks,
+    dirty: Worklist,
+    callers: Worklist,
     variables: u32,
     dependence: BitTable,
 }
@@ -111,11 +111,11 @@ fn group_frame<'a, 'g, 'p>(
 }
 
 // The marks of points, and those of procedures.
-fn marks(alloc: Global, links: &Links) -> Result<(Marks, Marks), OutOfMemory>
-    ensures { IfOk result (λ marks. (length marks.0 ≡ point_count links.now.program) × (length marks.1 ≡ (directed_shape links.now).procedures)) }
+fn worklist(alloc: Global, links: &Links) -> Result<(Worklist, Worklist), OutOfMemory>
+    ensures { IfOk result (λ worklist. (length worklist.0 ≡ point_count links.now.program) × (length worklist.1 ≡ (directed_shape links.now).procedures)) }
 {
-    let points = Marks::none(alloc, links.order())?;
-    let procedures = Marks::none(alloc, links.call_order())?;
+    let points = Worklist::none(alloc, links.order())?;
+    let procedures = Worklist::none(alloc, links.call_order())?;
     Ok((points, procedures))
 }
 
@@ -133,7 +133,7 @@ pub(crate) fn slice_words(
 {
     let links = routes.links();
     let tables = Tables::of(alloc, links.points(), links.procedures(), lo, hi)?;
-    let (dirty, callers) = marks(alloc, links)?;
+    let (dirty, callers) = worklist(alloc, links)?;
     let variables = problem.variables();
     let dependence = problem.no_dependence(alloc, tables.width())?;
     Ok(SliceWords {
@@ -171,7 +171,7 @@ impl SliceWords {
         self.dirty.points()
     }
 
-    /// How often a point was visited so far to find what is kept and made. No contract speaks of it.
+    /// How often a point was visited so far to find what is preserved and generated. No contract speaks of it.
     pub fn visits(&self) -> u64 {
         self.dirty.taken()
     }
@@ -199,9 +199,9 @@ impl SliceWords {
     {
         let w = (word - self.from) as usize;
         match &self.tables {
-            Tables::One(tables) => tables.points[point as usize].made[w],
-            Tables::Four(tables) => tables.points[point as usize].made[w],
-            Tables::Eight(tables) => tables.points[point as usize].made[w],
+            Tables::One(tables) => tables.points[point as usize].generated[w],
+            Tables::Four(tables) => tables.points[point as usize].generated[w],
+            Tables::Eight(tables) => tables.points[point as usize].generated[w],
         }
     }
 
@@ -214,9 +214,9 @@ impl SliceWords {
     {
         let count = (self.until - self.from) as usize;
         match &self.tables {
-            Tables::One(tables) => (self.from, &tables.points[point as usize].made[..count]),
-            Tables::Four(tables) => (self.from, &tables.points[point as usize].made[..count]),
-            Tables::Eight(tables) => (self.from, &tables.points[point as usize].made[..count]),
+            Tables::One(tables) => (self.from, &tables.points[point as usize].generated[..count]),
+            Tables::Four(tables) => (self.from, &tables.points[point as usize].generated[..count]),
+            Tables::Eight(tables) => (self.from, &tables.points[point as usize].generated[..count]),
         }
     }
 

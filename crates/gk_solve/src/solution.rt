@@ -7,12 +7,12 @@ ghost use Rattle.gk_solve.specs.Tables.Groups.{AreCompleteSummaries, AreSoundSum
 ghost use Rattle.gk_solve.specs.Tables.Solutions.{AreInSlice, AreSliceSolutions, IsSolutionAt};
 
 use crate::bring::brought;
-use crate::group::kept_and_made;
+use crate::group::preserved_and_generated;
 use crate::group_frame::GroupFrame;
-use crate::lanes::{common_words, new_or_kept};
+use crate::lanes::{common_words, new_or_preserved};
 use crate::summary::Summary;
 use bit_rows::word_within;
-use work_list::Marks;
+use worklist::Worklist;
 
 // The bits of a group's words that lie within `lo..hi`.
 fn words_within<const W: usize>(frame: &GroupFrame, lo: u32, hi: u32) -> [u64; W]
@@ -26,7 +26,7 @@ fn words_within<const W: usize>(frame: &GroupFrame, lo: u32, hi: u32) -> [u64; W
     words
 }
 
-// The solution's words at a point, as far as they lie within a slice, in the place of what is made. What is kept stays, so that it need
+// The solution's words at a point, as far as they lie within a slice, in the place of what is generated. What is preserved stays, so that it need
 // not be written.
 #[inline(always)]
 fn solution_at<const W: usize>(
@@ -38,20 +38,23 @@ fn solution_at<const W: usize>(
 ) -> Summary<W>
     requires frame { IsGroupFrame W frame.now }
     requires inside { point < point_count frame.now.links.now.program }
-    ensures { IsSolutionAt (group_of frame.now W) frame.now.paths.now point here.entry.kept here.entry.made brought.entry within.entry result.made }
+    ensures { IsSolutionAt (group_of frame.now W) frame.now.paths.now point here.entry.preserved here.entry.generated brought.entry within.entry result.generated }
 {
-    let kept = here.kept;
+    let preserved = here.preserved;
     if !frame.paths[point as usize] {
-        return Summary { kept, made: [0; W] };
+        return Summary {
+            preserved,
+            generated: [0; W],
+        };
     }
-    let all = new_or_kept(here.made, brought, kept);
+    let all = new_or_preserved(here.generated, brought, preserved);
     Summary {
-        kept,
-        made: common_words(all, within),
+        preserved,
+        generated: common_words(all, within),
     }
 }
 
-// Puts the solution's words in the place of what is made.
+// Puts the solution's words in the place of what is generated.
 fn put_solutions<const W: usize>(
     frame: &GroupFrame,
     table: &mut [Summary<W>],
@@ -82,13 +85,13 @@ fn put_solutions<const W: usize>(
     }
 }
 
-/// Solves a group of words: the solution's bits of a range stand in the place of what is made.
+/// Solves a group of words: the solution's bits of a range stand in the place of what is generated.
 pub(crate) fn solve_group<const W: usize>(
     frame: &GroupFrame,
     table: &mut [Summary<W>],
     brought_words: &mut [[u64; W]],
-    dirty: &mut Marks,
-    callers: &mut Marks,
+    dirty: &mut Worklist,
+    callers: &mut Worklist,
     range: (u32, u32),
 )
     requires frame { IsGroupFrame W frame.now }
@@ -100,7 +103,7 @@ pub(crate) fn solve_group<const W: usize>(
     ensures dirty { length dirty.new ≡ length dirty.old }
     ensures callers { length callers.new ≡ length callers.old }
 {
-    kept_and_made(frame, table, dirty);
+    preserved_and_generated(frame, table, dirty);
     brought(frame, table, brought_words, callers);
     put_solutions(frame, table, brought_words, range.0, range.1);
 }

@@ -13,7 +13,7 @@ use crate::solution::solve_group;
 use crate::summary::Summary;
 use bit_rows::words_for;
 use std::alloc::Global;
-use work_list::Marks;
+use worklist::Worklist;
 
 // A slice of more words is long, and solves eight at once: twice as many for some more work.
 const LONG: u32 = 64;
@@ -21,7 +21,7 @@ const LONG: u32 = 64;
 // So does one at more points that has more than four words. No program within the standard limits has as many.
 const MANY_POINTS: u32 = 16_384;
 
-/// What is kept and made at each point, and what is brought to each procedure, of so many words at once.
+/// What is preserved and generated at each point, and what is brought to each procedure, of so many words at once.
 #[derive(Drop)]
 pub(crate) struct WordTables<const W: usize> {
     pub(crate) points: Vec<Summary<W>>,
@@ -59,8 +59,8 @@ impl<const W: usize> WordTables<W> {
         ensures { IfOk result (λ tables. (length tables.points.items ≡ points) × (length tables.procedures.items ≡ procedures)) }
     {
         let blank = Summary {
-            kept: [0; W],
-            made: [0; W],
+            preserved: [0; W],
+            generated: [0; W],
         };
         let summaries = vec![in alloc; blank; points as usize]?;
         let brought = vec![in alloc; [0; W]; procedures as usize]?;
@@ -70,12 +70,12 @@ impl<const W: usize> WordTables<W> {
         })
     }
 
-    /// Solves a group of words: the solution's bits of a range stand in the place of what is made.
+    /// Solves a group of words: the solution's bits of a range stand in the place of what is generated.
     pub(crate) fn solve(
         &mut self,
         frame: &GroupFrame,
-        dirty: &mut Marks,
-        callers: &mut Marks,
+        dirty: &mut Worklist,
+        callers: &mut Worklist,
         range: (u32, u32),
     )
         requires frame { IsGroupFrame W frame.now }

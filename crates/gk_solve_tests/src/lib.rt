@@ -13,4 +13,4 @@ mod table_tests;
 #[cfg(test)]
 mod tables;
 #[cfg(test)]
-mod work_list_refusal_tests;
+mod worklist_refusal_tests;

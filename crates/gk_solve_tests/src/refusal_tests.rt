@@ -77,7 +77,7 @@ fn routes_of<'g, 'p>(
 }
 
 /// The points to which valid paths lead.
-fn told_of_routes(
+fn lines_of_routes(
     text: &mut String,
     alloc: Global,
     problem: &Problem<'_, '_>,
@@ -92,7 +92,7 @@ fn told_of_routes(
     Ok(())
 }
 
-fn told_of_links<'g, 'p>(
+fn lines_of_links<'g, 'p>(
     text: &mut String,
     alloc: Global,
     problem: &Problem<'g, 'p>,
@@ -102,7 +102,7 @@ fn told_of_links<'g, 'p>(
     write_steps(text, &links)
 }
 
-fn told_of_problem(
+fn lines_of_problem(
     text: &mut String,
     alloc: Global,
     problem: &Problem<'_, '_>,
@@ -111,8 +111,8 @@ fn told_of_problem(
 ) -> Result<(), OutOfMemory> {
     let bits = problem.bits();
     match call {
-        Call::Links => told_of_links(text, alloc, problem, refused),
-        Call::Routes => told_of_routes(text, alloc, problem, refused),
+        Call::Links => lines_of_links(text, alloc, problem, refused),
+        Call::Routes => lines_of_routes(text, alloc, problem, refused),
         Call::Solve => {
             let rows = again!(*refused, "solve", solve(alloc, problem, 0, bits));
             write_rows(text, &rows)
@@ -148,7 +148,7 @@ fn slice_of<'g, 'p>(
 }
 
 /// The first word of each point, as it is solved in a slice of all bits.
-fn told_of_words<'a, 'g, 'p>(
+fn lines_of_words<'a, 'g, 'p>(
     text: &mut String,
     alloc: Global,
     solver: &'a Solver<'g, 'p>,
@@ -168,7 +168,7 @@ fn told_of_words<'a, 'g, 'p>(
     Ok(())
 }
 
-fn told_of_solver<'g, 'p>(
+fn lines_of_solver<'g, 'p>(
     text: &mut String,
     alloc: Global,
     solver: &Solver<'g, 'p>,
@@ -184,7 +184,7 @@ fn told_of_solver<'g, 'p>(
             let flags = again!(*refused, "Solver::flags", solver.flags(alloc, routes));
             write_flags(text, flags.as_slice())
         }
-        Call::Words => told_of_words(text, alloc, solver, routes, refused),
+        Call::Words => lines_of_words(text, alloc, solver, routes, refused),
         _ => {
             let rows = again!(
                 *refused,
@@ -208,7 +208,7 @@ fn reaching_solver<'g, 'p>(
     ))
 }
 
-fn told_of_its_solver(
+fn lines_of_its_solver(
     text: &mut String,
     alloc: Global,
     graph: &Graph<'_>,
@@ -217,11 +217,11 @@ fn told_of_its_solver(
 ) -> Result<(), OutOfMemory> {
     let solver = reaching_solver(alloc, graph, refused)?;
     let routes = Routes::of(alloc, solver.problem())?;
-    told_of_solver(text, alloc, &solver, &routes, call, refused)
+    lines_of_solver(text, alloc, &solver, &routes, call, refused)
 }
 
 /// Writes what a call answers for the program, the second time where it was refused.
-fn told_of_program(
+fn lines_of_program(
     text: &mut String,
     alloc: Global,
     program: &Program,
@@ -231,11 +231,11 @@ fn told_of_program(
     let graph = Graph::build(alloc, program)?;
     match call {
         Call::Flags | Call::Rows | Call::Words => {
-            told_of_its_solver(text, alloc, &graph, call, refused)?;
+            lines_of_its_solver(text, alloc, &graph, call, refused)?;
         }
         _ => {
             let problem = Problem::of(alloc, &graph, Analysis::Reach)?;
-            told_of_problem(text, alloc, &problem, call, refused)?;
+            lines_of_problem(text, alloc, &problem, call, refused)?;
         }
     }
     Ok(())
@@ -246,7 +246,7 @@ fn check<R: Abort + AllocGlobal>(rt: &R, call: Call, want: &str) -> Result<(), F
     let mut refused = None;
     let mut got = String::new(rt.alloc());
     let program = read(rt.alloc(), recursion::TEXT.as_bytes())?;
-    told_of_program(&mut got, rt.alloc(), &program, call, &mut refused)?;
+    lines_of_program(&mut got, rt.alloc(), &program, call, &mut refused)?;
     assert_eq!(rt; got.as_str(), want);
     named(refused)
 }

@@ -1,3 +1,4 @@
 mod passes
 mod rows
 pub mod words
+pub mod draining

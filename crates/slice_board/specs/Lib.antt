@@ -3,3 +3,5 @@ pub mod Boards
 pub mod Steps
 pub mod Lawful
 pub mod code
+pub mod Ranges
+pub mod Teams

@@ -6,7 +6,7 @@ ghost use Rattle.slice_board.specs.Boards.{words_for};
 ghost use Rattle.slice_board.specs.code.Closing.{RowsLieWithin, RowLiesWithin, IsPutIn, ArePutIn};
 
 use atomic_table::Closed;
-use bit_rows::Rows;
+use bit_rows::{Rows, words_for};
 use std::alloc::Global;
 
 // How many words are copied at once.
@@ -40,7 +40,7 @@ fn put_row(closed: &Closed<(), Global>, rows: &mut Rows, point: u32, from: usize
     ensures { IsPutIn (slots_items closed.now.words) (from + point) point (words_for rows.old.hi) rows.old rows.new }
 {
     let apart = rows.points();
-    let words = rows.hi().div_ceil(64);
+    let words = words_for(rows.hi());
     let mut first = 0;
     while first < words {
         let count = (words - first).min(BLOCK) as usize;

@@ -6,7 +6,7 @@ ghost use Rattle.slice_board.specs.code.Worded.{ArePosted, word_of, worded_table
 
 use crate::filling::put_rows;
 use atomic_table::Closed;
-use bit_rows::Rows;
+use bit_rows::{Rows, words_for};
 use std::alloc::Global;
 use std::marker::Model;
 
@@ -83,15 +83,15 @@ impl PostedWords {
         requires { point < length self.now.flags }
         ensures { IsWordOf (set_at self.now point) word result }
     {
-        if word >= self.bits.div_ceil(64) {
+        if word >= words_for(self.bits) {
             return 0;
         }
         let row = self.first + point as usize;
         self.closed.word(row + word as usize * self.flags.len())
     }
 
-    // Puts the bits of all points into blank rows.
-    pub(crate) fn put_into(&self, rows: &mut Rows)
+    /// Puts the bits of all points into blank rows.
+    pub fn put_into(&self, rows: &mut Rows)
         requires { rows.old ≡ blank_table self.now.flags 0 self.now.hi }
         ensures flags { rows.new.flags ≡ self.now.flags }
         ensures range { (rows.new.lo ≡ 0) × (rows.new.hi ≡ self.now.hi) }

@@ -1,4 +1,4 @@
-// A board over sets that are known at run time, and workers that ask a board only for what it allows.
+// A board over sets that are known at run time, and workers that query a board only for what it allows.
 
 ghost use Rattle.std.specs.Prelude.{◌≡◌, ℕ, ◌+◌, ◌*◌, ◌/◌, ◌%◌, ◌<◌, ◌≤◌, ◌⊎◌, length, Some, IfSome, IfOk, true, not, ◌&&◌, IsTrue};
 ghost use Rattle.bit_rows.specs.RowSet.{contains};
@@ -7,8 +7,9 @@ ghost use Rattle.bit_rows.specs.Words.{has_bit};
 ghost use Rattle.slice_board.specs.Boards.{IsOf, fresh_pass};
 ghost use Rattle.slice_board_tests.specs.Benches.{IsFor, AreNoted, Covers};
 
-use bit_rows::{Cut, Row, Rows};
-use slice_board::{Board, OutOfMemory, Pass, Wanted};
+use bit_rows::{Cut, Row, Rows, words_for};
+use flow_rows::Board;
+use slice_board::{OutOfMemory, Pass, Wanted};
 use std::alloc::Global;
 
 /// The wanted bits of each point.
@@ -88,7 +89,7 @@ fn may_post(rows: &Rows, point: u32, word: u32, mask: u64) -> bool
     if point >= rows.points() {
         return false;
     }
-    if word >= rows.hi().div_ceil(64) {
+    if word >= words_for(rows.hi()) {
         return false;
     }
     mask & !rows.row(point).word(word) == 0
@@ -227,7 +228,7 @@ impl Worker {
         ensures of { IsOf board.now self.new.pass }
         ensures noted { AreNoted self.new.mine self.new.pass.posted }
     {
-        if point < sets.rows.points() && word < sets.rows.hi().div_ceil(64) {
+        if point < sets.rows.points() && word < words_for(sets.rows.hi()) {
             Some(board.look(&mut self.pass, point, word))
         } else {
             None

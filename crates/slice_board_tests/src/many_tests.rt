@@ -2,7 +2,8 @@ ghost use Rattle.std.specs.Prelude.{◌≡◌, ◌^◌, ◌<◌, IfOk, IfSome, A
 ghost use Rattle.slice_board.specs.Boards.{IsOf};
 
 use bit_rows::{Cut, CutFault, Rows};
-use slice_board::{Board, OutOfMemory, Pass, PostedWords, Wanted, WordBoard};
+use flow_rows::Board;
+use slice_board::{OutOfMemory, Pass, PostedWords, Wanted, WordBoard};
 use std::alloc::Global;
 use std::process::Abort;
 use std::thread::{Threads, join};

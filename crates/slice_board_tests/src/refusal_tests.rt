@@ -5,7 +5,8 @@ ghost use Rattle.slice_board.specs.Boards.{IsOf};
 
 use crate::many_tests::{Nothing, closes, drain, open};
 use bit_rows::CutFault;
-use slice_board::{Board, Pass};
+use flow_rows::Board;
+use slice_board::Pass;
 use std::alloc::Global;
 use std::test::Fail;
 use test_support::again;

@@ -6,7 +6,8 @@ ghost use Rattle.slice_board_tests.specs.Benches.{IsFor, AreNoted};
 
 use crate::bench::{Sets, Worker, open, wanted_sets};
 use bit_rows::{Cut, Row, Rows};
-use slice_board::{Board, OutOfMemory, Pass, Unfinished};
+use flow_rows::Board;
+use slice_board::{OutOfMemory, Pass, Unfinished};
 use std::alloc::Global;
 
 /// What a worker does.

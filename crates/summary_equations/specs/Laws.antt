@@ -10,19 +10,19 @@ use Rattle.flow_graph.specs.Paths.{Shape, Transfer, IsValidPath, IsBackwardValid
 use Rattle.flow_graph.specs.Paths.{HasBackwardPath, SomeBackwardPathHas, EveryBackwardPathHas}
 use Rattle.flow_graph.specs.Reversals.{reversed_shape, reversed_transfer, complemented_transfer}
 use Rattle.flow_graph.specs.WellFormed.{IsWellFormed, AgreesOnSteps}
-use Rattle.flow_graph.specs.MatchedPaths.{IsPathFromEntry, IsEnteringPath, is_kept_along}
-use Rattle.summary_equations.specs.Equations.{Reached, Kept, Made, Entered, Brought, HasFlag, IsInSolution, IsClosedReached, IsClosedKept}
-use Rattle.summary_equations.specs.Equations.{IsClosedMade}
+use Rattle.flow_graph.specs.MatchedPaths.{IsPathFromEntry, IsEnteringPath, is_preserved_along}
+use Rattle.summary_equations.specs.Equations.{Reached, Preserved, Generated, Entered, Brought, HasFlag, IsInSolution, IsClosedReached, IsClosedPreserved}
+use Rattle.summary_equations.specs.Equations.{IsClosedGenerated}
 use Rattle.summary_equations.specs.Equations.{IsClosedEntered, IsClosedBrought}
 
--- Reached, kept and made say that some matched path from the entry of the point's procedure exists, keeps the bit, makes
+-- Reached, preserved and generated say that some matched path from the entry of the point's procedure exists, preserves the bit, makes
 -- the bit.
 abbrev pub SummariesArePaths : Type 0
 SummariesArePaths =
     (shape : Shape) (transfer : Transfer) (point : ℕ) → IsWellFormed shape → shape.procedure_of point < shape.procedures
     → (Reached shape point ↔ ((path : List Edge) × IsPathFromEntry shape path point))
-    × (Kept shape transfer.kill point ↔ ((path : List Edge) × IsPathFromEntry shape path point × (is_kept_along transfer.kill path ≡ true)))
-    × (Made shape transfer point ↔ ((path : List Edge) × IsPathFromEntry shape path point × (value_after transfer path false ≡ true)))
+    × (Preserved shape transfer.kill point ↔ ((path : List Edge) × IsPathFromEntry shape path point × (is_preserved_along transfer.kill path ≡ true)))
+    × (Generated shape transfer point ↔ ((path : List Edge) × IsPathFromEntry shape path point × (value_after transfer path false ≡ true)))
 
 -- Entered and brought say that some valid path enters the procedure, and that one which does has the bit in its value.
 abbrev pub EntriesArePaths : Type 0
@@ -69,10 +69,10 @@ abbrev pub SolutionIsClosed : Type 0
 SolutionIsClosed =
     (shape : Shape) (transfer : Transfer)
     → IsClosedReached shape (Reached shape)
-    × IsClosedKept shape transfer.kill (Reached shape) (Kept shape transfer.kill)
-    × IsClosedMade shape transfer (Reached shape) (Kept shape transfer.kill) (Made shape transfer)
+    × IsClosedPreserved shape transfer.kill (Reached shape) (Preserved shape transfer.kill)
+    × IsClosedGenerated shape transfer (Reached shape) (Preserved shape transfer.kill) (Generated shape transfer)
     × IsClosedEntered shape (Reached shape) (Entered shape)
-    × IsClosedBrought shape transfer (Reached shape) (Kept shape transfer.kill) (Made shape transfer) (Entered shape) (Brought shape transfer)
+    × IsClosedBrought shape transfer (Reached shape) (Preserved shape transfer.kill) (Generated shape transfer) (Entered shape) (Brought shape transfer)
 
 -- the points or procedures that pass a test
 abbrev pub Passes : (ℕ → Bool) → ℕ → Type 0
@@ -84,18 +84,18 @@ ReachedIsLeast =
     (shape : Shape) (reached : ℕ → Bool) → IsClosedReached shape (Passes reached)
     → (x : ℕ) → Reached shape x → Passes reached x
 
-abbrev pub KeptIsLeast : Type 0
-KeptIsLeast =
-    (shape : Shape) (kill : ℕ → ℕ → Bool) (reached kept : ℕ → Bool)
-    → IsClosedReached shape (Passes reached) → IsClosedKept shape kill (Passes reached) (Passes kept)
-    → (x : ℕ) → Kept shape kill x → Passes kept x
+abbrev pub PreservedIsLeast : Type 0
+PreservedIsLeast =
+    (shape : Shape) (kill : ℕ → ℕ → Bool) (reached preserved : ℕ → Bool)
+    → IsClosedReached shape (Passes reached) → IsClosedPreserved shape kill (Passes reached) (Passes preserved)
+    → (x : ℕ) → Preserved shape kill x → Passes preserved x
 
-abbrev pub MadeIsLeast : Type 0
-MadeIsLeast =
-    (shape : Shape) (transfer : Transfer) (reached kept made : ℕ → Bool)
-    → IsClosedReached shape (Passes reached) → IsClosedKept shape transfer.kill (Passes reached) (Passes kept)
-    → IsClosedMade shape transfer (Passes reached) (Passes kept) (Passes made)
-    → (x : ℕ) → Made shape transfer x → Passes made x
+abbrev pub GeneratedIsLeast : Type 0
+GeneratedIsLeast =
+    (shape : Shape) (transfer : Transfer) (reached preserved generated : ℕ → Bool)
+    → IsClosedReached shape (Passes reached) → IsClosedPreserved shape transfer.kill (Passes reached) (Passes preserved)
+    → IsClosedGenerated shape transfer (Passes reached) (Passes preserved) (Passes generated)
+    → (x : ℕ) → Generated shape transfer x → Passes generated x
 
 abbrev pub EnteredIsLeast : Type 0
 EnteredIsLeast =
@@ -105,11 +105,11 @@ EnteredIsLeast =
 
 abbrev pub BroughtIsLeast : Type 0
 BroughtIsLeast =
-    (shape : Shape) (transfer : Transfer) (reached kept made entered brought : ℕ → Bool)
-    → IsClosedReached shape (Passes reached) → IsClosedKept shape transfer.kill (Passes reached) (Passes kept)
-    → IsClosedMade shape transfer (Passes reached) (Passes kept) (Passes made)
+    (shape : Shape) (transfer : Transfer) (reached preserved generated entered brought : ℕ → Bool)
+    → IsClosedReached shape (Passes reached) → IsClosedPreserved shape transfer.kill (Passes reached) (Passes preserved)
+    → IsClosedGenerated shape transfer (Passes reached) (Passes preserved) (Passes generated)
     → IsClosedEntered shape (Passes reached) (Passes entered)
-    → IsClosedBrought shape transfer (Passes reached) (Passes kept) (Passes made) (Passes entered) (Passes brought)
+    → IsClosedBrought shape transfer (Passes reached) (Passes preserved) (Passes generated) (Passes entered) (Passes brought)
     → (procedure : ℕ) → Brought shape transfer procedure → Passes brought procedure
 
 -- Bits are apart: the solution at a bit rests on the shape, on the bit's gen and kill at the steps and on its boundary.

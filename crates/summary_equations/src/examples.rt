@@ -23,7 +23,7 @@ pub fn backward_site_examples()
     ensures not_before_second_call { ¬ (IsInSolution (reversed_shape two_prints) (reversed_transfer live_first) 2) }
 {}
 
-/// A call keeps what one of its callees keeps.
+/// A call preserves what one of its callees preserves.
 pub fn several_callees_examples()
     ensures outer_after_call { IsInSolution several_callees outer_definition 2 }
     ensures outer_not_after_inner { ¬ (IsInSolution several_callees outer_definition 5) }

@@ -6,8 +6,8 @@
 ghost use Rattle.flow_graph.specs.PathLaws.{MatchedReturnsLeaveTheirCallee, CalleePathsJoin, ValidPathsSplit};
 ghost use Rattle.summary_equations.specs.Laws.{SummariesArePaths, EntriesArePaths, SolutionIsMeet, ForwardMustIsComplement, BackwardFlagsAreReversed};
 ghost use Rattle.summary_equations.specs.Laws.{BackwardMayIsReversed, BackwardMustIsReversedComplement, SolutionIsClosed, ReachedIsLeast};
-ghost use Rattle.summary_equations.specs.Laws.{KeptIsLeast};
-ghost use Rattle.summary_equations.specs.Laws.{MadeIsLeast, EnteredIsLeast, BroughtIsLeast, BitsAreApart, SolutionIsDecided, MeetsAreDecided};
+ghost use Rattle.summary_equations.specs.Laws.{PreservedIsLeast};
+ghost use Rattle.summary_equations.specs.Laws.{GeneratedIsLeast, EnteredIsLeast, BroughtIsLeast, BitsAreApart, SolutionIsDecided, MeetsAreDecided};
 ghost use Rattle.summary_equations.specs.Laws.{BackwardMeetsAreDecided, FlagsAreSolutions, MayTablesAreSolutions, MustTablesAreSolutions};
 ghost use Rattle.summary_equations.specs.Laws.{TablesAreDecided};
 
@@ -16,7 +16,7 @@ pub fn matched_returns_leave_their_callee()
     ensures { MatchedReturnsLeaveTheirCallee }
 {}
 
-/// Reached, kept and made at a point: some matched path from its procedure's entry exists, keeps the bit, makes the bit. A
+/// Reached, preserved and generated at a point: some matched path from its procedure's entry exists, preserves the bit, generates the bit. A
 /// matched path of a callee, put between the call and the return of one site, is matched.
 pub fn summaries_are_paths()
     ensures summaries { SummariesArePaths }
@@ -53,8 +53,8 @@ pub fn solution_is_closed()
 /// Anything closed under the clauses includes the least solution.
 pub fn solution_is_least()
     ensures reached { ReachedIsLeast }
-    ensures kept { KeptIsLeast }
-    ensures made { MadeIsLeast }
+    ensures preserved { PreservedIsLeast }
+    ensures generated { GeneratedIsLeast }
     ensures entered { EnteredIsLeast }
     ensures brought { BroughtIsLeast }
 {}

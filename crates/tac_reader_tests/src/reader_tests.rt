@@ -63,7 +63,7 @@ fn listed_within_large(alloc: Global, text: &[u8]) -> Result<Vec<u8>, ReadFault>
 }
 
 /// The listing of a program, or the message of why the text is none.
-fn told(alloc: Global, listed: Result<Vec<u8>, ReadFault>) -> Result<String, OutOfMemory> {
+fn text_of(alloc: Global, listed: Result<Vec<u8>, ReadFault>) -> Result<String, OutOfMemory> {
     match listed {
         Ok(listed) => String::from_utf8_lossy(alloc, listed.as_slice()),
         Err(ReadFault::OutOfMemory) => Err(OutOfMemory),
@@ -73,7 +73,7 @@ fn told(alloc: Global, listed: Result<Vec<u8>, ReadFault>) -> Result<String, Out
 
 /// What is told of a text that is read.
 fn answer(alloc: Global, text: &[u8]) -> Result<String, OutOfMemory> {
-    told(alloc, listed(alloc, text))
+    text_of(alloc, listed(alloc, text))
 }
 
 /// The one comparison of texts, since each that is written out is proved again. It tells what was tried, and its row.
@@ -323,7 +323,7 @@ fn check_within_large(
     text: &[u8],
     want: &str,
 ) -> Result<(), OutOfMemory> {
-    let answer = told(alloc, listed_within_large(alloc, text))?;
+    let answer = text_of(alloc, listed_within_large(alloc, text))?;
     same(rt, "large limits", text.len(), answer.as_str(), want);
     Ok(())
 }

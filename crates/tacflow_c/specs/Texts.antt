@@ -1,6 +1,6 @@
 -- A text that is made for a caller, in room of the caller's.
 use Rattle.std.specs.Prelude.{◌≡◌, ℕ, ◌<◌, None, List, ◌++◌, length, drop}
-use Rattle.flow_texts.specs.Reports.{ListsSafely}
+use Rattle.flow_reports.specs.Reports.{ListsSafely}
 use Rattle.tac_reader.specs.Faults.{refusal_within}
 use Rattle.tac_program.specs.Listings.{listing_of}
 use Rattle.tac_program.specs.declared.limits.Limits.{Limits}

@@ -48,7 +48,7 @@ pub struct Place {
 }
 
 /// The status of a fault. The place of a refusal is told too.
-pub(crate) fn told_fault(fault: Fault, place: &mut Place) -> u32
+pub(crate) fn fault_status(fault: Fault, place: &mut Place) -> u32
     ensures status { result ≡ status_of (Some fault) }
     ensures place { place.new ≡ place_after (Some fault) place.old }
 {
@@ -72,12 +72,12 @@ pub(crate) fn told_fault(fault: Fault, place: &mut Place) -> u32
 }
 
 /// The status of an answer: 0, or that of a fault. The place of a refusal is told too.
-pub(crate) fn told_status(answer: Result<(), Fault>, place: &mut Place) -> u32
+pub(crate) fn answer_status(answer: Result<(), Fault>, place: &mut Place) -> u32
     ensures status { result ≡ status_of (fault_in answer) }
     ensures place { place.new ≡ place_after (fault_in answer) place.old }
 {
     match answer {
         Ok(()) => 0,
-        Err(fault) => told_fault(fault, place),
+        Err(fault) => fault_status(fault, place),
     }
 }

@@ -31,7 +31,7 @@ use calls::{
     sizes_of_text,
 };
 pub use fault::Place;
-use fault::{told_fault, told_status};
+use fault::{answer_status, fault_status};
 use names::Named;
 pub use parts::{Definition, Expression, Part, Point, Sizes};
 use std::alloc::Global;
@@ -52,8 +52,8 @@ pub extern "C" fn tacflow_c_sizes(
         (λ _. sizes.new ≡ sizes.old) (λ l. IsFaultOf l text.now) }
 {
     match find_limits(limits) {
-        Ok(within) => told_status(sizes_of_text(alloc, text, within, sizes), place),
-        Err(fault) => told_fault(fault, place),
+        Ok(within) => answer_status(sizes_of_text(alloc, text, within, sizes), place),
+        Err(fault) => fault_status(fault, place),
     }
 }
 
@@ -72,8 +72,8 @@ pub extern "C" fn tacflow_c_points(
         (λ _. points.new ≡ points.old) (λ l. IsRoomFault l text.now (length points.old) (point_count (program_of text.now))) }
 {
     match find_limits(limits) {
-        Ok(within) => told_status(points_of_text(alloc, text, within, points), place),
-        Err(fault) => told_fault(fault, place),
+        Ok(within) => answer_status(points_of_text(alloc, text, within, points), place),
+        Err(fault) => fault_status(fault, place),
     }
 }
 
@@ -93,8 +93,8 @@ pub extern "C" fn tacflow_c_definitions(
         (λ l. IsRoomFault l text.now (length definitions.old) (length (definitions_in (program_of text.now)))) }
 {
     match find_limits(limits) {
-        Ok(within) => told_status(definitions_of_text(alloc, text, within, definitions), place),
-        Err(fault) => told_fault(fault, place),
+        Ok(within) => answer_status(definitions_of_text(alloc, text, within, definitions), place),
+        Err(fault) => fault_status(fault, place),
     }
 }
 
@@ -114,8 +114,8 @@ pub extern "C" fn tacflow_c_expressions(
         (λ l. IsRoomFault l text.now (length expressions.old) (length (expressions_in (program_of text.now)))) }
 {
     match find_limits(limits) {
-        Ok(within) => told_status(expressions_of_text(alloc, text, within, expressions), place),
-        Err(fault) => told_fault(fault, place),
+        Ok(within) => answer_status(expressions_of_text(alloc, text, within, expressions), place),
+        Err(fault) => fault_status(fault, place),
     }
 }
 
@@ -136,11 +136,11 @@ pub extern "C" fn tacflow_c_procedures(
         (λ _. (ends.new ≡ ends.old) × (bytes.new ≡ bytes.old)) (λ l. IsNamesFault l text.now Procedures (length ends.old) (length bytes.old)) }
 {
     match find_limits(limits) {
-        Ok(within) => told_status(
+        Ok(within) => answer_status(
             names_of_text(alloc, text, within, Named::Procedures, ends, bytes),
             place,
         ),
-        Err(fault) => told_fault(fault, place),
+        Err(fault) => fault_status(fault, place),
     }
 }
 
@@ -160,11 +160,11 @@ pub extern "C" fn tacflow_c_variables(
         (λ _. (ends.new ≡ ends.old) × (bytes.new ≡ bytes.old)) (λ l. IsNamesFault l text.now Variables (length ends.old) (length bytes.old)) }
 {
     match find_limits(limits) {
-        Ok(within) => told_status(
+        Ok(within) => answer_status(
             names_of_text(alloc, text, within, Named::Variables, ends, bytes),
             place,
         ),
-        Err(fault) => told_fault(fault, place),
+        Err(fault) => fault_status(fault, place),
     }
 }
 
@@ -192,7 +192,7 @@ pub extern "C" fn tacflow_c_facts(
         (λ l. IsTableFault l text.now analysis from until lo hi (length flags.old) (length words.old)) }
 {
     match find_limits(limits) {
-        Ok(within) => told_status(
+        Ok(within) => answer_status(
             facts_of_text(
                 alloc,
                 text,
@@ -205,7 +205,7 @@ pub extern "C" fn tacflow_c_facts(
             ),
             place,
         ),
-        Err(fault) => told_fault(fault, place),
+        Err(fault) => fault_status(fault, place),
     }
 }
 
@@ -225,8 +225,8 @@ pub extern "C" fn tacflow_c_listing(
         (λ l. IsListingFault l text.now (length bytes.old) size.new) }
 {
     match find_limits(limits) {
-        Ok(within) => told_status(listing_of_text(alloc, text, within, bytes, size), place),
-        Err(fault) => told_fault(fault, place),
+        Ok(within) => answer_status(listing_of_text(alloc, text, within, bytes, size), place),
+        Err(fault) => fault_status(fault, place),
     }
 }
 
@@ -246,7 +246,7 @@ pub extern "C" fn tacflow_c_report(
         (λ l. IsReportFault l text.now (length bytes.old) size.new) }
 {
     match find_limits(limits) {
-        Ok(within) => told_status(report_of_text(alloc, text, within, bytes, size), place),
-        Err(fault) => told_fault(fault, place),
+        Ok(within) => answer_status(report_of_text(alloc, text, within, bytes, size), place),
+        Err(fault) => fault_status(fault, place),
     }
 }

@@ -71,7 +71,7 @@ pub(crate) fn find_sizes(graph: &Graph<'_>) -> Sizes
     }
 }
 
-fn told_point(graph: &Graph<'_>, point: u32) -> Point
+fn point_of(graph: &Graph<'_>, point: u32) -> Point
     requires { point < point_count graph.now }
     ensures { result ≡ point_part graph.now point }
 {
@@ -95,11 +95,11 @@ pub(crate) fn put_points(graph: &Graph<'_>, points: &mut [Point])
     ensures { AreParts (point_part graph.now) (point_count graph.now) points.new }
 {
     for point in 0..graph.points() {
-        points[point as usize] = told_point(graph, point);
+        points[point as usize] = point_of(graph, point);
     }
 }
 
-fn told_definition(made: (u32, Option<u32>)) -> Definition
+fn definition_of(made: (u32, Option<u32>)) -> Definition
     ensures { result ≡ definition_part made }
 {
     Definition {
@@ -117,11 +117,11 @@ pub(crate) fn put_definitions(graph: &Graph<'_>, definitions: &mut [Definition])
     ensures { ArePartsOf definition_part (definitions_in graph.now) definitions.new }
 {
     for bit in 0..graph.bits(Analysis::Reach) {
-        definitions[bit as usize] = told_definition(graph.definition(bit));
+        definitions[bit as usize] = definition_of(graph.definition(bit));
     }
 }
 
-fn told_operator(op: Op) -> u32
+fn operator_number(op: Op) -> u32
     ensures { result ≡ operator_number op }
 {
     match op {
@@ -146,7 +146,7 @@ fn told_operator(op: Op) -> u32
     }
 }
 
-fn told_operand(operand: Operand) -> Part
+fn part_of(operand: Operand) -> Part
     ensures { result ≡ operand_part operand }
 {
     match operand {
@@ -163,23 +163,23 @@ fn told_operand(operand: Operand) -> Part
     }
 }
 
-fn told_expression(expr: Expr) -> Expression
+fn expression_of(expr: Expr) -> Expression
     ensures { result ≡ expression_part expr }
 {
     match expr {
         Expr::Unary(op, right) => Expression {
-            operator: told_operator(op),
+            operator: operator_number(op),
             left: Part {
                 kind: 0,
                 variable: 0,
                 number: 0,
             },
-            right: told_operand(right),
+            right: part_of(right),
         },
         Expr::Binary(left, op, right) => Expression {
-            operator: told_operator(op),
-            left: told_operand(left),
-            right: told_operand(right),
+            operator: operator_number(op),
+            left: part_of(left),
+            right: part_of(right),
         },
     }
 }
@@ -190,6 +190,6 @@ pub(crate) fn put_expressions(graph: &Graph<'_>, expressions: &mut [Expression])
     ensures { ArePartsOf expression_part (expressions_in graph.now) expressions.new }
 {
     for bit in 0..graph.bits(Analysis::Avail) {
-        expressions[bit as usize] = told_expression(graph.expression(bit));
+        expressions[bit as usize] = expression_of(graph.expression(bit));
     }
 }

@@ -18,7 +18,7 @@ use gk_solve::{Routes, SliceWords, Solver, TakeWords};
 use std::alloc::Global;
 
 // What a word of the may form tells: itself, or where the join is the intersection which bits of the slice are not in it.
-fn told_word(bits: u64, full: &Row, word: u32, join: Join) -> u64
+fn table_word(bits: u64, full: &Row, word: u32, join: Join) -> u64
     ensures { (k : ℕ) → k < 64
         → has_bit result k ≡ (if is_intersection join then not (has_bit bits k) && contains full.now (64 * word + k) else has_bit bits k) }
 {
@@ -68,7 +68,7 @@ fn put_row(
     let at = row as usize * layout.count as usize;
     for word in solved.0..solved.1 {
         let bits = slice.word(point, word);
-        words[at + (word - layout.first) as usize] = told_word(bits, full, word, layout.join);
+        words[at + (word - layout.first) as usize] = table_word(bits, full, word, layout.join);
     }
 }
 

@@ -5,7 +5,7 @@ ghost use Rattle.tacflow_c.specs.Texts.{HoldsText, IsListingFault, IsListingOf, 
 
 use crate::fault::Fault;
 use crate::text::{graph_of, program_of};
-use flow_texts::report_here;
+use flow_reports::report_here;
 use std::alloc::Global;
 use tac_program::{Limits, listing};
 

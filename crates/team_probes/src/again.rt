@@ -6,7 +6,11 @@ use std::test::Fail;
 use test_support::refusal_probes::refusal_of;
 
 /// What a call that was refused tells the second time, where it is not refused again: the test then fails by the call's name.
-pub fn told_again(lines: Option<String>, want: &str, call: &'static str) -> Result<String, Fail> {
+pub fn answered_again(
+    lines: Option<String>,
+    want: &str,
+    call: &'static str,
+) -> Result<String, Fail> {
     let Some(lines) = lines else {
         return Err(Fail::from(TeamFault::OutOfMemory));
     };
@@ -20,7 +24,7 @@ pub fn told_again(lines: Option<String>, want: &str, call: &'static str) -> Resu
 
 /// The failure that names a call that was refused, and the slice that it left unfinished, where that is the last one that was claimed.
 pub fn left_by(call: &'static str, gate: &Recorder) -> Fail {
-    let (claimed, finished, _, _) = gate.told();
+    let (claimed, finished, _, _) = gate.counts();
     let left = claimed & !finished;
     if left == 0 {
         Fail::new(format_args!("refused: {call}, which leaves no slice"))

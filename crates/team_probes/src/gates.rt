@@ -42,7 +42,7 @@ impl Recorder {
     }
 
     /// The slices that were claimed and finished, as bits, and how often each was told.
-    pub fn told(&self) -> (u64, u64, u32, u32) {
+    pub fn counts(&self) -> (u64, u64, u32, u32) {
         (
             self.claimed.load(Ordering::SeqCst),
             self.finished.load(Ordering::SeqCst),

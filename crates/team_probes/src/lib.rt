@@ -6,7 +6,7 @@ mod gates;
 mod tables;
 mod texts;
 
-pub use again::{left_by, told_again};
+pub use again::{answered_again, left_by};
 pub use gates::{Ledger, Meeting, Recorder, alone};
 pub use tables::{BITS_OF_TWO_GROUPS, Cutting, WORKERS, table_by};
 pub use texts::{

@@ -11,7 +11,7 @@ use Rattle.clap.specs.declared.builder.possible_value.PossibleValue.{PossibleVal
 use Rattle.clap.specs.declared.error.Error.{Error}
 use Rattle.clap.specs.declared.error.kind.ErrorKind.TheVariants.{InvalidValue, OutOfMemory}
 use Rattle.flow_runs.specs.Words.{AreKindsOf, NamesNumber, kind_rule, number_rule}
-use Rattle.view_commands.specs.Kinds.{facts_asked, facts_named, format_named, formats, limits_named, sizes}
+use Rattle.view_commands.specs.Kinds.{facts_queried, facts_named, format_named, formats, limits_named, sizes}
 use Rattle.view_commands.specs.declared.options.Options.{Options}
 
 -- `--NAME TEXT`, any text, with no default.
@@ -30,14 +30,14 @@ tacview_command values bounds =
     (number_rule (codes "workers") (codes "1") 64)) (number_rule (codes "cut") (codes "64") 4096)
 
 -- The name of the procedure that is asked for.
-abbrev pub name_asked : Options → Option (List ℕ)
-name_asked options = option_map string_bytes options.procedure
+abbrev pub name_queried : Options → Option (List ℕ)
+name_queried options = option_map string_bytes options.procedure
 
 -- The matches name these options.
 pub record NamesOptions (rows : List Row) (options : Options) : Type 0 where
   pub named_format : option_and_then format_named (first_of (codes "format") rows) ≡ Some options.format
-  pub named_facts : facts_asked options.format (first_of (codes "facts") rows) ≡ Some options.facts
-  pub named_procedure : name_asked options ≡ first_of (codes "procedure") rows
+  pub named_facts : facts_queried options.format (first_of (codes "facts") rows) ≡ Some options.facts
+  pub named_procedure : name_queried options ≡ first_of (codes "procedure") rows
   pub named_limits : option_and_then limits_named (first_of (codes "limits") rows) ≡ Some options.limits
   pub named_workers : NamesNumber rows (codes "workers") options.workers
   pub named_cut : NamesNumber rows (codes "cut") options.cut

@@ -64,6 +64,6 @@ facts_by_format format.Json = all_facts
 facts_by_format format.Report = no_facts
 
 -- The facts that are asked for, by a list or by none.
-abbrev pub facts_asked : Format → Option (List ℕ) → Option Chosen
-facts_asked format None = Some (facts_by_format format)
-facts_asked format (Some list) = facts_named list
+abbrev pub facts_queried : Format → Option (List ℕ) → Option Chosen
+facts_queried format None = Some (facts_by_format format)
+facts_queried format (Some list) = facts_named list

@@ -19,6 +19,6 @@ abbrev pub escaped : List ℕ → List ℕ
 escaped name = flat_map escaped_byte name
 
 -- The whole line, with its line feed; where a procedure is not there, its name.
-abbrev pub line_told : Option (List ℕ) → Fault → List ℕ
-line_told (Some name) fault.NoProcedure = codes "tacview" ++ (codes ": the program has no procedure " ++ escaped name ++ codes "\n")
-line_told name f = line_of_fault (codes "tacview") f
+abbrev pub fault_line : Option (List ℕ) → Fault → List ℕ
+fault_line (Some name) fault.NoProcedure = codes "tacview" ++ (codes ": the program has no procedure " ++ escaped name ++ codes "\n")
+fault_line name f = line_of_fault (codes "tacview") f

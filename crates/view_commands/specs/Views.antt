@@ -1,7 +1,7 @@
 -- What is shown of a program.
 use Rattle.std.specs.Prelude.{◌≡◌, ℕ, List, Option, None, Some, slice_get}
 use Rattle.tac_program.specs.Programs.{Program}
-use Rattle.flow_texts.specs.Reports.{IsReport, ListsSafely}
+use Rattle.flow_reports.specs.Reports.{IsReport, ListsSafely}
 use Rattle.flow_views.specs.Dots.{IsDot}
 use Rattle.flow_views.specs.Json.{IsJson}
 use Rattle.flow_views.specs.declared.view.Chosen.{Chosen}
@@ -32,5 +32,5 @@ IsText format.Report program view out = IsReport program out × ListsSafely prog
 -- What is written of a program: the text of this format, with these facts, of the procedures that are asked for.
 pub record IsShown (format : Format) (facts : Chosen) (name : Option (List ℕ)) (program : Program) (out : List ℕ) : Type 0 where
   pub procedure : Option ℕ
-  pub asked : ShowsProcedure program name procedure
+  pub queried : ShowsProcedure program name procedure
   pub text : IsText format program (record { facts = facts; procedure = procedure }) out

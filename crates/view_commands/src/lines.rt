@@ -2,7 +2,7 @@
 
 ghost use Rattle.std.specs.Prelude.{◌≡◌, ◌<◌, ◌++◌, IfOk, OnOk, Some, option_map};
 ghost use Rattle.flow_runs.specs.declared.fault.Fault.TheVariants as fault;
-ghost use Rattle.view_commands.specs.Lines.{escaped, escaped_byte, hex_digit, is_plain, line_told};
+ghost use Rattle.view_commands.specs.Lines.{escaped, escaped_byte, hex_digit, is_plain, fault_line};
 
 use flow_runs::{Fault, OutOfMemory, fault_line, line_with};
 use std::alloc::Global;
@@ -41,7 +41,7 @@ fn push_escaped(text: &mut Vec<u8>, bytes: &[u8]) -> Result<(), OutOfMemory>
 }
 
 fn no_procedure_line(alloc: Global, name: &str) -> Result<Vec<u8>, OutOfMemory>
-    ensures { IfOk result (λ line. line.items ≡ line_told (Some name.now) fault.NoProcedure) }
+    ensures { IfOk result (λ line. line.items ≡ fault_line (Some name.now) fault.NoProcedure) }
 {
     let mut rest = b": the program has no procedure ".to_vec(alloc)?;
     push_escaped(&mut rest, name.as_bytes())?;
@@ -57,7 +57,7 @@ pub fn line_of(
     procedure: Option<&str>,
     fault: &Fault,
 ) -> Result<Vec<u8>, OutOfMemory>
-    ensures { IfOk result (λ line. line.items ≡ line_told (option_map (λ name. name.now) procedure.entry) fault.now) }
+    ensures { IfOk result (λ line. line.items ≡ fault_line (option_map (λ name. name.now) procedure.entry) fault.now) }
 {
     match (procedure, fault) {
         (Some(name), Fault::NoProcedure) => no_procedure_line(alloc, name),

@@ -34,7 +34,7 @@ pub struct Count {
     finished: AtomicU32,
     // When the next line may be told; 0 before any work.
     due: AtomicU64,
-    is_told: AtomicBool,
+    is_written: AtomicBool,
 }
 
 impl Count {
@@ -44,7 +44,7 @@ impl Count {
             slices: AtomicU32::new(0),
             finished: AtomicU32::new(0),
             due: AtomicU64::new(0),
-            is_told: AtomicBool::new(false),
+            is_written: AtomicBool::new(false),
         }
     }
 
@@ -87,13 +87,13 @@ impl Count {
             return None;
         }
         let line = self.line(alloc).ok()?;
-        self.is_told.store(true, Ordering::SeqCst);
+        self.is_written.store(true, Ordering::SeqCst);
         Some(line)
     }
 
     /// The work has ended. Whether a line stands there.
     pub fn end(&self) -> bool {
-        self.is_told.swap(false, Ordering::SeqCst)
+        self.is_written.swap(false, Ordering::SeqCst)
     }
 }
 

@@ -4,7 +4,7 @@ ghost use Rattle.std.specs.Prelude.{◌≡◌, ◌<◌, ◌+◌, ◌-◌, ◌^�
 ghost use Rattle.std.specs.Io.KnownBytes.{Keeps};
 ghost use Rattle.flow_runs.specs.Faults.{UnlessWrite, WhereNoGraph, WhereNoProcedure, WhereRefused, WhereWrite, read_faults_in, write_faults_in};
 ghost use Rattle.flow_runs.specs.Runs.{PullsNoProcedure, PullsOverLimit, PullsRefused, WritesAnswer, WritesBeginning};
-ghost use Rattle.view_commands.specs.Commands.{name_asked};
+ghost use Rattle.view_commands.specs.Commands.{name_queried};
 ghost use Rattle.view_commands.specs.Views.{IsShown, LacksProcedure};
 
 use crate::options::Options;
@@ -38,17 +38,17 @@ pub fn run<R: Threads + Sync, S: Source, K: Sink>(
     requires running { S.ended source.old ≡ false }
     requires source_below { S.faults source.old < 2 ^ 32 - 1 }
     requires sink_below { K.faults sink.old < 2 ^ 32 - 1 }
-    ensures written { OnOk result (WritesAnswer options.now.limits true (IsShown options.now.format options.now.facts (name_asked options.now))
+    ensures written { OnOk result (WritesAnswer options.now.limits true (IsShown options.now.format options.now.facts (name_queried options.now))
         (S.remaining source.old) (S.remaining source.new) (S.ended source.new) (K.contents sink.old) (K.contents sink.new)) }
     ensures flushed { OnOk result (K.flushed sink.new ≡ true) }
     ensures refused { IfErr result (WhereRefused (PullsRefused options.now.limits
         (S.remaining source.old) (S.remaining source.new) (S.ended source.new))) }
     ensures no_graph { IfErr result (WhereNoGraph (PullsOverLimit options.now.limits true
         (S.remaining source.old) (S.remaining source.new) (S.ended source.new))) }
-    ensures no_procedure { IfErr result (WhereNoProcedure (PullsNoProcedure options.now.limits (LacksProcedure (name_asked options.now))
+    ensures no_procedure { IfErr result (WhereNoProcedure (PullsNoProcedure options.now.limits (LacksProcedure (name_queried options.now))
         (S.remaining source.old) (S.remaining source.new) (S.ended source.new))) }
     ensures beginning { IfErr result (WhereWrite (WritesBeginning options.now.limits true
-        (IsShown options.now.format options.now.facts (name_asked options.now))
+        (IsShown options.now.format options.now.facts (name_queried options.now))
         (S.remaining source.old) (S.remaining source.new) (S.ended source.new) (K.contents sink.old) (K.contents sink.new))) }
     ensures unwritten { IfErr result (UnlessWrite (Keeps (K.contents sink.old) (K.contents sink.new))) }
     ensures source_faults { S.faults source.new ≡ S.faults source.old + read_faults_in result }

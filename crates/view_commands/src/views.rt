@@ -5,20 +5,20 @@ ghost use Rattle.std.specs.Thread.{IsSync};
 ghost use Rattle.flow_graph.specs.Limits.{HasFewBits, HasFewPoints};
 ghost use Rattle.flow_runs.specs.Faults.{Delivers, OfProgram, write_faults_in};
 ghost use Rattle.flow_runs.specs.Runs.{IsOverLimit};
-ghost use Rattle.flow_texts.specs.code.Reported.{TellReport};
+ghost use Rattle.flow_reports.specs.code.Reported.{TellReport};
 ghost use Rattle.flow_views.specs.Dots.{IsDot};
 ghost use Rattle.flow_views.specs.Json.{IsJson};
-ghost use Rattle.flow_views.specs.ShownTables.{AreShownTables};
-ghost use Rattle.view_commands.specs.Commands.{name_asked};
+ghost use Rattle.flow_views.specs.ViewTables.{AreViewTables};
+ghost use Rattle.view_commands.specs.Commands.{name_queried};
 ghost use Rattle.view_commands.specs.Views.{HasProcedure, IsShown, IsText, LacksProcedure, ShowsProcedure};
 
 use crate::options::{Format, Options};
 use crate::progress::Progress;
 use flow_graph::Graph;
-use flow_runs::{Fault, OutOfMemory, Shown, graph_of, push_report, push_text};
+use flow_reports::ReportAnswers;
+use flow_runs::{Fault, OutOfMemory, Output, graph_of, push_report, push_text};
 use flow_team::Team;
-use flow_texts::ReportAnswers;
-use flow_views::{DotText, JsonText, ShownTables, View};
+use flow_views::{DotText, JsonText, View, ViewTables};
 use std::alloc::Global;
 use std::thread::Threads;
 use tac_program::{Limits, Program};
@@ -39,9 +39,9 @@ fn procedure_named(program: &Program, name: &[u8]) -> Option<u32>
 // What the options ask for of this program.
 fn view_of(program: &Program, options: &Options) -> Result<View, Fault>
     ensures facts { IfOk result (λ view. view.facts ≡ options.now.facts) }
-    ensures procedure { IfOk result (λ view. ShowsProcedure program.now (name_asked options.now) view.procedure) }
+    ensures procedure { IfOk result (λ view. ShowsProcedure program.now (name_queried options.now) view.procedure) }
     ensures there { IfOk result (λ view. IfSome view.procedure (λ number. number < length program.now.procedure_names)) }
-    ensures lacks { IfErr result (λ fault. (fault ≡ Fault.NoProcedure) × LacksProcedure (name_asked options.now) program.now) }
+    ensures lacks { IfErr result (λ fault. (fault ≡ Fault.NoProcedure) × LacksProcedure (name_queried options.now) program.now) }
 {
     let facts = options.facts;
     let Some(name) = &options.procedure else {
@@ -65,12 +65,12 @@ fn tables_and_answers<R: Threads + Sync>(
     alloc: Global,
     graph: &Graph<'_>,
     view: View,
-) -> Result<(ShownTables, ReportAnswers), OutOfMemory>
+) -> Result<(ViewTables, ReportAnswers), OutOfMemory>
     requires threads { IsSync R.row }
     requires there { IfSome view.procedure (λ number. number < length graph.now.procedure_names) }
-    ensures { IfOk result (λ made. AreShownTables graph.now view made.0 × TellReport graph.now made.1) }
+    ensures { IfOk result (λ made. AreViewTables graph.now view made.0 × TellReport graph.now made.1) }
 {
-    let tables = ShownTables::of(team, alloc, graph, view)?;
+    let tables = ViewTables::of(team, alloc, graph, view)?;
     let answers = ReportAnswers::of(team, alloc, graph)?;
     Ok((tables, answers))
 }
@@ -142,7 +142,7 @@ fn view_of_graph<R: Threads + Sync, K: Sink>(
 }
 
 // Writes what the options ask for of this program, but for the procedure, which is found.
-fn show_view<R: Threads + Sync, K: Sink>(
+fn write_view<R: Threads + Sync, K: Sink>(
     rt: &R,
     alloc: Global,
     program: &Program,
@@ -177,20 +177,20 @@ pub(crate) struct GatedOptions<'a> {
     pub(crate) gate: &'a Progress,
 }
 
-impl Shown for GatedOptions<'_> {
+impl Output for GatedOptions<'_> {
     ghost limits = { λ gated. gated.options.now.limits };
 
     ghost needs_graph = { λ _. true };
 
-    ghost is_shown = { λ gated. IsShown gated.options.now.format gated.options.now.facts (name_asked gated.options.now) };
+    ghost is_output = { λ gated. IsShown gated.options.now.format gated.options.now.facts (name_queried gated.options.now) };
 
-    ghost lacks = { λ gated. LacksProcedure (name_asked gated.options.now) };
+    ghost lacks = { λ gated. LacksProcedure (name_queried gated.options.now) };
 
     fn limits(&self) -> Limits {
         self.options.limits
     }
 
-    fn show<R: Threads + Sync, K: Sink>(
+    fn write<R: Threads + Sync, K: Sink>(
         &self,
         rt: &R,
         alloc: Global,
@@ -198,6 +198,6 @@ impl Shown for GatedOptions<'_> {
         sink: &mut K,
     ) -> Result<(), Fault> {
         let view = view_of(program, self.options)?;
-        show_view(rt, alloc, program, view, self.options, self.gate, sink)
+        write_view(rt, alloc, program, view, self.options, self.gate, sink)
     }
 }

@@ -6,7 +6,7 @@ ghost use Rattle.clap.specs.Words.{FailsBy, app_of, first_of, found_of, rows_of,
 ghost use Rattle.flow_runs.specs.Words.{AreKindsOf, kind_rule};
 ghost use Rattle.flow_runs.specs.code.Matches.{HoldsKind};
 ghost use Rattle.view_commands.specs.Commands.{AnswersWords, NamesOptions, facts_kinds, knows_facts, tacview_command, text_rule, view_command};
-ghost use Rattle.view_commands.specs.Kinds.{facts_asked, format_named, formats as known_formats, limits_named, sizes as known_sizes};
+ghost use Rattle.view_commands.specs.Kinds.{facts_queried, format_named, formats as known_formats, limits_named, sizes as known_sizes};
 ghost use Rattle.view_commands.specs.code.Matches.{HoldsOptions};
 
 use crate::facts::{facts_by, facts_of};
@@ -176,7 +176,7 @@ fn limits_by(matches: &ArgMatches<'_>) -> Limits
 
 // The facts that were asked for. None where the list that was found names no facts.
 fn facts_found(matches: &ArgMatches<'_>, format: Format) -> Option<Chosen>
-    ensures { result ≡ facts_asked format (first_of (codes "facts") (rows_of (found_of matches.now))) }
+    ensures { result ≡ facts_queried format (first_of (codes "facts") (rows_of (found_of matches.now))) }
 {
     match matches.get_str("facts") {
         Some(list) => facts_of(list),

@@ -1,6 +1,6 @@
 // Values by hand: texts and programs that are refused within the standard limits and shown within the large ones.
 
-use crate::tacview_tests::{Asked, GRAPH, LINES, NONE, REPORT, check_by};
+use crate::tacview_tests::{GRAPH, LINES, NONE, Queried, REPORT, check_by};
 use flow_runs::OutOfMemory;
 use std::alloc::Global;
 use std::io::ErrorKind;
@@ -13,14 +13,14 @@ use test_support::worked_programs::series::{numbered, repeated};
 use test_support::worked_programs::{ALONE, smallest};
 use view_commands::Format;
 
-const LARGE_REPORT: Asked<'static> = Asked {
+const LARGE_REPORT: Queried<'static> = Queried {
     limits: Limits::Large,
     format: Format::Report,
     facts: NONE,
     procedure: None,
 };
 
-const LARGE_LINES: Asked<'static> = Asked {
+const LARGE_LINES: Queried<'static> = Queried {
     limits: Limits::Large,
     format: Format::Json,
     facts: NONE,
@@ -33,8 +33,8 @@ fn check_refused<R: Threads + Sync + Abort + AllocGlobal>(
     text: &str,
     refusal: &str,
 ) -> Result<(), Fail> {
-    for asked in &[GRAPH, LINES, REPORT] {
-        check_by(rt, text.as_bytes(), usize::MAX, *asked, ALONE, refusal)?;
+    for queried in &[GRAPH, LINES, REPORT] {
+        check_by(rt, text.as_bytes(), usize::MAX, *queried, ALONE, refusal)?;
     }
     Ok(())
 }
@@ -138,14 +138,14 @@ fn faults_behind_the_longest_text(rt: HostRuntime) -> Result<(), Fail> {
         (REPORT, "tacview: 1:1: refusal 11: TextTooLong\n"),
         (LARGE_REPORT, "tacview: read fault\n"),
     ];
-    for (asked, answer) in &answers {
+    for (queried, answer) in &answers {
         let reader = Pieces {
             rest: text.as_bytes(),
             piece: usize::MAX,
             left: 1_048_577,
             fault: ErrorKind::Other,
         };
-        check_by(&rt, reader, usize::MAX, *asked, ALONE, answer)?;
+        check_by(&rt, reader, usize::MAX, *queried, ALONE, answer)?;
     }
     Ok(())
 }

@@ -5,17 +5,17 @@ use std::test::Fail;
 use view_commands::{Count, progress_words};
 
 // What is told of three slices, which begin and are finished at these times, and when the work ends.
-fn told_at(alloc: Global, count: &Count, times: &[u64]) -> Result<String, Fail> {
-    let mut told = Vec::new(alloc);
+fn lines_at(alloc: Global, count: &Count, times: &[u64]) -> Result<String, Fail> {
+    let mut output_of = Vec::new(alloc);
     for time in times {
         if let Some(line) = count.finish(alloc, *time) {
-            told.extend_from_slice(&line)?;
+            output_of.extend_from_slice(&line)?;
         }
     }
     if count.end() {
-        told.extend_from_slice(b"!")?;
+        output_of.extend_from_slice(b"!")?;
     }
-    Ok(String::from_utf8(told)?)
+    Ok(String::from_utf8(output_of)?)
 }
 
 // When three slices are begun, when each is finished, and what is told, with a mark where a line stands in the end.
@@ -38,8 +38,8 @@ fn lines_by_the_clock(rt: HostRuntime) -> Result<(), Fail> {
     for (begun, times, want) in TIMES {
         let count = Count::new();
         count.begin(3, *begun);
-        let told = told_at(rt.alloc(), &count, times)?;
-        assert_eq!(rt; told.as_str(), *want, "{times:?}");
+        let output_of = lines_at(rt.alloc(), &count, times)?;
+        assert_eq!(rt; output_of.as_str(), *want, "{times:?}");
     }
     Ok(())
 }
@@ -49,10 +49,10 @@ fn lines_by_the_clock(rt: HostRuntime) -> Result<(), Fail> {
 fn lines_of_later_work(rt: HostRuntime) -> Result<(), Fail> {
     let count = Count::new();
     count.begin(2, 1);
-    let first = told_at(rt.alloc(), &count, &[5, 1900])?;
+    let first = lines_at(rt.alloc(), &count, &[5, 1900])?;
     assert_eq!(rt; first.as_str(), "");
     count.begin(4, 2000);
-    let second = told_at(rt.alloc(), &count, &[2000, 2001])?;
+    let second = lines_at(rt.alloc(), &count, &[2000, 2001])?;
     assert_eq!(rt; second.as_str(), "\rtacview: 2 of 4 slices\x1b[K!");
     assert!(rt; !count.end());
     Ok(())

@@ -1,7 +1,7 @@
 // Runs of `tacview` where memory is refused, as `test_support` has it.
 
 use crate::tacview_tests::{
-    Asked, F_GRAPH, GRAPH, GRAPH_OF_F, LINES, REPORT, SMALL_GRAPH, SMALL_LINES, options,
+    F_GRAPH, GRAPH, GRAPH_OF_F, LINES, Queried, REPORT, SMALL_GRAPH, SMALL_LINES, options,
     run_to_page,
 };
 use flow_runs::Fault;
@@ -33,7 +33,7 @@ fn check_view<R: Threads + Sync + Abort + AllocGlobal>(
     )
 }
 
-const VIEWS: &[(&str, Asked<'static>, &str)] = &[
+const VIEWS: &[(&str, Queried<'static>, &str)] = &[
     (small::TEXT, GRAPH, SMALL_GRAPH),
     (small::TEXT, LINES, SMALL_LINES),
     (recursion::TEXT, GRAPH_OF_F, F_GRAPH),
@@ -42,9 +42,9 @@ const VIEWS: &[(&str, Asked<'static>, &str)] = &[
 
 #[test]
 fn run_is_refused(rt: HostRuntime) -> Result<(), Fail> {
-    for (text, asked, answer) in VIEWS {
+    for (text, queried, answer) in VIEWS {
         for team in TEAMS {
-            if let Some(options) = options(rt.alloc(), *asked, *team) {
+            if let Some(options) = options(rt.alloc(), *queried, *team) {
                 check_view(&rt, text, &options, answer)?;
             }
         }

@@ -38,28 +38,28 @@ const REACH: Chosen = Chosen {
 
 // What is asked of a program.
 #[derive(Clone, Copy)]
-pub(crate) struct Asked<'a> {
+pub(crate) struct Queried<'a> {
     pub(crate) limits: Limits,
     pub(crate) format: Format,
     pub(crate) facts: Chosen,
     pub(crate) procedure: Option<&'a str>,
 }
 
-pub(crate) const GRAPH: Asked<'static> = Asked {
+pub(crate) const GRAPH: Queried<'static> = Queried {
     limits: Limits::Standard,
     format: Format::Dot,
     facts: NONE,
     procedure: None,
 };
 
-pub(crate) const LINES: Asked<'static> = Asked {
+pub(crate) const LINES: Queried<'static> = Queried {
     limits: Limits::Standard,
     format: Format::Json,
     facts: ALL,
     procedure: None,
 };
 
-pub(crate) const REPORT: Asked<'static> = Asked {
+pub(crate) const REPORT: Queried<'static> = Queried {
     limits: Limits::Standard,
     format: Format::Report,
     facts: NONE,
@@ -67,17 +67,17 @@ pub(crate) const REPORT: Asked<'static> = Asked {
 };
 
 // None where memory is refused.
-pub(crate) fn options(alloc: Global, asked: Asked<'_>, team: (u32, u32)) -> Option<Options> {
-    let procedure = match asked.procedure {
+pub(crate) fn options(alloc: Global, queried: Queried<'_>, team: (u32, u32)) -> Option<Options> {
+    let procedure = match queried.procedure {
         Some(name) => Some(String::from_str(alloc, name).ok()?),
         None => None,
     };
     Options::new(
         team.0,
         team.1,
-        asked.limits,
-        asked.format,
-        asked.facts,
+        queried.limits,
+        queried.format,
+        queried.facts,
         procedure,
     )
 }
@@ -111,16 +111,16 @@ fn line_and_text(
 }
 
 // Both, by so many workers in slices of this width.
-fn told<R: Threads + Sync + AllocGlobal, D: Read + Drop>(
+fn output_of<R: Threads + Sync + AllocGlobal, D: Read + Drop>(
     rt: &R,
     reader: D,
     page: &mut Page,
-    asked: Asked<'_>,
+    queried: Queried<'_>,
     team: (u32, u32),
 ) -> Result<Vec<u8>, Fail> {
-    let options = options(rt.alloc(), asked, team).ok_or("options")?;
+    let options = options(rt.alloc(), queried, team).ok_or("options")?;
     let answered = run_to_page(rt, reader, &mut *page, &options);
-    line_and_text(rt.alloc(), asked.procedure, answered, &page.taken)
+    line_and_text(rt.alloc(), queried.procedure, answered, &page.taken)
 }
 
 // What this team answered.
@@ -133,13 +133,13 @@ pub(crate) fn check_by<R: Threads + Sync + Abort + AllocGlobal, D: Read + Drop>(
     rt: &R,
     reader: D,
     piece: usize,
-    asked: Asked<'_>,
+    queried: Queried<'_>,
     team: (u32, u32),
     answer: &str,
 ) -> Result<(), Fail> {
     let mut page = blank_page(rt.alloc());
     page.piece = piece;
-    let got = told(rt, reader, &mut page, asked, team)?;
+    let got = output_of(rt, reader, &mut page, queried, team)?;
     check_team(rt, &got, answer.as_bytes(), team);
     Ok(())
 }
@@ -148,11 +148,11 @@ pub(crate) fn check_by<R: Threads + Sync + Abort + AllocGlobal, D: Read + Drop>(
 fn check<R: Threads + Sync + Abort + AllocGlobal>(
     rt: &R,
     text: &str,
-    asked: Asked<'_>,
+    queried: Queried<'_>,
     answer: &str,
 ) -> Result<(), Fail> {
     for team in TEAMS {
-        check_by(rt, text.as_bytes(), usize::MAX, asked, *team, answer)?;
+        check_by(rt, text.as_bytes(), usize::MAX, queried, *team, answer)?;
     }
     let slow = Pieces {
         rest: text.as_bytes(),
@@ -160,7 +160,7 @@ fn check<R: Threads + Sync + Abort + AllocGlobal>(
         left: usize::MAX,
         fault: ErrorKind::Other,
     };
-    check_by(rt, slow, 1, asked, ALONE, answer)
+    check_by(rt, slow, 1, queried, ALONE, answer)
 }
 
 pub(crate) const SMALL_GRAPH: &str =
@@ -219,15 +219,15 @@ const F_LINES: &str =
 // Each text is answered so.
 fn check_all<R: Threads + Sync + Abort + AllocGlobal>(
     rt: &R,
-    cases: &[(&str, Asked<'_>, &str)],
+    cases: &[(&str, Queried<'_>, &str)],
 ) -> Result<(), Fail> {
-    for (text, asked, answer) in cases {
-        check(rt, text, *asked, answer)?;
+    for (text, queried, answer) in cases {
+        check(rt, text, *queried, answer)?;
     }
     Ok(())
 }
 
-const WHOLE_PROGRAMS: &[(&str, Asked<'static>, &str)] = &[
+const WHOLE_PROGRAMS: &[(&str, Queried<'static>, &str)] = &[
     (small::TEXT, GRAPH, SMALL_GRAPH),
     (small::TEXT, LINES, SMALL_LINES),
     (recursion::TEXT, GRAPH, RECURSION_GRAPH),
@@ -242,21 +242,21 @@ fn whole_programs(rt: HostRuntime) -> Result<(), Fail> {
 }
 
 // What is asked of `f` or of `main` alone.
-pub(crate) const GRAPH_OF_F: Asked<'static> = Asked {
+pub(crate) const GRAPH_OF_F: Queried<'static> = Queried {
     limits: Limits::Standard,
     format: Format::Dot,
     facts: REACH,
     procedure: Some("f"),
 };
 
-const LINES_OF_F: Asked<'static> = Asked {
+const LINES_OF_F: Queried<'static> = Queried {
     limits: Limits::Standard,
     format: Format::Json,
     facts: NONE,
     procedure: Some("f"),
 };
 
-const GRAPH_OF_MAIN: Asked<'static> = Asked {
+const GRAPH_OF_MAIN: Queried<'static> = Queried {
     limits: Limits::Standard,
     format: Format::Dot,
     facts: NONE,
@@ -264,14 +264,14 @@ const GRAPH_OF_MAIN: Asked<'static> = Asked {
 };
 
 // A report is of the whole program all the same.
-const REPORT_OF_P: Asked<'static> = Asked {
+const REPORT_OF_P: Queried<'static> = Queried {
     limits: Limits::Standard,
     format: Format::Report,
     facts: ALL,
     procedure: Some("p"),
 };
 
-const ONE_PROCEDURE: &[(&str, Asked<'static>, &str)] = &[
+const ONE_PROCEDURE: &[(&str, Queried<'static>, &str)] = &[
     (recursion::TEXT, GRAPH_OF_F, F_GRAPH),
     (recursion::TEXT, LINES_OF_F, F_LINES),
     (small::TEXT, GRAPH_OF_MAIN, SMALL_GRAPH),
@@ -299,19 +299,19 @@ const NO_PROCEDURES: &[(&str, &str)] = &[
 fn procedures_that_are_not_there(rt: HostRuntime) -> Result<(), Fail> {
     for (name, line) in NO_PROCEDURES {
         for format in &[Format::Dot, Format::Json, Format::Report] {
-            let asked = Asked {
+            let queried = Queried {
                 limits: Limits::Standard,
                 format: *format,
                 facts: NONE,
                 procedure: Some(name),
             };
-            check(&rt, recursion::TEXT, asked, line)?;
+            check(&rt, recursion::TEXT, queried, line)?;
         }
     }
     Ok(())
 }
 
-const REFUSED_TEXTS: &[(&str, Asked<'static>, &str)] = &[
+const REFUSED_TEXTS: &[(&str, Queried<'static>, &str)] = &[
     ("", GRAPH, "tacview: 1:1: refusal 6: NoMain\n"),
     ("", LINES, "tacview: 1:1: refusal 6: NoMain\n"),
     ("", REPORT, "tacview: 1:1: refusal 6: NoMain\n"),
@@ -344,7 +344,7 @@ fn refused_texts(rt: HostRuntime) -> Result<(), Fail> {
 
 #[test]
 fn faults_of_readers(rt: HostRuntime) -> Result<(), Fail> {
-    for asked in &[GRAPH, LINES, REPORT] {
+    for queried in &[GRAPH, LINES, REPORT] {
         for left in 0..small::TEXT.len() {
             let reader = Pieces {
                 rest: small::TEXT.as_bytes(),
@@ -356,7 +356,7 @@ fn faults_of_readers(rt: HostRuntime) -> Result<(), Fail> {
                 &rt,
                 reader,
                 usize::MAX,
-                *asked,
+                *queried,
                 ALONE,
                 "tacview: read fault\n",
             )?;
@@ -368,7 +368,7 @@ fn faults_of_readers(rt: HostRuntime) -> Result<(), Fail> {
 // The writer takes so many bytes of the answer to the small text, and then fails.
 fn check_writer<R: Threads + Sync + Abort + AllocGlobal>(
     rt: &R,
-    asked: Asked<'_>,
+    queried: Queried<'_>,
     answer: &str,
     left: usize,
 ) -> Result<(), Fail> {
@@ -376,7 +376,7 @@ fn check_writer<R: Threads + Sync + Abort + AllocGlobal>(
     let mut page = blank_page(rt.alloc());
     page.left = left;
     page.fault = Some(ErrorKind::Other);
-    let got = told(rt, small::TEXT.as_bytes(), &mut page, asked, ALONE)?;
+    let got = output_of(rt, small::TEXT.as_bytes(), &mut page, queried, ALONE)?;
     assert_eq!(rt; page.taken.as_slice(), beginning);
     assert!(rt; got.as_slice().starts_with(b"tacview: write fault\n"));
     Ok(())

@@ -11,7 +11,7 @@ use Rattle.flow_runs.specs.Words.{AreKindsOf}
 use Rattle.flow_runs.proofs.matches.HeldValues as options
 use Rattle.flow_runs.proofs.matches.Cases.{other}
 use Rattle.flow_commands.specs.Commands.{tacflow_command}
-use Rattle.flow_commands.specs.Shows.{kinds}
+use Rattle.flow_commands.specs.Kinds.{kinds}
 use Rattle.flow_commands.specs.code.Matches.{HoldsOptions}
 
 abbrev pub HasOptions : App → Bor (List PossibleValue) → Type 0

@@ -2,7 +2,7 @@
 use Rattle.std.specs.Prelude.{List, codes}
 use Rattle.clap.specs.Words.{Row}
 use Rattle.flow_runs.specs.code.Matches.{HoldsKind, HoldsNumber}
-use Rattle.flow_commands.specs.Shows.{kinds}
+use Rattle.flow_commands.specs.Kinds.{kinds}
 
 -- They hold each of the options.
 pub record HoldsOptions (rows : List Row) : Type 0 where

@@ -8,7 +8,7 @@ use Rattle.flow_graph.specs.declared.analysis.Analysis.{Analysis}
 use Rattle.flow_graph.specs.declared.edge.Edge.{Edge}
 use Rattle.flow_graph.specs.declared.edge.Edge.TheVariants.{Step, Call, Ret}
 use Rattle.flow_graph.specs.Paths.{Shape, IsEdge}
-use Rattle.work_list.specs.Groups.{AreGroups, IsPlaceOf}
+use Rattle.worklist.specs.Groups.{AreGroups, IsPlaceOf}
 use Rattle.flow_links.specs.LinkLists.{AreStepsFrom, AreCallsFrom, AreCallersOf, AreSitesIn, IsCallLink, IsCallerOf, IsSiteLink}
 use Rattle.flow_graph.specs.Analyses.{is_backward}
 use Rattle.flow_graph.specs.Problems.{MayForm}

@@ -2,7 +2,7 @@
 use Rattle.std.proofs.Common.{◌≡◌, ℕ, ◌<◌, List, length, get_or, take, map, replicate, ap, ◌∙◌, arith}
 use Rattle.std.proofs.lemmas.List.{get_or-replicate, get_or-take, length-map, length-replicate, length-take}
 use Rattle.flow_graph.specs.declared.edge.Edge.{Edge}
-use Rattle.work_list.specs.Groups.{AreGroups}
+use Rattle.worklist.specs.Groups.{AreGroups}
 
 -- zeros are below a number of which there are so many
 pub blank_low : (xs : List ℕ) (n m : ℕ) → xs ≡ replicate n 0 → n ≡ m → (p : ℕ) → p < length xs → get_or xs p 0 < m

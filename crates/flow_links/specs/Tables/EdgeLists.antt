@@ -3,7 +3,7 @@ use Rattle.std.specs.Prelude.{◌≡◌, ℕ, ◌+◌, ◌<◌, ◌≤◌, Bool,
 use Rattle.flow_graph.specs.declared.edge.Edge.{Edge}
 use Rattle.flow_graph.specs.declared.edge.Edge.TheVariants.{Step, Call, Ret}
 use Rattle.flow_graph.specs.Paths.{Shape, IsEdge}
-use Rattle.work_list.specs.Groups.{IsPlaceOf}
+use Rattle.worklist.specs.Groups.{IsPlaceOf}
 use Rattle.flow_links.specs.Shapes.{after_site}
 use Rattle.flow_links.specs.declared.link.CallLink.{CallLink}
 use Rattle.flow_links.specs.declared.link.SiteLink.{SiteLink}

@@ -26,22 +26,22 @@ has_bit-xor a b i = ap (λ x. eqb x 1) (bit_at_xor a b i) ∙ odd (bit_at a i) (
 module _ (Table Some : Type 0) (b bits : ℕ) where
   may_place : (set flips : Bool) → (Table ↔ Some) → flips ≡ false → (set ≡ true) ↔ ((0 ≤ b) × (b < bits) × Some)
       → (complemented flips set ≡ true) ↔ ((b < bits) × Table)
-  may_place set flips law is told = subst (λ (t : Bool). (complemented t set ≡ true) ↔ ((b < bits) × Table)) (sym is) (
-    (λ has. let there = told.0 has in (there.1, law.1 there.2)),
-    (λ has. told.1 (omega arith, has.0, law.0 has.1)),
+  may_place set flips law is solved = subst (λ (t : Bool). (complemented t set ≡ true) ↔ ((b < bits) × Table)) (sym is) (
+    (λ has. let there = solved.0 has in (there.1, law.1 there.2)),
+    (λ has. solved.1 (omega arith, has.0, law.0 has.1)),
   )
 
   inside : (set : Bool) → (Table ↔ (¬ Some)) → b < bits → (set ≡ true) ↔ ((0 ≤ b) × (b < bits) × Some) → (not set ≡ true) ↔ ((b < bits) × Table)
-  inside true law there told = ((λ has. absurd (true≢false (sym has))), (λ has. absurd (law.0 has.1 ((told.0 refl).2))))
-  inside false law there told = ((λ has. (there, law.1 (λ some. true≢false (sym (told.1 (omega arith, there, some)))))), (λ has. refl))
+  inside true law there solved = ((λ has. absurd (true≢false (sym has))), (λ has. absurd (law.0 has.1 ((solved.0 refl).2))))
+  inside false law there solved = ((λ has. (there, law.1 (λ some. true≢false (sym (solved.1 (omega arith, there, some)))))), (λ has. refl))
 
   must_place : (set flips : Bool) → (Table ↔ (¬ Some)) → flips ≡ nat_lt b bits → (set ≡ true) ↔ ((0 ≤ b) × (b < bits) × Some)
       → (complemented flips set ≡ true) ↔ ((b < bits) × Table)
-  must_place set flips law is told = elim (cases_lt b bits) [
+  must_place set flips law is solved = elim (cases_lt b bits) [
     | inl there ↦ subst (λ (t : Bool). (complemented t set ≡ true) ↔ ((b < bits) × Table)) (sym (is ∙ lt-ltb b bits there))
-        (inside set law there told)
+        (inside set law there solved)
     | inr past ↦ subst (λ (t : Bool). (complemented t set ≡ true) ↔ ((b < bits) × Table)) (sym (is ∙ le-ltb b bits past)) (
-      (λ has. absurd (omega (arith, past, (told.0 has).1))),
+      (λ has. absurd (omega (arith, past, (solved.0 has).1))),
       (λ has. absurd (omega (arith, past, has.0))),
     )
   ]
@@ -49,5 +49,5 @@ module _ (Table Some : Type 0) (b bits : ℕ) where
   pub complemented_place : (must set flips : Bool) → (must ≡ false → Table ↔ Some) → (must ≡ true → Table ↔ (¬ Some))
       → flips ≡ (must && nat_lt b bits)
       → (set ≡ true) ↔ ((0 ≤ b) × (b < bits) × Some) → (complemented flips set ≡ true) ↔ ((b < bits) × Table)
-  complemented_place true set flips may must is told = must_place set flips (must refl) is told
-  complemented_place false set flips may must is told = may_place set flips (may refl) is told
+  complemented_place true set flips may must is solved = must_place set flips (must refl) is solved
+  complemented_place false set flips may must is solved = may_place set flips (may refl) is solved

@@ -39,9 +39,9 @@ module _ (complements : Bool) (rows : RowTable) (point : ℕ) (there : point < l
   from_first bit = λ i. leb-zero bit i && slice_index_or (complemented_set complements rows point).members (sub-zero bit i) false
 
   -- what its table says of a bit is whether the point's set has it
-  pub told_contains : (bit : ℕ) → slice_index_or (slice_index_or (members_of (complemented_table complements rows)) point []) bit false
+  pub known_contains : (bit : ℕ) → slice_index_or (slice_index_or (members_of (complemented_table complements rows)) point []) bit false
       ≡ contains (set_at (complemented_table complements rows) point) bit
-  told_contains bit =
+  known_contains bit =
       let size : length (complemented_table complements rows).sets ≡ length rows.flags =
       length-map-range_with_len (complemented_set complements rows) 0 (length rows.flags) in
       ap (λ ms. slice_index_or ms bit false)
@@ -79,16 +79,16 @@ module _ (complements : Bool) (rows : RowTable) (point : ℕ) (there : point < l
 
 -- a bit that is taken out of a set or put in is so told by what it was
 flipped : (P : Type 0) (set : Bool) → (set ≡ true) ↔ P → (not set ≡ true) ↔ (¬ P)
-flipped P true told = ((λ complemented. absurd (cc complemented)), (λ none. absurd (none (told.0 refl))))
-flipped P false told = ((λ complemented p. absurd (cc (told.1 p))), (λ none. refl))
+flipped P true solved = ((λ complemented. absurd (cc complemented)), (λ none. absurd (none (solved.0 refl))))
+flipped P false solved = ((λ complemented p. absurd (cc (solved.1 p))), (λ none. refl))
 
 module _ (program : Program) (analysis : Analysis) (point bit : ℕ) (set : Bool)
-    (told : (set ≡ true) ↔ SomePathHas (may_shape program analysis) (may_transfer program analysis bit) point) where
+    (solved : (set ≡ true) ↔ SomePathHas (may_shape program analysis) (may_transfer program analysis bit) point) where
   -- of a may analysis the sets are the table's, of a must analysis their complements
   pub complemented_bit : (must : Bool) → is_must analysis ≡ must → (complemented must set ≡ true) ↔ IsInTable program analysis point bit
   complemented_bit true is =
       let law = must_tables_are_may_forms program analysis point bit is in
-      let complements = flipped (SomePathHas (may_shape program analysis) (may_transfer program analysis bit) point) set told in
+      let complements = flipped (SomePathHas (may_shape program analysis) (may_transfer program analysis bit) point) set solved in
       ((λ has. law.1 (complements.0 has)), (λ has. complements.1 (law.0 has)))
   complemented_bit false is = let law = may_tables_are_may_forms program analysis point bit is in
-      ((λ has. law.1 (told.0 has)), (λ has. told.1 (law.0 has)))
+      ((λ has. law.1 (solved.0 has)), (λ has. solved.1 (law.0 has)))

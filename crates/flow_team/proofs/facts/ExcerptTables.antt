@@ -14,7 +14,7 @@ use Rattle.flow_team.specs.Excerpts.{IsTableAt}
 use Rattle.flow_team.specs.Sets.{IsInMaySet}
 use Rattle.flow_team.specs.code.Complements.{members_of, table_facts, complemented_table}
 use Rattle.flow_team.specs.code.Excerpts.{HasFlagsFrom}
-use Rattle.flow_team.proofs.complements.ComplementedTables.{complemented_bit, contains-complemented, told_contains}
+use Rattle.flow_team.proofs.complements.ComplementedTables.{complemented_bit, contains-complemented, known_contains}
 
 -- what stands behind so many
 pub behind : {A : Type 0} (n : ℕ) (a : A) (xs : List A) (i : ℕ) (d : A) → get_or (replicate n a ++ xs) (n + i) d ≡ get_or xs i d
@@ -27,7 +27,7 @@ in_front n a xs i d there =
 
 -- The sets of the may form, complemented where the analysis is over every path, are its table at these points.
 module _ (form : MayForm) (first : ℕ) (rows : RowTable) (hi : rows.hi ≡ bits form.program form.analysis) (flags : HasFlagsFrom form first rows.flags)
-    (told : (point bit : ℕ) → (contains (set_at rows point) bit ≡ true) ↔ ((point < length rows.flags) × IsInMaySet form (first + point) bit)) where
+    (solved : (point bit : ℕ) → (contains (set_at rows point) bit ≡ true) ↔ ((point < length rows.flags) × IsInMaySet form (first + point) bit)) where
   abbrev sets : List (List Bool)
   sets = members_of (complemented_table (is_must form.analysis) rows)
 
@@ -43,8 +43,8 @@ module _ (form : MayForm) (first : ℕ) (rows : RowTable) (hi : rows.hi ≡ bits
       → (contains (set_at rows p) bit ≡ true)
       ↔ SomePathHas (may_shape form.program form.analysis) (may_transfer form.program form.analysis bit) (first + p)
   some_path p bit there below = (
-    (λ has. ((told p bit).0 has).1.2),
-    (λ path. (told p bit).1 (there, (omega (arith, there, flags.within), below, path))),
+    (λ has. ((solved p bit).0 has).1.2),
+    (λ path. (solved p bit).1 (there, (omega (arith, there, flags.within), below, path))),
   )
 
   has_bit_at : (p bit : ℕ) → p < length rows.flags → bit < bits form.program form.analysis
@@ -53,7 +53,7 @@ module _ (form : MayForm) (first : ℕ) (rows : RowTable) (hi : rows.hi ≡ bits
   has_bit_at p bit there below =
       subst (λ (b : Bool). (b ≡ true) ↔ IsInTable form.program form.analysis (first + p) bit)
       (sym (ap (λ ms. slice_index_or ms bit false) (behind first [] sets p [])
-      ∙ told_contains (is_must form.analysis) rows p there bit
+      ∙ known_contains (is_must form.analysis) rows p there bit
       ∙ contains-complemented (is_must form.analysis) rows p there bit (omega (arith, below, hi))))
       (complemented_bit form.program form.analysis (first + p) bit (contains (set_at rows p) bit) (some_path p bit there below)
       (is_must form.analysis) refl)

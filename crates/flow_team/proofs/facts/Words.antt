@@ -9,7 +9,7 @@ use Rattle.flow_team.specs.code.Posting.{TellPoint}
 pub words_tell_sets : (form : MayForm) (slice : SliceTable) → IsSliceOf form slice → AreMeetWords form slice → TellWords (IsInMaySet form) slice
 words_tell_sets form slice of meet point word k there from until small =
     let is = meet point word k there from until small in (
-      (λ has. let told = is.0 has in (told.0, told.1, (omega (arith, of.points, there), omega (arith, of.within, told.1), told.2))),
+      (λ has. let solved = is.0 has in (solved.0, solved.1, (omega (arith, of.points, there), omega (arith, of.within, solved.1), solved.2))),
       (λ wanted. is.1 (wanted.0, wanted.1, wanted.2.2)),
     )
 
@@ -20,6 +20,6 @@ pub tell_point : (wanted : ℕ → ℕ → Type 0) (form : MayForm) (slice : Sli
 tell_point wanted form slice first count point wants most there tell word k from until small =
     let is = tell (first + point) word k (omega (arith, most, there)) from until small in
     let same = wants point (64 * word + k) in (
-      (λ has. let told = is.0 has in (told.0, told.1, same.1 (there, told.2))),
+      (λ has. let solved = is.0 has in (solved.0, solved.1, same.1 (there, solved.2))),
       (λ want. is.1 (want.0, want.1, (same.0 want.2).1)),
     )

@@ -11,7 +11,7 @@ use Rattle.slice_board.specs.declared.view.LoggedWord.{LoggedWord}
 use Rattle.slice_board.proofs.words.Calls.{one_of_bit}
 use Rattle.slice_board.proofs.words.Sums.{logged_here, marked_still}
 use Rattle.flow_team.specs.code.Posting.{IsPosted}
-use Rattle.slice_team.specs.Teams.{PostsMore}
+use Rattle.slice_board.specs.Teams.{PostsMore}
 
 -- a bit of the mask that was posted last is marked
 pub marked_last : (old : List LoggedWord) (point word mask bit : ℕ) → bit / 64 ≡ word → has_bit mask (bit % 64) ≡ true

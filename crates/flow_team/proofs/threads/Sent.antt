@@ -1,5 +1,4 @@
--- That the sets of a graph, and what is asked of it, may go to any thread, and be shared by several: its parts first, since one search over all of
--- them is too large.
+-- That the sets of a graph may go to any thread, and be shared by several: their parts first, since one search over all of them is too large.
 use denote.Ref.{NamedLft}
 use denote.Param.Send.{IsSend, IsSync, sendable}
 use Rattle.std.proofs.Crossing.{crosses}
@@ -9,14 +8,11 @@ use Rattle.gen_kill.specs.contracts.problem.Problem as Problem
 use Rattle.flow_links.specs.contracts.links.Links as Links
 use Rattle.gk_solve.specs.contracts.routes.Routes as Routes
 use Rattle.gk_solve.specs.contracts.solver.Solver as Solver
-use Rattle.work_list.specs.contracts.order.Order as Order
-use Rattle.slice_team.proofs.slice_job.SliceJob.TheSendSync.{the_sync as jobs_sync}
+use Rattle.worklist.specs.contracts.order.Order as Order
+use Rattle.slice_board.proofs.slice_job.SliceJob.TheSendSync.{the_sync as jobs_sync}
 use Rattle.flow_team.specs.contracts.job.Job as Job
 use Rattle.flow_team.specs.contracts.excerpts.ExcerptSets as ExcerptSets
 use Rattle.flow_team.specs.contracts.sets.GraphSets as GraphSets
-use Rattle.flow_team.specs.contracts.asked.AskedWords as AskedWords
-use Rattle.flow_team.specs.contracts.direction.DirectionSolvers as DirectionSolvers
-use Rattle.flow_team.specs.contracts.solvers.GraphSolvers as GraphSolvers
 
 program_sync : IsSync Program.the_row
 program_sync = search (crosses, sendable) depth 60 fits 5000
@@ -42,16 +38,16 @@ links_send = search (order_send, crosses, sendable) depth 60 fits 5000
 links_sync : IsSync Links.the_row
 links_sync = search (order_sync, crosses, sendable) depth 60 fits 5000
 
-routes_send : IsSend Routes.the_row
+pub routes_send : IsSend Routes.the_row
 routes_send = search (links_send, crosses, sendable) depth 60
 
-routes_sync : IsSync Routes.the_row
+pub routes_sync : IsSync Routes.the_row
 routes_sync = search (links_sync, crosses, sendable) depth 60
 
-solver_send : (g p : NamedLft) → IsSend (Solver.the_row g p)
+pub solver_send : (g p : NamedLft) → IsSend (Solver.the_row g p)
 solver_send g p = search (problem_send, crosses, sendable) depth 60 fits 5000
 
-solver_sync : (g p : NamedLft) → IsSync (Solver.the_row g p)
+pub solver_sync : (g p : NamedLft) → IsSync (Solver.the_row g p)
 solver_sync g p = search (problem_sync, crosses, sendable) depth 60 fits 5000
 
 pub sets_send : (g p : NamedLft) → IsSend (GraphSets.the_row g p)
@@ -75,25 +71,3 @@ pub job_sync : (g p : NamedLft) → IsSync (Job.the_row g p)
 job_sync g p = search (jobs_sync, sets_cross) depth 60 fits 5000
 
 pub ruleset jobs_cross = (job_sync, crosses, sendable)
-
-pub direction_send : (g p : NamedLft) → IsSend (DirectionSolvers.the_row g p)
-direction_send g p = search (routes_send, solver_send, crosses, sendable) depth 60 fits 5000
-
-direction_sync : (g p : NamedLft) → IsSync (DirectionSolvers.the_row g p)
-direction_sync g p = search (routes_sync, solver_sync, crosses, sendable) depth 60 fits 5000
-
-pub ruleset directions_cross = (graph_sync, direction_send, crosses, sendable)
-
-solvers_send : (g p : NamedLft) → IsSend (GraphSolvers.the_row g p)
-solvers_send g p = search (direction_send, crosses, sendable) depth 60 fits 5000
-
-solvers_sync : (g p : NamedLft) → IsSync (GraphSolvers.the_row g p)
-solvers_sync g p = search (direction_sync, crosses, sendable) depth 60 fits 5000
-
-pub asked_send : (g p : NamedLft) → IsSend (AskedWords.the_row g p)
-asked_send g p = search (solvers_send, crosses, sendable) depth 60 fits 5000
-
-pub asked_sync : (g p : NamedLft) → IsSync (AskedWords.the_row g p)
-asked_sync g p = search (solvers_sync, crosses, sendable) depth 60 fits 5000
-
-pub ruleset asked_cross = (asked_send, asked_sync, crosses, sendable)

@@ -5,7 +5,7 @@ use Rattle.flow_graph.specs.Points.{point_count}
 use Rattle.flow_graph.specs.Problems.{MayForm}
 use Rattle.flow_team.specs.Sets.{IsInMaySet}
 use Rattle.gk_solve.specs.Solved.{SliceTable, word_at}
-use Rattle.slice_team.specs.Teams.{PostsMore}
+use Rattle.slice_board.specs.Teams.{PostsMore}
 use Rattle.slice_board.specs.Boards.{BoardState, IsOf, board_points}
 use Rattle.slice_board.specs.declared.view.LoggedWord.{LoggedWord}
 use Rattle.slice_board.specs.Passes.{PassState, IsLogged}

@@ -6,10 +6,13 @@ use Rattle.std.proofs.lemmas.Grind.{flat_map-append}
 use Rattle.std.proofs.lemmas.List.Elements.{filter-append}
 use Rattle.bit_rows.specs.Words.{has_bit}
 use Rattle.bit_rows.proofs.words.WordBits.{has_bit-zero}
-use Rattle.flow_texts.specs.code.Findings.{texts_where}
+use Rattle.flow_texts.specs.code.Members.{texts_where}
 use Rattle.text_pieces.specs.Pieces.{Outlet, Takes}
-use Rattle.flow_texts.proofs.knowledge.RemarkLines.{one_text}
 use Rattle.text_pieces.proofs.sinks.Taking.{takes_as, takes_then}
+
+-- the text of one number that passes
+pub one_text : (text_of : ℕ → List ℕ) (test : ℕ → Bool) (n : ℕ) → test n ≡ true → texts_where text_of test (n ∷ []) ≡ text_of n
+one_text text_of test n passes = ap (λ b. flat_map text_of (cond b (n ∷ []) [])) passes ∙ append-nil (text_of n)
 
 -- a range in two
 pub range_split : (a m k : ℕ) → range_with_len a (m + k) ≡ range_with_len a m ++ range_with_len (a + m) k

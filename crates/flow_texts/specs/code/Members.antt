@@ -1,5 +1,5 @@
 -- Which of some texts are written, in a row.
-use Rattle.std.specs.Prelude.{◌≡◌, ℕ, Bool, ◌||◌, List, map, filter}
+use Rattle.std.specs.Prelude.{◌≡◌, ℕ, Bool, ◌||◌, List, map, filter, flat_map}
 use Rattle.std.specs.List.{range_with_len}
 use Rattle.text_pieces.specs.Pieces.{Outlet, Takes}
 use Rattle.text_pieces.specs.code.Lists.{after, some_stand, text_at}
@@ -21,3 +21,7 @@ pub record Wrote (between : List ℕ) (set : Named) (others : Bool) (first count
 -- the texts whose numbers are in a set
 abbrev pub chosen : List (List ℕ) → (ℕ → Bool) → Named
 chosen texts member = record { named = text_at texts; member = member }
+
+-- the texts that the numbers have which pass a test
+abbrev pub texts_where : (ℕ → List ℕ) → (ℕ → Bool) → List ℕ → List ℕ
+texts_where text_of test numbers = flat_map text_of (filter test numbers)

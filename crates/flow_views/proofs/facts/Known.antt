@@ -10,14 +10,13 @@ use Rattle.flow_graph.specs.declared.analysis.Analysis.TheVariants.{Reach, Live,
 use Rattle.flow_team.specs.Excerpts.{AreFactsAt}
 use Rattle.flow_team.specs.Tables.{AreFacts, Facts, TableFacts, facts_of}
 use Rattle.tac_program.specs.Programs.{Program}
-use Rattle.flow_texts.specs.Reports.{IsKnowledge, Knowledge, dead_at, remarks_at, unset_at}
-use Rattle.flow_texts.specs.code.Findings.{knowledge_of}
-use Rattle.flow_texts.proofs.knowledge.KnownReports.{Agree, agrees, all_is_known, all_known, same_dead, same_remarks, same_unset}
-use Rattle.flow_views.specs.ShownTables.{IsTableIfChosen, end_shown, first_shown}
-use Rattle.flow_views.specs.Views.{told_by}
-use Rattle.flow_views.specs.code.ShownProgram.{AreShown, IsShownPoint, TellSame, facts_between, facts_or, is_between, is_chosen, known_by, known_of}
-use Rattle.flow_views.specs.code.ShownProgram.{shown_table}
-use Rattle.flow_views.specs.declared.shown.ShownProgram.{ShownProgram}
+use Rattle.flow_reports.specs.Reports.{IsKnowledge, Knowledge, dead_at, remarks_at, unset_at}
+use Rattle.flow_reports.specs.code.Findings.{knowledge_of}
+use Rattle.flow_reports.proofs.knowledge.KnownReports.{Agree, agrees, all_is_known, all_known, same_dead, same_remarks, same_unset}
+use Rattle.flow_views.specs.ViewTables.{IsTableIfChosen, end_shown, first_shown, shown_table}
+use Rattle.flow_views.specs.Views.{known_facts, is_chosen}
+use Rattle.flow_views.specs.code.ViewProgram.{AreShown, IsShownPoint, TellSame, facts_between, facts_or, is_between, known_by, known_of}
+use Rattle.flow_views.specs.declared.view_program.ViewProgram.{ViewProgram}
 
 -- A test that a point is among some, and what it chooses.
 between : (from until point : ℕ) (b : Bool) → is_between from until point ≡ b → b ≡ true → (from ≤ point) × (point < until)
@@ -89,38 +88,38 @@ chosen_or program analysis from until point chosen one other (Some table) is cho
     record { path = sym first.path ∙ second.path; set = sym first.set ∙ second.set }
 
 -- the points that are shown
-abbrev from_of : ShownProgram → ℕ
+abbrev from_of : ViewProgram → ℕ
 from_of shown = first_shown shown.found.graph.now shown.view.procedure
 
-abbrev until_of : ShownProgram → ℕ
+abbrev until_of : ViewProgram → ℕ
 until_of shown = end_shown shown.found.graph.now shown.view.procedure
 
 -- what a look-up tells of what it finds, and what follows
-pub some_told : {X : Type 0} (N : Type 0) (P Q : X → Type 0) (o : Option X) → MatchOption o N P → ((x : X) → P x → Q x) → IfSome o Q
-some_told N P Q None told next = tt
-some_told N P Q (Some x) told next = next x told
+pub some_known : {X : Type 0} (N : Type 0) (P Q : X → Type 0) (o : Option X) → MatchOption o N P → ((x : X) → P x → Q x) → IfSome o Q
+some_known N P Q None told next = tt
+some_known N P Q (Some x) told next = next x told
 
 -- a table tells what is known
-pub table_told : (shown : ShownProgram) (analysis : Analysis) (table : TableFacts) → shown_table shown.tables.now analysis ≡ Some table
-    → (point : ℕ) → IsShownPoint shown point → TellSame (facts_of table) (told_by (known_of shown) analysis) point
-table_told shown analysis table is point at = subst (λ (told : Facts). TellSame (facts_of table) told point) (known analysis is)
-    (table_tells (from_of shown) (until_of shown) point (told_by (knowledge_of shown.found) analysis) table at.0 at.1)
+pub table_known : (shown : ViewProgram) (analysis : Analysis) (table : TableFacts) → shown_table shown.tables.now analysis ≡ Some table
+    → (point : ℕ) → IsShownPoint shown point → TellSame (facts_of table) (known_facts (known_of shown) analysis) point
+table_known shown analysis table is point at = subst (λ (told : Facts). TellSame (facts_of table) told point) (known analysis is)
+    (table_tells (from_of shown) (until_of shown) point (known_facts (knowledge_of shown.found) analysis) table at.0 at.1)
   where
     known : (a : Analysis) → shown_table shown.tables.now a ≡ Some table
-        → known_by shown (told_by (knowledge_of shown.found) a) (Some table) ≡ told_by (known_of shown) a
+        → known_by shown (known_facts (knowledge_of shown.found) a) (Some table) ≡ known_facts (known_of shown) a
     known Reach same = ap (known_by shown (knowledge_of shown.found).reach) (sym same)
     known Live same = ap (known_by shown (knowledge_of shown.found).live) (sym same)
     known Avail same = ap (known_by shown (knowledge_of shown.found).avail) (sym same)
     known Busy same = ap (known_by shown (knowledge_of shown.found).busy) (sym same)
 
-module _ (shown : ShownProgram) (are : AreShown shown) where
+module _ (shown : ViewProgram) (are : AreShown shown) where
   -- all that is known
   pub all_of : Knowledge
   all_of = record {
-    reach = known_by shown (all_known shown.found are.found).reach shown.tables.now.reach;
-    live = known_by shown (all_known shown.found are.found).live shown.tables.now.live;
-    avail = known_by shown (all_known shown.found are.found).avail shown.tables.now.avail;
-    busy = known_by shown (all_known shown.found are.found).busy shown.tables.now.busy;
+    reach = known_by shown (all_known shown.found are.found).reach (shown_table shown.tables.now Reach);
+    live = known_by shown (all_known shown.found are.found).live (shown_table shown.tables.now Live);
+    avail = known_by shown (all_known shown.found are.found).avail (shown_table shown.tables.now Avail);
+    busy = known_by shown (all_known shown.found are.found).busy (shown_table shown.tables.now Busy);
     doubtful = (known_of shown).doubtful;
   }
 
@@ -130,13 +129,13 @@ module _ (shown : ShownProgram) (are : AreShown shown) where
       let all : IsKnowledge shown.found.graph.now (all_known shown.found are.found) = all_is_known shown.found are.found are.doubts in
       record {
         reach = facts_or_are shown.found.graph.now Reach (from_of shown) (until_of shown)
-            (all_known shown.found are.found).reach shown.view.facts.reach shown.tables.now.reach all.reach are.tables.reach;
+            (all_known shown.found are.found).reach shown.view.facts.reach (shown_table shown.tables.now Reach) all.reach (are.tables Reach);
         live = facts_or_are shown.found.graph.now Live (from_of shown) (until_of shown)
-            (all_known shown.found are.found).live shown.view.facts.live shown.tables.now.live all.live are.tables.live;
+            (all_known shown.found are.found).live shown.view.facts.live (shown_table shown.tables.now Live) all.live (are.tables Live);
         avail = facts_or_are shown.found.graph.now Avail (from_of shown) (until_of shown)
-            (all_known shown.found are.found).avail shown.view.facts.avail shown.tables.now.avail all.avail are.tables.avail;
+            (all_known shown.found are.found).avail shown.view.facts.avail (shown_table shown.tables.now Avail) all.avail (are.tables Avail);
         busy = facts_or_are shown.found.graph.now Busy (from_of shown) (until_of shown)
-            (all_known shown.found are.found).busy shown.view.facts.busy shown.tables.now.busy all.busy are.tables.busy;
+            (all_known shown.found are.found).busy shown.view.facts.busy (shown_table shown.tables.now Busy) all.busy (are.tables Busy);
         doubtful = are.doubts.each;
       }
 
@@ -151,34 +150,34 @@ module _ (shown : ShownProgram) (are : AreShown shown) where
       let all : Knowledge = all_known shown.found are.found in
       record {
         flags = λ point below.
-            same_path_or (from_of shown) (until_of shown) point found.reach all.reach shown.tables.now.reach (found_agrees.flags point below);
+            same_path_or (from_of shown) (until_of shown) point found.reach all.reach (shown_table shown.tables.now Reach) (found_agrees.flags point below);
         unset = λ point variable below reading.
-            same_bit_or (from_of shown) (until_of shown) point variable found.reach all.reach shown.tables.now.reach
+            same_bit_or (from_of shown) (until_of shown) point variable found.reach all.reach (shown_table shown.tables.now Reach)
             (found_agrees.unset point variable below reading);
         computed = λ point bit below evaluated.
-            same_bit_or (from_of shown) (until_of shown) point bit found.avail all.avail shown.tables.now.avail
+            same_bit_or (from_of shown) (until_of shown) point bit found.avail all.avail (shown_table shown.tables.now Avail)
             (found_agrees.computed point bit below evaluated);
         busy = λ point bit kind below at test there.
-            same_bit_or (from_of shown) (until_of shown) point bit found.busy all.busy shown.tables.now.busy
+            same_bit_or (from_of shown) (until_of shown) point bit found.busy all.busy (shown_table shown.tables.now Busy)
             (found_agrees.busy point bit kind below at test there);
         live = λ point variable kind below at sets.
-            same_bit_or (from_of shown) (until_of shown) (suc point) variable found.live all.live shown.tables.now.live
+            same_bit_or (from_of shown) (until_of shown) (suc point) variable found.live all.live (shown_table shown.tables.now Live)
             (found_agrees.live point variable kind below at sets);
         doubtful = λ point below. refl;
       }
 
   -- and of what is chosen it is the same at the points that are shown
-  pub told_all : (analysis : Analysis) → is_chosen shown.view.facts analysis ≡ true → (point : ℕ) → IsShownPoint shown point
-      → TellSame (told_by (known_of shown) analysis) (told_by all_of analysis) point
+  pub known_all : (analysis : Analysis) → is_chosen shown.view.facts analysis ≡ true → (point : ℕ) → IsShownPoint shown point
+      → TellSame (known_facts (known_of shown) analysis) (known_facts all_of analysis) point
   unfolding all_of
-  told_all Reach is point at = chosen_or shown.found.graph.now Reach (from_of shown) (until_of shown) point shown.view.facts.reach _ _
-      shown.tables.now.reach are.tables.reach is at.0 at.1
-  told_all Live is point at = chosen_or shown.found.graph.now Live (from_of shown) (until_of shown) point shown.view.facts.live _ _
-      shown.tables.now.live are.tables.live is at.0 at.1
-  told_all Avail is point at = chosen_or shown.found.graph.now Avail (from_of shown) (until_of shown) point shown.view.facts.avail _ _
-      shown.tables.now.avail are.tables.avail is at.0 at.1
-  told_all Busy is point at = chosen_or shown.found.graph.now Busy (from_of shown) (until_of shown) point shown.view.facts.busy _ _
-      shown.tables.now.busy are.tables.busy is at.0 at.1
+  known_all Reach is point at = chosen_or shown.found.graph.now Reach (from_of shown) (until_of shown) point shown.view.facts.reach _ _
+      (shown_table shown.tables.now Reach) (are.tables Reach) is at.0 at.1
+  known_all Live is point at = chosen_or shown.found.graph.now Live (from_of shown) (until_of shown) point shown.view.facts.live _ _
+      (shown_table shown.tables.now Live) (are.tables Live) is at.0 at.1
+  known_all Avail is point at = chosen_or shown.found.graph.now Avail (from_of shown) (until_of shown) point shown.view.facts.avail _ _
+      (shown_table shown.tables.now Avail) (are.tables Avail) is at.0 at.1
+  known_all Busy is point at = chosen_or shown.found.graph.now Busy (from_of shown) (until_of shown) point shown.view.facts.busy _ _
+      (shown_table shown.tables.now Busy) (are.tables Busy) is at.0 at.1
 
   module _ (point : ℕ) (below : point < point_count shown.found.graph.now) where
     all_agrees : Agree shown.found.graph.now (knowledge_of shown.found) all_of

@@ -3,7 +3,6 @@ use Rattle.std.proofs.Common.{◌≡◌, ℕ, suc, ◌+◌, ◌<◌, ◌≤◌, 
 use Rattle.std.proofs.Common.{append-nil, codes, decimal, Contains, IfSome, Option, Some, None, option_and_then, option_map, slice_get, unwrap_or}
 use Rattle.std.proofs.Common.{if◌then◌else◌, refl, sym, ap, ◌∙◌, subst, arith}
 use Rattle.std.specs.List.{list_any, range_with_len}
-use Rattle.std.proofs.lemmas.Grind.{flat_map-append}
 use Rattle.std.proofs.lemmas.List.{get_or-map, length-map}
 use Rattle.std.proofs.lemmas.List.FromFn.{length-map-range_with_len, get_or-map-range_with_len}
 use Rattle.smallvec.specs.SmallVec.{SmallVec}
@@ -20,19 +19,19 @@ use Rattle.flow_graph.specs.declared.analysis.Analysis.TheVariants.{Reach, Live,
 use Rattle.flow_graph.specs.declared.edge.Edge.{Edge}
 use Rattle.flow_team.specs.Tables.{Facts, TableFacts, facts_of}
 use Rattle.flow_graph.proofs.edges.EdgeLemmas.{IsFrom, a_step, a_call, a_return, edges_from_are, in_procedure}
-use Rattle.flow_texts.specs.Reports.{Knowledge, assigned, dead_at, unset_at}
+use Rattle.flow_reports.specs.Reports.{Knowledge, assigned, dead_at, unset_at}
 use Rattle.flow_texts.specs.Tables.{bits_at}
-use Rattle.flow_texts.specs.code.Findings.{AreFindings, TellDoubtful}
+use Rattle.flow_reports.specs.code.Findings.{AreFindings, TellDoubtful}
 use Rattle.text_pieces.specs.code.Lists.{some_stand}
 use Rattle.flow_texts.proofs.sets.ListTexts.{map-members}
 use Rattle.flow_views.specs.Dots.{arrow, calls_at, passed_call, text_if_some}
 use Rattle.flow_views.specs.Json.{array, boolean, span_fields}
-use Rattle.flow_views.specs.ShownTables.{AreShownTables, end_shown, first_shown}
+use Rattle.flow_views.specs.ViewTables.{AreViewTables, end_shown, first_shown}
 use Rattle.flow_views.specs.Views.{analysis_if}
 use Rattle.flow_views.specs.code.Names.{AreNames, numbered}
-use Rattle.flow_views.specs.code.ShownProgram.{AreShown, IsShownProcedure, IsSiteIn, contents}
+use Rattle.flow_views.specs.code.ViewProgram.{AreShown, IsShownProcedure, IsSiteIn, contents}
 use Rattle.flow_views.specs.declared.names.NameForm.TheVariants.{Quoted}
-use Rattle.flow_views.specs.declared.shown.ShownProgram.{ShownProgram}
+use Rattle.flow_views.specs.declared.view_program.ViewProgram.{ViewProgram}
 use Rattle.flow_views.specs.declared.view.View.{View}
 
 -- the edges of a point, as they are read from the table
@@ -121,14 +120,6 @@ has_number program Live = omega arith
 has_number program Avail = omega arith
 has_number program Busy = omega arith
 
--- the texts of four lists, each of one element or none
-pub flat_map_four : {A : Type 0} (f : A → List ℕ) (a b d e : List A)
-    → flat_map f a ++ flat_map f b ++ flat_map f d ++ flat_map f e ≡ flat_map f (a ++ b ++ d ++ e)
-flat_map_four f a b d e =
-    sym
-    (flat_map-append f (a ++ b ++ d) e
-    ∙ ap (λ t. t ++ flat_map f e) (flat_map-append f (a ++ b) d ∙ ap (λ t. t ++ flat_map f d) (flat_map-append f a b)))
-
 -- that of an analysis that is chosen
 pub one_chosen : (f : Analysis → List ℕ) (chosen : Bool) (analysis : Analysis) → chosen ≡ true → f analysis ≡ flat_map f (analysis_if chosen analysis)
 one_chosen f chosen analysis is = sym (ap (λ b. flat_map f (analysis_if b analysis)) is ∙ append-nil (f analysis))
@@ -141,15 +132,15 @@ named_there program sound None given = tt
 named_there program sound (Some number) given = omega (arith, given, sound.named)
 
 -- what is shown, put together
-pub shown_is : (shown : ShownProgram) (program : Program) → shown.found.graph.now ≡ program → AreFindings shown.found
+pub shown_is : (shown : ViewProgram) (program : Program) → shown.found.graph.now ≡ program → AreFindings shown.found
     → TellDoubtful shown.found.graph.now
-    shown.found.doubtful.items → AreShownTables program shown.view shown.tables.now → AreNames program shown.names
+    shown.found.doubtful.items → AreViewTables program shown.view shown.tables.now → AreNames program shown.names
     → contents shown.successors.items ≡ map (edges_from program) (points program)
     → IfSome shown.view.procedure (λ procedure. procedure < length program.procedure_names) → AreShown shown
 shown_is shown program same found doubts tables names successors procedure = record {
   found = found;
   doubts = doubts;
-  tables = subst (λ (p : Program). AreShownTables p shown.view shown.tables.now) (sym same) tables;
+  tables = subst (λ (p : Program). AreViewTables p shown.view shown.tables.now) (sym same) tables;
   names = subst (λ (p : Program). AreNames p shown.names) (sym same) names;
   successors = subst (λ (p : Program). contents shown.successors.items ≡ map (edges_from p) (points p)) (sym same) successors;
   procedure = named_there shown.found.graph.now found.sound shown.view.procedure

@@ -1,6 +1,6 @@
 -- The texts of what the code's tables and answers tell are those of all that is known.
 use Rattle.std.proofs.Common.{◌≡◌, ◌∙◌, ℕ, zero, suc, ◌+◌, ◌<◌, ◌≤◌, Bool, true, false, List, [], ◌∷◌, ◌++◌, length, map, flat_map, Option, Some}
-use Rattle.std.proofs.Common.{None, IfSome, if◌then◌else◌, codes, decimal, refl, sym, ap, arith}
+use Rattle.std.proofs.Common.{None, IfSome, if◌then◌else◌, cond, codes, decimal, refl, sym, ap, arith}
 use Rattle.std.specs.List.{filter, range_with_len}
 use Rattle.std.proofs.lemmas.Grind.{flat_map-append}
 use Rattle.std.proofs.lemmas.List.Concat.{flat_map_single}
@@ -8,45 +8,39 @@ use Rattle.flow_graph.specs.Edges.{edges_from}
 use Rattle.flow_graph.specs.Points.{end_place, entry_point, place_of, point_count, procedure_at}
 use Rattle.flow_graph.specs.Universes.{bits}
 use Rattle.flow_graph.specs.declared.analysis.Analysis.{Analysis}
-use Rattle.flow_graph.specs.declared.analysis.Analysis.TheVariants.{Reach, Live, Avail, Busy}
-use Rattle.flow_texts.specs.Reports.{Knowledge, remark_text}
+use Rattle.flow_graph.specs.declared.analysis.TheConstants.Analysis as all
+use Rattle.flow_reports.specs.Reports.{Knowledge, remark_text}
 use Rattle.flow_texts.specs.Tables.{bit_text, listed}
-use Rattle.flow_texts.proofs.knowledge.KnownReports.{Agree, same_dead, same_remarks, same_texts, same_unset}
+use Rattle.flow_reports.proofs.knowledge.KnownReports.{Agree, same_dead, same_remarks, same_texts, same_unset}
 use Rattle.tac_program.specs.Programs.{Program}
 use Rattle.tac_program.specs.Sound.{IsSound}
 use Rattle.flow_views.specs.Dots.{cluster, dot_of, edge_lines, fact_line, head, label_line, label_lines, marks, node, path_marks, text_if_some, title}
 use Rattle.flow_views.specs.Json.{array, boolean, edge_object, facts_field, json_of, point_line, program_line, remark_lines, remark_object}
 use Rattle.flow_views.specs.Json.{span_fields, statement_field}
 use Rattle.text_pieces.specs.Strings.{quoted}
-use Rattle.flow_views.specs.Views.{analysis_if, analysis_name, chosen_analyses, points_in, procedure_name, shown_points, shown_procedures, told_by}
-use Rattle.flow_views.specs.ShownTables.{end_shown, first_shown}
-use Rattle.flow_views.specs.code.ShownProgram.{IsShownProcedure, TellSame, is_chosen}
+use Rattle.flow_views.specs.Views.{analysis_name, chosen_analyses, points_in, procedure_name, shown_points, shown_procedures, known_facts, is_chosen}
+use Rattle.flow_views.specs.ViewTables.{end_shown, first_shown}
+use Rattle.flow_views.specs.code.ViewProgram.{IsShownProcedure, TellSame}
 use Rattle.flow_views.specs.declared.view.Chosen.{Chosen}
 use Rattle.flow_views.specs.declared.view.View.{View}
 use Rattle.flow_views.proofs.facts.Tables.{ends_below, shown_within}
 
+-- of the elements that pass a test
+same_filtered : {A B : Type 0} (f g : A → List B) (test : A → Bool) (xs : List A) → ((x : A) → test x ≡ true → f x ≡ g x)
+    → flat_map f (filter test xs) ≡ flat_map g (filter test xs)
+same_filtered f g test [] same = refl
+same_filtered f g test (x ∷ xs) same = by_test (test x) refl (same_filtered f g test xs same)
+  where
+    by_test : (b : Bool) → test x ≡ b → flat_map f (filter test xs) ≡ flat_map g (filter test xs)
+        → flat_map f (cond b (x ∷ filter test xs) (filter test xs)) ≡ flat_map g (cond b (x ∷ filter test xs) (filter test xs))
+    by_test true is rest = λ i. same x is i ++ rest i
+    by_test false is rest = rest
+
 -- of the analyses that are chosen
-same_if : {A : Type 0} (f g : Analysis → List A) (chosen : Bool) (analysis : Analysis) → (chosen ≡ true → f analysis ≡ g analysis)
-    → flat_map f (analysis_if chosen analysis) ≡ flat_map g (analysis_if chosen analysis)
-same_if f g true analysis same = ap (λ t. t ++ []) (same refl)
-same_if f g false analysis same = refl
-
-same_behind : {A : Type 0} (f g : Analysis → List A) (before : List Analysis) (chosen : Bool) (analysis : Analysis)
-    → flat_map f before ≡ flat_map g before
-    → (chosen ≡ true → f analysis ≡ g analysis)
-    → flat_map f (before ++ analysis_if chosen analysis) ≡ flat_map g (before ++ analysis_if chosen analysis)
-same_behind f g before chosen analysis same here =
-    flat_map-append f before (analysis_if chosen analysis)
-    ∙ (λ i. same i ++ same_if f g chosen analysis here i)
-    ∙ sym (flat_map-append g before (analysis_if chosen analysis))
-
 same_chosen : {A : Type 0} (f g : Analysis → List A) (chosen : Chosen)
     → ((analysis : Analysis) → is_chosen chosen analysis ≡ true → f analysis ≡ g analysis)
     → flat_map f (chosen_analyses chosen) ≡ flat_map g (chosen_analyses chosen)
-same_chosen f g chosen same =
-    same_behind f g _ chosen.busy Busy
-    (same_behind f g _ chosen.avail Avail
-    (same_behind f g _ chosen.live Live (same_if f g chosen.reach Reach (same Reach)) (same Live)) (same Avail)) (same Busy)
+same_chosen f g chosen same = same_filtered f g (is_chosen chosen) all.ALL same
 
 same_lines : (f g : Analysis → List ℕ) (chosen : Chosen) → ((analysis : Analysis) → is_chosen chosen analysis ≡ true → f analysis ≡ g analysis)
     → map f (chosen_analyses chosen) ≡ map g (chosen_analyses chosen)
@@ -115,7 +109,7 @@ module _ (program : Program) (sound : IsSound program) (one other : Knowledge) (
     (procedure : Option ℕ) (there : IfSome procedure (λ p. p < length program.procedures))
     (told : (analysis : Analysis) → is_chosen chosen analysis ≡ true → (point : ℕ)
     → (first_shown program procedure ≤ point) × (point < end_shown program procedure)
-    → TellSame (told_by one analysis) (told_by other analysis) point) where
+    → TellSame (known_facts one analysis) (known_facts other analysis) point) where
   same_fields : (point : ℕ) → (first_shown program procedure ≤ point) × (point < end_shown program procedure)
       → flat_map (facts_field program one point) (chosen_analyses chosen) ≡ flat_map (facts_field program other point) (chosen_analyses chosen)
   same_fields point at =

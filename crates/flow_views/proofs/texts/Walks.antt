@@ -1,6 +1,7 @@
 -- Texts of numbers from the first on, one number longer
-use Rattle.std.proofs.Common.{◌≡◌, ℕ, ◌+◌, ◌-◌, ◌<◌, ◌≤◌, List, [], ◌∷◌, ◌++◌, length, take, get_or, flat_map, sym, ap, ◌∙◌, append-nil, arith}
-use Rattle.std.specs.List.{range_with_len}
+use Rattle.std.proofs.Common.{◌≡◌, ℕ, ◌+◌, ◌-◌, ◌<◌, ◌≤◌, Bool, true, false, if◌then◌else◌, cond, List, [], ◌∷◌, ◌++◌, length, take, get_or, flat_map}
+use Rattle.std.proofs.Common.{refl, sym, ap, ◌∙◌, append-nil, arith}
+use Rattle.std.specs.List.{filter, range_with_len}
 use Rattle.std.proofs.lemmas.Grind.{flat_map-append}
 use Rattle.std.proofs.lemmas.List.{take_more}
 use Rattle.flow_texts.proofs.sets.RangeLines.{range_split}
@@ -32,3 +33,15 @@ walk_next text_of xs i d below =
     ap (λ t. flat_map text_of (take i xs) ++ t) (sym (append-nil (text_of (get_or xs i d))))
     ∙ sym (flat_map-append text_of (take i xs) (get_or xs i d ∷ []))
     ∙ ap (flat_map text_of) (sym (take_more xs i d below))
+
+-- the texts of the elements that pass a test
+pub flat_map-passing : {A B : Type 0} (text_of : A → List B) (test : A → Bool) (xs : List A)
+    → flat_map (λ x. flat_map text_of (if test x then x ∷ [] else [])) xs ≡ flat_map text_of (filter test xs)
+flat_map-passing text_of test [] = refl
+flat_map-passing text_of test (x ∷ xs) = by_test (test x) (flat_map-passing text_of test xs)
+  where
+    by_test : (b : Bool) → flat_map (λ x. flat_map text_of (if test x then x ∷ [] else [])) xs ≡ flat_map text_of (filter test xs)
+        → flat_map text_of (if b then x ∷ [] else []) ++ flat_map (λ x. flat_map text_of (if test x then x ∷ [] else [])) xs
+        ≡ flat_map text_of (cond b (x ∷ filter test xs) (filter test xs))
+    by_test true rest = λ i. append-nil (text_of x) i ++ rest i
+    by_test false rest = rest

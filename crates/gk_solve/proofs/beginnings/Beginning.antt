@@ -4,10 +4,10 @@ use Rattle.std.proofs.lemmas.Bool.{cases_eq, cases_lt, false≢true}
 use Rattle.std.proofs.lemmas.List.{get_or-replicate, get_or_past, length-replicate}
 use Rattle.bit_rows.specs.Words.{has_bit}
 use Rattle.bit_rows.proofs.words.WordBits.{has_bit-zero, has_bit-max}
-use Rattle.summary_equations.specs.Equations.{brought_by_boundary, kept_at_entry}
+use Rattle.summary_equations.specs.Equations.{brought_by_boundary, preserved_at_entry}
 use Rattle.gk_solve.specs.Tables.Brought.{AreSoundBrought, brought_word}
-use Rattle.gk_solve.specs.Tables.Groups.{Group, AreSoundSummaries, kept_word, made_word, summary_at}
-use Rattle.gk_solve.specs.Tables.Words.{HasBit, AreSoundWords, IsBrought, IsKept, IsMade}
+use Rattle.gk_solve.specs.Tables.Groups.{Group, AreSoundSummaries, preserved_word, generated_word, summary_at}
+use Rattle.gk_solve.specs.Tables.Words.{HasBit, AreSoundWords, IsBrought, IsPreserved, IsGenerated}
 use Rattle.gk_solve.specs.declared.summary.Summary.{Summary}
 use Rattle.std.proofs.lemmas.List.{get_or-set_same, get_or-set_other}
 
@@ -22,67 +22,67 @@ pub each_bit : (W w k : ℕ) → w < W → k < 64 → has_bit (get_or (replicate
 each_bit W w k within low = ap (λ n. has_bit n k) (get_or-replicate W w (2 ^ 64 - 1) 0 within) ∙ has_bit-max k low
 
 abbrev pub blank_summary : (W : ℕ) → Summary W
-blank_summary W = record { kept = replicate W 0; made = replicate W 0 }
+blank_summary W = record { preserved = replicate W 0; generated = replicate W 0 }
 
 abbrev pub entry_summary : (W : ℕ) → Summary W
-entry_summary W = record { kept = replicate W (2 ^ 64 - 1); made = replicate W 0 }
+entry_summary W = record { preserved = replicate W (2 ^ 64 - 1); generated = replicate W 0 }
 
 -- blank summaries have no bits
 pub blank_sound : (W : ℕ) (group : Group) (table : List (Summary W))
     → ((j : ℕ) (d : Summary W) → j < length table → get_or table j d ≡ blank_summary W) → AreSoundSummaries group table
-blank_sound W group table blank w inside = (λ x k low has. absurd (kept x k has), λ x k low has. absurd (made x k has))
+blank_sound W group table blank w inside = (λ x k low has. absurd (preserved x k has), λ x k low has. absurd (generated x k has))
   where
-    kept : (x k : ℕ) → HasBit (kept_word table w) x k → ⊥
-    kept x k has = elim (cases_lt x (length table)) [
+    preserved : (x k : ℕ) → HasBit (preserved_word table w) x k → ⊥
+    preserved x k has = elim (cases_lt x (length table)) [
       | inl within ↦
-          no_bit W w k (ap (λ (s : Summary W). has_bit (get_or s.kept w 0) k) (sym (blank x (record { kept = []; made = [] }) within)) ∙ has)
+          no_bit W w k (ap (λ (s : Summary W). has_bit (get_or s.preserved w 0) k) (sym (blank x (record { preserved = []; generated = [] }) within)) ∙ has)
       | inr past ↦ false≢true (sym (has_bit-zero k)
-          ∙ (ap (λ (s : Summary W). has_bit (get_or s.kept w 0) k) (sym (get_or_past table x (record { kept = []; made = [] }) past)) ∙ has))
+          ∙ (ap (λ (s : Summary W). has_bit (get_or s.preserved w 0) k) (sym (get_or_past table x (record { preserved = []; generated = [] }) past)) ∙ has))
     ]
 
-    made : (x k : ℕ) → HasBit (made_word table w) x k → ⊥
-    made x k has = elim (cases_lt x (length table)) [
+    generated : (x k : ℕ) → HasBit (generated_word table w) x k → ⊥
+    generated x k has = elim (cases_lt x (length table)) [
       | inl within ↦
-          no_bit W w k (ap (λ (s : Summary W). has_bit (get_or s.made w 0) k) (sym (blank x (record { kept = []; made = [] }) within)) ∙ has)
+          no_bit W w k (ap (λ (s : Summary W). has_bit (get_or s.generated w 0) k) (sym (blank x (record { preserved = []; generated = [] }) within)) ∙ has)
       | inr past ↦ false≢true (sym (has_bit-zero k)
-          ∙ (ap (λ (s : Summary W). has_bit (get_or s.made w 0) k) (sym (get_or_past table x (record { kept = []; made = [] }) past)) ∙ has))
+          ∙ (ap (λ (s : Summary W). has_bit (get_or s.generated w 0) k) (sym (get_or_past table x (record { preserved = []; generated = [] }) past)) ∙ has))
     ]
 
 -- an entry more keeps everything
 module _ (W : ℕ) (group : Group) (table : List (Summary W)) (procedure at : ℕ) (within : at < length table)
     (there : procedure < group.shape.procedures) (at_is : at ≡ group.shape.entry procedure) where
   written : summary_at (set table at (entry_summary W)) at ≡ entry_summary W
-  written = get_or-set_same table at (entry_summary W) (record { kept = []; made = [] }) within
+  written = get_or-set_same table at (entry_summary W) (record { preserved = []; generated = [] }) within
 
   unwritten : (x : ℕ) → x ≢ at → summary_at (set table at (entry_summary W)) x ≡ summary_at table x
-  unwritten x other = get_or-set_other table at x (entry_summary W) (record { kept = []; made = [] }) other
+  unwritten x other = get_or-set_other table at x (entry_summary W) (record { preserved = []; generated = [] }) other
 
   pub entry_sound : AreSoundSummaries group table → AreSoundSummaries group (set table at (entry_summary W))
-  entry_sound sound w inside = (kept, made)
+  entry_sound sound w inside = (preserved, generated)
     where
-      kept : AreSoundWords (IsKept group.shape (group.transfer w)) (kept_word (set table at (entry_summary W)) w)
-      kept x k low has = elim (cases_eq x at) [
-        | inl same ↦ subst (IsKept group.shape (group.transfer w) k) (sym (same ∙ at_is)) (kept_at_entry procedure there)
-        | inr other ↦ (sound w inside).0 x k low (sym (ap (λ (s : Summary W). has_bit (get_or s.kept w 0) k) (unwritten x other)) ∙ has)
+      preserved : AreSoundWords (IsPreserved group.shape (group.transfer w)) (preserved_word (set table at (entry_summary W)) w)
+      preserved x k low has = elim (cases_eq x at) [
+        | inl same ↦ subst (IsPreserved group.shape (group.transfer w) k) (sym (same ∙ at_is)) (preserved_at_entry procedure there)
+        | inr other ↦ (sound w inside).0 x k low (sym (ap (λ (s : Summary W). has_bit (get_or s.preserved w 0) k) (unwritten x other)) ∙ has)
       ]
 
-      made : AreSoundWords (IsMade group.shape (group.transfer w)) (made_word (set table at (entry_summary W)) w)
-      made x k low has = elim (cases_eq x at) [
-        | inl same ↦ absurd (no_bit W w k (sym (ap (λ (s : Summary W). has_bit (get_or s.made w 0) k) written)
-            ∙ (ap (λ n. has_bit (made_word (set table at (entry_summary W)) w n) k) (sym same) ∙ has)))
-        | inr other ↦ (sound w inside).1 x k low (sym (ap (λ (s : Summary W). has_bit (get_or s.made w 0) k) (unwritten x other)) ∙ has)
+      generated : AreSoundWords (IsGenerated group.shape (group.transfer w)) (generated_word (set table at (entry_summary W)) w)
+      generated x k low has = elim (cases_eq x at) [
+        | inl same ↦ absurd (no_bit W w k (sym (ap (λ (s : Summary W). has_bit (get_or s.generated w 0) k) written)
+            ∙ (ap (λ n. has_bit (generated_word (set table at (entry_summary W)) w n) k) (sym same) ∙ has)))
+        | inr other ↦ (sound w inside).1 x k low (sym (ap (λ (s : Summary W). has_bit (get_or s.generated w 0) k) (unwritten x other)) ∙ has)
       ]
 
-  here : (x w k : ℕ) → w < W → k < 64 → x ≡ at → HasBit (kept_word (set table at (entry_summary W)) w) x k
-  here x w k inside low same = ap (λ n. has_bit (kept_word (set table at (entry_summary W)) w n) k) same
-      ∙ (ap (λ (s : Summary W). has_bit (get_or s.kept w 0) k) written ∙ each_bit W w k inside low)
+  here : (x w k : ℕ) → w < W → k < 64 → x ≡ at → HasBit (preserved_word (set table at (entry_summary W)) w) x k
+  here x w k inside low same = ap (λ n. has_bit (preserved_word (set table at (entry_summary W)) w n) k) same
+      ∙ (ap (λ (s : Summary W). has_bit (get_or s.preserved w 0) k) written ∙ each_bit W w k inside low)
 
-  pub entry_more : (x w k : ℕ) → w < W → k < 64 → (x ≡ at) ⊎ HasBit (kept_word table w) x k
-      → HasBit (kept_word (set table at (entry_summary W)) w) x k
+  pub entry_more : (x w k : ℕ) → w < W → k < 64 → (x ≡ at) ⊎ HasBit (preserved_word table w) x k
+      → HasBit (preserved_word (set table at (entry_summary W)) w) x k
   entry_more x w k inside low (inl same) = here x w k inside low same
   entry_more x w k inside low (inr had) = elim (cases_eq x at) [
     | inl same ↦ here x w k inside low same
-    | inr other ↦ ap (λ (s : Summary W). has_bit (get_or s.kept w 0) k) (unwritten x other) ∙ had
+    | inr other ↦ ap (λ (s : Summary W). has_bit (get_or s.preserved w 0) k) (unwritten x other) ∙ had
   ]
 
 -- ---- what is brought at its beginning: the boundary to the root

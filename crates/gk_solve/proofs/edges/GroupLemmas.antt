@@ -10,9 +10,9 @@ use Rattle.flow_links.specs.Shapes.{LinkedProgram, directed_shape}
 use Rattle.flow_links.specs.LinkLists.{IsCallLink, IsSiteLink}
 use Rattle.gk_solve.specs.Tables.Brought.{AreBroughtOf, AreSoundBrought, brought_word}
 use Rattle.gk_solve.specs.Tables.Flags.{IsFlagged}
-use Rattle.gk_solve.specs.Tables.Groups.{AreOf, AreSameBut, AreSoundSummaries, IsGroupFrame, IsKeptAcross, IsMadeAcross, IsSummaryCallSettled}
-use Rattle.gk_solve.specs.Tables.Groups.{group_of, kept_word, made_word, summary_at}
-use Rattle.gk_solve.specs.Tables.Words.{HasBit, IsBrought, IsKept, IsMade, place_gens, place_kills, step_statement}
+use Rattle.gk_solve.specs.Tables.Groups.{AreOf, AreSameBut, AreSoundSummaries, IsGroupFrame, IsPreservedAcross, IsGeneratedAcross, IsSummaryCallSettled}
+use Rattle.gk_solve.specs.Tables.Groups.{group_of, preserved_word, generated_word, summary_at}
+use Rattle.gk_solve.specs.Tables.Words.{HasBit, IsBrought, IsPreserved, IsGenerated, place_gens, place_kills, step_statement}
 use Rattle.gk_solve.specs.declared.group_frame.GroupFrame.{GroupFrame}
 use Rattle.flow_links.specs.declared.link.CallLink.{CallLink}
 use Rattle.flow_links.specs.declared.link.SiteLink.{SiteLink}
@@ -23,7 +23,7 @@ use Rattle.gk_solve.proofs.edges.WordEdges.{step_keeps, step_makes, call_brings,
 -- a summary that was read
 pub read_summary : {W : ℕ} (table : List (Summary W)) (at : ℕ) (before : Summary W) → at < length table → before ≡ get_or table at before
     → before ≡ summary_at table at
-read_summary table at before within read = read ∙ get_or_default table at before (record { kept = []; made = [] }) within
+read_summary table at before within read = read ∙ get_or_default table at before (record { preserved = []; generated = [] }) within
 
 module _ (width : ℕ) (frame : GroupFrame) (is : IsGroupFrame width frame) where
   pub same_points : point_count frame.links.now.program ≡ point_count frame.problem.now.program
@@ -49,31 +49,31 @@ module _ (width : ℕ) (frame : GroupFrame) (is : IsGroupFrame width frame) wher
       (there : IsEdge (directed_shape frame.links.now) (Step at to))
       (point_is : point ≡ step_statement frame.links.now.backward at to) (path : IsFlagged frame.paths.now at) (within : at < length table)
       (before more : Summary W) (read : before ≡ get_or table at before)
-      (kept : (w k : ℕ) → w < width → k < 64 → has_bit (get_or more.kept w 0) k
-      ≡ (has_bit (get_or before.kept w 0) k && not (place_kills frame.problem.now point (64 * (frame.first + w) + k))))
-      (made : (w k : ℕ) → w < width → k < 64 → has_bit (get_or more.made w 0) k
+      (preserved : (w k : ℕ) → w < width → k < 64 → has_bit (get_or more.preserved w 0) k
+      ≡ (has_bit (get_or before.preserved w 0) k && not (place_kills frame.problem.now point (64 * (frame.first + w) + k))))
+      (generated : (w k : ℕ) → w < width → k < 64 → has_bit (get_or more.generated w 0) k
       ≡ (place_gens frame.problem.now point (64 * (frame.first + w) + k)
-      || (has_bit (get_or before.made w 0) k && not (place_kills frame.problem.now point (64 * (frame.first + w) + k))))) where
-    pub step_kept : IsKeptAcross (group_of frame width) at to (summary_at table at).kept more.kept
-    step_kept = subst (λ (s : Summary W). IsKeptAcross (group_of frame width) at to s.kept more.kept) (read_summary table at before within read)
-        (λ w k inside low. kept w k inside low
-        ∙ ap (λ n. has_bit (get_or before.kept w 0) k && not (place_kills frame.problem.now n (64 * (frame.first + w) + k))) point_is)
+      || (has_bit (get_or before.generated w 0) k && not (place_kills frame.problem.now point (64 * (frame.first + w) + k))))) where
+    pub step_preserved : IsPreservedAcross (group_of frame width) at to (summary_at table at).preserved more.preserved
+    step_preserved = subst (λ (s : Summary W). IsPreservedAcross (group_of frame width) at to s.preserved more.preserved) (read_summary table at before within read)
+        (λ w k inside low. preserved w k inside low
+        ∙ ap (λ n. has_bit (get_or before.preserved w 0) k && not (place_kills frame.problem.now n (64 * (frame.first + w) + k))) point_is)
 
-    pub step_made : IsMadeAcross (group_of frame width) at to (summary_at table at).made more.made
-    step_made = subst (λ (s : Summary W). IsMadeAcross (group_of frame width) at to s.made more.made) (read_summary table at before within read)
-        (λ w k inside low. made w k inside low
+    pub step_generated : IsGeneratedAcross (group_of frame width) at to (summary_at table at).generated more.generated
+    step_generated = subst (λ (s : Summary W). IsGeneratedAcross (group_of frame width) at to s.generated more.generated) (read_summary table at before within read)
+        (λ w k inside low. generated w k inside low
         ∙ ap (λ n. place_gens frame.problem.now n (64 * (frame.first + w) + k)
-        || (has_bit (get_or before.made w 0) k && not (place_kills frame.problem.now n (64 * (frame.first + w) + k)))) point_is)
+        || (has_bit (get_or before.generated w 0) k && not (place_kills frame.problem.now n (64 * (frame.first + w) + k)))) point_is)
 
-    pub step_keeps_of : AreOf (group_of frame width) (IsKept (directed_shape frame.links.now)) more.kept to
+    pub step_keeps_of : AreOf (group_of frame width) (IsPreserved (directed_shape frame.links.now)) more.preserved to
     step_keeps_of w k inside low has =
-        step_keeps is.numbered ((group_of frame width).transfer w) at to there (flag_of at path).1 (kept_word table w) (get_or more.kept w 0) k low
-        (step_kept w k inside low) (sound w inside).0 has
+        step_keeps is.numbered ((group_of frame width).transfer w) at to there (flag_of at path).1 (preserved_word table w) (get_or more.preserved w 0) k low
+        (step_preserved w k inside low) (sound w inside).0 has
 
-    pub step_makes_of : AreOf (group_of frame width) (IsMade (directed_shape frame.links.now)) more.made to
+    pub step_makes_of : AreOf (group_of frame width) (IsGenerated (directed_shape frame.links.now)) more.generated to
     step_makes_of w k inside low has =
-        step_makes is.numbered ((group_of frame width).transfer w) at to there (flag_of at path).1 (made_word table w) (get_or more.made w 0) k low
-        (step_made w k inside low) (sound w inside).1 has
+        step_makes is.numbered ((group_of frame width).transfer w) at to there (flag_of at path).1 (generated_word table w) (get_or more.generated w 0) k low
+        (step_generated w k inside low) (sound w inside).1 has
 
   abbrev exit_of : ℕ → ℕ
   exit_of y = (directed_shape frame.links.now).exit ((directed_shape frame.links.now).procedure_of y)
@@ -83,55 +83,55 @@ module _ (width : ℕ) (frame : GroupFrame) (is : IsGroupFrame width frame) wher
       (there : IsCallLink (directed_shape frame.links.now) frame.links.now.backward at link)
       (path : IsFlagged frame.paths.now at) (through_path : IsFlagged frame.paths.now link.exit) (within : at < length table)
       (exit_within : link.exit < length table) (before through : Summary W)
-      (read : before ≡ get_or table at before) (read_exit : through ≡ get_or table link.exit through) (kept made : List ℕ)
-      (are_kept : (w k : ℕ) → w < width → has_bit (get_or kept w 0) k ≡ (has_bit (get_or before.kept w 0) k && has_bit (get_or through.kept w 0) k))
-      (are_made : (w k : ℕ) → w < width → has_bit (get_or made w 0) k
-      ≡ (has_bit (get_or through.made w 0) k || (has_bit (get_or before.made w 0) k && has_bit (get_or through.kept w 0) k))) where
+      (read : before ≡ get_or table at before) (read_exit : through ≡ get_or table link.exit through) (preserved generated : List ℕ)
+      (are_preserved : (w k : ℕ) → w < width → has_bit (get_or preserved w 0) k ≡ (has_bit (get_or before.preserved w 0) k && has_bit (get_or through.preserved w 0) k))
+      (are_generated : (w k : ℕ) → w < width → has_bit (get_or generated w 0) k
+      ≡ (has_bit (get_or through.generated w 0) k || (has_bit (get_or before.generated w 0) k && has_bit (get_or through.preserved w 0) k))) where
     at_exit : (y : ℕ) → link.exit ≡ exit_of y → through ≡ summary_at table (exit_of y)
     at_exit y exit = read_summary table link.exit through exit_within read_exit ∙ ap (λ n. summary_at table n) exit
 
-    pub call_kept : (y : ℕ) → link.exit ≡ exit_of y → (w k : ℕ) → w < width
-        → has_bit (get_or kept w 0) k ≡ (has_bit (kept_word table w at) k && has_bit (kept_word table w (exit_of y)) k)
-    call_kept y exit w k inside = are_kept w k inside
-        ∙ (ap (λ (s : Summary W). has_bit (get_or s.kept w 0) k && has_bit (get_or through.kept w 0) k) (read_summary table at before within read)
-        ∙ ap (λ (s : Summary W). has_bit (kept_word table w at) k && has_bit (get_or s.kept w 0) k) (at_exit y exit))
+    pub call_preserved : (y : ℕ) → link.exit ≡ exit_of y → (w k : ℕ) → w < width
+        → has_bit (get_or preserved w 0) k ≡ (has_bit (preserved_word table w at) k && has_bit (preserved_word table w (exit_of y)) k)
+    call_preserved y exit w k inside = are_preserved w k inside
+        ∙ (ap (λ (s : Summary W). has_bit (get_or s.preserved w 0) k && has_bit (get_or through.preserved w 0) k) (read_summary table at before within read)
+        ∙ ap (λ (s : Summary W). has_bit (preserved_word table w at) k && has_bit (get_or s.preserved w 0) k) (at_exit y exit))
 
-    pub call_made : (y : ℕ) → link.exit ≡ exit_of y → (w k : ℕ) → w < width
-        → has_bit (get_or made w 0) k
-        ≡ (has_bit (made_word table w (exit_of y)) k || (has_bit (made_word table w at) k && has_bit (kept_word table w (exit_of y)) k))
-    call_made y exit w k inside = are_made w k inside
-        ∙ (ap (λ (s : Summary W). has_bit (get_or through.made w 0) k || (has_bit (get_or s.made w 0) k && has_bit (get_or through.kept w 0) k))
+    pub call_generated : (y : ℕ) → link.exit ≡ exit_of y → (w k : ℕ) → w < width
+        → has_bit (get_or generated w 0) k
+        ≡ (has_bit (generated_word table w (exit_of y)) k || (has_bit (generated_word table w at) k && has_bit (preserved_word table w (exit_of y)) k))
+    call_generated y exit w k inside = are_generated w k inside
+        ∙ (ap (λ (s : Summary W). has_bit (get_or through.generated w 0) k || (has_bit (get_or s.generated w 0) k && has_bit (get_or through.preserved w 0) k))
         (read_summary table at before within read)
-        ∙ ap (λ (s : Summary W). has_bit (get_or s.made w 0) k || (has_bit (made_word table w at) k && has_bit (get_or s.kept w 0) k))
+        ∙ ap (λ (s : Summary W). has_bit (get_or s.generated w 0) k || (has_bit (generated_word table w at) k && has_bit (get_or s.preserved w 0) k))
         (at_exit y exit))
 
     reached_exit : (y : ℕ) → link.exit ≡ exit_of y → Reached (directed_shape frame.links.now) (exit_of y)
     reached_exit y exit = subst (Reached (directed_shape frame.links.now)) exit (flag_of link.exit through_path).1
 
-    pub call_keeps_of : AreOf (group_of frame width) (IsKept (directed_shape frame.links.now)) kept link.after
+    pub call_keeps_of : AreOf (group_of frame width) (IsPreserved (directed_shape frame.links.now)) preserved link.after
     call_keeps_of w k inside low has =
-        subst (IsKept (directed_shape frame.links.now) ((group_of frame width).transfer w) k) (sym there.4)
+        subst (IsPreserved (directed_shape frame.links.now) ((group_of frame width).transfer w) k) (sym there.4)
         (call_keeps is.numbered ((group_of frame width).transfer w) there.0 at there.1 there.2 (flag_of at path).1 (reached_exit there.1 there.3)
-        (kept_word table w) (get_or kept w 0) k low (call_kept there.1 there.3 w k inside) (sound w inside).0 has)
+        (preserved_word table w) (get_or preserved w 0) k low (call_preserved there.1 there.3 w k inside) (sound w inside).0 has)
 
-    pub call_makes_of : AreOf (group_of frame width) (IsMade (directed_shape frame.links.now)) made link.after
+    pub call_makes_of : AreOf (group_of frame width) (IsGenerated (directed_shape frame.links.now)) generated link.after
     call_makes_of w k inside low has =
-        subst (IsMade (directed_shape frame.links.now) ((group_of frame width).transfer w) k) (sym there.4)
+        subst (IsGenerated (directed_shape frame.links.now) ((group_of frame width).transfer w) k) (sym there.4)
         (call_makes is.numbered ((group_of frame width).transfer w) there.0 at there.1 there.2 (flag_of at path).1 (reached_exit there.1 there.3)
-        (kept_word table w) (made_word table w) (get_or made w 0) k low (call_made there.1 there.3 w k inside)
+        (preserved_word table w) (generated_word table w) (get_or generated w 0) k low (call_generated there.1 there.3 w k inside)
         (sound w inside).0 (sound w inside).1 has)
 
     pub call_settled_of : (new : List (Summary W)) (dirty_after : List Bool) → AreSameBut link.after table new dirty_after
-        → ((w k : ℕ) → w < width → has_bit (get_or kept w 0) k ≡ true → HasBit (kept_word new w) link.after k)
-        → ((w k : ℕ) → w < width → has_bit (get_or made w 0) k ≡ true → HasBit (made_word new w) link.after k)
+        → ((w k : ℕ) → w < width → has_bit (get_or preserved w 0) k ≡ true → HasBit (preserved_word new w) link.after k)
+        → ((w k : ℕ) → w < width → has_bit (get_or generated w 0) k ≡ true → HasBit (generated_word new w) link.after k)
         → IsSummaryCallSettled (group_of frame width) frame.paths.now at new dirty_after link
-    call_settled_of new dirty_after same kept_added made_added = record {
+    call_settled_of new dirty_after same preserved_added generated_added = record {
       settled = λ site y call exit after.
-          call_settled (group_of frame width) frame.paths.now site at y call table new dirty_after (record { kept = kept; made = made })
-          (call_kept y exit) (call_made y exit)
+          call_settled (group_of frame width) frame.paths.now site at y call table new dirty_after (record { preserved = preserved; generated = generated })
+          (call_preserved y exit) (call_generated y exit)
           (subst (λ n. AreSameBut n table new dirty_after) after same)
-          (λ w k inside has. subst (λ n. HasBit (kept_word new w) n k) after (kept_added w k inside has))
-          (λ w k inside has. subst (λ n. HasBit (made_word new w) n k) after (made_added w k inside has));
+          (λ w k inside has. subst (λ n. HasBit (preserved_word new w) n k) after (preserved_added w k inside has))
+          (λ w k inside has. subst (λ n. HasBit (generated_word new w) n k) after (generated_added w k inside has));
     }
 
   -- what a call brings from its procedure
@@ -140,15 +140,15 @@ module _ (width : ℕ) (frame : GroupFrame) (is : IsGroupFrame width frame) wher
       (point_within : link.point < length summaries) (procedure_within : procedure < length brought) (here : Summary W) (row : List ℕ)
       (read : here ≡ get_or summaries link.point here) (read_row : row ≡ get_or brought procedure row)
       (more : List ℕ) (are : (w k : ℕ) → w < width → has_bit (get_or more w 0) k
-      ≡ (has_bit (get_or here.made w 0) k || (has_bit (get_or row w 0) k && has_bit (get_or here.kept w 0) k))) where
+      ≡ (has_bit (get_or here.generated w 0) k || (has_bit (get_or row w 0) k && has_bit (get_or here.preserved w 0) k))) where
     pub brings_bits : (w k : ℕ) → w < width
-        → has_bit (get_or more w 0) k ≡ (has_bit (made_word summaries w link.point) k
-        || (has_bit (brought_word brought w procedure) k && has_bit (kept_word summaries w link.point) k))
+        → has_bit (get_or more w 0) k ≡ (has_bit (generated_word summaries w link.point) k
+        || (has_bit (brought_word brought w procedure) k && has_bit (preserved_word summaries w link.point) k))
     brings_bits w k below = are w k below
-        ∙ (ap (λ (s : Summary W). has_bit (get_or s.made w 0) k || (has_bit (get_or row w 0) k && has_bit (get_or s.kept w 0) k))
+        ∙ (ap (λ (s : Summary W). has_bit (get_or s.generated w 0) k || (has_bit (get_or row w 0) k && has_bit (get_or s.preserved w 0) k))
         (read_summary summaries link.point here point_within read)
-        ∙ ap (λ (r : List ℕ). has_bit (made_word summaries w link.point) k || (has_bit (get_or r w 0) k
-        && has_bit (kept_word summaries w link.point) k)) (read_row ∙ get_or_default brought procedure row [] procedure_within))
+        ∙ ap (λ (r : List ℕ). has_bit (generated_word summaries w link.point) k || (has_bit (get_or r w 0) k
+        && has_bit (preserved_word summaries w link.point) k)) (read_row ∙ get_or_default brought procedure row [] procedure_within))
 
     pub brings_of : IsSiteLink (directed_shape frame.links.now) procedure link → IsFlagged frame.paths.now link.point
         → AreSoundSummaries (group_of frame width) summaries → AreSoundBrought (group_of frame width) brought
@@ -156,7 +156,7 @@ module _ (width : ℕ) (frame : GroupFrame) (is : IsGroupFrame width frame) wher
     brings_of there path sound brought_sound w k below low has =
         subst (IsBrought (directed_shape frame.links.now) ((group_of frame width).transfer w) k) (sym there.4)
         (call_brings is.numbered ((group_of frame width).transfer w) there.0 link.point there.1 there.2 (flag_of link.point path)
-        (kept_word summaries w) (made_word summaries w) (brought_word brought w) (get_or more w 0) k low
-        (brings_bits w k below ∙ ap (λ n. has_bit (made_word summaries w link.point) k
-        || (has_bit (brought_word brought w n) k && has_bit (kept_word summaries w link.point) k)) (sym inside))
+        (preserved_word summaries w) (generated_word summaries w) (brought_word brought w) (get_or more w 0) k low
+        (brings_bits w k below ∙ ap (λ n. has_bit (generated_word summaries w link.point) k
+        || (has_bit (brought_word brought w n) k && has_bit (preserved_word summaries w link.point) k)) (sym inside))
         ((sound w below).0 link.point k low) ((sound w below).1 link.point k low) (brought_sound w below) has)

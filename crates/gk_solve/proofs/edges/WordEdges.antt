@@ -5,18 +5,18 @@ use Rattle.bit_rows.specs.Words.{has_bit}
 use Rattle.flow_graph.specs.declared.edge.Edge.{Edge}
 use Rattle.flow_graph.specs.declared.edge.Edge.TheVariants.{Step, Call, Ret}
 use Rattle.flow_graph.specs.Paths.{Shape, Transfer, IsEdge}
-use Rattle.summary_equations.specs.Equations.{Reached, Entered, HasFlag, entry_is_reached, reached_by_step, reached_by_call, kept_at_entry}
-use Rattle.summary_equations.specs.Equations.{kept_by_step}
-use Rattle.summary_equations.specs.Equations.{kept_by_call, made_by_step, made_before_step, made_by_callee, made_before_call, entered_by_call}
+use Rattle.summary_equations.specs.Equations.{Reached, Entered, HasFlag, entry_is_reached, reached_by_step, reached_by_call, preserved_at_entry}
+use Rattle.summary_equations.specs.Equations.{preserved_by_step}
+use Rattle.summary_equations.specs.Equations.{preserved_by_call, generated_by_step, generated_before_step, generated_by_callee, generated_before_call, entered_by_call}
 use Rattle.summary_equations.specs.Equations.{root_is_entered}
-use Rattle.summary_equations.specs.Equations.{brought_where_made, brought_where_kept, CallsAt, ReturnsTo}
+use Rattle.summary_equations.specs.Equations.{brought_where_generated, brought_where_preserved, CallsAt, ReturnsTo}
 use Rattle.flow_links.specs.Shapes.{IsNumbered, after_site}
 use Rattle.gk_solve.specs.Tables.Flags.{IsFlagged}
-use Rattle.gk_solve.specs.Tables.Words.{HasBit, AreSoundWords, IsKeepClosedAt, IsMakeClosedAt, IsBringClosedAt, IsKept, IsMade, IsBrought}
+use Rattle.gk_solve.specs.Tables.Words.{HasBit, AreSoundWords, IsPreserveClosedAt, IsMakeClosedAt, IsBringClosedAt, IsPreserved, IsGenerated, IsBrought}
 use Rattle.gk_solve.proofs.visits.FlagVisits.{call_of, return_of}
-use Rattle.summary_equations.proofs.solutions.Least.{kept_least, made_least, brought_least}
+use Rattle.summary_equations.proofs.solutions.Least.{preserved_least, generated_least, brought_least}
 
--- a bit of the new ones, or of those before that are kept
+-- a bit of the new ones, or of those before that are preserved
 pub new_bit : (a b c : Bool) → (a ≡ true) ⊎ ((b ≡ true) × (c ≡ true)) → (a || (b && c)) ≡ true
 new_bit a b c (inl new) = or_left a (b && c) new
 new_bit a b c (inr before) = or_right a (b && c) (and_from b c before.0 before.1)
@@ -26,59 +26,59 @@ which_bit a b c has = elim (or_cases a (b && c) has) [ inl new ↦ inl new | inr
 
 module _ {shape : Shape} {backward : Bool} {points : ℕ} (is : IsNumbered shape backward points) (transfer : ℕ → Transfer) where
   -- ---- what is put is sound
-  pub step_keeps : (x y : ℕ) → IsEdge shape (Step x y) → Reached shape x → (kept : ℕ → ℕ) (bits k : ℕ) → k < 64
-      → has_bit bits k ≡ (has_bit (kept x) k && not ((transfer k).kill x y)) → AreSoundWords (IsKept shape transfer) kept → has_bit bits k ≡ true
-      → IsKept shape transfer k y
-  step_keeps x y there at_x kept bits k low are sound has =
-      let parts = and_parts (has_bit (kept x) k) (not ((transfer k).kill x y)) (sym are ∙ has) in
-      kept_by_step x y there at_x (sound x k low parts.0) (not-true ((transfer k).kill x y) parts.1)
+  pub step_keeps : (x y : ℕ) → IsEdge shape (Step x y) → Reached shape x → (preserved : ℕ → ℕ) (bits k : ℕ) → k < 64
+      → has_bit bits k ≡ (has_bit (preserved x) k && not ((transfer k).kill x y)) → AreSoundWords (IsPreserved shape transfer) preserved → has_bit bits k ≡ true
+      → IsPreserved shape transfer k y
+  step_keeps x y there at_x preserved bits k low are sound has =
+      let parts = and_parts (has_bit (preserved x) k) (not ((transfer k).kill x y)) (sym are ∙ has) in
+      preserved_by_step x y there at_x (sound x k low parts.0) (not-true ((transfer k).kill x y) parts.1)
 
-  pub step_makes : (x y : ℕ) → IsEdge shape (Step x y) → Reached shape x → (made : ℕ → ℕ) (bits k : ℕ) → k < 64
-      → has_bit bits k ≡ ((transfer k).gen x y || (has_bit (made x) k && not ((transfer k).kill x y))) → AreSoundWords (IsMade shape transfer) made
-      → has_bit bits k ≡ true → IsMade shape transfer k y
-  step_makes x y there at_x made bits k low are sound has =
-      elim (which_bit ((transfer k).gen x y) (has_bit (made x) k) (not ((transfer k).kill x y)) (sym are ∙ has)) [
-        | inl gens ↦ made_by_step x y there at_x gens
-        | inr before ↦ made_before_step x y there at_x (sound x k low before.0) (not-true ((transfer k).kill x y) before.1)
+  pub step_makes : (x y : ℕ) → IsEdge shape (Step x y) → Reached shape x → (generated : ℕ → ℕ) (bits k : ℕ) → k < 64
+      → has_bit bits k ≡ ((transfer k).gen x y || (has_bit (generated x) k && not ((transfer k).kill x y))) → AreSoundWords (IsGenerated shape transfer) generated
+      → has_bit bits k ≡ true → IsGenerated shape transfer k y
+  step_makes x y there at_x generated bits k low are sound has =
+      elim (which_bit ((transfer k).gen x y) (has_bit (generated x) k) (not ((transfer k).kill x y)) (sym are ∙ has)) [
+        | inl gens ↦ generated_by_step x y there at_x gens
+        | inr before ↦ generated_before_step x y there at_x (sound x k low before.0) (not-true ((transfer k).kill x y) before.1)
       ]
 
   pub call_keeps : (site x y : ℕ) → IsEdge shape (Call site x y) → Reached shape x → Reached shape (shape.exit (shape.procedure_of y))
-      → (kept : ℕ → ℕ) (bits k : ℕ) → k < 64
-      → has_bit bits k ≡ (has_bit (kept x) k && has_bit (kept (shape.exit (shape.procedure_of y))) k) → AreSoundWords (IsKept shape transfer) kept
+      → (preserved : ℕ → ℕ) (bits k : ℕ) → k < 64
+      → has_bit bits k ≡ (has_bit (preserved x) k && has_bit (preserved (shape.exit (shape.procedure_of y))) k) → AreSoundWords (IsPreserved shape transfer) preserved
       → has_bit bits k ≡ true
-      → IsKept shape transfer k (after_site backward site)
-  call_keeps site x y there at_x at_exit kept bits k low are sound has =
+      → IsPreserved shape transfer k (after_site backward site)
+  call_keeps site x y there at_x at_exit preserved bits k low are sound has =
       let p = shape.procedure_of y in
-      let parts = and_parts (has_bit (kept x) k) (has_bit (kept (shape.exit p)) k) (sym are ∙ has) in
-      kept_by_call site x p (after_site backward site) (call_of is site x y there) (return_of is site x y there) at_x at_exit (sound x k low parts.0)
+      let parts = and_parts (has_bit (preserved x) k) (has_bit (preserved (shape.exit p)) k) (sym are ∙ has) in
+      preserved_by_call site x p (after_site backward site) (call_of is site x y there) (return_of is site x y there) at_x at_exit (sound x k low parts.0)
       (sound (shape.exit p) k low parts.1)
 
   pub call_makes : (site x y : ℕ) → IsEdge shape (Call site x y) → Reached shape x → Reached shape (shape.exit (shape.procedure_of y))
-      → (kept made : ℕ → ℕ) (bits k : ℕ) → k < 64
+      → (preserved generated : ℕ → ℕ) (bits k : ℕ) → k < 64
       → has_bit bits k
-      ≡ (has_bit (made (shape.exit (shape.procedure_of y))) k || (has_bit (made x) k && has_bit (kept (shape.exit (shape.procedure_of y))) k))
-      → AreSoundWords (IsKept shape transfer) kept → AreSoundWords (IsMade shape transfer) made → has_bit bits k ≡ true
-      → IsMade shape transfer k (after_site backward site)
-  call_makes site x y there at_x at_exit kept made bits k low are kept_sound made_sound has =
+      ≡ (has_bit (generated (shape.exit (shape.procedure_of y))) k || (has_bit (generated x) k && has_bit (preserved (shape.exit (shape.procedure_of y))) k))
+      → AreSoundWords (IsPreserved shape transfer) preserved → AreSoundWords (IsGenerated shape transfer) generated → has_bit bits k ≡ true
+      → IsGenerated shape transfer k (after_site backward site)
+  call_makes site x y there at_x at_exit preserved generated bits k low are preserved_sound generated_sound has =
       let p = shape.procedure_of y in
       let call = call_of is site x y there in
       let return = return_of is site x y there in
-      elim (which_bit (has_bit (made (shape.exit p)) k) (has_bit (made x) k) (has_bit (kept (shape.exit p)) k) (sym are ∙ has)) [
-        | inl callee ↦ made_by_callee site x p (after_site backward site) call return at_x at_exit (made_sound (shape.exit p) k low callee)
-        | inr before ↦ made_before_call site x p (after_site backward site) call return at_x at_exit (made_sound x k low before.0)
-            (kept_sound (shape.exit p) k low before.1)
+      elim (which_bit (has_bit (generated (shape.exit p)) k) (has_bit (generated x) k) (has_bit (preserved (shape.exit p)) k) (sym are ∙ has)) [
+        | inl callee ↦ generated_by_callee site x p (after_site backward site) call return at_x at_exit (generated_sound (shape.exit p) k low callee)
+        | inr before ↦ generated_before_call site x p (after_site backward site) call return at_x at_exit (generated_sound x k low before.0)
+            (preserved_sound (shape.exit p) k low before.1)
       ]
 
-  pub call_brings : (site x y : ℕ) → IsEdge shape (Call site x y) → HasFlag shape x → (kept made brought : ℕ → ℕ) (bits k : ℕ) → k < 64
-      → has_bit bits k ≡ (has_bit (made x) k || (has_bit (brought (shape.procedure_of x)) k && has_bit (kept x) k))
-      → (HasBit kept x k → IsKept shape transfer k x) → (HasBit made x k → IsMade shape transfer k x)
+  pub call_brings : (site x y : ℕ) → IsEdge shape (Call site x y) → HasFlag shape x → (preserved generated brought : ℕ → ℕ) (bits k : ℕ) → k < 64
+      → has_bit bits k ≡ (has_bit (generated x) k || (has_bit (brought (shape.procedure_of x)) k && has_bit (preserved x) k))
+      → (HasBit preserved x k → IsPreserved shape transfer k x) → (HasBit generated x k → IsGenerated shape transfer k x)
       → AreSoundWords (IsBrought shape transfer) brought → has_bit bits k ≡ true → IsBrought shape transfer k (shape.procedure_of y)
-  call_brings site x y there at_x kept made brought bits k low are is_kept is_made sound has =
+  call_brings site x y there at_x preserved generated brought bits k low are is_preserved is_generated sound has =
       let call = call_of is site x y there in
-      elim (which_bit (has_bit (made x) k) (has_bit (brought (shape.procedure_of x)) k) (has_bit (kept x) k) (sym are ∙ has)) [
-        | inl new ↦ brought_where_made site x (shape.procedure_of y) call at_x.0 at_x.1 (is_made new)
+      elim (which_bit (has_bit (generated x) k) (has_bit (brought (shape.procedure_of x)) k) (has_bit (preserved x) k) (sym are ∙ has)) [
+        | inl new ↦ brought_where_generated site x (shape.procedure_of y) call at_x.0 at_x.1 (is_generated new)
         | inr before ↦
-            brought_where_kept site x (shape.procedure_of y) call at_x.0 at_x.1 (sound (shape.procedure_of x) k low before.0) (is_kept before.1)
+            brought_where_preserved site x (shape.procedure_of y) call at_x.0 at_x.1 (sound (shape.procedure_of x) k low before.0) (is_preserved before.1)
       ]
 
   -- ---- what is closed at each edge is all, at the points with a path
@@ -97,11 +97,11 @@ module _ {shape : Shape} {backward : Bool} {points : ℕ} (is : IsNumbered shape
         (is.one_return site x (shape.entry p) z call.1).0
         (subst (λ (n : ℕ). IsEdge shape (Ret site (shape.exit n) z)) (sym (is.formed.entry_inside p call.0)) return)
 
-    pub all_kept : (kept : ℕ → ℕ) → ((edge : Edge) → IsEdge shape edge → IsKeepClosedAt shape backward transfer paths kept edge)
-        → (k : ℕ) → k < 64 → ((p : ℕ) → p < shape.procedures → HasBit kept (shape.entry p) k) → (x : ℕ) → HasFlag shape x → IsKept shape transfer k x
-        → HasBit kept x k
-    all_kept kept closed k low entry x at_x is_kept =
-        kept_least {shape = shape} {kill = (transfer k).kill} {reached = Reached shape} {kept = λ x. HasFlag shape x → HasBit kept x k}
+    pub all_preserved : (preserved : ℕ → ℕ) → ((edge : Edge) → IsEdge shape edge → IsPreserveClosedAt shape backward transfer paths preserved edge)
+        → (k : ℕ) → k < 64 → ((p : ℕ) → p < shape.procedures → HasBit preserved (shape.entry p) k) → (x : ℕ) → HasFlag shape x → IsPreserved shape transfer k x
+        → HasBit preserved x k
+    all_preserved preserved closed k low entry x at_x is_preserved =
+        preserved_least {shape = shape} {kill = (transfer k).kill} {reached = Reached shape} {preserved = λ x. HasFlag shape x → HasBit preserved x k}
         record { entry = entry_is_reached; step = reached_by_step; call = reached_by_call }
         record {
           entry = λ p within at_entry. entry p within;
@@ -112,22 +112,22 @@ module _ {shape : Shape} {backward : Bool} {points : ℕ} (is : IsNumbered shape
               let same : shape.procedure_of (shape.entry p) ≡ p = is.formed.entry_inside p call.0 in
               let flag = caller_flag site x p z call return at_x at_z in
               let there = callee_flag site x p call flag at_exit in
-              subst (λ n. HasBit kept n k) (sym (back_of site x p z call return))
+              subst (λ n. HasBit preserved n k) (sym (back_of site x p z call return))
               (closed (Call site x (shape.entry p)) call.1 k low ((exact x).1 flag)
               (subst (λ (n : ℕ). IsFlagged paths (shape.exit n)) (sym same) ((exact (shape.exit p)).1 there)) (before flag)
-              (subst (λ (n : ℕ). HasBit kept (shape.exit n) k) (sym same) (through there)));
+              (subst (λ (n : ℕ). HasBit preserved (shape.exit n) k) (sym same) (through there)));
         }
-        is_kept at_x
+        is_preserved at_x
 
-    pub all_made : (kept made : ℕ → ℕ) → ((edge : Edge) → IsEdge shape edge → IsKeepClosedAt shape backward transfer paths kept edge)
-        → ((edge : Edge) → IsEdge shape edge → IsMakeClosedAt shape backward transfer paths kept made edge)
-        → (k : ℕ) → k < 64 → ((p : ℕ) → p < shape.procedures → HasBit kept (shape.entry p) k) → (x : ℕ) → HasFlag shape x → IsMade shape transfer k x
-        → HasBit made x k
-    all_made kept made keep_closed closed k low entry x at_x is_made =
-        made_least {shape = shape} {transfer = transfer k} {reached = Reached shape} {kept = IsKept shape transfer k} {made = λ x. HasFlag shape x
-        → HasBit made x k}
+    pub all_generated : (preserved generated : ℕ → ℕ) → ((edge : Edge) → IsEdge shape edge → IsPreserveClosedAt shape backward transfer paths preserved edge)
+        → ((edge : Edge) → IsEdge shape edge → IsMakeClosedAt shape backward transfer paths preserved generated edge)
+        → (k : ℕ) → k < 64 → ((p : ℕ) → p < shape.procedures → HasBit preserved (shape.entry p) k) → (x : ℕ) → HasFlag shape x → IsGenerated shape transfer k x
+        → HasBit generated x k
+    all_generated preserved generated keep_closed closed k low entry x at_x is_generated =
+        generated_least {shape = shape} {transfer = transfer k} {reached = Reached shape} {preserved = IsPreserved shape transfer k} {generated = λ x. HasFlag shape x
+        → HasBit generated x k}
         record { entry = entry_is_reached; step = reached_by_step; call = reached_by_call }
-        record { entry = kept_at_entry; step = kept_by_step; call = kept_by_call }
+        record { entry = preserved_at_entry; step = preserved_by_step; call = preserved_by_call }
         record {
           by_step = λ x y edge at_x gens at_y. closed (Step x y) edge k low ((exact x).1 (start x y edge at_x at_y)) (inl gens);
           before_step = λ x y edge at_x before unkilled at_y. let flag = start x y edge at_x at_y in
@@ -135,47 +135,47 @@ module _ {shape : Shape} {backward : Bool} {points : ℕ} (is : IsNumbered shape
           by_callee = λ site x p z call return at_x at_exit callee at_z.
               let flag = caller_flag site x p z call return at_x at_z in
               through site x p z call return flag at_exit (inl (callee (callee_flag site x p call flag at_exit)));
-          before_call = λ site x p z call return at_x at_exit before kept_there at_z.
+          before_call = λ site x p z call return at_x at_exit before preserved_there at_z.
               let flag = caller_flag site x p z call return at_x at_z in
               through site x p z call return flag at_exit
-              (inr (before flag, all_kept kept keep_closed k low entry (shape.exit p) (callee_flag site x p call flag at_exit) kept_there));
+              (inr (before flag, all_preserved preserved keep_closed k low entry (shape.exit p) (callee_flag site x p call flag at_exit) preserved_there));
         }
-        is_made at_x
+        is_generated at_x
       where
         start : (x y : ℕ) → IsEdge shape (Step x y) → Reached shape x → HasFlag shape y → HasFlag shape x
         start x y edge at_x at_y = (subst (Entered shape) (sym (is.formed.step_inside x y edge)) at_y.0, at_x)
 
         through : (site x p z : ℕ) → CallsAt shape site x p → ReturnsTo shape site p z → HasFlag shape x → Reached shape (shape.exit p)
-            → (HasBit made (shape.exit p) k ⊎ (HasBit made x k × HasBit kept (shape.exit p) k)) → HasBit made z k
+            → (HasBit generated (shape.exit p) k ⊎ (HasBit generated x k × HasBit preserved (shape.exit p) k)) → HasBit generated z k
         through site x p z call return flag at_exit either =
             let same : shape.procedure_of (shape.entry p) ≡ p = is.formed.entry_inside p call.0 in
-            subst (λ n. HasBit made n k) (sym (back_of site x p z call return))
+            subst (λ n. HasBit generated n k) (sym (back_of site x p z call return))
             (closed (Call site x (shape.entry p)) call.1 k low ((exact x).1 flag)
             (subst (λ (n : ℕ). IsFlagged paths (shape.exit n)) (sym same) ((exact (shape.exit p)).1 (callee_flag site x p call flag at_exit)))
-            (subst (λ (n : ℕ). HasBit made (shape.exit n) k ⊎ (HasBit made x k × HasBit kept (shape.exit n) k)) (sym same) either))
+            (subst (λ (n : ℕ). HasBit generated (shape.exit n) k ⊎ (HasBit generated x k × HasBit preserved (shape.exit n) k)) (sym same) either))
 
-    pub all_brought : (kept made brought : ℕ → ℕ) → ((x k : ℕ) → k < 64 → HasFlag shape x → IsKept shape transfer k x → HasBit kept x k)
-        → ((x k : ℕ) → k < 64 → HasFlag shape x → IsMade shape transfer k x → HasBit made x k)
-        → ((edge : Edge) → IsEdge shape edge → IsBringClosedAt shape paths kept made brought edge)
+    pub all_brought : (preserved generated brought : ℕ → ℕ) → ((x k : ℕ) → k < 64 → HasFlag shape x → IsPreserved shape transfer k x → HasBit preserved x k)
+        → ((x k : ℕ) → k < 64 → HasFlag shape x → IsGenerated shape transfer k x → HasBit generated x k)
+        → ((edge : Edge) → IsEdge shape edge → IsBringClosedAt shape paths preserved generated brought edge)
         → (k : ℕ) → k < 64 → ((transfer k).boundary ≡ true → HasBit brought shape.root_procedure k) → (p : ℕ) → IsBrought shape transfer k p
         → HasBit brought p k
-    all_brought kept made brought every_kept every_made closed k low root p is_brought =
-        brought_least {shape = shape} {transfer = transfer k} {reached = Reached shape} {kept = IsKept shape transfer k}
-        {made = IsMade shape transfer k} {entered = Entered shape} {brought = λ n. HasBit brought n k}
+    all_brought preserved generated brought every_preserved every_generated closed k low root p is_brought =
+        brought_least {shape = shape} {transfer = transfer k} {reached = Reached shape} {preserved = IsPreserved shape transfer k}
+        {generated = IsGenerated shape transfer k} {entered = Entered shape} {brought = λ n. HasBit brought n k}
         record { entry = entry_is_reached; step = reached_by_step; call = reached_by_call }
-        record { entry = kept_at_entry; step = kept_by_step; call = kept_by_call }
-        record { by_step = made_by_step; before_step = made_before_step; by_callee = made_by_callee; before_call = made_before_call }
+        record { entry = preserved_at_entry; step = preserved_by_step; call = preserved_by_call }
+        record { by_step = generated_by_step; before_step = generated_before_step; by_callee = generated_by_callee; before_call = generated_before_call }
         record { root = root_is_entered; call = entered_by_call }
         record {
           boundary = root;
-          where_made = λ site x q call caller at_x new. across site x q call (caller, at_x) (inl (every_made x k low (caller, at_x) new));
-          where_kept = λ site x q call caller at_x before through.
-              across site x q call (caller, at_x) (inr (before, every_kept x k low (caller, at_x) through));
+          where_generated = λ site x q call caller at_x new. across site x q call (caller, at_x) (inl (every_generated x k low (caller, at_x) new));
+          where_preserved = λ site x q call caller at_x before through.
+              across site x q call (caller, at_x) (inr (before, every_preserved x k low (caller, at_x) through));
         }
         is_brought
       where
         across : (site x q : ℕ) → CallsAt shape site x q → HasFlag shape x
-            → (HasBit made x k ⊎ (HasBit brought (shape.procedure_of x) k × HasBit kept x k)) → HasBit brought q k
+            → (HasBit generated x k ⊎ (HasBit brought (shape.procedure_of x) k × HasBit preserved x k)) → HasBit brought q k
         across site x q call flag either =
             subst (λ n. HasBit brought n k) (is.formed.entry_inside q call.0)
             (closed (Call site x (shape.entry q)) call.1 k low ((exact x).1 flag) either)

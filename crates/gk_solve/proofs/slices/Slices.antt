@@ -25,7 +25,7 @@ module _ (width : ℕ) (frame : GroupFrame) (is : IsGroupFrame width frame) {W :
     (exact : AreExactBrought (group_of frame width) brought) where
   pub solution_is : (x : ℕ) (lo hi : ℕ) (within row solution : List ℕ) (here : Summary W) → here ≡ summary_at table x
       → row ≡ get_or brought ((directed_shape frame.links.now).procedure_of x) [] → AreInSlice width frame.first lo hi within
-      → IsSolutionAt (group_of frame width) frame.paths.now x here.kept here.made row within solution
+      → IsSolutionAt (group_of frame width) frame.paths.now x here.preserved here.generated row within solution
       → (w k : ℕ) → w < width → k < 64 → (has_bit (get_or solution w 0) k ≡ true)
       ↔ ((lo ≤ 64 * (frame.first + w) + k) × (64 * (frame.first + w) + k < hi)
       × IsInSolution (directed_shape frame.links.now) ((group_of frame width).transfer w k) x)
@@ -39,11 +39,11 @@ module _ (width : ℕ) (frame : GroupFrame) (is : IsGroupFrame width frame) {W :
           (
             flag,
             elim parts.2 [
-              | inl made ↦ inl ((sound w below).1 x k low (sym (ap (λ (s : Summary W). has_bit (get_or s.made w 0) k) read) ∙ made))
+              | inl generated ↦ inl ((sound w below).1 x k low (sym (ap (λ (s : Summary W). has_bit (get_or s.generated w 0) k) read) ∙ generated))
               | inr both ↦ inr (
                 (exact w ((directed_shape frame.links.now).procedure_of x) k below low).0
                     (sym (ap (λ (r : List ℕ). has_bit (get_or r w 0) k) read_row) ∙ both.0),
-                (sound w below).0 x k low (sym (ap (λ (s : Summary W). has_bit (get_or s.kept w 0) k) read) ∙ both.1),
+                (sound w below).0 x k low (sym (ap (λ (s : Summary W). has_bit (get_or s.preserved w 0) k) read) ∙ both.1),
               )
             ],
           ),
@@ -54,11 +54,11 @@ module _ (width : ℕ) (frame : GroupFrame) (is : IsGroupFrame width frame) {W :
           (is.paths x).1 solved.0,
           (inside w k below low).1 (in_slice.0, in_slice.1),
           elim solved.1 [
-            | inl made ↦ inl (ap (λ (s : Summary W). has_bit (get_or s.made w 0) k) read ∙ (complete w x k below low solved.0).1 made)
+            | inl generated ↦ inl (ap (λ (s : Summary W). has_bit (get_or s.generated w 0) k) read ∙ (complete w x k below low solved.0).1 generated)
             | inr both ↦ inr (
               ap (λ (r : List ℕ). has_bit (get_or r w 0) k) read_row
                   ∙ (exact w ((directed_shape frame.links.now).procedure_of x) k below low).1 both.0,
-              ap (λ (s : Summary W). has_bit (get_or s.kept w 0) k) read ∙ (complete w x k below low solved.0).0 both.1,
+              ap (λ (s : Summary W). has_bit (get_or s.preserved w 0) k) read ∙ (complete w x k below low solved.0).0 both.1,
             )
           ],
         ),

@@ -8,11 +8,11 @@ use Rattle.bit_rows.specs.Words.{has_bit}
 use Rattle.flow_graph.specs.declared.edge.Edge.{Edge}
 use Rattle.flow_graph.specs.declared.edge.Edge.TheVariants.{Step, Call, Ret}
 use Rattle.flow_graph.specs.Paths.{IsEdge}
-use Rattle.work_list.specs.Marks.{IsMarked}
+use Rattle.worklist.specs.Worklist.{IsMarked}
 use Rattle.gk_solve.specs.Tables.Brought.{AreBroughtOf, AreSoundBrought, BroughtGrows, BroughtSpreads, IsBringSettled, IsBroughtClosedAt}
 use Rattle.gk_solve.specs.Tables.Brought.{brought_word, room_of_rows}
 use Rattle.gk_solve.specs.Tables.Flags.{IsFlagged, source_procedure}
-use Rattle.gk_solve.specs.Tables.Groups.{AreJoined, Group, kept_word, made_word, room_of_words}
+use Rattle.gk_solve.specs.Tables.Groups.{AreJoined, Group, preserved_word, generated_word, room_of_words}
 use Rattle.gk_solve.specs.Tables.Visits.{IsSettled}
 use Rattle.gk_solve.specs.Tables.Words.{HasBit, IsBrought}
 use Rattle.flow_links.specs.declared.link.SiteLink.{SiteLink}
@@ -93,8 +93,8 @@ module _ {W : ℕ} (group : Group) (paths : List Bool) (summaries : List (Summar
   -- a call whose bits were put is settled: what its caller has is what was read, or it is marked
   pub site_settled : (old new : List (List ℕ)) (dirty_after : List Bool) (link : SiteLink) (procedure : ℕ) (more : List ℕ)
       → group.shape.procedure_of link.point ≡ procedure
-      → ((w k : ℕ) → w < group.width → has_bit (get_or more w 0) k ≡ (has_bit (made_word summaries w link.point) k
-      || (has_bit (brought_word old w procedure) k && has_bit (kept_word summaries w link.point) k)))
+      → ((w k : ℕ) → w < group.width → has_bit (get_or more w 0) k ≡ (has_bit (generated_word summaries w link.point) k
+      || (has_bit (brought_word old w procedure) k && has_bit (preserved_word summaries w link.point) k)))
       → ((w k : ℕ) → w < group.width → has_bit (get_or more w 0) k ≡ true → HasBit (brought_word new w) link.callee k)
       → (((w : ℕ) → brought_word new w procedure ≡ brought_word old w procedure) ⊎ IsMarked dirty_after procedure)
       → IsBringSettled group paths summaries new dirty_after link
@@ -104,13 +104,13 @@ module _ {W : ℕ} (group : Group) (paths : List Bool) (summaries : List (Summar
   site_settled old new dirty_after link procedure more inside are added (inl same) = record {
     settled = λ site x y there point callee. inl (λ w within k low at_x either.
         subst (λ n. HasBit (brought_word new w) n k) callee (added w k within (are w k within
-        ∙ new_bit (has_bit (made_word summaries w link.point) k) (has_bit (brought_word old w procedure) k)
-        (has_bit (kept_word summaries w link.point) k) (elim either [
-          | inl new_made ↦ inl (ap (λ n. has_bit (made_word summaries w n) k) point ∙ new_made)
+        ∙ new_bit (has_bit (generated_word summaries w link.point) k) (has_bit (brought_word old w procedure) k)
+        (has_bit (preserved_word summaries w link.point) k) (elim either [
+          | inl new_generated ↦ inl (ap (λ n. has_bit (generated_word summaries w n) k) point ∙ new_generated)
           | inr before ↦ inr (
             sym (ap (λ n. has_bit n k) (same w))
                 ∙ (ap (λ n. has_bit (brought_word new w n) k) (sym (ap group.shape.procedure_of (sym point) ∙ inside)) ∙ before.0),
-            ap (λ n. has_bit (kept_word summaries w n) k) point ∙ before.1,
+            ap (λ n. has_bit (preserved_word summaries w n) k) point ∙ before.1,
           )
         ]))));
   }

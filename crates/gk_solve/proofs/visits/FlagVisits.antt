@@ -12,7 +12,7 @@ use Rattle.summary_equations.specs.Equations.{CallsAt, ReturnsTo, Reached, entry
 use Rattle.summary_equations.specs.Equations.{entered_by_call}
 use Rattle.summary_equations.specs.Equations.{HasFlag}
 use Rattle.flow_links.specs.Shapes.{IsNumbered, after_site}
-use Rattle.work_list.specs.Marks.{IsMarked}
+use Rattle.worklist.specs.Worklist.{IsMarked}
 use Rattle.gk_solve.specs.Tables.Flags.{IsFlagged, FlagsGrow, AreSound, AreExactly, IsReachClosedAt, IsCallSettled, IsSiteSettled, IsEntryClosedAt}
 use Rattle.gk_solve.specs.Tables.Flags.{unset_flags, source_procedure, ReachSpreads, EntrySpreads}
 use Rattle.gk_solve.specs.Tables.Visits.{IsSettled}
@@ -194,8 +194,8 @@ module _ (shape : Shape) (reached : List Bool) where
     sound = sound_flag (Entered shape) flags at entered;
   }
     where
-      length_set_true : (marks : List Bool) (n : ℕ) → length (set marks n true) ≡ length marks
-      length_set_true marks n = length-set marks n true
+      length_set_true : (worklist : List Bool) (n : ℕ) → length (set worklist n true) ≡ length worklist
+      length_set_true worklist n = length-set worklist n true
 
       by_case : (edge : Edge) → IsEdge shape edge → IsSettled (IsEntryClosedAt shape reached) (source_procedure shape) flags dirty edge
           → IsSettled (IsEntryClosedAt shape reached) (source_procedure shape) (set flags at true) (set dirty at true) edge

@@ -10,12 +10,12 @@ use Rattle.flow_graph.specs.declared.edge.Edge.{Edge}
 use Rattle.flow_graph.specs.declared.edge.Edge.TheVariants.{Step, Call, Ret}
 use Rattle.flow_graph.specs.Paths.{Shape, IsEdge, source_of}
 use Rattle.flow_links.specs.Shapes.{after_site}
-use Rattle.work_list.specs.Marks.{IsMarked, AreClear}
+use Rattle.worklist.specs.Worklist.{IsMarked, AreClear}
 use Rattle.gk_solve.specs.Tables.Flags.{IsFlagged}
-use Rattle.gk_solve.specs.Tables.Groups.{Group, summary_at, kept_word, made_word, room_of_summary, room_of_summaries, SummariesGrow}
+use Rattle.gk_solve.specs.Tables.Groups.{Group, summary_at, preserved_word, generated_word, room_of_summary, room_of_summaries, SummariesGrow}
 use Rattle.gk_solve.specs.Tables.Groups.{AreSoundSummaries, IsCallerSettled, IsSummaryCallSettled, IsSummaryClosedAt, IsSummarySettled}
-use Rattle.gk_solve.specs.Tables.Groups.{SummarySpreads, AreSameBut, AreOf, AreJoined, IsKeptAcross, IsMadeAcross, WaitsFor}
-use Rattle.gk_solve.specs.Tables.Words.{HasBit, AreSoundWords, IsKept, IsMade}
+use Rattle.gk_solve.specs.Tables.Groups.{SummarySpreads, AreSameBut, AreOf, AreJoined, IsPreservedAcross, IsGeneratedAcross, WaitsFor}
+use Rattle.gk_solve.specs.Tables.Words.{HasBit, AreSoundWords, IsPreserved, IsGenerated}
 use Rattle.flow_links.specs.declared.link.CallLink.{CallLink}
 use Rattle.gk_solve.specs.declared.summary.Summary.{Summary}
 use Rattle.gk_solve.proofs.edges.WordEdges.{new_bit}
@@ -29,10 +29,10 @@ summaries_on width a b c first second w inside =
     (λ x k has. (second w inside).0 x k ((first w inside).0 x k has), λ x k has. (second w inside).1 x k ((first w inside).1 x k has))
 
 module _ {W : ℕ} (width : ℕ) (table : List (Summary W)) (at : ℕ) (more after : Summary W) (within : at < length table)
-    (kept : AreJoined width (summary_at table at).kept more.kept after.kept)
-    (made : AreJoined width (summary_at table at).made more.made after.made) where
+    (preserved : AreJoined width (summary_at table at).preserved more.preserved after.preserved)
+    (generated : AreJoined width (summary_at table at).generated more.generated after.generated) where
   none : Summary W
-  none = record { kept = []; made = [] }
+  none = record { preserved = []; generated = [] }
 
   pub written : summary_at (set table at after) at ≡ after
   unfolding none
@@ -42,31 +42,31 @@ module _ {W : ℕ} (width : ℕ) (table : List (Summary W)) (at : ℕ) (more aft
   unfolding none
   unwritten x other = get_or-set_other table at x after none other
 
-  pub put_kept : (w k : ℕ) → w < width → has_bit (get_or more.kept w 0) k ≡ true → HasBit (kept_word (set table at after) w) at k
-  put_kept w k inside has = ap (λ (s : Summary W). has_bit (get_or s.kept w 0) k) written
-      ∙ (kept w k inside ∙ or_right (has_bit (kept_word table w at) k) (has_bit (get_or more.kept w 0) k) has)
+  pub put_preserved : (w k : ℕ) → w < width → has_bit (get_or more.preserved w 0) k ≡ true → HasBit (preserved_word (set table at after) w) at k
+  put_preserved w k inside has = ap (λ (s : Summary W). has_bit (get_or s.preserved w 0) k) written
+      ∙ (preserved w k inside ∙ or_right (has_bit (preserved_word table w at) k) (has_bit (get_or more.preserved w 0) k) has)
 
-  pub put_made : (w k : ℕ) → w < width → has_bit (get_or more.made w 0) k ≡ true → HasBit (made_word (set table at after) w) at k
-  put_made w k inside has = ap (λ (s : Summary W). has_bit (get_or s.made w 0) k) written
-      ∙ (made w k inside ∙ or_right (has_bit (made_word table w at) k) (has_bit (get_or more.made w 0) k) has)
+  pub put_generated : (w k : ℕ) → w < width → has_bit (get_or more.generated w 0) k ≡ true → HasBit (generated_word (set table at after) w) at k
+  put_generated w k inside has = ap (λ (s : Summary W). has_bit (get_or s.generated w 0) k) written
+      ∙ (generated w k inside ∙ or_right (has_bit (generated_word table w at) k) (has_bit (get_or more.generated w 0) k) has)
 
   pub put_grows : SummariesGrow width table (set table at after)
   put_grows w inside = (keeps, makes)
     where
-      keeps : (x k : ℕ) → HasBit (kept_word table w) x k → HasBit (kept_word (set table at after) w) x k
+      keeps : (x k : ℕ) → HasBit (preserved_word table w) x k → HasBit (preserved_word (set table at after) w) x k
       keeps x k has = elim (cases_eq x at) [
-        | inl same ↦ ap (λ n. has_bit (kept_word (set table at after) w n) k) same ∙ (ap (λ (s : Summary W). has_bit (get_or s.kept w 0) k) written
-            ∙ (kept w k inside ∙ or_left (has_bit (kept_word table w at) k) (has_bit (get_or more.kept w 0) k)
-            (ap (λ n. has_bit (kept_word table w n) k) (sym same) ∙ has)))
-        | inr other ↦ ap (λ (s : Summary W). has_bit (get_or s.kept w 0) k) (unwritten x other) ∙ has
+        | inl same ↦ ap (λ n. has_bit (preserved_word (set table at after) w n) k) same ∙ (ap (λ (s : Summary W). has_bit (get_or s.preserved w 0) k) written
+            ∙ (preserved w k inside ∙ or_left (has_bit (preserved_word table w at) k) (has_bit (get_or more.preserved w 0) k)
+            (ap (λ n. has_bit (preserved_word table w n) k) (sym same) ∙ has)))
+        | inr other ↦ ap (λ (s : Summary W). has_bit (get_or s.preserved w 0) k) (unwritten x other) ∙ has
       ]
 
-      makes : (x k : ℕ) → HasBit (made_word table w) x k → HasBit (made_word (set table at after) w) x k
+      makes : (x k : ℕ) → HasBit (generated_word table w) x k → HasBit (generated_word (set table at after) w) x k
       makes x k has = elim (cases_eq x at) [
-        | inl same ↦ ap (λ n. has_bit (made_word (set table at after) w n) k) same ∙ (ap (λ (s : Summary W). has_bit (get_or s.made w 0) k) written
-            ∙ (made w k inside ∙ or_left (has_bit (made_word table w at) k) (has_bit (get_or more.made w 0) k)
-            (ap (λ n. has_bit (made_word table w n) k) (sym same) ∙ has)))
-        | inr other ↦ ap (λ (s : Summary W). has_bit (get_or s.made w 0) k) (unwritten x other) ∙ has
+        | inl same ↦ ap (λ n. has_bit (generated_word (set table at after) w n) k) same ∙ (ap (λ (s : Summary W). has_bit (get_or s.generated w 0) k) written
+            ∙ (generated w k inside ∙ or_left (has_bit (generated_word table w at) k) (has_bit (get_or more.generated w 0) k)
+            (ap (λ n. has_bit (generated_word table w n) k) (sym same) ∙ has)))
+        | inr other ↦ ap (λ (s : Summary W). has_bit (get_or s.generated w 0) k) (unwritten x other) ∙ has
       ]
 
   pub put_less : room_of_summary after < room_of_summary (summary_at table at) → room_of_summaries (set table at after) < room_of_summaries table
@@ -80,38 +80,38 @@ module _ {W : ℕ} (width : ℕ) (table : List (Summary W)) (at : ℕ) (more aft
       falls new old before now e m = omega arith
 
 module _ {W : ℕ} (group : Group) (table : List (Summary W)) (at : ℕ) (more after : Summary W) (within : at < length table)
-    (kept : AreJoined group.width (summary_at table at).kept more.kept after.kept)
-    (made : AreJoined group.width (summary_at table at).made more.made after.made) where
-  pub put_sound : AreOf group (IsKept group.shape) more.kept at → AreOf group (IsMade group.shape) more.made at → AreSoundSummaries group table
+    (preserved : AreJoined group.width (summary_at table at).preserved more.preserved after.preserved)
+    (generated : AreJoined group.width (summary_at table at).generated more.generated after.generated) where
+  pub put_sound : AreOf group (IsPreserved group.shape) more.preserved at → AreOf group (IsGenerated group.shape) more.generated at → AreSoundSummaries group table
       → AreSoundSummaries group (set table at after)
-  put_sound keeps makes sound w inside = (kept_sound, made_sound)
+  put_sound keeps makes sound w inside = (preserved_sound, generated_sound)
     where
-      kept_sound : AreSoundWords (IsKept group.shape (group.transfer w)) (kept_word (set table at after) w)
-      kept_sound x k low has = elim (cases_eq x at) [
-        | inl same ↦ subst (IsKept group.shape (group.transfer w) k) (sym same)
-            (elim (or_cases (has_bit (kept_word table w at) k) (has_bit (get_or more.kept w 0) k)
-            (sym (kept w k inside)
-            ∙ (sym (ap (λ (s : Summary W). has_bit (get_or s.kept w 0) k) (written group.width table at more after within kept made))
-            ∙ (ap (λ n. has_bit (kept_word (set table at after) w n) k) (sym same) ∙ has)))) [
+      preserved_sound : AreSoundWords (IsPreserved group.shape (group.transfer w)) (preserved_word (set table at after) w)
+      preserved_sound x k low has = elim (cases_eq x at) [
+        | inl same ↦ subst (IsPreserved group.shape (group.transfer w) k) (sym same)
+            (elim (or_cases (has_bit (preserved_word table w at) k) (has_bit (get_or more.preserved w 0) k)
+            (sym (preserved w k inside)
+            ∙ (sym (ap (λ (s : Summary W). has_bit (get_or s.preserved w 0) k) (written group.width table at more after within preserved generated))
+            ∙ (ap (λ n. has_bit (preserved_word (set table at after) w n) k) (sym same) ∙ has)))) [
               | inl before ↦ (sound w inside).0 at k low before
               | inr new ↦ keeps w k inside low new
             ])
         | inr other ↦ (sound w inside).0 x k low
-            (sym (ap (λ (s : Summary W). has_bit (get_or s.kept w 0) k) (unwritten group.width table at more after within kept made x other)) ∙ has)
+            (sym (ap (λ (s : Summary W). has_bit (get_or s.preserved w 0) k) (unwritten group.width table at more after within preserved generated x other)) ∙ has)
       ]
 
-      made_sound : AreSoundWords (IsMade group.shape (group.transfer w)) (made_word (set table at after) w)
-      made_sound x k low has = elim (cases_eq x at) [
-        | inl same ↦ subst (IsMade group.shape (group.transfer w) k) (sym same)
-            (elim (or_cases (has_bit (made_word table w at) k) (has_bit (get_or more.made w 0) k)
-            (sym (made w k inside)
-            ∙ (sym (ap (λ (s : Summary W). has_bit (get_or s.made w 0) k) (written group.width table at more after within kept made))
-            ∙ (ap (λ n. has_bit (made_word (set table at after) w n) k) (sym same) ∙ has)))) [
+      generated_sound : AreSoundWords (IsGenerated group.shape (group.transfer w)) (generated_word (set table at after) w)
+      generated_sound x k low has = elim (cases_eq x at) [
+        | inl same ↦ subst (IsGenerated group.shape (group.transfer w) k) (sym same)
+            (elim (or_cases (has_bit (generated_word table w at) k) (has_bit (get_or more.generated w 0) k)
+            (sym (generated w k inside)
+            ∙ (sym (ap (λ (s : Summary W). has_bit (get_or s.generated w 0) k) (written group.width table at more after within preserved generated))
+            ∙ (ap (λ n. has_bit (generated_word (set table at after) w n) k) (sym same) ∙ has)))) [
               | inl before ↦ (sound w inside).1 at k low before
               | inr new ↦ makes w k inside low new
             ])
         | inr other ↦ (sound w inside).1 x k low
-            (sym (ap (λ (s : Summary W). has_bit (get_or s.made w 0) k) (unwritten group.width table at more after within kept made x other)) ∙ has)
+            (sym (ap (λ (s : Summary W). has_bit (get_or s.generated w 0) k) (unwritten group.width table at more after within preserved generated x other)) ∙ has)
       ]
 
 -- ---- what is settled
@@ -129,10 +129,10 @@ module _ {W : ℕ} (group : Group) (paths : List Bool) where
     | inr woken ↦ inr (x, refl, subst (IsMarked dirty_after) (sym woken.0) woken.1)
     | inl still ↦ inl (λ w inside. (
       λ k low at_x has unkilled.
-          (grows w inside).0 y k ((closed w inside).0 k low at_x (sym (ap (λ (s : Summary W). has_bit (get_or s.kept w 0) k) still) ∙ has) unkilled),
+          (grows w inside).0 y k ((closed w inside).0 k low at_x (sym (ap (λ (s : Summary W). has_bit (get_or s.preserved w 0) k) still) ∙ has) unkilled),
       λ k low at_x either. (grows w inside).1 y k ((closed w inside).1 k low at_x (elim either [
         | inl gens ↦ inl gens
-        | inr before ↦ inr (sym (ap (λ (s : Summary W). has_bit (get_or s.made w 0) k) still) ∙ before.0, before.1)
+        | inr before ↦ inr (sym (ap (λ (s : Summary W). has_bit (get_or s.generated w 0) k) still) ∙ before.0, before.1)
       ])),
     ))
   ]
@@ -142,13 +142,13 @@ module _ {W : ℕ} (group : Group) (paths : List Bool) where
       | inr woken ↦ inr (exit_of group.shape y, inr refl, subst (IsMarked dirty_after) (sym woken.0) woken.1)
       | inl through ↦ inl (λ w inside. (
         λ k low at_x at_exit has passes. (grows w inside).0 (after_site group.backward site) k
-            ((closed w inside).0 k low at_x at_exit (sym (ap (λ (s : Summary W). has_bit (get_or s.kept w 0) k) still)
-            ∙ has) (sym (ap (λ (s : Summary W). has_bit (get_or s.kept w 0) k) through) ∙ passes)),
+            ((closed w inside).0 k low at_x at_exit (sym (ap (λ (s : Summary W). has_bit (get_or s.preserved w 0) k) still)
+            ∙ has) (sym (ap (λ (s : Summary W). has_bit (get_or s.preserved w 0) k) through) ∙ passes)),
         λ k low at_x at_exit either. (grows w inside).1 (after_site group.backward site) k ((closed w inside).1 k low at_x at_exit (elim either [
-          | inl callee ↦ inl (sym (ap (λ (s : Summary W). has_bit (get_or s.made w 0) k) through) ∙ callee)
+          | inl callee ↦ inl (sym (ap (λ (s : Summary W). has_bit (get_or s.generated w 0) k) through) ∙ callee)
           | inr before ↦ inr (
-            sym (ap (λ (s : Summary W). has_bit (get_or s.made w 0) k) still) ∙ before.0,
-            sym (ap (λ (s : Summary W). has_bit (get_or s.kept w 0) k) through) ∙ before.1,
+            sym (ap (λ (s : Summary W). has_bit (get_or s.generated w 0) k) still) ∙ before.0,
+            sym (ap (λ (s : Summary W). has_bit (get_or s.preserved w 0) k) through) ∙ before.1,
           )
         ])),
       ))
@@ -158,23 +158,23 @@ module _ {W : ℕ} (group : Group) (paths : List Bool) where
 
   -- a step whose bits were put is settled
   pub step_settled : (x y : ℕ) (old new : List (Summary W)) (dirty_after : List Bool) (more : Summary W)
-      → IsKeptAcross group x y (summary_at old x).kept more.kept → IsMadeAcross group x y (summary_at old x).made more.made
+      → IsPreservedAcross group x y (summary_at old x).preserved more.preserved → IsGeneratedAcross group x y (summary_at old x).generated more.generated
       → AreSameBut y old new dirty_after
-      → ((w k : ℕ) → w < group.width → has_bit (get_or more.kept w 0) k ≡ true → HasBit (kept_word new w) y k)
-      → ((w k : ℕ) → w < group.width → has_bit (get_or more.made w 0) k ≡ true → HasBit (made_word new w) y k)
+      → ((w k : ℕ) → w < group.width → has_bit (get_or more.preserved w 0) k ≡ true → HasBit (preserved_word new w) y k)
+      → ((w k : ℕ) → w < group.width → has_bit (get_or more.generated w 0) k ≡ true → HasBit (generated_word new w) y k)
       → IsSummarySettled group paths new dirty_after (Step x y)
-  step_settled x y old new dirty_after more keep make same kept_added made_added = elim (same x) [
+  step_settled x y old new dirty_after more keep make same preserved_added generated_added = elim (same x) [
     | inr woken ↦ inr (x, refl, subst (IsMarked dirty_after) (sym woken.0) woken.1)
     | inl still ↦ inl (λ w inside. (
       λ k low at_x has unkilled.
-          kept_added w k inside (keep w k inside low ∙ and_from (has_bit (kept_word old w x) k) (not ((group.transfer w k).kill x y))
-          (sym (ap (λ (s : Summary W). has_bit (get_or s.kept w 0) k) still) ∙ has) (not_from_false ((group.transfer w k).kill x y) unkilled)),
-      λ k low at_x either. made_added w k inside (make w k inside low
-          ∙ new_bit ((group.transfer w k).gen x y) (has_bit (made_word old w x) k) (not ((group.transfer w k).kill x y)) (elim either [
+          preserved_added w k inside (keep w k inside low ∙ and_from (has_bit (preserved_word old w x) k) (not ((group.transfer w k).kill x y))
+          (sym (ap (λ (s : Summary W). has_bit (get_or s.preserved w 0) k) still) ∙ has) (not_from_false ((group.transfer w k).kill x y) unkilled)),
+      λ k low at_x either. generated_added w k inside (make w k inside low
+          ∙ new_bit ((group.transfer w k).gen x y) (has_bit (generated_word old w x) k) (not ((group.transfer w k).kill x y)) (elim either [
             | inl gens ↦ inl gens
             | inr before ↦
                 inr (
-                  sym (ap (λ (s : Summary W). has_bit (get_or s.made w 0) k) still) ∙ before.0,
+                  sym (ap (λ (s : Summary W). has_bit (get_or s.generated w 0) k) still) ∙ before.0,
                   not_from_false ((group.transfer w k).kill x y) before.1,
                 )
           ])),
@@ -184,28 +184,28 @@ module _ {W : ℕ} (group : Group) (paths : List Bool) where
   -- a call whose bits were put is settled
   pub call_settled : (site x y : ℕ) → IsEdge group.shape (Call site x y) → (old new : List (Summary W)) (dirty_after : List Bool) (more : Summary W)
       → ((w k : ℕ) → w < group.width
-      → has_bit (get_or more.kept w 0) k ≡ (has_bit (kept_word old w x) k && has_bit (kept_word old w (exit_of group.shape y)) k))
-      → ((w k : ℕ) → w < group.width → has_bit (get_or more.made w 0) k ≡ (has_bit (made_word old w (exit_of group.shape y)) k
-      || (has_bit (made_word old w x) k && has_bit (kept_word old w (exit_of group.shape y)) k)))
+      → has_bit (get_or more.preserved w 0) k ≡ (has_bit (preserved_word old w x) k && has_bit (preserved_word old w (exit_of group.shape y)) k))
+      → ((w k : ℕ) → w < group.width → has_bit (get_or more.generated w 0) k ≡ (has_bit (generated_word old w (exit_of group.shape y)) k
+      || (has_bit (generated_word old w x) k && has_bit (preserved_word old w (exit_of group.shape y)) k)))
       → AreSameBut (after_site group.backward site) old new dirty_after
-      → ((w k : ℕ) → w < group.width → has_bit (get_or more.kept w 0) k ≡ true → HasBit (kept_word new w) (after_site group.backward site) k)
-      → ((w k : ℕ) → w < group.width → has_bit (get_or more.made w 0) k ≡ true → HasBit (made_word new w) (after_site group.backward site) k)
+      → ((w k : ℕ) → w < group.width → has_bit (get_or more.preserved w 0) k ≡ true → HasBit (preserved_word new w) (after_site group.backward site) k)
+      → ((w k : ℕ) → w < group.width → has_bit (get_or more.generated w 0) k ≡ true → HasBit (generated_word new w) (after_site group.backward site) k)
       → IsSummarySettled group paths new dirty_after (Call site x y)
-  call_settled site x y there old new dirty_after more keep make same kept_added made_added = elim (same x) [
+  call_settled site x y there old new dirty_after more keep make same preserved_added generated_added = elim (same x) [
     | inr woken ↦ inr (x, inl refl, subst (IsMarked dirty_after) (sym woken.0) woken.1)
     | inl still ↦ elim (same (exit_of group.shape y)) [
       | inr woken ↦ inr (exit_of group.shape y, inr refl, subst (IsMarked dirty_after) (sym woken.0) woken.1)
       | inl through ↦ inl (λ w inside. (
         λ k low at_x at_exit has passes.
-            kept_added w k inside (keep w k inside ∙ and_from (has_bit (kept_word old w x) k) (has_bit (kept_word old w (exit_of group.shape y)) k)
-            (sym (ap (λ (s : Summary W). has_bit (get_or s.kept w 0) k) still)
-            ∙ has) (sym (ap (λ (s : Summary W). has_bit (get_or s.kept w 0) k) through) ∙ passes)),
-        λ k low at_x at_exit either. made_added w k inside (make w k inside ∙ new_bit (has_bit (made_word old w (exit_of group.shape y)) k)
-            (has_bit (made_word old w x) k) (has_bit (kept_word old w (exit_of group.shape y)) k) (elim either [
-              | inl callee ↦ inl (sym (ap (λ (s : Summary W). has_bit (get_or s.made w 0) k) through) ∙ callee)
+            preserved_added w k inside (keep w k inside ∙ and_from (has_bit (preserved_word old w x) k) (has_bit (preserved_word old w (exit_of group.shape y)) k)
+            (sym (ap (λ (s : Summary W). has_bit (get_or s.preserved w 0) k) still)
+            ∙ has) (sym (ap (λ (s : Summary W). has_bit (get_or s.preserved w 0) k) through) ∙ passes)),
+        λ k low at_x at_exit either. generated_added w k inside (make w k inside ∙ new_bit (has_bit (generated_word old w (exit_of group.shape y)) k)
+            (has_bit (generated_word old w x) k) (has_bit (preserved_word old w (exit_of group.shape y)) k) (elim either [
+              | inl callee ↦ inl (sym (ap (λ (s : Summary W). has_bit (get_or s.generated w 0) k) through) ∙ callee)
               | inr before ↦ inr (
-                sym (ap (λ (s : Summary W). has_bit (get_or s.made w 0) k) still) ∙ before.0,
-                sym (ap (λ (s : Summary W). has_bit (get_or s.kept w 0) k) through) ∙ before.1,
+                sym (ap (λ (s : Summary W). has_bit (get_or s.generated w 0) k) still) ∙ before.0,
+                sym (ap (λ (s : Summary W). has_bit (get_or s.preserved w 0) k) through) ∙ before.1,
               )
             ])),
       ))
@@ -280,36 +280,36 @@ module _ {W : ℕ} (group : Group) (paths : List Bool) where
 -- what a summary that is put does, where its point is marked
 module _ {W : ℕ} (group : Group) (paths : List Bool) (table : List (Summary W)) (dirty dirty_after : List Bool) (at : ℕ)
     (before more after : Summary W) (within : at < length table)
-    (read : before ≡ get_or table at before) (kept : AreJoined group.width before.kept more.kept after.kept)
-    (made : AreJoined group.width before.made more.made after.made) where
+    (read : before ≡ get_or table at before) (preserved : AreJoined group.width before.preserved more.preserved after.preserved)
+    (generated : AreJoined group.width before.generated more.generated after.generated) where
   here : before ≡ summary_at table at
-  here = read ∙ get_or_default table at before (record { kept = []; made = [] }) within
+  here = read ∙ get_or_default table at before (record { preserved = []; generated = [] }) within
 
-  here_kept : AreJoined group.width (summary_at table at).kept more.kept after.kept
-  here_kept = subst (λ (s : Summary W). AreJoined group.width s.kept more.kept after.kept) here kept
+  here_preserved : AreJoined group.width (summary_at table at).preserved more.preserved after.preserved
+  here_preserved = subst (λ (s : Summary W). AreJoined group.width s.preserved more.preserved after.preserved) here preserved
 
-  here_made : AreJoined group.width (summary_at table at).made more.made after.made
-  here_made = subst (λ (s : Summary W). AreJoined group.width s.made more.made after.made) here made
+  here_generated : AreJoined group.width (summary_at table at).generated more.generated after.generated
+  here_generated = subst (λ (s : Summary W). AreJoined group.width s.generated more.generated after.generated) here generated
 
   pub put_same : IsMarked dirty_after at → AreSameBut at table (set table at after) dirty_after
   put_same marked x = elim (cases_eq x at) [
     | inl same ↦ inr (same, marked)
-    | inr other ↦ inl (unwritten group.width table at more after within here_kept here_made x other)
+    | inr other ↦ inl (unwritten group.width table at more after within here_preserved here_generated x other)
   ]
 
   pub put_spreads : length dirty_after ≡ length dirty → ((x : ℕ) → IsMarked dirty x → IsMarked dirty_after x) → IsMarked dirty_after at
       → room_of_summary after < room_of_summary before
-      → AreOf group (IsKept group.shape) more.kept at → AreOf group (IsMade group.shape) more.made at
+      → AreOf group (IsPreserved group.shape) more.preserved at → AreOf group (IsGenerated group.shape) more.generated at
       → SummarySpreads group paths table dirty (set table at after) dirty_after
-  put_spreads count keeps marked less are_kept are_made =
-      let grows = put_grows group.width table at more after within here_kept here_made in
+  put_spreads count keeps marked less are_preserved are_generated =
+      let grows = put_grows group.width table at more after within here_preserved here_generated in
       record {
         count = count;
         grows = grows;
         settled = put_settled group paths table (set table at after) dirty dirty_after at grows keeps (put_same marked);
-        progress = inr (put_less group.width table at more after within here_kept here_made
+        progress = inr (put_less group.width table at more after within here_preserved here_generated
             (subst (λ (s : Summary W). room_of_summary after < room_of_summary s) here less));
-        sound = put_sound group table at more after within here_kept here_made are_kept are_made;
+        sound = put_sound group table at more after within here_preserved here_generated are_preserved are_generated;
       }
 
 -- what is settled of a caller stays so

@@ -6,9 +6,9 @@ use Rattle.std.proofs.lemmas.Bool.{cases_eq}
 use Rattle.std.proofs.lemmas.List.{get_or-set_other}
 use Rattle.flow_graph.specs.declared.edge.Edge.{Edge}
 use Rattle.flow_graph.specs.Paths.{Shape, IsEdge}
-use Rattle.work_list.specs.Marks.{IsMarked, AreClear}
+use Rattle.worklist.specs.Worklist.{IsMarked, AreClear}
 use Rattle.gk_solve.specs.Tables.Visits.{IsSettled, Spreads}
-use Rattle.work_list.proofs.counts.MarkCounts.{mark_count, count-cleared, count-low}
+use Rattle.worklist.proofs.counts.MarkCounts.{mark_count, count-cleared, count-low}
 
 module _ {Table : Type 0} {room : Table → ℕ} {Grows : Table → Table → Type 0} {Settled : Table → List Bool → Edge → Type 0} {Sound : Table → Type 0}
     {shape : Shape} where

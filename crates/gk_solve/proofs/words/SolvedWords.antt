@@ -13,7 +13,7 @@ use Rattle.flow_links.specs.Shapes.{LinkedProgram, directed_shape}
 use Rattle.summary_equations.specs.Equations.{IsInSolution}
 use Rattle.gk_solve.specs.Solved.{SliceTable, AreSolved, AreMeetWords, HasPathFlags, direction_of, word_at}
 use Rattle.gk_solve.specs.Tables.Flags.{ArePathFlags}
-use Rattle.gk_solve.specs.Tables.Groups.{IsGroupFrame, group_of, made_word}
+use Rattle.gk_solve.specs.Tables.Groups.{IsGroupFrame, group_of, generated_word}
 use Rattle.gk_solve.specs.Tables.Solutions.{AreSliceSolutions}
 use Rattle.gk_solve.specs.Tables.Words.{HasBit, place_boundary, place_gens, place_kills, place_transfer, step_statement}
 use Rattle.gk_solve.specs.declared.group_frame.GroupFrame.{GroupFrame}
@@ -47,17 +47,17 @@ place_is_bit form linked same bit below x =
 -- a slice whose tables have the solution has solved words
 pub solved_words : (form : MayForm) (linked : LinkedProgram) → linked ≡ direction_of form
     → {W : ℕ} (width : ℕ) (table : List (Summary W)) (slice : SliceTable) → slice.hi ≤ bits_of form.program form.analysis
-    → slice.words ≡ map (λ (s : Summary W). s.made) table → slice.until ≤ slice.from + width
-    → ((w x k : ℕ) → w < width → x < slice.points → k < 64 → HasBit (made_word table w) x k
+    → slice.words ≡ map (λ (s : Summary W). s.generated) table → slice.until ≤ slice.from + width
+    → ((w x k : ℕ) → w < width → x < slice.points → k < 64 → HasBit (generated_word table w) x k
     ↔ ((slice.lo ≤ 64 * (slice.from + w) + k) × (64 * (slice.from + w) + k < slice.hi)
     × IsInSolution (directed_shape linked) (place_transfer linked.backward form (64 * (slice.from + w) + k)) x))
     → AreSolved form slice
 solved_words form linked same {W = W} width table slice inside words few solutions point word k point_low from until low =
     let w = word - slice.from in
     let place : 64 * (slice.from + w) + k ≡ 64 * word + k = omega (arith, from) in
-    let read : word_at slice point word ≡ made_word table w point =
+    let read : word_at slice point word ≡ generated_word table w point =
     ap (λ (rows : List (List ℕ)). get_or (get_or rows point []) w 0) words
-    ∙ ap (λ (row : List ℕ). get_or row w 0) (get_or-map (λ (s : Summary W). s.made) table point (record { kept = []; made = [] })) in
+    ∙ ap (λ (row : List ℕ). get_or row w 0) (get_or-map (λ (s : Summary W). s.generated) table point (record { preserved = []; generated = [] })) in
     let is = solutions w point k (omega (arith, from, until, few)) point_low low in (
       λ has.
           let there = is.0 (ap (λ n. has_bit n k) (sym read) ∙ has) in
@@ -79,15 +79,15 @@ solved_words form linked same {W = W} width table slice inside words few solutio
 -- the same of the table that a group's frame was solved with
 pub solved_by_frame : (form : MayForm) (frame : GroupFrame) {W : ℕ} (width points : ℕ) (table : List (Summary W)) (slice : SliceTable)
     → IsGroupFrame width frame → frame.problem.now ≡ form → frame.first ≡ slice.from
-    → slice.hi ≤ bits_of form.program form.analysis → slice.words ≡ map (λ (s : Summary W). s.made) table → slice.until ≤ slice.from + width
+    → slice.hi ≤ bits_of form.program form.analysis → slice.words ≡ map (λ (s : Summary W). s.generated) table → slice.until ≤ slice.from + width
     → slice.points ≡ points
     → AreSliceSolutions (group_of frame width) frame.first points slice.lo slice.hi table → AreSolved form slice
 solved_by_frame form frame {W = W} width points table slice is problem first inside words few count solutions =
     solved_words form frame.links.now (is.direction ∙ ap direction_of problem) width table slice inside words few
     (λ w x k low within place.
-    subst (λ n. HasBit (made_word table w) x k ↔ ((slice.lo ≤ 64 * (n + w) + k) × (64 * (n + w) + k < slice.hi)
+    subst (λ n. HasBit (generated_word table w) x k ↔ ((slice.lo ≤ 64 * (n + w) + k) × (64 * (n + w) + k < slice.hi)
     × IsInSolution (directed_shape frame.links.now) (place_transfer frame.links.now.backward form (64 * (n + w) + k)) x)) first
-    (subst (λ (f : MayForm). HasBit (made_word table w) x k ↔ ((slice.lo ≤ 64 * (frame.first + w) + k) × (64 * (frame.first + w) + k < slice.hi)
+    (subst (λ (f : MayForm). HasBit (generated_word table w) x k ↔ ((slice.lo ≤ 64 * (frame.first + w) + k) × (64 * (frame.first + w) + k < slice.hi)
     × IsInSolution (directed_shape frame.links.now) (place_transfer frame.links.now.backward f (64 * (frame.first + w) + k)) x)) problem
     (solutions w x k low (omega (arith, within, count)) place)))
 

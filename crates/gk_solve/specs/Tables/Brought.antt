@@ -5,7 +5,7 @@ use Rattle.flow_graph.specs.declared.edge.Edge.{Edge}
 use Rattle.flow_graph.specs.declared.edge.Edge.TheVariants.{Call}
 use Rattle.flow_graph.specs.Paths.{IsEdge}
 use Rattle.gk_solve.specs.Tables.Flags.{source_procedure}
-use Rattle.gk_solve.specs.Tables.Groups.{Group, kept_word, made_word, room_of_words}
+use Rattle.gk_solve.specs.Tables.Groups.{Group, preserved_word, generated_word, room_of_words}
 use Rattle.gk_solve.specs.Tables.Visits.{IsSettled, Spreads}
 use Rattle.gk_solve.specs.Tables.Words.{HasBit, WordsGrow, AreSoundWords, IsBringClosedAt, IsBrought}
 use Rattle.flow_links.specs.declared.link.SiteLink.{SiteLink}
@@ -35,7 +35,7 @@ AreExactBrought group table = (w p k : ℕ) → w < group.width → k < 64
 -- what is brought is closed under an edge, in each word
 abbrev pub IsBroughtClosedAt : {W : ℕ} → Group → List Bool → List (Summary W) → List (List ℕ) → Edge → Type 0
 IsBroughtClosedAt group paths summaries table edge = (w : ℕ) → w < group.width
-    → IsBringClosedAt group.shape paths (kept_word summaries w) (made_word summaries w) (brought_word table w) edge
+    → IsBringClosedAt group.shape paths (preserved_word summaries w) (generated_word summaries w) (brought_word table w) edge
 
 -- a part of a visit of a procedure adds to what is brought
 abbrev pub BroughtSpreads : {W : ℕ} → Group → List Bool → List (Summary W) → List (List ℕ) → List Bool → List (List ℕ) → List Bool → Type 0

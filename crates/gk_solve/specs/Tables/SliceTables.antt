@@ -1,7 +1,7 @@
 -- How a slice's tables stand for its words.
 use Rattle.std.specs.Prelude.{◌≡◌, ◌≤◌, ◌+◌, ◌*◌, length}
 use Rattle.gk_solve.specs.Solved.{SliceTable}
-use Rattle.gk_solve.specs.Tables.Widths.{AreTablesOf, made_words, width_of}
+use Rattle.gk_solve.specs.Tables.Widths.{AreTablesOf, generated_words, width_of}
 use Rattle.gk_solve.specs.declared.slice_words.SliceWords.TheInside.{Inside}
 
 abbrev pub view_of : Inside → SliceTable
@@ -13,7 +13,7 @@ view_of slice = record {
   hi = slice.hi;
   from = slice.from;
   until = slice.until;
-  words = made_words slice.tables;
+  words = generated_words slice.tables;
 }
 
 -- The tables are of the slice, and no more words were solved than they hold.

@@ -2,7 +2,7 @@
 use Rattle.std.specs.Prelude.{◌≡◌, ℕ, ◌<◌, Bool, List, length, ◌⊎◌}
 use Rattle.flow_graph.specs.declared.edge.Edge.{Edge}
 use Rattle.flow_graph.specs.Paths.{Shape, IsEdge}
-use Rattle.work_list.specs.Marks.{IsMarked}
+use Rattle.worklist.specs.Worklist.{IsMarked}
 
 -- The table is closed under an edge, or what the edge leaves is still to be visited.
 abbrev pub IsSettled : {Table : Type 0} → (Table → Edge → Type 0) → (Edge → ℕ) → Table → List Bool → Edge → Type 0

@@ -21,11 +21,11 @@ procedures_of (One tables) = length tables.procedures.items
 procedures_of (Four tables) = length tables.procedures.items
 procedures_of (Eight tables) = length tables.procedures.items
 
--- the solved words of each point: they stand in the place of what is made
-abbrev pub made_words : Tables → List (List ℕ)
-made_words (One tables) = map (λ summary. summary.made) tables.points.items
-made_words (Four tables) = map (λ summary. summary.made) tables.points.items
-made_words (Eight tables) = map (λ summary. summary.made) tables.points.items
+-- the solved words of each point: they stand in the place of what is generated
+abbrev pub generated_words : Tables → List (List ℕ)
+generated_words (One tables) = map (λ summary. summary.generated) tables.points.items
+generated_words (Four tables) = map (λ summary. summary.generated) tables.points.items
+generated_words (Eight tables) = map (λ summary. summary.generated) tables.points.items
 
 -- They have a place for each point and procedure, and as many words at once as a slice of these bits solves, or fewer where it has no second.
 pub record AreTablesOf (points procedures lo hi : ℕ) (tables : Tables) : Type 0 where

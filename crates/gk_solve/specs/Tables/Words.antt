@@ -6,7 +6,7 @@ use Rattle.flow_graph.specs.declared.edge.Edge.TheVariants.{Step, Call, Ret}
 use Rattle.flow_graph.specs.Paths.{Shape, Transfer}
 use Rattle.flow_graph.specs.Problems.{MayForm, may_gens, may_kills, may_boundary}
 use Rattle.flow_graph.specs.Universes.{bits as bits_of}
-use Rattle.summary_equations.specs.Equations.{Kept, Made, Brought}
+use Rattle.summary_equations.specs.Equations.{Preserved, Generated, Brought}
 use Rattle.flow_links.specs.Shapes.{after_site}
 use Rattle.gk_solve.specs.Tables.Flags.{IsFlagged}
 
@@ -46,42 +46,42 @@ WordsGrow old new = (x k : ℕ) → HasBit old x k → HasBit new x k
 abbrev pub AreSoundWords : (ℕ → ℕ → Type 0) → (ℕ → ℕ) → Type 0
 AreSoundWords Family words = (x k : ℕ) → k < 64 → HasBit words x k → Family k x
 
--- what is kept is closed under one edge
-abbrev pub IsKeepClosedAt : Shape → Bool → (ℕ → Transfer) → List Bool → (ℕ → ℕ) → Edge → Type 0
-IsKeepClosedAt shape backward transfer paths kept (Step x y) =
-    (k : ℕ) → k < 64 → IsFlagged paths x → HasBit kept x k → (transfer k).kill x y ≡ false → HasBit kept y k
-IsKeepClosedAt shape backward transfer paths kept (Call site x y) =
+-- what is preserved is closed under one edge
+abbrev pub IsPreserveClosedAt : Shape → Bool → (ℕ → Transfer) → List Bool → (ℕ → ℕ) → Edge → Type 0
+IsPreserveClosedAt shape backward transfer paths preserved (Step x y) =
+    (k : ℕ) → k < 64 → IsFlagged paths x → HasBit preserved x k → (transfer k).kill x y ≡ false → HasBit preserved y k
+IsPreserveClosedAt shape backward transfer paths preserved (Call site x y) =
     let exit = shape.exit (shape.procedure_of y) in
     (k : ℕ) → k < 64 → IsFlagged paths x → IsFlagged paths exit
-    → HasBit kept x k → HasBit kept exit k → HasBit kept (after_site backward site) k
-IsKeepClosedAt shape backward transfer paths kept (Ret site x y) = Unit {0}
+    → HasBit preserved x k → HasBit preserved exit k → HasBit preserved (after_site backward site) k
+IsPreserveClosedAt shape backward transfer paths preserved (Ret site x y) = Unit {0}
 
--- what is made is closed under one edge
+-- what is generated is closed under one edge
 abbrev pub IsMakeClosedAt : Shape → Bool → (ℕ → Transfer) → List Bool → (ℕ → ℕ) → (ℕ → ℕ) → Edge → Type 0
-IsMakeClosedAt shape backward transfer paths kept made (Step x y) =
+IsMakeClosedAt shape backward transfer paths preserved generated (Step x y) =
     (k : ℕ) → k < 64 → IsFlagged paths x
-    → (((transfer k).gen x y ≡ true) ⊎ (HasBit made x k × ((transfer k).kill x y ≡ false))) → HasBit made y k
-IsMakeClosedAt shape backward transfer paths kept made (Call site x y) =
+    → (((transfer k).gen x y ≡ true) ⊎ (HasBit generated x k × ((transfer k).kill x y ≡ false))) → HasBit generated y k
+IsMakeClosedAt shape backward transfer paths preserved generated (Call site x y) =
     let exit = shape.exit (shape.procedure_of y) in
     (k : ℕ) → k < 64 → IsFlagged paths x → IsFlagged paths exit
-    → (HasBit made exit k ⊎ (HasBit made x k × HasBit kept exit k)) → HasBit made (after_site backward site) k
-IsMakeClosedAt shape backward transfer paths kept made (Ret site x y) = Unit {0}
+    → (HasBit generated exit k ⊎ (HasBit generated x k × HasBit preserved exit k)) → HasBit generated (after_site backward site) k
+IsMakeClosedAt shape backward transfer paths preserved generated (Ret site x y) = Unit {0}
 
 -- what is brought to procedures is closed under one edge
 abbrev pub IsBringClosedAt : Shape → List Bool → (ℕ → ℕ) → (ℕ → ℕ) → (ℕ → ℕ) → Edge → Type 0
-IsBringClosedAt shape paths kept made brought (Step x y) = Unit {0}
-IsBringClosedAt shape paths kept made brought (Call site x y) =
+IsBringClosedAt shape paths preserved generated brought (Step x y) = Unit {0}
+IsBringClosedAt shape paths preserved generated brought (Call site x y) =
     (k : ℕ) → k < 64 → IsFlagged paths x
-    → (HasBit made x k ⊎ (HasBit brought (shape.procedure_of x) k × HasBit kept x k)) → HasBit brought (shape.procedure_of y) k
-IsBringClosedAt shape paths kept made brought (Ret site x y) = Unit {0}
+    → (HasBit generated x k ⊎ (HasBit brought (shape.procedure_of x) k × HasBit preserved x k)) → HasBit brought (shape.procedure_of y) k
+IsBringClosedAt shape paths preserved generated brought (Ret site x y) = Unit {0}
 
--- bit k is kept up to a point
-abbrev pub IsKept : Shape → (ℕ → Transfer) → ℕ → ℕ → Type 0
-IsKept shape transfer k x = Kept shape (transfer k).kill x
+-- bit k is preserved up to a point
+abbrev pub IsPreserved : Shape → (ℕ → Transfer) → ℕ → ℕ → Type 0
+IsPreserved shape transfer k x = Preserved shape (transfer k).kill x
 
--- bit k is made before a point
-abbrev pub IsMade : Shape → (ℕ → Transfer) → ℕ → ℕ → Type 0
-IsMade shape transfer k x = Made shape (transfer k) x
+-- bit k is generated before a point
+abbrev pub IsGenerated : Shape → (ℕ → Transfer) → ℕ → ℕ → Type 0
+IsGenerated shape transfer k x = Generated shape (transfer k) x
 
 -- bit k is brought to a procedure
 abbrev pub IsBrought : Shape → (ℕ → Transfer) → ℕ → ℕ → Type 0

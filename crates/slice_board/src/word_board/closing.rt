@@ -8,11 +8,11 @@ ghost use Rattle.slice_board.specs.code.Told.{load_of, ShowsOwn};
 ghost use Rattle.slice_board.specs.code.Closing.{Counted, ones_below};
 
 use super::WordBoard;
-use super::opening::words_needed;
 use crate::pass::Pass;
 use crate::plays::Tally;
 use crate::posted_words::PostedWords;
 use crate::rule::Wanted;
+use bit_rows::words_for;
 
 /// Why a board does not close: of its `of` slices only `done` are finished.
 #[derive(Clone, Copy, Debug, PartialEq, Eq)]
@@ -54,7 +54,7 @@ impl<T: Wanted> WordBoard<T> {
         let WordBoard { table, cut, flags } = self;
         let Pass { seat, .. } = pass;
         let closed = table.close_with(seat);
-        let first = 2 * words_needed(cut.slices());
+        let first = 2 * words_for(cut.slices()) as usize;
         Ok(PostedWords::of(closed, flags, cut.bits(), first))
     }
 
@@ -66,7 +66,7 @@ impl<T: Wanted> WordBoard<T> {
             ≡ record pass.old { counted = pass.old.counted ++ load_of word result ∷ [] } }
         ensures own { ShowsOwn (slice_count self.now.cut) pass.old.claimed pass.old.finished word result }
     {
-        let place = words_needed(self.cut.slices()) + word as usize;
+        let place = words_for(self.cut.slices()) as usize + word as usize;
         self.table.shared.load::<Tally>(&mut pass.seat, place)
     }
 
@@ -78,7 +78,7 @@ impl<T: Wanted> WordBoard<T> {
     {
         let slices = self.cut.slices();
         let mut done = 0;
-        'words: for word in 0..slices.div_ceil(64) {
+        'words: for word in 0..words_for(slices) {
             let value = self.load_done(pass, word);
             done += low_ones(value, (slices - 64 * word).min(64));
         }

@@ -8,16 +8,9 @@ use crate::OutOfMemory;
 use crate::pass::Pass;
 use crate::rule::{Key, Wanted};
 use atomic_table::Table;
-use bit_rows::Cut;
+use bit_rows::{Cut, words_for};
 use std::alloc::Global;
 use std::snapshot::Snapshot;
-
-/// How many words of 64 bits hold so many bits.
-pub(super) fn words_needed(bits: u32) -> usize
-    ensures { result ≡ words_for bits }
-{
-    (bits as usize).div_ceil(64)
-}
 
 impl<T: Wanted> WordBoard<T> {
     /// A board without claims and marks, with a point for each flag, and a pass of it with empty lists.
@@ -42,8 +35,8 @@ impl<T: Wanted> WordBoard<T> {
             points: flags.len() as u32,
             cut: Snapshot::of(&cut),
         };
-        let tallies = 2 * words_needed(cut.slices());
-        let rows = flags.len() * words_needed(cut.bits());
+        let tallies = 2 * words_for(cut.slices()) as usize;
+        let rows = flags.len() * words_for(cut.bits()) as usize;
         let words = Vec::from_elem(alloc, 0, tallies + rows + 1)?;
         let (table, seat) = Table::of_words(alloc, words.as_slice(), &key)?;
         let board = WordBoard { table, cut, flags };

@@ -8,10 +8,10 @@ ghost use Rattle.slice_board.specs.Passes.{IsLogged, logged_word, times, joined,
 ghost use Rattle.slice_board.specs.code.Words.{row_place};
 
 use super::WordBoard;
-use super::opening::words_needed;
 use crate::pass::Pass;
 use crate::plays::{Check, Draw, Finish, Fork, Glue, Look, Post};
 use crate::rule::Wanted;
+use bit_rows::words_for;
 
 impl<T: Wanted> WordBoard<T> {
     /// A new pass of the board, with empty lists. The old one is unchanged.
@@ -115,7 +115,7 @@ impl<T: Wanted> WordBoard<T> {
         ensures value { result ≡ row_place (about_board self.now) point word }
         ensures present { result < self.now.table.words }
     {
-        let first = 2 * words_needed(self.cut.slices());
+        let first = 2 * words_for(self.cut.slices()) as usize;
         first + (word as usize * self.flags.len() + point as usize)
     }
 
@@ -161,7 +161,7 @@ impl<T: Wanted> WordBoard<T> {
         ensures { pass.new
             ≡ record pass.old { finished = pass.old.finished ++ slice ∷ []; held = None } }
     {
-        let place = words_needed(self.cut.slices()) + (slice / 64) as usize;
+        let place = words_for(self.cut.slices()) as usize + (slice / 64) as usize;
         let bit = 1 << (slice % 64);
         self.table
             .shared

@@ -5,14 +5,14 @@ use Rattle.flow_graph.specs.declared.edge.Edge.TheVariants.{Step, Call, Ret}
 use Rattle.flow_graph.specs.Paths.{Shape, Transfer, IsEdge, IsPath, open_sites_after, value_across, value_after}
 use Rattle.flow_graph.specs.WellFormed.{IsWellFormed}
 use Rattle.flow_graph.proofs.paths.PathLemmas.{open_sites_after-none, same_site}
-use Rattle.summary_equations.specs.Equations.{CallsAt, ReturnsTo, Reached, entry_is_reached, reached_by_step, reached_by_call, Kept, kept_at_entry}
-use Rattle.summary_equations.specs.Equations.{kept_by_step, kept_by_call, Made, made_by_step, made_before_step, made_by_callee, made_before_call}
+use Rattle.summary_equations.specs.Equations.{CallsAt, ReturnsTo, Reached, entry_is_reached, reached_by_step, reached_by_call, Preserved, preserved_at_entry}
+use Rattle.summary_equations.specs.Equations.{preserved_by_step, preserved_by_call, Generated, generated_by_step, generated_before_step, generated_by_callee, generated_before_call}
 use Rattle.summary_equations.specs.Equations.{Entered}
-use Rattle.summary_equations.specs.Equations.{entered_by_call, Brought, brought_where_made, brought_where_kept}
+use Rattle.summary_equations.specs.Equations.{entered_by_call, Brought, brought_where_generated, brought_where_preserved}
 
 -- the bit is at x, where `before` says whether it was at the entry of x's procedure
 abbrev pub Holds : Shape → Transfer → ℕ → Bool → Type 0
-Holds shape transfer x before = Made shape transfer x ⊎ ((before ≡ true) × Kept shape transfer.kill x)
+Holds shape transfer x before = Generated shape transfer x ⊎ ((before ≡ true) × Preserved shape transfer.kill x)
 
 -- a path that began at the entry of `first` with the bit as `start` says has come into a procedure, with these sites open
 -- and the bit as `now` says
@@ -35,7 +35,7 @@ module _ (shape : Shape) (transfer : Transfer) (well : IsWellFormed shape) (firs
     reached = entry_is_reached first in_range;
     before = start;
     came = (well.entry_inside first in_range, refl);
-    holds = λ e. inr (e, kept_at_entry first in_range);
+    holds = λ e. inr (e, preserved_at_entry first in_range);
   }
 
   stands_after_step : (x y : ℕ) (sites : List ℕ) (now : Bool) → IsEdge shape (Step x y) → StandsAt shape transfer first start x sites now
@@ -48,12 +48,12 @@ module _ (shape : Shape) (transfer : Transfer) (well : IsWellFormed shape) (firs
   }
     where
       keep : transfer.kill x y ≡ false → Holds shape transfer x at_x.before → Holds shape transfer y at_x.before
-      keep unkilled (inl made) = inl (made_before_step x y edge at_x.reached made unkilled)
-      keep unkilled (inr kept) = inr (kept.0, kept_by_step x y edge at_x.reached kept.1 unkilled)
+      keep unkilled (inl generated) = inl (generated_before_step x y edge at_x.reached generated unkilled)
+      keep unkilled (inr preserved) = inr (preserved.0, preserved_by_step x y edge at_x.reached preserved.1 unkilled)
 
       go : (gen kill now : Bool) → transfer.gen x y ≡ gen → transfer.kill x y ≡ kill → (now ≡ true → Holds shape transfer x at_x.before)
           → (gen || (now && not kill)) ≡ true → Holds shape transfer y at_x.before
-      go true kill now gens kills holds has = inl (made_by_step x y edge at_x.reached gens)
+      go true kill now gens kills holds has = inl (generated_by_step x y edge at_x.reached gens)
       go false true true gens kills holds has = absurd (cc has)
       go false false true gens kills holds has = keep kills (holds refl)
       go false kill false gens kills holds has = absurd (cc has)
@@ -72,7 +72,7 @@ module _ (shape : Shape) (transfer : Transfer) (well : IsWellFormed shape) (firs
         reached = rw target.1 (entry_is_reached _ target.0);
         before = now;
         came = came_by_call site x y sites now edge at_x;
-        holds = λ e. inr (e, rw target.1 (kept_at_entry _ target.0));
+        holds = λ e. inr (e, rw target.1 (preserved_at_entry _ target.0));
       }
 
   stands_after_return : (site x z : ℕ) (sites : List ℕ) (now : Bool) → IsEdge shape (Ret site x z)
@@ -92,17 +92,17 @@ module _ (shape : Shape) (transfer : Transfer) (well : IsWellFormed shape) (firs
     where
       out : (caller : ℕ) (before : Bool) → CallsAt shape site caller (shape.procedure_of x) → Reached shape caller
           → ReturnsTo shape site (shape.procedure_of x) z → Reached shape (shape.exit (shape.procedure_of x))
-          → Kept shape transfer.kill (shape.exit (shape.procedure_of x)) → Holds shape transfer caller before → Holds shape transfer z before
-      out caller before call at_call return at_exit kept (inl made) = inl (made_before_call site caller _ z call return at_call at_exit made kept)
-      out caller before call at_call return at_exit kept (inr kept_before) =
-          inr (kept_before.0, kept_by_call site caller _ z call return at_call at_exit kept_before.1 kept)
+          → Preserved shape transfer.kill (shape.exit (shape.procedure_of x)) → Holds shape transfer caller before → Holds shape transfer z before
+      out caller before call at_call return at_exit preserved (inl generated) = inl (generated_before_call site caller _ z call return at_call at_exit generated preserved)
+      out caller before call at_call return at_exit preserved (inr preserved_before) =
+          inr (preserved_before.0, preserved_by_call site caller _ z call return at_call at_exit preserved_before.1 preserved)
 
       through : (caller : ℕ) (before : Bool) → CallsAt shape site caller (shape.procedure_of x) → Reached shape caller
           → (at_x.before ≡ true → Holds shape transfer caller before)
           → ReturnsTo shape site (shape.procedure_of x) z → Reached shape (shape.exit (shape.procedure_of x))
           → Holds shape transfer (shape.exit (shape.procedure_of x)) at_x.before → Holds shape transfer z before
-      through caller before call at_call holds return at_exit (inl made) = inl (made_by_callee site caller _ z call return at_call at_exit made)
-      through caller before call at_call holds return at_exit (inr kept) = out caller before call at_call return at_exit kept.1 (holds kept.0)
+      through caller before call at_call holds return at_exit (inl generated) = inl (generated_by_callee site caller _ z call return at_call at_exit generated)
+      through caller before call at_call holds return at_exit (inr preserved) = out caller before call at_call return at_exit preserved.1 (holds preserved.0)
 
   pub stands_after_path : (path : List Edge) (x y : ℕ) (sites after : List ℕ) (now : Bool) → IsPath shape x path y
       → open_sites_after path (Some sites) ≡ Some after
@@ -136,6 +136,6 @@ module _ (shape : Shape) (transfer : Transfer) (well : IsWellFormed shape) (firs
     where
       go : (x : ℕ) (before : Bool) → CallsAt shape site x procedure → Reached shape x → Entered shape (shape.procedure_of x)
           → (before ≡ true → Brought shape transfer (shape.procedure_of x)) → Holds shape transfer x before → Brought shape transfer procedure
-      go x before call at_x caller_entered caller_brought (inl made) = brought_where_made site x procedure call caller_entered at_x made
-      go x before call at_x caller_entered caller_brought (inr kept) =
-          brought_where_kept site x procedure call caller_entered at_x (caller_brought kept.0) kept.1
+      go x before call at_x caller_entered caller_brought (inl generated) = brought_where_generated site x procedure call caller_entered at_x generated
+      go x before call at_x caller_entered caller_brought (inr preserved) =
+          brought_where_preserved site x procedure call caller_entered at_x (caller_brought preserved.0) preserved.1

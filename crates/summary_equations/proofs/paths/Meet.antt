@@ -3,13 +3,13 @@ use Rattle.std.proofs.Common.{◌≡◌, ℕ, Bool, true, false, List, [], ◌<�
 use Rattle.flow_graph.specs.declared.edge.Edge.{Edge}
 use Rattle.flow_graph.specs.Paths.{Shape, Transfer, IsValidPath, value_after, HasPath, SomePathHas}
 use Rattle.flow_graph.specs.WellFormed.{IsWellFormed}
-use Rattle.flow_graph.specs.MatchedPaths.{IsPathFromEntry, is_kept_along}
+use Rattle.flow_graph.specs.MatchedPaths.{IsPathFromEntry, is_preserved_along}
 use Rattle.flow_graph.proofs.paths.PathLemmas.{some_sites}
-use Rattle.summary_equations.specs.Equations.{Reached, Kept, Made, made_by_step, made_before_step, made_by_callee, made_before_call, root_is_entered}
+use Rattle.summary_equations.specs.Equations.{Reached, Preserved, Generated, generated_by_step, generated_before_step, generated_by_callee, generated_before_call, root_is_entered}
 use Rattle.summary_equations.specs.Equations.{Brought}
 use Rattle.summary_equations.specs.Equations.{brought_by_boundary, HasFlag, IsInSolution}
 use Rattle.summary_equations.specs.Laws.{SummariesArePaths, SolutionIsMeet}
-use Rattle.summary_equations.proofs.paths.Sound.{flag_path, set_path, reached_path, kept_path, made_path, value_after-kept}
+use Rattle.summary_equations.proofs.paths.Sound.{flag_path, set_path, reached_path, preserved_path, generated_path, value_after-preserved}
 use Rattle.summary_equations.proofs.paths.Complete.{Holds, StandsAt, stands_at_entry, stands_after_path, entered_of, brought_of}
 
 -- where a valid path stands
@@ -38,13 +38,13 @@ set_of shape transfer well x has =
     go : (sites : List ℕ)
         (at_x : StandsAt shape transfer shape.root_procedure transfer.boundary x sites (value_after transfer has.0 transfer.boundary))
         → Holds shape transfer x at_x.before
-        → Made shape transfer x ⊎ (Brought shape transfer (shape.procedure_of x) × Kept shape transfer.kill x)
-    go sites at_x (inl made) = inl made
-    go sites at_x (inr kept) =
+        → Generated shape transfer x ⊎ (Brought shape transfer (shape.procedure_of x) × Preserved shape transfer.kill x)
+    go sites at_x (inl generated) = inl generated
+    go sites at_x (inr preserved) =
         inr (
           brought_of shape transfer well shape.root_procedure transfer.boundary root_is_entered (λ e. brought_by_boundary e) sites
-              (shape.procedure_of x) at_x.before at_x.came kept.0,
-          kept.1,
+              (shape.procedure_of x) at_x.before at_x.came preserved.0,
+          preserved.1,
         )
 
 pub solution_is_meet : SolutionIsMeet
@@ -63,43 +63,43 @@ stands_inside shape transfer start well path x in_range from_entry =
 no_gen : Transfer → Transfer
 no_gen transfer = record transfer { gen = λ x y. false }
 
-nothing_made : {shape : Shape} (transfer : Transfer) {x : ℕ} → Made shape (no_gen transfer) x → ⊥
+nothing_generated : {shape : Shape} (transfer : Transfer) {x : ℕ} → Generated shape (no_gen transfer) x → ⊥
 unfolding no_gen
-nothing_made transfer (made_by_step x y edge at_x gens) = cc gens
-nothing_made transfer (made_before_step x y edge at_x made unkilled) = nothing_made transfer made
-nothing_made transfer (made_by_callee site x p z call return at_x at_exit made) = nothing_made transfer made
-nothing_made transfer (made_before_call site x p z call return at_x at_exit made kept) = nothing_made transfer made
+nothing_generated transfer (generated_by_step x y edge at_x gens) = cc gens
+nothing_generated transfer (generated_before_step x y edge at_x generated unkilled) = nothing_generated transfer generated
+nothing_generated transfer (generated_by_callee site x p z call return at_x at_exit generated) = nothing_generated transfer generated
+nothing_generated transfer (generated_before_call site x p z call return at_x at_exit generated preserved) = nothing_generated transfer generated
 
 reached_of : (shape : Shape) (transfer : Transfer) → IsWellFormed shape → (x : ℕ) → shape.procedure_of x < shape.procedures
     → (path : List Edge) × IsPathFromEntry shape path x → Reached shape x
 reached_of shape transfer well x in_range has = (stands_inside shape transfer false well has.0 x in_range has.1).reached
 
-made_of : (shape : Shape) (transfer : Transfer) → IsWellFormed shape → (x : ℕ) → shape.procedure_of x < shape.procedures
-    → (path : List Edge) × IsPathFromEntry shape path x × (value_after transfer path false ≡ true) → Made shape transfer x
-made_of shape transfer well x in_range has = go (stands_inside shape transfer false well has.0 x in_range has.1)
+generated_of : (shape : Shape) (transfer : Transfer) → IsWellFormed shape → (x : ℕ) → shape.procedure_of x < shape.procedures
+    → (path : List Edge) × IsPathFromEntry shape path x × (value_after transfer path false ≡ true) → Generated shape transfer x
+generated_of shape transfer well x in_range has = go (stands_inside shape transfer false well has.0 x in_range has.1)
   where
-    pick : (before : Bool) → before ≡ false → Holds shape transfer x before → Made shape transfer x
-    pick before none (inl made) = made
-    pick before none (inr kept) = absurd (cc (none, kept.0))
+    pick : (before : Bool) → before ≡ false → Holds shape transfer x before → Generated shape transfer x
+    pick before none (inl generated) = generated
+    pick before none (inr preserved) = absurd (cc (none, preserved.0))
 
-    go : StandsAt shape transfer (shape.procedure_of x) false x [] (value_after transfer has.0 false) → Made shape transfer x
+    go : StandsAt shape transfer (shape.procedure_of x) false x [] (value_after transfer has.0 false) → Generated shape transfer x
     go at_x = pick at_x.before at_x.came.1 (at_x.holds has.2)
 
-kept_of : (shape : Shape) (transfer : Transfer) → IsWellFormed shape → (x : ℕ) → shape.procedure_of x < shape.procedures
-    → (path : List Edge) × IsPathFromEntry shape path x × (is_kept_along transfer.kill path ≡ true) → Kept shape transfer.kill x
+preserved_of : (shape : Shape) (transfer : Transfer) → IsWellFormed shape → (x : ℕ) → shape.procedure_of x < shape.procedures
+    → (path : List Edge) × IsPathFromEntry shape path x × (is_preserved_along transfer.kill path ≡ true) → Preserved shape transfer.kill x
 unfolding no_gen
-kept_of shape transfer well x in_range has = go (stands_inside shape (no_gen transfer) true well has.0 x in_range has.1)
+preserved_of shape transfer well x in_range has = go (stands_inside shape (no_gen transfer) true well has.0 x in_range has.1)
   where
-    pick : (before : Bool) → Holds shape (no_gen transfer) x before → Kept shape transfer.kill x
-    pick before (inl made) = absurd (nothing_made transfer made)
-    pick before (inr kept) = kept.1
+    pick : (before : Bool) → Holds shape (no_gen transfer) x before → Preserved shape transfer.kill x
+    pick before (inl generated) = absurd (nothing_generated transfer generated)
+    pick before (inr preserved) = preserved.1
 
-    go : StandsAt shape (no_gen transfer) (shape.procedure_of x) true x [] (value_after (no_gen transfer) has.0 true) → Kept shape transfer.kill x
-    go at_x = pick at_x.before (at_x.holds (value_after-kept (no_gen transfer) has.0 has.2))
+    go : StandsAt shape (no_gen transfer) (shape.procedure_of x) true x [] (value_after (no_gen transfer) has.0 true) → Preserved shape transfer.kill x
+    go at_x = pick at_x.before (at_x.holds (value_after-preserved (no_gen transfer) has.0 has.2))
 
 pub summaries_are_paths : SummariesArePaths
 summaries_are_paths shape transfer x well in_range = (
   (reached_path well, reached_of shape transfer well x in_range),
-  (kept_path well, kept_of shape transfer well x in_range),
-  (made_path well, made_of shape transfer well x in_range),
+  (preserved_path well, preserved_of shape transfer well x in_range),
+  (generated_path well, generated_of shape transfer well x in_range),
 )

@@ -7,17 +7,17 @@ use Rattle.flow_graph.specs.declared.edge.Edge.TheVariants.{Step, Call, Ret}
 use Rattle.flow_graph.specs.Paths.{Shape, Transfer, IsEdge}
 use Rattle.flow_graph.proofs.graphs.ExampleLemmas.{edges_pass, all_below, below}
 use Rattle.flow_graph.proofs.paths.PathLemmas.{nat_eq_same}
-use Rattle.summary_equations.specs.Equations.{CallsAt, ReturnsTo, HasFlag, Made, Brought, Kept, IsInSolution, IsClosedReached, IsClosedKept}
-use Rattle.summary_equations.specs.Equations.{IsClosedMade}
+use Rattle.summary_equations.specs.Equations.{CallsAt, ReturnsTo, HasFlag, Generated, Brought, Preserved, IsInSolution, IsClosedReached, IsClosedPreserved}
+use Rattle.summary_equations.specs.Equations.{IsClosedGenerated}
 use Rattle.summary_equations.specs.Equations.{IsClosedEntered, IsClosedBrought}
 use Rattle.summary_equations.specs.Laws.{Passes}
-use Rattle.summary_equations.proofs.solutions.Least.{reached_least, made_least, kept_least, brought_least}
+use Rattle.summary_equations.proofs.solutions.Least.{reached_least, generated_least, preserved_least, brought_least}
 
 -- a test for each family
 pub record Families : Type 0 where
   pub reached : ℕ → Bool
-  pub kept : ℕ → Bool
-  pub made : ℕ → Bool
+  pub preserved : ℕ → Bool
+  pub generated : ℕ → Bool
   pub entered : ℕ → Bool
   pub brought : ℕ → Bool
 
@@ -103,54 +103,54 @@ no_flag shape families passes x lacks flag =
     let has : families.reached x ≡ true = reached_least (reached_closed shape families passes) flag.1 in
     cc (has, lacks)
 
-abbrev pub closed_kept : Shape → Transfer → Families → Bool
-closed_kept shape transfer families =
-    all_below shape.procedures (λ p. families.kept (shape.entry p))
-    && (steps_pass shape (λ x y. implies (families.kept x && not (transfer.kill x y)) (families.kept y))
-    && throughs_pass shape (λ p x z. implies (families.kept x && families.kept (shape.exit p)) (families.kept z)))
+abbrev pub closed_preserved : Shape → Transfer → Families → Bool
+closed_preserved shape transfer families =
+    all_below shape.procedures (λ p. families.preserved (shape.entry p))
+    && (steps_pass shape (λ x y. implies (families.preserved x && not (transfer.kill x y)) (families.preserved y))
+    && throughs_pass shape (λ p x z. implies (families.preserved x && families.preserved (shape.exit p)) (families.preserved z)))
 
-kept_closed : (shape : Shape) (transfer : Transfer) (families : Families) → closed_kept shape transfer families ≡ true
-    → IsClosedKept shape transfer.kill (Passes families.reached) (Passes families.kept)
-kept_closed shape transfer families passes =
-    let (entries, rest) = and_parts (all_below shape.procedures (λ p. families.kept (shape.entry p))) _ passes in
-    let (steps, throughs) = and_parts (steps_pass shape (λ x y. implies (families.kept x && not (transfer.kill x y)) (families.kept y))) _ rest in
+preserved_closed : (shape : Shape) (transfer : Transfer) (families : Families) → closed_preserved shape transfer families ≡ true
+    → IsClosedPreserved shape transfer.kill (Passes families.reached) (Passes families.preserved)
+preserved_closed shape transfer families passes =
+    let (entries, rest) = and_parts (all_below shape.procedures (λ p. families.preserved (shape.entry p))) _ passes in
+    let (steps, throughs) = and_parts (steps_pass shape (λ x y. implies (families.preserved x && not (transfer.kill x y)) (families.preserved y))) _ rest in
     record {
-      entry = λ p in_range. below shape.procedures (λ q. families.kept (shape.entry q)) entries p in_range;
-      step = λ x y edge at_x kept unkilled.
-          apply _ _ (at_step shape (λ u v. implies (families.kept u && not (transfer.kill u v)) (families.kept v)) steps x y edge)
-          (and_from _ _ kept (ap not unkilled));
-      call = λ site x p z call return at_x at_exit kept through.
-          apply _ _ (at_through shape (λ q u v. implies (families.kept u && families.kept (shape.exit q)) (families.kept v))
-          throughs site x p z call return) (and_from _ _ kept through);
+      entry = λ p in_range. below shape.procedures (λ q. families.preserved (shape.entry q)) entries p in_range;
+      step = λ x y edge at_x preserved unkilled.
+          apply _ _ (at_step shape (λ u v. implies (families.preserved u && not (transfer.kill u v)) (families.preserved v)) steps x y edge)
+          (and_from _ _ preserved (ap not unkilled));
+      call = λ site x p z call return at_x at_exit preserved through.
+          apply _ _ (at_through shape (λ q u v. implies (families.preserved u && families.preserved (shape.exit q)) (families.preserved v))
+          throughs site x p z call return) (and_from _ _ preserved through);
     }
 
-abbrev pub closed_made : Shape → Transfer → Families → Bool
-closed_made shape transfer families =
-    (steps_pass shape (λ x y. implies (families.reached x && transfer.gen x y) (families.made y))
-    && steps_pass shape (λ x y. implies (families.made x && not (transfer.kill x y)) (families.made y)))
-    && (throughs_pass shape (λ p x z. implies (families.reached x && families.made (shape.exit p)) (families.made z))
-    && throughs_pass shape (λ p x z. implies (families.made x && families.kept (shape.exit p)) (families.made z)))
+abbrev pub closed_generated : Shape → Transfer → Families → Bool
+closed_generated shape transfer families =
+    (steps_pass shape (λ x y. implies (families.reached x && transfer.gen x y) (families.generated y))
+    && steps_pass shape (λ x y. implies (families.generated x && not (transfer.kill x y)) (families.generated y)))
+    && (throughs_pass shape (λ p x z. implies (families.reached x && families.generated (shape.exit p)) (families.generated z))
+    && throughs_pass shape (λ p x z. implies (families.generated x && families.preserved (shape.exit p)) (families.generated z)))
 
-made_closed : (shape : Shape) (transfer : Transfer) (families : Families) → closed_made shape transfer families ≡ true
-    → IsClosedMade shape transfer (Passes families.reached) (Passes families.kept) (Passes families.made)
-made_closed shape transfer families passes =
-    let (steps, throughs) = and_parts (steps_pass shape (λ x y. implies (families.reached x && transfer.gen x y) (families.made y))
-    && steps_pass shape (λ x y. implies (families.made x && not (transfer.kill x y)) (families.made y))) _ passes in
-    let (by, before) = and_parts (steps_pass shape (λ x y. implies (families.reached x && transfer.gen x y) (families.made y))) _ steps in
+generated_closed : (shape : Shape) (transfer : Transfer) (families : Families) → closed_generated shape transfer families ≡ true
+    → IsClosedGenerated shape transfer (Passes families.reached) (Passes families.preserved) (Passes families.generated)
+generated_closed shape transfer families passes =
+    let (steps, throughs) = and_parts (steps_pass shape (λ x y. implies (families.reached x && transfer.gen x y) (families.generated y))
+    && steps_pass shape (λ x y. implies (families.generated x && not (transfer.kill x y)) (families.generated y))) _ passes in
+    let (by, before) = and_parts (steps_pass shape (λ x y. implies (families.reached x && transfer.gen x y) (families.generated y))) _ steps in
     let (callees, calls) =
-    and_parts (throughs_pass shape (λ p x z. implies (families.reached x && families.made (shape.exit p)) (families.made z))) _ throughs in
+    and_parts (throughs_pass shape (λ p x z. implies (families.reached x && families.generated (shape.exit p)) (families.generated z))) _ throughs in
     record {
       by_step = λ x y edge at_x gens.
-          apply _ _ (at_step shape (λ u v. implies (families.reached u && transfer.gen u v) (families.made v)) by x y edge) (and_from _ _ at_x gens);
-      before_step = λ x y edge at_x made unkilled.
-          apply _ _ (at_step shape (λ u v. implies (families.made u && not (transfer.kill u v)) (families.made v)) before x y edge)
-          (and_from _ _ made (ap not unkilled));
-      by_callee = λ site x p z call return at_x at_exit made.
-          apply _ _ (at_through shape (λ q u v. implies (families.reached u && families.made (shape.exit q)) (families.made v))
-          callees site x p z call return) (and_from _ _ at_x made);
-      before_call = λ site x p z call return at_x at_exit made kept.
-          apply _ _ (at_through shape (λ q u v. implies (families.made u && families.kept (shape.exit q)) (families.made v))
-          calls site x p z call return) (and_from _ _ made kept);
+          apply _ _ (at_step shape (λ u v. implies (families.reached u && transfer.gen u v) (families.generated v)) by x y edge) (and_from _ _ at_x gens);
+      before_step = λ x y edge at_x generated unkilled.
+          apply _ _ (at_step shape (λ u v. implies (families.generated u && not (transfer.kill u v)) (families.generated v)) before x y edge)
+          (and_from _ _ generated (ap not unkilled));
+      by_callee = λ site x p z call return at_x at_exit generated.
+          apply _ _ (at_through shape (λ q u v. implies (families.reached u && families.generated (shape.exit q)) (families.generated v))
+          callees site x p z call return) (and_from _ _ at_x generated);
+      before_call = λ site x p z call return at_x at_exit generated preserved.
+          apply _ _ (at_through shape (λ q u v. implies (families.generated u && families.preserved (shape.exit q)) (families.generated v))
+          calls site x p z call return) (and_from _ _ generated preserved);
     }
 
 abbrev pub closed_entered : Shape → Families → Bool
@@ -171,51 +171,51 @@ entered_closed shape families passes =
 abbrev pub closed_brought : Shape → Transfer → Families → Bool
 closed_brought shape transfer families =
     implies transfer.boundary (families.brought shape.root_procedure)
-    && (calls_pass shape (λ p x. implies (families.entered (shape.procedure_of x) && families.made x) (families.brought p))
-    && calls_pass shape (λ p x. implies (families.brought (shape.procedure_of x) && families.kept x) (families.brought p)))
+    && (calls_pass shape (λ p x. implies (families.entered (shape.procedure_of x) && families.generated x) (families.brought p))
+    && calls_pass shape (λ p x. implies (families.brought (shape.procedure_of x) && families.preserved x) (families.brought p)))
 
 brought_closed : (shape : Shape) (transfer : Transfer) (families : Families) → closed_brought shape transfer families ≡ true
-    → IsClosedBrought shape transfer (Passes families.reached) (Passes families.kept) (Passes families.made) (Passes families.entered)
+    → IsClosedBrought shape transfer (Passes families.reached) (Passes families.preserved) (Passes families.generated) (Passes families.entered)
     (Passes families.brought)
 brought_closed shape transfer families passes =
     let (boundary, rest) = and_parts (implies transfer.boundary (families.brought shape.root_procedure)) _ passes in
-    let (made, kept) =
-    and_parts (calls_pass shape (λ p x. implies (families.entered (shape.procedure_of x) && families.made x) (families.brought p))) _ rest in
+    let (generated, preserved) =
+    and_parts (calls_pass shape (λ p x. implies (families.entered (shape.procedure_of x) && families.generated x) (families.brought p))) _ rest in
     record {
       boundary = λ has. apply _ _ boundary has;
-      where_made = λ site x p call entered at_x has.
-          apply _ _ (at_call shape (λ q u. implies (families.entered (shape.procedure_of u) && families.made u) (families.brought q))
-          made site x p call) (and_from _ _ entered has);
-      where_kept = λ site x p call entered at_x has keeps.
-          apply _ _ (at_call shape (λ q u. implies (families.brought (shape.procedure_of u) && families.kept u) (families.brought q))
-          kept site x p call) (and_from _ _ has keeps);
+      where_generated = λ site x p call entered at_x has.
+          apply _ _ (at_call shape (λ q u. implies (families.entered (shape.procedure_of u) && families.generated u) (families.brought q))
+          generated site x p call) (and_from _ _ entered has);
+      where_preserved = λ site x p call entered at_x has keeps.
+          apply _ _ (at_call shape (λ q u. implies (families.brought (shape.procedure_of u) && families.preserved u) (families.brought q))
+          preserved site x p call) (and_from _ _ has keeps);
     }
 
 abbrev pub closed : Shape → Transfer → Families → Bool
-closed shape transfer families = closed_reached shape families && (closed_kept shape transfer families
-    && (closed_made shape transfer families && (closed_entered shape families && closed_brought shape transfer families)))
+closed shape transfer families = closed_reached shape families && (closed_preserved shape transfer families
+    && (closed_generated shape transfer families && (closed_entered shape families && closed_brought shape transfer families)))
 
 -- what closed families lack is not in the least solution
 pub not_in_solution : (shape : Shape) (transfer : Transfer) (families : Families) → closed shape transfer families ≡ true → (x : ℕ)
-    → families.made x ≡ false → (families.brought (shape.procedure_of x) && families.kept x) ≡ false
+    → families.generated x ≡ false → (families.brought (shape.procedure_of x) && families.preserved x) ≡ false
     → ¬ (IsInSolution shape transfer x)
-not_in_solution shape transfer families passes x no_made no_brought member = go member.1
+not_in_solution shape transfer families passes x no_generated no_brought member = go member.1
   where
-    go : Made shape transfer x ⊎ (Brought shape transfer (shape.procedure_of x) × Kept shape transfer.kill x) → ⊥
+    go : Generated shape transfer x ⊎ (Brought shape transfer (shape.procedure_of x) × Preserved shape transfer.kill x) → ⊥
     go =
         let (r, rest) = and_parts (closed_reached shape families) _ passes in
-        let (k, rest) = and_parts (closed_kept shape transfer families) _ rest in
-        let (m, rest) = and_parts (closed_made shape transfer families) _ rest in
+        let (k, rest) = and_parts (closed_preserved shape transfer families) _ rest in
+        let (m, rest) = and_parts (closed_generated shape transfer families) _ rest in
         let (e, b) = and_parts (closed_entered shape families) _ rest in
         let rc = reached_closed shape families r in
-        let kc = kept_closed shape transfer families k in
-        let mc = made_closed shape transfer families m in
+        let kc = preserved_closed shape transfer families k in
+        let mc = generated_closed shape transfer families m in
         elim [
-          | inl made ↦ (let has : families.made x ≡ true = made_least rc kc mc made in cc (has, no_made))
+          | inl generated ↦ (let has : families.generated x ≡ true = generated_least rc kc mc generated in cc (has, no_generated))
           | inr both ↦ (
               let has : families.brought (shape.procedure_of x) ≡ true =
               brought_least rc kc mc (entered_closed shape families e) (brought_closed shape transfer families b) both.0 in
-              let keeps : families.kept x ≡ true = kept_least rc kc both.1 in
+              let keeps : families.preserved x ≡ true = preserved_least rc kc both.1 in
               let all = and_from _ _ has keeps in
               cc (all, no_brought))
         ]

@@ -10,16 +10,16 @@ use Rattle.flow_graph.specs.Paths.{target_of, Shape, Transfer, IsEdge}
 use Rattle.flow_graph.proofs.graphs.ExampleLemmas.{is_one_of}
 use Rattle.flow_graph.proofs.paths.PathLemmas.{nat_eq_same}
 use Rattle.flow_graph.proofs.paths.Reversal.{Contains-map}
-use Rattle.summary_equations.specs.Equations.{CallsAt, ReturnsTo, Reached, entry_is_reached, reached_by_step, reached_by_call, Kept, kept_at_entry}
-use Rattle.summary_equations.specs.Equations.{kept_by_step, kept_by_call, Made, made_by_step, made_before_step, made_by_callee, made_before_call}
+use Rattle.summary_equations.specs.Equations.{CallsAt, ReturnsTo, Reached, entry_is_reached, reached_by_step, reached_by_call, Preserved, preserved_at_entry}
+use Rattle.summary_equations.specs.Equations.{preserved_by_step, preserved_by_call, Generated, generated_by_step, generated_before_step, generated_by_callee, generated_before_call}
 use Rattle.summary_equations.specs.Equations.{Entered}
-use Rattle.summary_equations.specs.Equations.{root_is_entered, entered_by_call, Brought, brought_by_boundary, brought_where_made, brought_where_kept}
+use Rattle.summary_equations.specs.Equations.{root_is_entered, entered_by_call, Brought, brought_by_boundary, brought_where_generated, brought_where_preserved}
 use Rattle.summary_equations.specs.Equations.{HasFlag}
-use Rattle.summary_equations.specs.Equations.{IsInSolution, IsClosedReached, IsClosedKept, IsClosedMade, IsClosedEntered}
+use Rattle.summary_equations.specs.Equations.{IsInSolution, IsClosedReached, IsClosedPreserved, IsClosedGenerated, IsClosedEntered}
 use Rattle.summary_equations.specs.Laws.{Passes}
 use Rattle.flow_graph.proofs.searches.FiniteSearch.{contains_any, any_contains, any_below}
 use Rattle.flow_graph.proofs.searches.FiniteSearch.{some_below, below_some, Test, decided, least_test}
-use Rattle.summary_equations.proofs.solutions.Least.{reached_least, kept_least, made_least, entered_least, brought_least}
+use Rattle.summary_equations.proofs.solutions.Least.{reached_least, preserved_least, generated_least, entered_least, brought_least}
 
 -- whether a step, a call, or a call with its return, passes a test
 abbrev step_passes : (ℕ → ℕ → Bool) → Edge → Bool
@@ -314,7 +314,7 @@ flag_decided shape x = go (decided (entered_test shape) (shape.procedure_of x)) 
     go (inr never) at_x = inr (λ flag. never flag.0)
     go (inl entered) (inr not_at) = inr (λ flag. not_at flag.1)
 
--- the step and the call of the clauses of kept, over a test for reached
+-- the step and the call of the clauses of preserved, over a test for reached
 abbrev keeps_step : Shape → (ℕ → ℕ → Bool) → (ℕ → Bool) → ℕ → ℕ → Bool
 keeps_step shape kill found x y = (reached_test shape).test x && (found x && not (kill x y))
 
@@ -324,38 +324,38 @@ through_reached shape p x = (reached_test shape).test x && (reached_test shape).
 abbrev keeps_through : Shape → (ℕ → Bool) → ℕ → ℕ → ℕ → Bool
 keeps_through shape found p x y = through_reached shape p x && (found x && found (shape.exit p))
 
-kept_sound : (shape : Shape) (kill : ℕ → ℕ → Bool) (found : ℕ → Bool) → ((y : ℕ) → found y ≡ true → Kept shape kill y) → (z : ℕ)
-    → GivenPoint shape true (keeps_step shape kill found) (keeps_through shape found) z → Kept shape kill z
-kept_sound shape kill found known z (given_entry p are_given in_range) = kept_at_entry p in_range
-kept_sound shape kill found known z (given_step x y edge passes) =
+preserved_sound : (shape : Shape) (kill : ℕ → ℕ → Bool) (found : ℕ → Bool) → ((y : ℕ) → found y ≡ true → Preserved shape kill y) → (z : ℕ)
+    → GivenPoint shape true (keeps_step shape kill found) (keeps_through shape found) z → Preserved shape kill z
+preserved_sound shape kill found known z (given_entry p are_given in_range) = preserved_at_entry p in_range
+preserved_sound shape kill found known z (given_step x y edge passes) =
     let (at_x, rest) = and_parts ((reached_test shape).test x) (found x && not (kill x y)) passes in
-    let (kept, unkilled) = and_parts (found x) (not (kill x y)) rest in
-    kept_by_step x y edge ((reached_test shape).sound x at_x) (known x kept) (not-true (kill x y) unkilled)
-kept_sound shape kill found known z (given_through site x p y call return passes) =
-    let (reached, kept) = and_parts (through_reached shape p x) (found x && found (shape.exit p)) passes in
+    let (preserved, unkilled) = and_parts (found x) (not (kill x y)) rest in
+    preserved_by_step x y edge ((reached_test shape).sound x at_x) (known x preserved) (not-true (kill x y) unkilled)
+preserved_sound shape kill found known z (given_through site x p y call return passes) =
+    let (reached, preserved) = and_parts (through_reached shape p x) (found x && found (shape.exit p)) passes in
     let (at_x, at_exit) = and_parts ((reached_test shape).test x) ((reached_test shape).test (shape.exit p)) reached in
-    let (before, through) = and_parts (found x) (found (shape.exit p)) kept in
-    kept_by_call site x p y call return ((reached_test shape).sound x at_x) ((reached_test shape).sound (shape.exit p) at_exit) (known x before)
+    let (before, through) = and_parts (found x) (found (shape.exit p)) preserved in
+    preserved_by_call site x p y call return ((reached_test shape).sound x at_x) ((reached_test shape).sound (shape.exit p) at_exit) (known x before)
     (known (shape.exit p) through)
 
-pub kept_test : (shape : Shape) (kill : ℕ → ℕ → Bool) → Test (Kept shape kill)
-kept_test shape kill = point_test shape (Kept shape kill) true (keeps_step shape kill) (keeps_through shape) (kept_sound shape kill)
-    (λ found closed z member. kept_least {kept = Passes found} (reached_all shape) (record {
+pub preserved_test : (shape : Shape) (kill : ℕ → ℕ → Bool) → Test (Preserved shape kill)
+preserved_test shape kill = point_test shape (Preserved shape kill) true (keeps_step shape kill) (keeps_through shape) (preserved_sound shape kill)
+    (λ found closed z member. preserved_least {preserved = Passes found} (reached_all shape) (record {
       entry = λ p in_range. closed (shape.entry p) (given_entry p refl in_range);
-      step = λ x y edge at_x kept unkilled. closed y (given_step x y edge (and_from _ _ at_x (and_from _ _ kept (ap not unkilled))));
-      call = λ site x p y call return at_x at_exit kept through.
-          closed y (given_through site x p y call return (and_from _ _ (and_from _ _ at_x at_exit) (and_from _ _ kept through)));
+      step = λ x y edge at_x preserved unkilled. closed y (given_step x y edge (and_from _ _ at_x (and_from _ _ preserved (ap not unkilled))));
+      call = λ site x p y call return at_x at_exit preserved through.
+          closed y (given_through site x p y call return (and_from _ _ (and_from _ _ at_x at_exit) (and_from _ _ preserved through)));
     }) member)
 
-kept_all : (shape : Shape) (kill : ℕ → ℕ → Bool) → IsClosedKept shape kill (Passes (reached_test shape).test) (Passes (kept_test shape kill).test)
-kept_all shape kill =
+preserved_all : (shape : Shape) (kill : ℕ → ℕ → Bool) → IsClosedPreserved shape kill (Passes (reached_test shape).test) (Passes (preserved_test shape kill).test)
+preserved_all shape kill =
     let r = reached_test shape in
-    let k = kept_test shape kill in
+    let k = preserved_test shape kill in
     record {
-      entry = λ p in_range. k.complete (shape.entry p) (kept_at_entry p in_range);
-      step = λ x y edge at_x kept unkilled. k.complete y (kept_by_step x y edge (r.sound x at_x) (k.sound x kept) unkilled);
-      call = λ site x p y call return at_x at_exit kept through.
-          k.complete y (kept_by_call site x p y call return (r.sound x at_x) (r.sound (shape.exit p) at_exit) (k.sound x kept)
+      entry = λ p in_range. k.complete (shape.entry p) (preserved_at_entry p in_range);
+      step = λ x y edge at_x preserved unkilled. k.complete y (preserved_by_step x y edge (r.sound x at_x) (k.sound x preserved) unkilled);
+      call = λ site x p y call return at_x at_exit preserved through.
+          k.complete y (preserved_by_call site x p y call return (r.sound x at_x) (r.sound (shape.exit p) at_exit) (k.sound x preserved)
           (k.sound (shape.exit p) through));
     }
 
@@ -364,52 +364,52 @@ makes_step shape transfer found x y = (reached_test shape).test x && (transfer.g
 
 abbrev makes_through : Shape → Transfer → (ℕ → Bool) → ℕ → ℕ → ℕ → Bool
 makes_through shape transfer found p x y =
-    through_reached shape p x && (found (shape.exit p) || (found x && (kept_test shape transfer.kill).test (shape.exit p)))
+    through_reached shape p x && (found (shape.exit p) || (found x && (preserved_test shape transfer.kill).test (shape.exit p)))
 
-made_sound : (shape : Shape) (transfer : Transfer) (found : ℕ → Bool) → ((y : ℕ) → found y ≡ true → Made shape transfer y) → (z : ℕ)
-    → GivenPoint shape false (makes_step shape transfer found) (makes_through shape transfer found) z → Made shape transfer z
-made_sound shape transfer found known z (given_entry p are_given in_range) = absurd (cc are_given)
-made_sound shape transfer found known z (given_step x y edge passes) =
+generated_sound : (shape : Shape) (transfer : Transfer) (found : ℕ → Bool) → ((y : ℕ) → found y ≡ true → Generated shape transfer y) → (z : ℕ)
+    → GivenPoint shape false (makes_step shape transfer found) (makes_through shape transfer found) z → Generated shape transfer z
+generated_sound shape transfer found known z (given_entry p are_given in_range) = absurd (cc are_given)
+generated_sound shape transfer found known z (given_step x y edge passes) =
     let (at_x, rest) = and_parts ((reached_test shape).test x) (transfer.gen x y || (found x && not (transfer.kill x y))) passes in
     go ((reached_test shape).sound x at_x) (or_cases (transfer.gen x y) (found x && not (transfer.kill x y)) rest)
   where
-    go : Reached shape x → (transfer.gen x y ≡ true) ⊎ ((found x && not (transfer.kill x y)) ≡ true) → Made shape transfer y
-    go at_x (inl gens) = made_by_step x y edge at_x gens
+    go : Reached shape x → (transfer.gen x y ≡ true) ⊎ ((found x && not (transfer.kill x y)) ≡ true) → Generated shape transfer y
+    go at_x (inl gens) = generated_by_step x y edge at_x gens
     go at_x (inr both) =
-        let (made, unkilled) = and_parts (found x) (not (transfer.kill x y)) both in
-        made_before_step x y edge at_x (known x made) (not-true (transfer.kill x y) unkilled)
-made_sound shape transfer found known z (given_through site x p y call return passes) =
+        let (generated, unkilled) = and_parts (found x) (not (transfer.kill x y)) both in
+        generated_before_step x y edge at_x (known x generated) (not-true (transfer.kill x y) unkilled)
+generated_sound shape transfer found known z (given_through site x p y call return passes) =
     let (reached, rest) =
-    and_parts (through_reached shape p x) (found (shape.exit p) || (found x && (kept_test shape transfer.kill).test (shape.exit p))) passes in
+    and_parts (through_reached shape p x) (found (shape.exit p) || (found x && (preserved_test shape transfer.kill).test (shape.exit p))) passes in
     let (at_x, at_exit) = and_parts ((reached_test shape).test x) ((reached_test shape).test (shape.exit p)) reached in
     go ((reached_test shape).sound x at_x) ((reached_test shape).sound (shape.exit p) at_exit)
-    (or_cases (found (shape.exit p)) (found x && (kept_test shape transfer.kill).test (shape.exit p)) rest)
+    (or_cases (found (shape.exit p)) (found x && (preserved_test shape transfer.kill).test (shape.exit p)) rest)
   where
     go : Reached shape x → Reached shape (shape.exit p)
-        → (found (shape.exit p) ≡ true) ⊎ ((found x && (kept_test shape transfer.kill).test (shape.exit p)) ≡ true) → Made shape transfer y
-    go at_x at_exit (inl made) = made_by_callee site x p y call return at_x at_exit (known (shape.exit p) made)
+        → (found (shape.exit p) ≡ true) ⊎ ((found x && (preserved_test shape transfer.kill).test (shape.exit p)) ≡ true) → Generated shape transfer y
+    go at_x at_exit (inl generated) = generated_by_callee site x p y call return at_x at_exit (known (shape.exit p) generated)
     go at_x at_exit (inr both) =
-        let (made, kept) = and_parts (found x) ((kept_test shape transfer.kill).test (shape.exit p)) both in
-        made_before_call site x p y call return at_x at_exit (known x made) ((kept_test shape transfer.kill).sound (shape.exit p) kept)
+        let (generated, preserved) = and_parts (found x) ((preserved_test shape transfer.kill).test (shape.exit p)) both in
+        generated_before_call site x p y call return at_x at_exit (known x generated) ((preserved_test shape transfer.kill).sound (shape.exit p) preserved)
 
-pub made_test : (shape : Shape) (transfer : Transfer) → Test (Made shape transfer)
-made_test shape transfer =
-    point_test shape (Made shape transfer) false (makes_step shape transfer) (makes_through shape transfer) (made_sound shape transfer)
-    (λ found closed z member. made_least {made = Passes found} (reached_all shape) (kept_all shape transfer.kill) (record {
+pub generated_test : (shape : Shape) (transfer : Transfer) → Test (Generated shape transfer)
+generated_test shape transfer =
+    point_test shape (Generated shape transfer) false (makes_step shape transfer) (makes_through shape transfer) (generated_sound shape transfer)
+    (λ found closed z member. generated_least {generated = Passes found} (reached_all shape) (preserved_all shape transfer.kill) (record {
       by_step = λ x y edge at_x gens. closed y (given_step x y edge (and_from _ _ at_x (or_left (transfer.gen x y) _ gens)));
-      before_step = λ x y edge at_x made unkilled.
-          closed y (given_step x y edge (and_from _ _ at_x (or_right (transfer.gen x y) _ (and_from _ _ made (ap not unkilled)))));
-      by_callee = λ site x p y call return at_x at_exit made.
-          closed y (given_through site x p y call return (and_from _ _ (and_from _ _ at_x at_exit) (or_left (found (shape.exit p)) _ made)));
-      before_call = λ site x p y call return at_x at_exit made kept.
+      before_step = λ x y edge at_x generated unkilled.
+          closed y (given_step x y edge (and_from _ _ at_x (or_right (transfer.gen x y) _ (and_from _ _ generated (ap not unkilled)))));
+      by_callee = λ site x p y call return at_x at_exit generated.
+          closed y (given_through site x p y call return (and_from _ _ (and_from _ _ at_x at_exit) (or_left (found (shape.exit p)) _ generated)));
+      before_call = λ site x p y call return at_x at_exit generated preserved.
           closed y (given_through site x p y call return
-          (and_from _ _ (and_from _ _ at_x at_exit) (or_right (found (shape.exit p)) _ (and_from _ _ made kept))));
+          (and_from _ _ (and_from _ _ at_x at_exit) (or_right (found (shape.exit p)) _ (and_from _ _ generated preserved))));
     }) member)
 
 abbrev brings : Shape → Transfer → (ℕ → Bool) → ℕ → ℕ → Bool
 brings shape transfer found p x =
     ((entered_test shape).test (shape.procedure_of x) && (reached_test shape).test x)
-    && ((made_test shape transfer).test x || (found (shape.procedure_of x) && (kept_test shape transfer.kill).test x))
+    && ((generated_test shape transfer).test x || (found (shape.procedure_of x) && (preserved_test shape transfer.kill).test x))
 
 brought_sound : (shape : Shape) (transfer : Transfer) (found : ℕ → Bool) → ((p : ℕ) → found p ≡ true → Brought shape transfer p) → (q : ℕ)
     → GivenProcedure shape transfer.boundary (brings shape transfer found) q → Brought shape transfer q
@@ -418,15 +418,15 @@ brought_sound shape transfer found known q (given_call site x p call passes) =
     let (flags, rest) = and_parts ((entered_test shape).test (shape.procedure_of x) && (reached_test shape).test x) _ passes in
     let (entered, at_x) = and_parts ((entered_test shape).test (shape.procedure_of x)) ((reached_test shape).test x) flags in
     go ((entered_test shape).sound (shape.procedure_of x) entered) ((reached_test shape).sound x at_x)
-    (or_cases ((made_test shape transfer).test x) (found (shape.procedure_of x) && (kept_test shape transfer.kill).test x) rest)
+    (or_cases ((generated_test shape transfer).test x) (found (shape.procedure_of x) && (preserved_test shape transfer.kill).test x) rest)
   where
     go : Entered shape (shape.procedure_of x) → Reached shape x
-        → ((made_test shape transfer).test x ≡ true) ⊎ ((found (shape.procedure_of x) && (kept_test shape transfer.kill).test x) ≡ true)
+        → ((generated_test shape transfer).test x ≡ true) ⊎ ((found (shape.procedure_of x) && (preserved_test shape transfer.kill).test x) ≡ true)
         → Brought shape transfer p
-    go entered at_x (inl made) = brought_where_made site x p call entered at_x ((made_test shape transfer).sound x made)
+    go entered at_x (inl generated) = brought_where_generated site x p call entered at_x ((generated_test shape transfer).sound x generated)
     go entered at_x (inr both) =
-        let (brought, kept) = and_parts (found (shape.procedure_of x)) ((kept_test shape transfer.kill).test x) both in
-        brought_where_kept site x p call entered at_x (known (shape.procedure_of x) brought) ((kept_test shape transfer.kill).sound x kept)
+        let (brought, preserved) = and_parts (found (shape.procedure_of x)) ((preserved_test shape transfer.kill).test x) both in
+        brought_where_preserved site x p call entered at_x (known (shape.procedure_of x) brought) ((preserved_test shape transfer.kill).sound x preserved)
 
 entered_all : (shape : Shape) → IsClosedEntered shape (Passes (reached_test shape).test) (Passes (entered_test shape).test)
 entered_all shape = record {
@@ -436,49 +436,49 @@ entered_all shape = record {
       (entered_by_call site x p call ((entered_test shape).sound (shape.procedure_of x) entered) ((reached_test shape).sound x at_x));
 }
 
-made_all : (shape : Shape) (transfer : Transfer) → IsClosedMade shape transfer (Passes (reached_test shape).test)
-    (Passes (kept_test shape transfer.kill).test) (Passes (made_test shape transfer).test)
-made_all shape transfer =
+generated_all : (shape : Shape) (transfer : Transfer) → IsClosedGenerated shape transfer (Passes (reached_test shape).test)
+    (Passes (preserved_test shape transfer.kill).test) (Passes (generated_test shape transfer).test)
+generated_all shape transfer =
     let r = reached_test shape in
-    let k = kept_test shape transfer.kill in
-    let m = made_test shape transfer in
+    let k = preserved_test shape transfer.kill in
+    let m = generated_test shape transfer in
     record {
-      by_step = λ x y edge at_x gens. m.complete y (made_by_step x y edge (r.sound x at_x) gens);
-      before_step = λ x y edge at_x made unkilled. m.complete y (made_before_step x y edge (r.sound x at_x) (m.sound x made) unkilled);
-      by_callee = λ site x p y call return at_x at_exit made.
-          m.complete y (made_by_callee site x p y call return (r.sound x at_x) (r.sound (shape.exit p) at_exit) (m.sound (shape.exit p) made));
-      before_call = λ site x p y call return at_x at_exit made kept.
-          m.complete y (made_before_call site x p y call return (r.sound x at_x) (r.sound (shape.exit p) at_exit) (m.sound x made)
-          (k.sound (shape.exit p) kept));
+      by_step = λ x y edge at_x gens. m.complete y (generated_by_step x y edge (r.sound x at_x) gens);
+      before_step = λ x y edge at_x generated unkilled. m.complete y (generated_before_step x y edge (r.sound x at_x) (m.sound x generated) unkilled);
+      by_callee = λ site x p y call return at_x at_exit generated.
+          m.complete y (generated_by_callee site x p y call return (r.sound x at_x) (r.sound (shape.exit p) at_exit) (m.sound (shape.exit p) generated));
+      before_call = λ site x p y call return at_x at_exit generated preserved.
+          m.complete y (generated_before_call site x p y call return (r.sound x at_x) (r.sound (shape.exit p) at_exit) (m.sound x generated)
+          (k.sound (shape.exit p) preserved));
     }
 
 pub brought_test : (shape : Shape) (transfer : Transfer) → Test (Brought shape transfer)
 brought_test shape transfer = procedure_test shape (Brought shape transfer) transfer.boundary (brings shape transfer) (brought_sound shape transfer)
-    (λ found closed q member. brought_least {brought = Passes found} (reached_all shape) (kept_all shape transfer.kill) (made_all shape transfer)
+    (λ found closed q member. brought_least {brought = Passes found} (reached_all shape) (preserved_all shape transfer.kill) (generated_all shape transfer)
     (entered_all shape) (record {
       boundary = λ has. closed shape.root_procedure (given_root has);
-      where_made = λ site x p call entered at_x made.
-          closed p (given_call site x p call (and_from _ _ (and_from _ _ entered at_x) (or_left ((made_test shape transfer).test x) _ made)));
-      where_kept = λ site x p call entered at_x brought kept.
+      where_generated = λ site x p call entered at_x generated.
+          closed p (given_call site x p call (and_from _ _ (and_from _ _ entered at_x) (or_left ((generated_test shape transfer).test x) _ generated)));
+      where_preserved = λ site x p call entered at_x brought preserved.
           closed p (given_call site x p call
-          (and_from _ _ (and_from _ _ entered at_x) (or_right ((made_test shape transfer).test x) _ (and_from _ _ brought kept))));
+          (and_from _ _ (and_from _ _ entered at_x) (or_right ((generated_test shape transfer).test x) _ (and_from _ _ brought preserved))));
     }) member)
 
 pub solution_decided : (shape : Shape) (transfer : Transfer) (x : ℕ) → IsInSolution shape transfer x ⊎ (¬ (IsInSolution shape transfer x))
 solution_decided shape transfer x =
-    go (flag_decided shape x) (decided (made_test shape transfer) x) (decided (brought_test shape transfer) (shape.procedure_of x))
-    (decided (kept_test shape transfer.kill) x)
+    go (flag_decided shape x) (decided (generated_test shape transfer) x) (decided (brought_test shape transfer) (shape.procedure_of x))
+    (decided (preserved_test shape transfer.kill) x)
   where
     neither : {A B : Type 0} → ¬ A → ¬ B → A ⊎ B → ⊥
     neither not_a not_b (inl a) = not_a a
     neither not_a not_b (inr b) = not_b b
 
-    go : HasFlag shape x ⊎ (¬ (HasFlag shape x)) → Made shape transfer x ⊎ (¬ (Made shape transfer x))
+    go : HasFlag shape x ⊎ (¬ (HasFlag shape x)) → Generated shape transfer x ⊎ (¬ (Generated shape transfer x))
         → Brought shape transfer (shape.procedure_of x) ⊎ (¬ (Brought shape transfer (shape.procedure_of x)))
-        → Kept shape transfer.kill x ⊎ (¬ (Kept shape transfer.kill x))
+        → Preserved shape transfer.kill x ⊎ (¬ (Preserved shape transfer.kill x))
         → IsInSolution shape transfer x ⊎ (¬ (IsInSolution shape transfer x))
-    go (inr no_flag) made brought kept = inr (λ member. no_flag member.0)
-    go (inl flag) (inl made) brought kept = inl (flag, inl made)
-    go (inl flag) (inr not_made) (inl brought) (inl kept) = inl (flag, inr (brought, kept))
-    go (inl flag) (inr not_made) (inr not_brought) kept = inr (λ member. neither not_made (λ both. not_brought both.0) member.1)
-    go (inl flag) (inr not_made) (inl brought) (inr not_kept) = inr (λ member. neither not_made (λ both. not_kept both.1) member.1)
+    go (inr no_flag) generated brought preserved = inr (λ member. no_flag member.0)
+    go (inl flag) (inl generated) brought preserved = inl (flag, inl generated)
+    go (inl flag) (inr not_generated) (inl brought) (inl preserved) = inl (flag, inr (brought, preserved))
+    go (inl flag) (inr not_generated) (inr not_brought) preserved = inr (λ member. neither not_generated (λ both. not_brought both.0) member.1)
+    go (inl flag) (inr not_generated) (inl brought) (inr not_preserved) = inr (λ member. neither not_generated (λ both. not_preserved both.1) member.1)

@@ -43,10 +43,10 @@ put_behind at k before old name stands size =
     ∙ sym (append_assoc before name (drop (at + k) old))
 
 -- what is told of one number more than before
-pub told_further : (names : List (List ℕ)) (number end : ℕ) (ends : List ℕ) → number < length ends → end ≡ length (concat (take (number + 1) names))
+pub known_further : (names : List (List ℕ)) (number end : ℕ) (ends : List ℕ) → number < length ends → end ≡ length (concat (take (number + 1) names))
     → ((n : ℕ) → n < number → get_or ends n 0 ≡ length (concat (take (n + 1) names)))
     → (n : ℕ) → n < number + 1 → get_or (set ends number end) n 0 ≡ length (concat (take (n + 1) names))
-told_further names number end ends there is before n below = elim (cases_eq n number) [
+known_further names number end ends there is before n below = elim (cases_eq n number) [
   | inl same ↦ ap (λ m. get_or (set ends number end) m 0) same ∙ get_or-set_same ends number end 0 there ∙ is
       ∙ ap (λ m. length (concat (take (m + 1) names))) (sym same)
   | inr apart ↦ get_or-set_other ends number n end 0 apart ∙ before n (omega (arith, below, apart))

@@ -14,15 +14,15 @@ use Rattle.gk_solve.specs.Solved.{AreMeetWords, IsSliceOf, SliceTable, word_at}
 use Rattle.tacflow_c.specs.Facts.{IsFactWord}
 
 -- a place of a may form's word, and whether it is told
-abbrev pub told_place : Bool → Bool → Bool → Bool
-told_place must set inside = if must then not set && inside else set
+abbrev pub table_place : Bool → Bool → Bool → Bool
+table_place must set inside = if must then not set && inside else set
 
 pub same_place : (must must_too : Bool) (bits bits_too : ℕ) (full full_too : RowSet) (b k : ℕ) → must ≡ must_too → bits ≡ bits_too → full ≡ full_too
-    → told_place must (has_bit bits k) (contains full b) ≡ told_place must_too (has_bit bits_too k) (contains full_too b)
+    → table_place must (has_bit bits k) (contains full b) ≡ table_place must_too (has_bit bits_too k) (contains full_too b)
 same_place must must_too bits bits_too full full_too b k musts words fulls =
-    ap (λ m. told_place m (has_bit bits k) (contains full b)) musts
-    ∙ ap (λ n. told_place must_too (has_bit n k) (contains full b)) words
-    ∙ ap (λ s. told_place must_too (has_bit bits_too k) (contains s b)) fulls
+    ap (λ m. table_place m (has_bit bits k) (contains full b)) musts
+    ∙ ap (λ n. table_place must_too (has_bit n k) (contains full b)) words
+    ∙ ap (λ s. table_place must_too (has_bit bits_too k) (contains s b)) fulls
 
 -- a bit of the full set is within it
 within_full : (lo hi b : ℕ) → lo ≤ hi → contains (full_set lo hi) b ≡ true → (lo ≤ b) × (b < hi)
@@ -39,21 +39,21 @@ within_full lo hi b ordered is =
     )
 
 -- what is told of a bit of a may analysis,
-may_told : (Table Some : Type 0) (lo hi b : ℕ) (set : Bool) → (Some ↔ Table) → (set ≡ true) ↔ ((lo ≤ b) × (b < hi) × Some)
+may_known : (Table Some : Type 0) (lo hi b : ℕ) (set : Bool) → (Some ↔ Table) → (set ≡ true) ↔ ((lo ≤ b) × (b < hi) × Some)
     → (set ≡ true) ↔ ((lo ≤ b) × (b < hi) × Table)
-may_told Table Some lo hi b set law is = (
+may_known Table Some lo hi b set law is = (
   (λ told. let has = is.0 told in (has.0, has.1, law.0 has.2)),
   (λ has. is.1 (has.0, has.1, law.1 has.2)),
 )
 
 -- and of one of a must analysis
-must_told : (Table Some : Type 0) (lo hi b : ℕ) (set inside : Bool) → ((¬ Some) ↔ Table) → (set ≡ true) ↔ ((lo ≤ b) × (b < hi) × Some)
+must_known : (Table Some : Type 0) (lo hi b : ℕ) (set inside : Bool) → ((¬ Some) ↔ Table) → (set ≡ true) ↔ ((lo ≤ b) × (b < hi) × Some)
     → (inside ≡ true) ↔ ((lo ≤ b) × (b < hi)) → ((not set && inside) ≡ true) ↔ ((lo ≤ b) × (b < hi) × Table)
-must_told Table Some lo hi b true inside law is within = (
+must_known Table Some lo hi b true inside law is within = (
   (λ told. absurd (true≢false (sym told))),
   (λ has. absurd (law.1 has.2 (is.0 refl).2)),
 )
-must_told Table Some lo hi b false inside law is within = (
+must_known Table Some lo hi b false inside law is within = (
   (λ told. let there = within.0 told in (there.0, there.1, law.0 (λ some. true≢false (sym (is.1 (there.0, there.1, some)))))),
   (λ has. within.1 (has.0, has.1)),
 )
@@ -61,7 +61,7 @@ must_told Table Some lo hi b false inside law is within = (
 pub fact_word : (form : MayForm) (slice : SliceTable) (point word told : ℕ) → IsSliceOf form slice → AreMeetWords form slice
     → point < slice.points → slice.from ≤ word → word < slice.until
     → ((k : ℕ) → k < 64 → has_bit told k
-    ≡ told_place (is_must form.analysis) (has_bit (word_at slice point word) k) (contains (full_set slice.lo slice.hi) (64 * word + k)))
+    ≡ table_place (is_must form.analysis) (has_bit (word_at slice point word) k) (contains (full_set slice.lo slice.hi) (64 * word + k)))
     → IsFactWord form.program form.analysis slice.lo slice.hi point word told
 fact_word form slice point word told of meets there from until places k small = go (is_must form.analysis) refl
   where
@@ -75,8 +75,8 @@ fact_word form slice point word told of meets there from until places k small = 
         let inside = contains (full_set slice.lo slice.hi) (64 * word + k) in
         subst (λ (b : Bool). (b ≡ true)
         ↔ ((slice.lo ≤ 64 * word + k) × (64 * word + k < slice.hi) × IsInTable form.program form.analysis point (64 * word + k)))
-        (sym (places k small ∙ ap (λ (m : Bool). told_place m set inside) is))
-        (must_told (IsInTable form.program form.analysis point (64 * word + k)) here slice.lo slice.hi (64 * word + k) set inside
+        (sym (places k small ∙ ap (λ (m : Bool). table_place m set inside) is))
+        (must_known (IsInTable form.program form.analysis point (64 * word + k)) here slice.lo slice.hi (64 * word + k) set inside
         (law.1, law.0) (meets point word k there from until small)
         (within_full slice.lo slice.hi (64 * word + k) of.ordered, λ within. contains-full_set slice.lo slice.hi (64 * word + k) within.0 within.1))
     go false is =
@@ -86,6 +86,6 @@ fact_word form slice point word told of meets there from until places k small = 
         let inside = contains (full_set slice.lo slice.hi) (64 * word + k) in
         subst (λ (b : Bool). (b ≡ true)
         ↔ ((slice.lo ≤ 64 * word + k) × (64 * word + k < slice.hi) × IsInTable form.program form.analysis point (64 * word + k)))
-        (sym (places k small ∙ ap (λ (m : Bool). told_place m set inside) is))
-        (may_told (IsInTable form.program form.analysis point (64 * word + k)) here slice.lo slice.hi (64 * word + k) set
+        (sym (places k small ∙ ap (λ (m : Bool). table_place m set inside) is))
+        (may_known (IsInTable form.program form.analysis point (64 * word + k)) here slice.lo slice.hi (64 * word + k) set
         (law.1, law.0) (meets point word k there from until small))

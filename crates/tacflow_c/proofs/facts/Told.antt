@@ -21,20 +21,20 @@ one_where : (P : Type 0) (flag : Bool) (n : ℕ) → n ≡ (if flag then 1 else 
 one_where P true n is told = ((λ one. told.0 refl), (λ p. is))
 one_where P false n is told = ((λ one. absurd (omega (arith, is, one))), (λ p. absurd (cc (told.1 p))))
 
-pub all_told : (program : Program) (analysis : Analysis) (from until lo hi : ℕ) (paths : List Bool) (old_flags flags old words : List ℕ)
+pub all_known : (program : Program) (analysis : Analysis) (from until lo hi : ℕ) (paths : List Bool) (old_flags flags old words : List ℕ)
     → AreInRange program analysis from until lo hi
     → HasPathFlags (record { program = program; analysis = analysis }) paths → length old_flags ≡ until - from → AreNumbers paths from old_flags flags
     → length old ≡ (until - from) * word_count lo hi
     → AreFilled (IsRowWord program analysis from lo hi) (until - from) (word_count lo hi) (lo / 64) (lo / 64) ((hi + 63) / 64) old words
     → AreFactsOf program analysis from until lo hi flags words
-all_told program analysis from until lo hi paths old_flags flags old words range paths_told flag_room numbers room filled = record {
+all_known program analysis from until lo hi paths old_flags flags old words range paths_known flag_room numbers room filled = record {
   in_range = range;
   flag_count = numbers.count ∙ flag_room;
   flag = λ row there. below_two _ _ (numbers.each row (omega (arith, there, flag_room)));
   path = λ row there.
       let point_there : from + row < point_count program = omega (arith, there, range.1) in
       let law = flags_are_may_forms program analysis (from + row) in
-      let here = paths_told.flag (from + row) point_there in
+      let here = paths_known.flag (from + row) point_there in
       one_where (HasPathAt program analysis (from + row)) _ _ (numbers.each row (omega (arith, there, flag_room)))
       ((λ is. law.1 (here.0 is)), (λ path. here.1 (law.0 path)));
   count = filled.size ∙ room;

@@ -1,7 +1,7 @@
 use Rattle.std.proofs.Common.{◌≡◌, ◌∙◌, sym, ap, Option, is_some}
 use Rattle.std.specs.Prelude.{option_and_then, unwrap_or}
 use Rattle.clap.specs.Words.{Text}
-use Rattle.flow_commands.specs.Shows.{show_named}
+use Rattle.flow_commands.specs.Kinds.{show_named}
 use Rattle.flow_runs.proofs.matches.Cases.{some_of_test}
 use Rattle.flow_commands.proofs.words.shown_by.Goals as goal
 

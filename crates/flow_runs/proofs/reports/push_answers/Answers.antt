@@ -1,5 +1,5 @@
 use Rattle.std.proofs.Common.{List, ℕ, sym, subst}
-use Rattle.flow_texts.specs.Reports.{IsReport, ListsSafely}
+use Rattle.flow_reports.specs.Reports.{IsReport, ListsSafely}
 use Rattle.flow_runs.proofs.deliveries.Deliveries.{delivers_as}
 use Rattle.flow_runs.proofs.reports.push_answers.Goals as goal
 

@@ -1,7 +1,7 @@
 use Rattle.std.proofs.Common.{◌≡◌, ◌<◌, ◌≤◌}
 use Rattle.slice_board.specs.Boards.{IsOf}
 use Rattle.flow_team.specs.code.Posting.{IsPosted}
-use Rattle.slice_team.specs.Teams.{PostsMore}
+use Rattle.slice_board.specs.Teams.{PostsMore}
 use Rattle.flow_team.proofs.posting.post_point.Given as goal
 
 abbrev pub invariant-loop-word : goal.invariant-loop-word

@@ -1,5 +1,5 @@
 use Rattle.std.proofs.Common.{◌++◌, codes, ap, sym, ◌∙◌}
-use Rattle.flow_texts.specs.code.Findings.{remark_name}
+use Rattle.flow_reports.specs.code.Findings.{remark_name}
 use Rattle.text_pieces.proofs.sinks.Taking.{takes_as}
 use Rattle.tac_program.specs.Programs.{Program}
 use Rattle.flow_views.specs.Json.{remark_fields}

@@ -4,7 +4,7 @@ use Rattle.std.proofs.Math.ListN.{length-set}
 use Rattle.flow_links.specs.Shapes.{directed_shape}
 use Rattle.gk_solve.specs.Tables.Brought.{IsBroughtClosedAt, brought_word}
 use Rattle.gk_solve.specs.Tables.Flags.{source_procedure}
-use Rattle.gk_solve.specs.Tables.Groups.{group_of, kept_word, made_word}
+use Rattle.gk_solve.specs.Tables.Groups.{group_of, preserved_word, generated_word}
 use Rattle.gk_solve.proofs.visits.Visits.{visit_falls, visit_settles_from, all_closed}
 use Rattle.gk_solve.proofs.edges.WordEdges.{all_brought}
 use Rattle.gk_solve.proofs.bring.brought.Goals as goal
@@ -34,7 +34,7 @@ returns-clause-exact g c w p k inside low =
     (source_procedure (directed_shape c.args.frame.now.links.now)) c.visits.brought c.visits.dirty
     c.visits.invariant.settled c.in_default.ensures.0 in (
       λ has. c.visits.invariant.sound w inside p k low has,
-      all_brought is.numbered (group.transfer w) c.args.frame.now.paths.now is.paths (kept_word c.args.table.now w) (made_word c.args.table.now w)
+      all_brought is.numbered (group.transfer w) c.args.frame.now.paths.now is.paths (preserved_word c.args.table.now w) (generated_word c.args.table.now w)
           (brought_word c.visits.brought w)
           (λ x k low flag. (c.requires.complete w x k inside low flag).0) (λ x k low flag. (c.requires.complete w x k inside low flag).1)
           (λ edge there. closed edge there w inside) k low (λ has. c.visits.invariant.root w k inside low has) p,

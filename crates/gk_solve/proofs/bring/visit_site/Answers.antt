@@ -1,6 +1,6 @@
 use Rattle.std.proofs.Common.{◌<◌, ◌≡◌, ◌⊎◌, inl, inr, ℕ, length, List, arith, ap, subst, sym}
 use Rattle.std.proofs.lemmas.Bool.{cases_eq}
-use Rattle.work_list.specs.Marks.{IsMarked}
+use Rattle.worklist.specs.Worklist.{IsMarked}
 use Rattle.gk_solve.specs.Tables.Brought.{brought_word}
 use Rattle.gk_solve.specs.Tables.Groups.{group_of}
 use Rattle.gk_solve.proofs.visits.BroughtVisits.{site_settled}
@@ -26,7 +26,7 @@ put_brought-requires g c =
               c.requires.within.1,
               brings_of g.row.W c.args.frame.now is c.args.table.now c.args.brought.now c.args.procedure c.args.site there.3 point_within
                   procedure_within c.index-table-site.result c.index-brought-procedure.result c.index-table-site.is c.index-brought-procedure.is
-                  c.new_or_kept-more.result c.new_or_kept-more.ensures there c.if-not-frame-site.false c.requires.summaries c.requires.sound,
+                  c.new_or_preserved-more.result c.new_or_preserved-more.ensures there c.if-not-frame-site.false c.requires.summaries c.requires.sound,
             ),
           ),
         ),
@@ -50,8 +50,8 @@ returns-clause-settled g c =
     ] in
     site_settled (group_of c.args.frame.now g.row.W) c.args.frame.now.paths.now c.args.table.now c.args.brought.now c.put_brought.new.brought
     c.put_brought.new.dirty
-    c.args.site c.args.procedure c.new_or_kept-more.result there.3
+    c.args.site c.args.procedure c.new_or_preserved-more.result there.3
     (brings_bits g.row.W c.args.frame.now is c.args.table.now c.args.brought.now c.args.procedure c.args.site there.3 point_within procedure_within
     c.index-table-site.result c.index-brought-procedure.result c.index-table-site.is c.index-brought-procedure.is
-    c.new_or_kept-more.result c.new_or_kept-more.ensures)
+    c.new_or_preserved-more.result c.new_or_preserved-more.ensures)
     c.put_brought.ensures.added same

@@ -1,5 +1,5 @@
 use Rattle.gk_solve.proofs.words.EffectLemmas.{bit_before}
-use Rattle.work_list.proofs.words.MarkLemmas.{set_same}
+use Rattle.worklist.proofs.words.MarkLemmas.{set_same}
 use Rattle.gk_solve.proofs.effects.with_bit.Goals as goal
 
 pub returns-clause-here : goal.returns-clause-here

@@ -35,11 +35,11 @@ put_summary-requires g c =
               call_keeps_of g.row.W c.args.frame.now is c.args.table.now c.requires.sound c.args.at c.args.call there c.requires.path
                   c.if-not-frame-call.false within exit_within c.index-table-at.result c.index-table-call.result c.index-table-at.is
                   c.index-table-call.is
-                  c.common_words.result c.new_or_kept.result c.common_words.ensures c.new_or_kept.ensures,
+                  c.common_words.result c.new_or_preserved.result c.common_words.ensures c.new_or_preserved.ensures,
               call_makes_of g.row.W c.args.frame.now is c.args.table.now c.requires.sound c.args.at c.args.call there c.requires.path
                   c.if-not-frame-call.false within exit_within c.index-table-at.result c.index-table-call.result c.index-table-at.is
                   c.index-table-call.is
-                  c.common_words.result c.new_or_kept.result c.common_words.ensures c.new_or_kept.ensures,
+                  c.common_words.result c.new_or_preserved.result c.common_words.ensures c.new_or_preserved.ensures,
             ),
           ),
         ),
@@ -57,9 +57,9 @@ returns-clause-settled g c =
     let exit_within : c.args.call.exit < length c.args.table.now = omega (arith, low, c.requires.count) in
     call_settled_of g.row.W c.args.frame.now is c.args.table.now c.requires.sound c.args.at c.args.call there c.requires.path
     c.if-not-frame-call.false within exit_within c.index-table-at.result c.index-table-call.result c.index-table-at.is c.index-table-call.is
-    c.common_words.result c.new_or_kept.result c.common_words.ensures c.new_or_kept.ensures c.put_summary.new.table c.put_summary.new.dirty
+    c.common_words.result c.new_or_preserved.result c.common_words.ensures c.new_or_preserved.ensures c.put_summary.new.table c.put_summary.new.dirty
     c.put_summary.ensures.same
-    c.put_summary.ensures.kept_added c.put_summary.ensures.made_added
+    c.put_summary.ensures.preserved_added c.put_summary.ensures.generated_added
 
 pub returns-clause-spreads : goal.returns-clause-spreads
 returns-clause-spreads g c = c.put_summary.ensures.spreads

@@ -1,7 +1,7 @@
 use Rattle.std.proofs.Common.{◌<◌, length, arith, ap, ◌∙◌}
 use Rattle.gk_solve.specs.Tables.Groups.{group_of}
 use Rattle.gk_solve.specs.Tables.Words.{step_statement}
-use Rattle.gk_solve.proofs.edges.GroupLemmas.{statement_low, step_kept, step_made, step_keeps_of, step_makes_of}
+use Rattle.gk_solve.proofs.edges.GroupLemmas.{statement_low, step_preserved, step_generated, step_keeps_of, step_makes_of}
 use Rattle.gk_solve.proofs.visits.SummaryVisits.{has_size, step_settled}
 use Rattle.gk_solve.proofs.group.visit_step.Goals as goal
 
@@ -31,10 +31,10 @@ put_summary-requires g c =
             (
               step_keeps_of g.row.W c.args.frame.now is c.args.table.now c.requires.sound c.args.at c.args.to c.statement_point-point.result
                   c.requires.there point_is c.requires.path within c.index-table-at.result c.across_step-more.result c.index-table-at.is
-                  c.across_step-more.ensures.kept c.across_step-more.ensures.made,
+                  c.across_step-more.ensures.preserved c.across_step-more.ensures.generated,
               step_makes_of g.row.W c.args.frame.now is c.args.table.now c.requires.sound c.args.at c.args.to c.statement_point-point.result
                   c.requires.there point_is c.requires.path within c.index-table-at.result c.across_step-more.result c.index-table-at.is
-                  c.across_step-more.ensures.kept c.across_step-more.ensures.made,
+                  c.across_step-more.ensures.preserved c.across_step-more.ensures.generated,
             ),
           ),
         ),
@@ -49,10 +49,10 @@ returns-clause-settled g c =
     let point_is = c.statement_point-point.ensures ∙ ap (λ b. step_statement b c.args.at c.args.to) c.direction.ensures in
     step_settled (group_of c.args.frame.now g.row.W)
     c.args.frame.now.paths.now c.args.at c.args.to c.args.table.now c.put_summary.new.table c.put_summary.new.dirty c.across_step-more.result
-    (step_kept g.row.W c.args.frame.now is c.args.table.now c.requires.sound c.args.at c.args.to c.statement_point-point.result c.requires.there
-    point_is c.requires.path within c.index-table-at.result c.across_step-more.result c.index-table-at.is c.across_step-more.ensures.kept
-    c.across_step-more.ensures.made)
-    (step_made g.row.W c.args.frame.now is c.args.table.now c.requires.sound c.args.at c.args.to c.statement_point-point.result c.requires.there
-    point_is c.requires.path within c.index-table-at.result c.across_step-more.result c.index-table-at.is c.across_step-more.ensures.kept
-    c.across_step-more.ensures.made)
-    c.put_summary.ensures.same c.put_summary.ensures.kept_added c.put_summary.ensures.made_added
+    (step_preserved g.row.W c.args.frame.now is c.args.table.now c.requires.sound c.args.at c.args.to c.statement_point-point.result c.requires.there
+    point_is c.requires.path within c.index-table-at.result c.across_step-more.result c.index-table-at.is c.across_step-more.ensures.preserved
+    c.across_step-more.ensures.generated)
+    (step_generated g.row.W c.args.frame.now is c.args.table.now c.requires.sound c.args.at c.args.to c.statement_point-point.result c.requires.there
+    point_is c.requires.path within c.index-table-at.result c.across_step-more.result c.index-table-at.is c.across_step-more.ensures.preserved
+    c.across_step-more.ensures.generated)
+    c.put_summary.ensures.same c.put_summary.ensures.preserved_added c.put_summary.ensures.generated_added

@@ -2,7 +2,7 @@ use Rattle.std.proofs.Common.{◌<◌, get_or, arith}
 use Rattle.std.proofs.lemmas.List.Elements.{All-get_or}
 use Rattle.flow_graph.specs.Points.{point_count}
 use Rattle.flow_links.specs.Shapes.{directed_shape}
-use Rattle.work_list.specs.Marks.{IsMarked}
+use Rattle.worklist.specs.Worklist.{IsMarked}
 use Rattle.gk_solve.proofs.visits.FlagVisits.{grown_spreads}
 use Rattle.gk_solve.proofs.visits.Listed.{each_listed}
 use Rattle.gk_solve.proofs.reach.reach_point.Goals as goal

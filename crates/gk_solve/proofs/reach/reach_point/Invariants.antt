@@ -1,5 +1,5 @@
 use Rattle.std.proofs.Common.{◌≡◌, ◌<◌, ℕ, get_or, length}
-use Rattle.work_list.specs.Marks.{IsMarked}
+use Rattle.worklist.specs.Worklist.{IsMarked}
 use Rattle.gk_solve.proofs.reach.reach_point.Given as goal
 
 abbrev pub invariant-loop-caller : goal.invariant-loop-caller

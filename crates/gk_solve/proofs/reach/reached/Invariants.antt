@@ -1,5 +1,5 @@
 use Rattle.std.proofs.Common.{◌≡◌, ◌<◌, ◌+◌, ◌*◌, ℕ, length}
-use Rattle.work_list.proofs.counts.MarkCounts.{mark_count}
+use Rattle.worklist.proofs.counts.MarkCounts.{mark_count}
 use Rattle.flow_graph.specs.declared.edge.Edge.{Edge}
 use Rattle.flow_graph.specs.Paths.{IsEdge, source_of}
 use Rattle.flow_graph.specs.Points.{point_count}

@@ -8,7 +8,7 @@ use Rattle.slice_board.proofs.filling.put_row.Goals as goal
 pub block_of-block-requires-clause-room : goal.block_of-block-requires-clause-room
 block_of-block-requires-clause-room c =
     let test = c.loop-first-test.true in
-    let end = c.div_ceil-words.ensures in
+    let end = c.words_for-words.ensures in
     let high = c.hi.ensures in
     let less = c.min-count.ensures in
     block_room (c.args.from + c.args.point) c.loop-first.first c.min-count.result (words_for c.args.rows.now.hi) c.points-apart.result
@@ -22,7 +22,7 @@ or_words-requires-clause-masks c k below i within set =
     let hi = ap (λ (r : RowTable). r.hi) so_far.others in
     let lowest = c.requires.lowest in
     let test = c.loop-first-test.true in
-    let end = c.div_ceil-words.ensures in
+    let end = c.words_for-words.ensures in
     let high = c.hi.ensures in
     let less = c.min-count.ensures in
     let size = length-take-le c.min-count.result c.block_of-block.result (omega arith) in
@@ -37,7 +37,7 @@ loop-first-preserved c =
     let i = c.loop-first.invariant in
     let words = slots_items c.args.closed.now.words in
     let test = c.loop-first-test.true in
-    let end = c.div_ceil-words.ensures in
+    let end = c.words_for-words.ensures in
     let less = c.min-count.ensures in
     record {
       within = omega arith;

@@ -20,5 +20,5 @@ returns-clause-in_callee c =
 pub returns-clause-not_before_second_call : goal.returns-clause-not_before_second_call
 returns-clause-not_before_second_call c =
     not_in_solution (reversed_shape two_prints) (reversed_transfer live_first)
-    (record { reached = λ n. true; kept = λ n. true; made = is_one_of (0 ∷ 1 ∷ []); entered = λ n. true; brought = is_one_of (1 ∷ []) })
+    (record { reached = λ n. true; preserved = λ n. true; generated = is_one_of (0 ∷ 1 ∷ []); entered = λ n. true; brought = is_one_of (1 ∷ []) })
     refl 2 refl refl

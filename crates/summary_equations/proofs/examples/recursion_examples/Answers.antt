@@ -14,7 +14,7 @@ returns-clause-inner_after_inner_call c = let well = well_formed_is recursive_pr
 
 pub returns-clause-inner_not_before_inner_call : goal.returns-clause-inner_not_before_inner_call
 returns-clause-inner_not_before_inner_call c = not_in_solution recursive_procedure inner_definition
-    (record { reached = λ n. true; kept = λ n. true; made = is_one_of (2 ∷ 3 ∷ 6 ∷ 7 ∷ []); entered = λ n. true; brought = λ n. false })
+    (record { reached = λ n. true; preserved = λ n. true; generated = is_one_of (2 ∷ 3 ∷ 6 ∷ 7 ∷ []); entered = λ n. true; brought = λ n. false })
     refl 5 refl refl
 
 pub returns-clause-definition_at_beginning : goal.returns-clause-definition_at_beginning
@@ -28,5 +28,5 @@ returns-clause-entry_value_after_test c = let path = Step 0 3 ∷ [] in
 
 pub returns-clause-entry_value_not_before_call : goal.returns-clause-entry_value_not_before_call
 returns-clause-entry_value_not_before_call c = not_in_solution recursive_main value_at_entry
-    (record { reached = λ n. true; kept = is_one_of (0 ∷ 1 ∷ 3 ∷ 4 ∷ []); made = λ n. false; entered = λ n. true; brought = is_one_of (0 ∷ []) })
+    (record { reached = λ n. true; preserved = is_one_of (0 ∷ 1 ∷ 3 ∷ 4 ∷ []); generated = λ n. false; entered = λ n. true; brought = is_one_of (0 ∷ []) })
     refl 2 refl refl

@@ -16,8 +16,8 @@ returns-clause-outer_not_after_inner c =
     not_in_solution several_callees outer_definition
     (record {
       reached = λ n. true;
-      kept = is_one_of (0 ∷ 1 ∷ 2 ∷ 3 ∷ 4 ∷ 6 ∷ 7 ∷ []);
-      made = is_one_of (1 ∷ 2 ∷ 3 ∷ []);
+      preserved = is_one_of (0 ∷ 1 ∷ 2 ∷ 3 ∷ 4 ∷ 6 ∷ 7 ∷ []);
+      generated = is_one_of (1 ∷ 2 ∷ 3 ∷ []);
       entered = λ n. true;
       brought = λ n. true;
     })
@@ -32,5 +32,5 @@ returns-clause-inner_after_call c =
 pub returns-clause-inner_not_in_second : goal.returns-clause-inner_not_in_second
 returns-clause-inner_not_in_second c =
     not_in_solution several_callees inner_of_first
-    (record { reached = λ n. true; kept = λ n. true; made = is_one_of (2 ∷ 3 ∷ 5 ∷ []); entered = λ n. true; brought = λ n. false })
+    (record { reached = λ n. true; preserved = λ n. true; generated = is_one_of (2 ∷ 3 ∷ 5 ∷ []); entered = λ n. true; brought = λ n. false })
     refl 7 refl refl

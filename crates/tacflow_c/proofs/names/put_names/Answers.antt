@@ -3,7 +3,7 @@ use Rattle.std.proofs.Common.{◌≡◌, ◌+◌, ◌-◌, ◌<◌, ◌++◌, �
 use Rattle.std.specs.List.{concat}
 use borrow.Rule.Slice.PartMut.{put_mid}
 use Rattle.tacflow_c.specs.Names.{names_of}
-use Rattle.tacflow_c.proofs.buffers.JoinedNames.{next_name, put_behind, told_further, within_names}
+use Rattle.tacflow_c.proofs.buffers.JoinedNames.{next_name, put_behind, known_further, within_names}
 use Rattle.tacflow_c.proofs.names.put_names.Goals as goal
 
 pub slice_bounds-copy_from_slice-end : goal.slice_bounds-copy_from_slice-end
@@ -31,7 +31,7 @@ loop-number-preserved c =
     record {
       at = end;
       count = length-set c.loop-number.ends number (at + length name) ∙ before.count;
-      end = told_further names number (at + length name) c.loop-number.ends (omega (arith, there, before.count)) end before.end;
+      end = known_further names number (at + length name) c.loop-number.ends (omega (arith, there, before.count)) end before.end;
       bytes =
           ap₂ (λ l s. put_mid at (at + length name - at) l s) before.bytes c.copy_from_slice.ensures.after
           ∙ put_behind at (at + length name - at) (concat (take number names)) c.args.bytes.now name before.at size

@@ -5,7 +5,7 @@ use Rattle.flow_graph.specs.Problems.{MayForm}
 use Rattle.tacflow_c.specs.Facts.{IsRowWord}
 use Rattle.tacflow_c.specs.code.Filled.{AreFilled}
 use Rattle.tacflow_c.specs.code.Flags.{AreNumbers}
-use Rattle.tacflow_c.proofs.facts.Told.{all_told}
+use Rattle.tacflow_c.proofs.facts.Told.{all_known}
 use Rattle.tacflow_c.proofs.table.put_solved.Goals as goal
 
 pub returns-clause-facts : goal.returns-clause-facts
@@ -22,7 +22,7 @@ returns-clause-facts c =
     let range = c.in_ok-slice.ensures.range in
     let old : List ℕ = c.args.words.now in
     let new : List ℕ = c.put_slice.new.words in
-    all_told form.program form.analysis from until lo hi c.in_ok-paths.paths.items c.args.flags.now c.put_flags.new.flags old new
+    all_known form.program form.analysis from until lo hi c.in_ok-paths.paths.items c.args.flags.now c.put_flags.new.flags old new
     c.requires.in_range c.in_ok-paths.ensures c.requires.room.0
     (subst (λ l. AreNumbers l from c.args.flags.now c.put_flags.new.flags) c.deref.ensures.value c.put_flags.ensures)
     c.requires.room.1

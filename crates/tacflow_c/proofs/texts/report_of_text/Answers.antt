@@ -1,6 +1,6 @@
 -- The report of a text's program, in room or for want of it.
 use Rattle.std.proofs.Common.{◌≡◌, ◌∙◌, ◌++◌, ap, subst, drop, length, arith}
-use Rattle.flow_texts.specs.Reports.{ListsSafely}
+use Rattle.flow_reports.specs.Reports.{ListsSafely}
 use Rattle.tac_program.specs.Programs.{Program}
 use Rattle.tac_reader.specs.Parses.{program_of}
 use Rattle.tacflow_c.proofs.answers.Graphs.{has_graph}

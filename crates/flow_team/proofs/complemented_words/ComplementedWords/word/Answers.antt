@@ -4,7 +4,7 @@ use Rattle.bit_rows.specs.RowTable.{RowTable}
 use Rattle.bit_rows.specs.Words.{has_bit}
 use Rattle.flow_graph.specs.Directions.{is_intersection}
 use Rattle.flow_team.specs.code.Complements.{members_of}
-use Rattle.flow_team.proofs.complements.ComplementedTables.{none_past, told_contains, word_complemented}
+use Rattle.flow_team.proofs.complements.ComplementedTables.{none_past, known_contains, word_complemented}
 use Rattle.flow_team.proofs.complemented_words.ComplementedWords.word.Goals as goal
 
 pub returns-clause-set : goal.returns-clause-set
@@ -19,7 +19,7 @@ returns-clause-set c =
     (λ bit has. c.bits.ensures.within c.args.point bit has) c.word.ensures
     (λ j little. c.complement_mask.ensures j little ∙ ap (λ n. is_intersection inside.join && nat_lt (64 * c.args.word + j) n) c.bits.ensures.value)
     k small
-    ∙ sym (told_contains (is_intersection inside.join) inside.posted c.args.point there (64 * c.args.word + k)))
+    ∙ sym (known_contains (is_intersection inside.join) inside.posted c.args.point there (64 * c.args.word + k)))
 
 pub returns-clause-past : goal.returns-clause-past
 returns-clause-past c = λ k small past.

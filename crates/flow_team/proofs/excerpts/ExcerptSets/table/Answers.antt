@@ -8,8 +8,8 @@ pub table_from-requires-clause-rows : goal.table_from-requires-clause-rows
 table_from-requires-clause-rows c = λ point bit.
     let is = sym c.self.view_is in
     let count : length c.args.posted.flags ≡ c.self.inside.count = c.requires.count ∙ ap (λ (excerpt : Excerpt). excerpt.count) is in
-    let told = subst (λ (excerpt : Excerpt). (contains (set_at c.args.posted point) bit ≡ true) ↔ IsInExcerpt excerpt point bit) is
+    let solved = subst (λ (excerpt : Excerpt). (contains (set_at c.args.posted point) bit ≡ true) ↔ IsInExcerpt excerpt point bit) is
     (c.requires.rows point bit) in (
-      (λ has. let set = told.0 has in (omega (arith, set.0, count), set.1)),
-      (λ both. told.1 (omega (arith, both.0, count), both.1)),
+      (λ has. let set = solved.0 has in (omega (arith, set.0, count), set.1)),
+      (λ both. solved.1 (omega (arith, both.0, count), both.1)),
     )

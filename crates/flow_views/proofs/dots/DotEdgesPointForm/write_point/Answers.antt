@@ -5,7 +5,7 @@ use Rattle.flow_graph.specs.declared.edge.Edge.{Edge}
 use Rattle.text_pieces.proofs.sinks.Taking.{takes_as, takes_then}
 use Rattle.tac_program.specs.Programs.{Program}
 use Rattle.flow_views.specs.Dots.{shown_edge}
-use Rattle.flow_views.specs.code.ShownProgram.{IsSiteIn}
+use Rattle.flow_views.specs.code.ViewProgram.{IsSiteIn}
 use Rattle.flow_views.proofs.facts.Tables.{sites_in}
 use Rattle.flow_views.proofs.dots.DotEdgesPointForm.write_point.Goals as goal
 

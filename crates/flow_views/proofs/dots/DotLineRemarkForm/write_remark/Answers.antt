@@ -1,7 +1,7 @@
 use Rattle.std.proofs.Common.{◌++◌, ap}
 use Rattle.tac_program.specs.Programs.{Program}
-use Rattle.flow_texts.specs.code.Findings.{remark_name, words_before, words_behind}
-use Rattle.flow_texts.proofs.knowledge.RemarkLines.{text_is}
+use Rattle.flow_reports.specs.code.Findings.{remark_name, words_before, words_behind}
+use Rattle.flow_reports.proofs.knowledge.RemarkLines.{text_is}
 use Rattle.text_pieces.proofs.sinks.Taking.{takes_as, takes_then}
 use Rattle.text_pieces.specs.Strings.{escaped}
 use Rattle.text_pieces.proofs.sinks.Escapes.{shows_then}

@@ -2,8 +2,8 @@ use Rattle.std.proofs.Common.{List, ℕ, ◌++◌, codes, decimal, map, flat_map
 use Rattle.flow_graph.specs.Points.{place_of, procedure_at}
 use Rattle.text_pieces.proofs.sinks.Taking.{takes_as, takes_then}
 use Rattle.tac_program.specs.Programs.{Program}
-use Rattle.flow_views.specs.code.ShownProgram.{known_of}
-use Rattle.flow_texts.specs.Reports.{Knowledge}
+use Rattle.flow_views.specs.code.ViewProgram.{known_of}
+use Rattle.flow_reports.specs.Reports.{Knowledge}
 use Rattle.flow_views.specs.Json.{array, edge_object, facts_field, span_fields, statement_field}
 use Rattle.text_pieces.specs.Strings.{quoted}
 use Rattle.flow_views.specs.Views.{chosen_analyses, procedure_name}

@@ -1,16 +1,16 @@
 use Rattle.std.proofs.Common.{List, ℕ, subst}
 use Rattle.tac_program.specs.Programs.{Program}
-use Rattle.flow_views.specs.code.ShownProgram.{AreShown, known_of}
+use Rattle.flow_views.specs.code.ViewProgram.{AreShown, known_of}
 use Rattle.flow_views.specs.Json.{IsJson, json_of}
-use Rattle.flow_views.specs.declared.shown.ShownProgram.{ShownProgram}
+use Rattle.flow_views.specs.declared.view_program.ViewProgram.{ViewProgram}
 use Rattle.flow_views.specs.declared.view.View.{View}
-use Rattle.flow_views.proofs.facts.Known.{all_of, all_of_is, known_agrees, told_all}
+use Rattle.flow_views.proofs.facts.Known.{all_of, all_of_is, known_agrees, known_all}
 use Rattle.flow_views.proofs.texts.SameTexts.{same_json}
 use Rattle.flow_views.proofs.json.JsonText.of.Goals as goal
 
 pub returns : goal.returns
 returns c =
-    let shown : ShownProgram = c.in_ok-shown.shown in
+    let shown : ViewProgram = c.in_ok-shown.shown in
     let are : AreShown shown = c.in_ok-shown.ensures.shown in
     let program : Program = shown.found.graph.now in
     let text : List ℕ = json_of program (known_of shown) shown.view in
@@ -20,5 +20,5 @@ returns c =
       known = all_of shown are;
       is_known = all_of_is shown are;
       is_text = same_json program are.found.sound (known_of shown) (all_of shown are) (known_agrees shown are) shown.view.facts
-          shown.view.procedure are.procedure (told_all shown are);
+          shown.view.procedure are.procedure (known_all shown are);
     })

@@ -8,14 +8,14 @@ use Rattle.slice_board.proofs.words.Sums.{read_at}
 use Rattle.slice_board.proofs.words.Worded.{no_word_there, word_there}
 use Rattle.slice_board.proofs.posted_words.PostedWords.word.Goals as goal
 
-pub returns-then-word-div_ceil : goal.returns-then-word-div_ceil
-returns-then-word-div_ceil c =
+pub returns-then-word-words_for : goal.returns-then-word-words_for
+returns-then-word-words_for c =
     let inside = c.self.inside in
     let flags = inside.flags.items in
     let there : c.args.point < length flags = subst (λ (t : RowTable). c.args.point < length t.flags) (sym c.self.view_is) c.requires in
     subst (λ (t : RowTable). IsWordOf (set_at t c.args.point) c.args.word 0) c.self.view_is
     (no_word_there inside.bits flags (word_of (slots_items inside.closed.words) inside.first (length flags)) c.args.point c.args.word there
-    (omega (arith, c.div_ceil.ensures, c.if-word-div_ceil.true)))
+    (omega (arith, c.words_for.ensures, c.if-word-words_for.true)))
 
 pub returns : goal.returns
 returns c =
@@ -23,7 +23,7 @@ returns c =
     let flags = inside.flags.items in
     let words = slots_items inside.closed.words in
     let there : c.args.point < length flags = subst (λ (t : RowTable). c.args.point < length t.flags) (sym c.self.view_is) c.requires in
-    let small : c.args.word < words_for inside.bits = omega (arith, c.div_ceil.ensures, c.if-word-div_ceil.false) in
+    let small : c.args.word < words_for inside.bits = omega (arith, c.words_for.ensures, c.if-word-words_for.false) in
     let len : c.len.result ≡ length flags = search rules in
     let value : c.word.result ≡ word_of words inside.first (length flags) c.args.point c.args.word =
     sym (read_at words (inside.first + c.args.point + c.args.word * c.len.result) c.word.result c.word.ensures)

@@ -30,7 +30,7 @@ of-requires-clause-posted g c =
     let all = c.if-done-of.false in
     let same = same_slices laid c.self.view_is in
     let bits = c.bits.ensures ∙ sym (ap (λ (k : Slices). k.bits) laid.cut_is) in
-    let tally = tally_is laid c.self.view_is _ _ c.words_needed-first.ensures c.slices.ensures.count in
+    let tally = tally_is laid c.self.view_is _ _ c.words_for.ensures c.slices.ensures.count in
     let end = finals g.T.Wanted.wants (about_key c.self.inside.table.shared.key)
     _ c.pass.inside.seat.me.0 _ _ (subst CoverBits (sym laid.cut_is) c.slices-of.ensures.cover)
     (λ s h. subst (λ (p : PassState _). 0 < shows_at (s / 64) (s % 64) p.counted) (sym c.pass.view_is)
@@ -54,7 +54,7 @@ returns-clause-rows g c point bit =
     let all = c.if-done-of.false in
     let same = same_slices laid c.self.view_is in
     let bits = c.bits.ensures ∙ sym (ap (λ (k : Slices). k.bits) laid.cut_is) in
-    let tally = tally_is laid c.self.view_is _ _ c.words_needed-first.ensures c.slices.ensures.count in
+    let tally = tally_is laid c.self.view_is _ _ c.words_for.ensures c.slices.ensures.count in
     let end = finals g.T.Wanted.wants (about_key c.self.inside.table.shared.key)
     _ c.pass.inside.seat.me.0 _ _ (subst CoverBits (sym laid.cut_is) c.slices-of.ensures.cover)
     (λ s h. subst (λ (p : PassState _). 0 < shows_at (s / 64) (s % 64) p.counted) (sym c.pass.view_is)
@@ -64,7 +64,7 @@ returns-clause-rows g c point bit =
     (sym laid.points_is) (λ p b wanted. let r = laid.within p b wanted in (r.0, omega (arith, r.1, c.bits.ensures))) in
     subst (λ (r : RowTable). (contains (set_at r point) bit ≡ true) ↔ g.T.Wanted.wants c.args.self.wanted point bit) (sym c.of.ensures)
     (subst (λ (t : _). (contains (set_at (worded_table c.bits.result c.self.inside.flags.items
-    (word_of (slots_items c.close_with-closed.result.words) (2 * c.words_needed-first.result) (length c.self.inside.flags.items))) point) bit
+    (word_of (slots_items c.close_with-closed.result.words) (2 * c.words_for.result) (length c.self.inside.flags.items))) point) bit
     ≡ true) ↔ g.T.Wanted.wants t point bit) (same_wanted laid c.self.view_is) (exact point bit))
 
 pub returns-clause-holding : goal.returns-clause-holding

@@ -15,7 +15,7 @@ overflow_add-done g c =
     let fits = c.slices-slices.type_inv in
     let room = c.low_ones-done.ensures.most in
     let test = c.words-test.true in
-    let end = c.div_ceil-word-end.ensures in
+    let end = c.words_for-word-end.ensures in
     let less = c.min.ensures in
     omega (arith, so_far.shown)
 
@@ -26,7 +26,7 @@ words-preserved g c =
     let slices = ap (λ (b : BoardState _). slice_count b.cut) c.self.view_is in
     let count = c.slices-slices.ensures.count in
     let test = c.words-test.true in
-    let end = c.div_ceil-word-end.ensures in
+    let end = c.words_for-word-end.ensures in
     let less = c.min.ensures in
     let places : c.min.result ≡ min (slice_count c.args.self.now.cut - 64 * c.words.word) 64 = omega arith in
     record {
@@ -45,6 +45,6 @@ returns-clause-counted g c =
     let slices = ap (λ (b : BoardState _). slice_count b.cut) c.self.view_is in
     let count = c.slices-slices.ensures.count in
     let test = c.words-test.false in
-    let end = c.div_ceil-word-end.ensures in
+    let end = c.words_for-word-end.ensures in
     let auto = c.words.auto.word-end in
     Counted-all (slice_count c.args.self.now.cut) c.words.word c.words.done c.args.pass.now c.words.pass c.words.invariant.so_far (omega arith)

@@ -13,7 +13,7 @@ fetch_or-requires g c =
     let laid = c.self.invariant in
     let is = c.self.view_is in
     let low = slice_low laid is c.pass.view_is c.requires.of c.args.slice c.pass.invariant.0 c.requires.held in
-    let tally = tally_is laid is _ _ c.words_needed.ensures c.slices.ensures.count in
+    let tally = tally_is laid is _ _ c.words_for.ensures c.slices.ensures.count in
     let wide = laid.wide in
     let low0 = low.0 in (
       sits laid is c.pass.view_is c.requires.of,
@@ -28,7 +28,7 @@ invariant_of-pass g c =
     let laid = c.self.invariant in
     let is = c.self.view_is in
     let p = c.pass.inside in
-    let tally = tally_is laid is _ _ c.words_needed.ensures c.slices.ensures.count in
+    let tally = tally_is laid is _ _ c.words_for.ensures c.slices.ensures.count in
     let told = c.fetch_or.ensures in
     let after = told.2 (about_key c.self.inside.table.shared.key) (knows laid is c.pass.view_is c.requires.of) c.args.slice (omega arith)
     (one_shl (c.args.slice % 64) 64 (omega arith)) in
@@ -41,7 +41,7 @@ returns g c =
     let laid = c.self.invariant in
     let is = c.self.view_is in
     let p = c.pass.inside in
-    let tally = tally_is laid is _ _ c.words_needed.ensures c.slices.ensures.count in
+    let tally = tally_is laid is _ _ c.words_for.ensures c.slices.ensures.count in
     let told = c.fetch_or.ensures in
     let after = told.2 (about_key c.self.inside.table.shared.key) (knows laid is c.pass.view_is c.requires.of) c.args.slice (omega arith)
     (one_shl (c.args.slice % 64) 64 (omega arith)) in

@@ -12,7 +12,7 @@ pub load-requires : goal.load-requires
 load-requires g c =
     let laid = c.self.invariant in
     let is = c.self.view_is in
-    let tally = tally_is laid is _ _ c.words_needed.ensures c.slices.ensures.count in
+    let tally = tally_is laid is _ _ c.words_for.ensures c.slices.ensures.count in
     let below = tally_below laid is c.args.word c.requires.below in
     let wide = laid.wide in (
       sits laid is c.pass.view_is c.requires.of,
@@ -25,7 +25,7 @@ invariant_of-pass g c =
     let laid = c.self.invariant in
     let is = c.self.view_is in
     let p = c.pass.inside in
-    let tally = tally_is laid is _ _ c.words_needed.ensures c.slices.ensures.count in
+    let tally = tally_is laid is _ _ c.words_for.ensures c.slices.ensures.count in
     let told = c.load.ensures in
     let after = told.2 (about_key c.self.inside.table.shared.key) (knows laid is c.pass.view_is c.requires.of) c.args.word
     (tally_below laid is c.args.word c.requires.below) (omega arith) in
@@ -38,7 +38,7 @@ returns-clause-counted g c =
     let laid = c.self.invariant in
     let is = c.self.view_is in
     let p = c.pass.inside in
-    let tally = tally_is laid is _ _ c.words_needed.ensures c.slices.ensures.count in
+    let tally = tally_is laid is _ _ c.words_for.ensures c.slices.ensures.count in
     let told = c.load.ensures in
     let after = told.2 (about_key c.self.inside.table.shared.key) (knows laid is c.pass.view_is c.requires.of) c.args.word
     (tally_below laid is c.args.word c.requires.below) (omega arith) in
@@ -49,7 +49,7 @@ pub returns-clause-own : goal.returns-clause-own
 returns-clause-own g c =
     let laid = c.self.invariant in
     let is = c.self.view_is in
-    let tally = tally_is laid is _ _ c.words_needed.ensures c.slices.ensures.count in
+    let tally = tally_is laid is _ _ c.words_for.ensures c.slices.ensures.count in
     let after = c.load.ensures.2 (about_key c.self.inside.table.shared.key) (knows laid is c.pass.view_is c.requires.of) c.args.word
     (tally_below laid is c.args.word c.requires.below) (omega arith) in
     shows_own laid is c.pass.view_is c.requires.of c.args.word c.load.result after.1

@@ -1,0 +1,3 @@
+pub mod Boards
+pub mod Cuts
+pub mod Directions

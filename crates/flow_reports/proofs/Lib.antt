@@ -1,0 +1,3 @@
+pub mod queries
+pub mod busy
+pub mod knowledge

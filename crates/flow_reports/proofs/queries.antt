@@ -1,0 +1,2 @@
+pub mod Querying
+pub mod Answered

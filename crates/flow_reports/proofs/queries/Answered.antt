@@ -1,0 +1,106 @@
+-- What answers tell where they were asked for.
+use Rattle.std.proofs.Common.{◌≡◌, ◌↔◌, ◌∙◌, ℕ, zero, suc, ◌+◌, ◌*◌, ◌/◌, ◌%◌, ◌<◌, Bool, true, false, ◌&&◌, List, [], ◌∷◌, Some, length, nat_eq}
+use Rattle.std.proofs.Common.{slice_get, slice_index, if◌then◌else◌, refl, sym, ap, subst, arith}
+use Rattle.std.proofs.lemmas.Bool.{eqb-true}
+use Rattle.std.proofs.lemmas.Bool.Decides.{same_from_decides}
+use Rattle.bit_rows.specs.Words.{has_bit}
+use Rattle.flow_graph.specs.Analyses.{IsInTable}
+use Rattle.flow_graph.specs.Universes.{bits}
+use Rattle.flow_graph.specs.declared.analysis.Analysis.{Analysis}
+use Rattle.flow_graph.specs.declared.analysis.Analysis.TheVariants.{Reach, Live, Avail, Busy}
+use Rattle.flow_graph.proofs.paths.PathLemmas.{nat_eq_same}
+use Rattle.tac_program.specs.Programs.{Program}
+use Rattle.flow_queries.specs.Queries.{AreAnswers, IsAnswerTo, Replies}
+use Rattle.flow_queries.specs.declared.query.Query.{Query}
+use Rattle.flow_reports.specs.code.Answered.{answer_in, query_for, facts_in, is_analysis, is_query}
+
+same_analysis : (a b : Analysis) → is_analysis a b ≡ true → a ≡ b
+same_analysis Reach Reach is = refl
+same_analysis Reach Live is = absurd (cc is)
+same_analysis Reach Avail is = absurd (cc is)
+same_analysis Reach Busy is = absurd (cc is)
+same_analysis Live Reach is = absurd (cc is)
+same_analysis Live Live is = refl
+same_analysis Live Avail is = absurd (cc is)
+same_analysis Live Busy is = absurd (cc is)
+same_analysis Avail Reach is = absurd (cc is)
+same_analysis Avail Live is = absurd (cc is)
+same_analysis Avail Avail is = refl
+same_analysis Avail Busy is = absurd (cc is)
+same_analysis Busy Reach is = absurd (cc is)
+same_analysis Busy Live is = absurd (cc is)
+same_analysis Busy Avail is = absurd (cc is)
+same_analysis Busy Busy is = refl
+
+analysis_itself : (a : Analysis) → is_analysis a a ≡ true
+analysis_itself Reach = refl
+analysis_itself Live = refl
+analysis_itself Avail = refl
+analysis_itself Busy = refl
+
+three : (a b c : Bool) → (a && b && c) ≡ true → (a ≡ true) × (b ≡ true) × (c ≡ true)
+three true true true is = (refl, refl, refl)
+three true true false is = absurd (cc is)
+three true false c is = absurd (cc is)
+three false b c is = absurd (cc is)
+
+same_query : (one other : Query) → is_query one other ≡ true → one ≡ other
+same_query one other is =
+    let all = three (is_analysis one.analysis other.analysis) (nat_eq one.point other.point) (nat_eq one.word other.word) is in
+    λ i. let query : Query = record {
+      analysis = same_analysis one.analysis other.analysis all.0 i;
+      point = eqb-true one.point other.point all.1 i;
+      word = eqb-true one.word other.word all.2 i;
+    } in query
+
+query_itself : (query : Query) → is_query query query ≡ true
+query_itself query =
+    ap (λ b. b && nat_eq query.point query.point && nat_eq query.word query.word) (analysis_itself query.analysis)
+    ∙ ap (λ b. true && b && nat_eq query.word query.word) (nat_eq_same query.point)
+    ∙ nat_eq_same query.word
+
+-- the first word answers a query that is the first, and the others one that is among the others
+known_first : (program : Program) (one : Query) (queries : List Query) (word : ℕ) (words : List ℕ) (query : Query)
+    → (Some one ≡ Some query → IsAnswerTo program query word)
+    → ((p : ℕ) → slice_get queries p ≡ Some query → IsAnswerTo program query (answer_in queries words query))
+    → (q : ℕ) → slice_get (one ∷ queries) q ≡ Some query → (b : Bool) → is_query one query ≡ b
+    → IsAnswerTo program query (answer_in (one ∷ queries) (word ∷ words) query)
+known_first program one queries word words query first others q there true is =
+    subst (IsAnswerTo program query) (sym (ap (λ b. if b then word else answer_in queries words query) is)) (first (ap (λ a. Some a) (same_query one query is)))
+known_first program one queries word words query first others zero there false is =
+    let same : one ≡ query = cc there in
+    absurd (cc (sym is ∙ ap (λ a. is_query a query) same ∙ query_itself query))
+known_first program one queries word words query first others (suc p) there false is =
+    subst (IsAnswerTo program query) (sym (ap (λ b. if b then word else answer_in queries words query) is)) (others p there)
+
+-- the word beside a query answers it, where all do
+pub answered : (program : Program) (queries : List Query) (words : List ℕ) → length words ≡ length queries
+    → ((q : ℕ) (query : Query) → slice_get queries q ≡ Some query → IsAnswerTo program query (slice_index words q))
+    → (q : ℕ) (query : Query) → slice_get queries q ≡ Some query → IsAnswerTo program query (answer_in queries words query)
+answered program [] words size each q query there = absurd (cc there)
+answered program (one ∷ queries) [] size each q query there = absurd (omega (arith, size))
+answered program (one ∷ queries) (word ∷ words) size each q query there =
+    known_first program one queries word words query (each 0 query)
+    (λ p here. answered program queries words (omega (arith, size)) (λ r a is. each (suc r) a is) p query here) q there (is_query one query) refl
+
+-- what is told of a bit that was asked for
+pub bit_known : (program : Program) (replies : Replies) → AreAnswers program replies → (analysis : Analysis) (point bit q : ℕ)
+    → slice_get replies.queries q ≡ Some (query_for analysis point bit)
+    → ((facts_in replies analysis).contains point bit ≡ true) ↔ ((bit < bits program analysis) × IsInTable program analysis point bit)
+bit_known program replies are analysis point bit q there =
+    let whole : 64 * (bit / 64) + bit % 64 ≡ bit = omega arith in
+    subst (λ (b : ℕ). ((facts_in replies analysis).contains point bit ≡ true) ↔ ((b < bits program analysis) × IsInTable program analysis point b))
+    whole
+    (answered program replies.queries replies.words are.count are.sets q (query_for analysis point bit) there (bit % 64) (omega arith))
+
+-- the answer to a query is what is told of it
+pub word_known : (program : Program) (replies : Replies) → AreAnswers program replies → (q : ℕ) (query : Query) → slice_get replies.queries q ≡ Some query
+    → (k : ℕ) → k < 64 → has_bit (slice_index replies.words q) k ≡ (facts_in replies query.analysis).contains query.point (64 * query.word + k)
+word_known program replies are q query there k small =
+    let at : (64 * query.word + k) / 64 ≡ query.word = omega (arith, small) in
+    let place : (64 * query.word + k) % 64 ≡ k = omega (arith, small) in
+    same_from_decides (has_bit (slice_index replies.words q) k) (has_bit (answer_in replies.queries replies.words query) k)
+    (are.sets q query there k small) (answered program replies.queries replies.words are.count are.sets q query there k small)
+    ∙ ap (λ n. has_bit (answer_in replies.queries replies.words query) n) (sym place)
+    ∙ ap (λ n. has_bit (answer_in replies.queries replies.words (let a : Query = record { analysis = query.analysis; point = query.point; word = n } in a))
+    ((64 * query.word + k) % 64)) (sym at)

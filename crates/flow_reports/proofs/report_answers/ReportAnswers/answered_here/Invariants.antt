@@ -1,0 +1,12 @@
+use Rattle.std.proofs.Common.{◌≡◌}
+use Rattle.flow_reports.specs.code.Reported.{TellRest, words_left}
+use Rattle.flow_reports.proofs.report_answers.ReportAnswers.answered_here.Given as goal
+
+abbrev pub invariant-loop-rounds : goal.invariant-loop-rounds
+invariant-loop-rounds l = record {
+  rest : TellRest l.graph l.rounds;
+  solvers : l.solvers ≡ l.graph;
+}
+
+abbrev pub decreases-loop-rounds : goal.decreases-loop-rounds
+decreases-loop-rounds l = words_left l.rounds

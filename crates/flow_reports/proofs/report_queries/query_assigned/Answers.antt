@@ -1,0 +1,31 @@
+use Rattle.std.proofs.Common.{◌≡◌, ◌+◌, ◌<◌, ℕ, Some, length, sym, ap, subst, ◌∙◌, arith}
+use Rattle.std.proofs.lemmas.Result.{IfOk-weaker}
+use Rattle.flow_graph.specs.declared.analysis.Analysis.TheVariants.{Live}
+use Rattle.flow_graph.proofs.places.Standing.{stands}
+use Rattle.flow_queries.specs.Queries.{IsQueryOf}
+use Rattle.flow_reports.specs.code.Answered.{query_for}
+use Rattle.tac_program.specs.Programs.{Program}
+use Rattle.flow_reports.proofs.queries.Querying.{queries_one, put_there}
+use Rattle.flow_reports.proofs.knowledge.RemarkLines.{assigned_there, next_below}
+use Rattle.flow_reports.proofs.report_queries.query_assigned.Goals as goal
+
+pub returns-in-Some-clause-queries : goal.returns-in-Some-clause-queries
+returns-in-Some-clause-queries c =
+    let program : Program = c.args.graph.now in
+    let stand = stands program c.requires.sound c.args.point c.args.kind.now c.requires.point c.requires.kind in
+    let variable : ℕ = c.in-Some.variable in
+    let there : variable < length program.variable_names =
+    assigned_there program c.args.point variable c.args.kind.now stand (sym c.in-Some.ensures) in
+    let of : IsQueryOf program (query_for Live (c.args.point + 1) variable) =
+    record { point = next_below program c.args.point c.args.kind.now stand; word = omega (arith, there) } in
+    IfOk-weaker c.put_query.result _ _ (λ _ is. queries_one program c.args.queries.now.items c.put_query.new.queries.items c.query_for.result 1 is
+    (subst (IsQueryOf program) (sym c.query_for.ensures) of) (omega arith)) c.put_query.ensures
+
+pub returns-in-Some-clause-queried : goal.returns-in-Some-clause-queried
+returns-in-Some-clause-queried c =
+    IfOk-weaker c.put_query.result _ _
+    (λ _ is variable sets.
+    let same : c.in-Some.variable ≡ variable = cc (c.in-Some.ensures ∙ sets) in
+    put_there c.args.queries.now.items c.put_query.new.queries.items c.query_for.result is
+    ∙ ap (λ a. Some a) (c.query_for.ensures ∙ ap (query_for Live (c.args.point + 1)) same))
+    c.put_query.ensures

@@ -1,0 +1,89 @@
+-- The words with a bit of tests' sets of very busy expressions.
+use Rattle.std.specs.Prelude.{◌≡◌, ℕ, zero, suc, ◌+◌, ◌-◌, ◌*◌, ◌/◌, ◌%◌, ◌^◌, ◌<◌, ◌≤◌, if◌then◌else◌, List, Some, length, nat_eq, slice_get}
+use Rattle.std.specs.Prelude.{slice_index, slice_index_or}
+use Rattle.flow_graph.specs.Analyses.{IsInTable}
+use Rattle.flow_graph.specs.Points.{point_count}
+use Rattle.flow_graph.specs.Universes.{bits}
+use Rattle.flow_graph.specs.declared.analysis.Analysis.TheVariants.{Busy}
+use Rattle.flow_queries.specs.Queries.{IsAnswerTo}
+use Rattle.flow_queries.specs.declared.query.Query.{Query}
+use Rattle.flow_reports.specs.declared.busy_rounds.BusyRounds.{BusyRounds}
+use Rattle.flow_reports.specs.declared.busy_words.BusyWord.{BusyWord}
+use Rattle.flow_reports.specs.declared.busy_words.BusyWords.{BusyWords}
+use Rattle.tac_program.specs.Programs.{Program}
+
+-- the query for a word of a test's set
+abbrev pub busy_query : ℕ → ℕ → Query
+busy_query point word = record { analysis = Busy; point = point; word = word }
+
+-- None of the expressions from a word on and before another is very busy at the point.
+abbrev pub NoneBusy : Program → ℕ → ℕ → ℕ → Type 0
+NoneBusy program point from until = (bit : ℕ) → 64 * from ≤ bit → bit < 64 * until → bit < bits program Busy → ¬ (IsInTable program Busy point bit)
+
+-- The list that begins with the word of a number, counted from 1, has those of the point's words from one on that have a bit: each names the
+-- next one, and 0 is its end.
+pub data AreBusy (program : Program) (words : List BusyWord) (point : ℕ) : ℕ → ℕ → Type 0 where
+  ended : (from : ℕ) → ((bit : ℕ) → 64 * from ≤ bit → bit < bits program Busy → ¬ (IsInTable program Busy point bit))
+      → AreBusy program words point from 0
+  linked : (from place : ℕ) (busy : BusyWord) → slice_get words place ≡ Some busy → busy.next ≤ place → from ≤ busy.word
+      → 64 * busy.word < bits program Busy → NoneBusy program point from busy.word → IsAnswerTo program (busy_query point busy.word) busy.mask
+      → AreBusy program words point (suc busy.word) busy.next
+      → AreBusy program words point from (suc place)
+
+-- lists of words, and the number of the first of each
+pub record BusyLists : Type 0 where
+  pub firsts : List ℕ
+  pub words : List BusyWord
+
+-- Of each of these points the list of its number has the words from one on that have a bit.
+abbrev pub TellBusy : Program → List ℕ → BusyLists → ℕ → Type 0
+TellBusy program points lists from =
+    (i point : ℕ) → slice_get points i ≡ Some point → AreBusy program lists.words point from (slice_index lists.firsts i)
+
+-- the word that is read where there is none
+abbrev pub no_word : BusyWord
+no_word = record { word = 0; next = 0; mask = 0 }
+
+-- the word of a number in a list that begins there and has at most so many words, or 0
+abbrev pub busy_mask : List BusyWord → ℕ → ℕ → ℕ → ℕ
+busy_mask words zero number word = 0
+busy_mask words (suc most) zero word = 0
+busy_mask words (suc most) (suc place) word =
+    let busy = slice_index_or words place no_word in if nat_eq busy.word word then busy.mask else busy_mask words most busy.next word
+
+-- the query of a number in a round that asks for so many words from one on, point by point
+abbrev pub round_query : List ℕ → ℕ → ℕ → ℕ → Query
+round_query points from width number = busy_query (slice_index points (number / width)) (from + number % width)
+
+-- The queries of the round stand behind so many others.
+abbrev pub QueriesRound : List ℕ → ℕ → ℕ → ℕ → List Query → Type 0
+QueriesRound points from width before queries =
+    (number : ℕ) → number < length points * width → slice_get queries (before + number) ≡ Some (round_query points from width number)
+
+-- But for one, each list is as it was.
+pub record Keeps (old new : BusyLists) (one : ℕ) : Type 0 where
+  pub count : length new.firsts ≡ length old.firsts
+  pub firsts : (i : ℕ) → ¬ (i ≡ one) → slice_index new.firsts i ≡ slice_index old.firsts i
+  pub words : (place : ℕ) (busy : BusyWord) → slice_get old.words place ≡ Some busy → slice_get new.words place ≡ Some busy
+
+-- lists of words as a value
+abbrev pub busy_lists : BusyWords → BusyLists
+busy_lists busy = record { firsts = busy.firsts.items; words = busy.words.items }
+
+-- where the round that ends before a word begins
+abbrev pub round_start : ℕ → ℕ → ℕ
+round_start width until = (until - 1) / width * width
+
+-- Each is a point of the program.
+abbrev pub ArePoints : Program → List ℕ → Type 0
+ArePoints program points = (i point : ℕ) → slice_get points i ≡ Some point → point < point_count program
+
+-- The words from one on are told; a round asks for so many at most of each of the points' sets.
+pub record AreRounds (program : Program) (points : List ℕ) (rounds : BusyRounds) : Type 0 where
+  pub same : rounds.tests.items ≡ points
+  pub are : ArePoints program points
+  pub some : 0 < rounds.width
+  pub few : length points * rounds.width ≤ 2 ^ 25
+  pub within : 64 * rounds.until < bits program Busy + 64
+  pub count : length rounds.busy.firsts.items ≡ length points
+  pub answered : TellBusy program points (busy_lists rounds.busy) rounds.until

@@ -1,0 +1,161 @@
+// The words with a bit of the tests' sets of very busy expressions.
+
+ghost use Rattle.std.specs.Prelude.{◌≡◌, ℕ, suc, ◌+◌, ◌*◌, ◌^◌, ◌<◌, ◌≤◌, Some, length, slice_get, slice_index, IfOk, MatchOption};
+ghost use Rattle.flow_graph.specs.Universes.{bits};
+ghost use Rattle.flow_graph.specs.declared.analysis.Analysis.TheVariants.{Busy};
+ghost use Rattle.flow_queries.specs.Queries.{AreAnswers, IsAnswerTo};
+ghost use Rattle.flow_reports.specs.code.Busy.{AreBusy, QueriesRound, Keeps, TellBusy, busy_query, busy_lists};
+ghost use Rattle.tac_program.specs.Programs.{Program};
+
+use crate::OutOfMemory;
+use flow_graph::Graph;
+use flow_queries::{Answers, Query};
+use std::alloc::Global;
+
+/// A word of a test's set that has a bit.
+#[derive(Clone, Copy)]
+pub(crate) struct BusyWord {
+    /// Which word of the set it is.
+    pub(crate) word: u32,
+    /// The number of the test's next word that has a bit, counted from 1; 0 behind the last.
+    pub(crate) next: u32,
+    /// Its bits.
+    pub(crate) mask: u64,
+}
+
+/// The words with a bit of the tests' sets of very busy expressions, in a list for each test: most words of most sets have none.
+#[derive(Drop)]
+pub(crate) struct BusyWords {
+    /// The number of each test's first word, counted from 1; 0 where it has none.
+    pub(crate) firsts: Vec<u32>,
+    /// The words of all tests.
+    pub(crate) words: Vec<BusyWord>,
+}
+
+// How many answers from one on have a bit.
+fn with_bits(answers: &Answers, from: u32) -> usize
+    requires { length answers.now.words ≡ length answers.now.queries }
+{
+    let mut count = 0usize;
+    for number in from as usize..answers.count() {
+        if answers.word(number) != 0 {
+            count = count.saturating_add(1);
+        }
+    }
+    count
+}
+
+impl BusyWords {
+    /// So many empty lists.
+    pub(crate) fn empty(alloc: Global, tests: usize) -> Result<BusyWords, OutOfMemory>
+        ensures firsts { IfOk result (λ busy. length busy.firsts.items ≡ tests) }
+        ensures each { IfOk result (λ busy. (i : ℕ) → slice_index busy.firsts.items i ≡ 0) }
+    {
+        Ok(BusyWords {
+            firsts: vec![in alloc; 0u32; tests]?,
+            words: Vec::new(alloc),
+        })
+    }
+
+    // Puts a word before those of a test, unless it has no bit.
+    fn put(&mut self, test: u32, query: Query, mask: u64) -> Result<(), OutOfMemory>
+        requires { test < length self.old.firsts.items }
+        ensures keeps { IfOk result (λ _. Keeps (busy_lists self.old) (busy_lists self.new) test) }
+        ensures answered { IfOk result (λ _. (program : Program) (point word : ℕ) → query ≡ busy_query point word → IsAnswerTo program query mask
+            → 64 * word < bits program Busy
+            → AreBusy program self.old.words.items point (suc word) (slice_index self.old.firsts.items test)
+            → AreBusy program self.new.words.items point word (slice_index self.new.firsts.items test)) }
+    {
+        if mask == 0 {
+            return Ok(());
+        }
+        let number = self.words.len();
+        if number >= u32::MAX as usize {
+            return Err(OutOfMemory);
+        }
+        let next = self.firsts[test as usize];
+        self.words.push(BusyWord {
+            word: query.word,
+            next,
+            mask,
+        })?;
+        self.firsts[test as usize] = number as u32 + 1;
+        Ok(())
+    }
+
+    // Puts the words of a test that a round asked for, the last one first.
+    fn put_test(
+        &mut self,
+        graph: &Graph<'_>,
+        answers: &Answers,
+        tests: &[u32],
+        test: u32,
+        before: u32,
+        from: u32,
+        width: u32,
+    ) -> Result<(), OutOfMemory>
+        requires firsts { length self.old.firsts.items ≡ length tests.now }
+        requires test { test < length tests.now }
+        requires answers { AreAnswers graph.now answers.now }
+        requires queries { QueriesRound tests.now from width before answers.now.queries }
+        requires within { 64 * (from + width) < bits graph.now Busy + 64 }
+        requires few { before + length tests.now * width < 2 ^ 32 }
+        requires answered { AreBusy graph.now self.old.words.items (slice_index tests.now test) (from + width) (slice_index self.old.firsts.items test) }
+        ensures keeps { IfOk result (λ _. Keeps (busy_lists self.old) (busy_lists self.new) test) }
+        ensures answered { IfOk result
+            (λ _. AreBusy graph.now self.new.words.items (slice_index tests.now test) from (slice_index self.new.firsts.items test)) }
+    {
+        let first = before + test * width;
+        for behind in 0..width {
+            let number = (first + (width - 1 - behind)) as usize;
+            self.put(test, answers.query(number), answers.word(number))?;
+        }
+        Ok(())
+    }
+
+    /// Puts what a round asked for, behind so many other queries, before what is there: the words from one on, so many of each test's set.
+    pub(crate) fn put_round(
+        &mut self,
+        graph: &Graph<'_>,
+        answers: &Answers,
+        tests: &[u32],
+        before: u32,
+        from: u32,
+        width: u32,
+    ) -> Result<(), OutOfMemory>
+        requires tests { length tests.now < 2 ^ 32 }
+        requires firsts { length self.old.firsts.items ≡ length tests.now }
+        requires answers { AreAnswers graph.now answers.now }
+        requires queries { QueriesRound tests.now from width before answers.now.queries }
+        requires within { 64 * (from + width) < bits graph.now Busy + 64 }
+        requires few { before + length tests.now * width < 2 ^ 32 }
+        requires answered { TellBusy graph.now tests.now (busy_lists self.old) (from + width) }
+        ensures firsts { IfOk result (λ _. length self.new.firsts.items ≡ length tests.now) }
+        ensures answered { IfOk result (λ _. TellBusy graph.now tests.now (busy_lists self.new) from) }
+    {
+        self.words.reserve(with_bits(answers, before))?;
+        for test in 0..tests.len() {
+            self.put_test(graph, answers, tests, test as u32, before, from, width)?;
+        }
+        Ok(())
+    }
+
+    /// The number of a test's first word.
+    pub(crate) fn first(&self, test: u32) -> u32
+        requires { test < length self.now.firsts.items }
+        ensures { result ≡ slice_index self.now.firsts.items test }
+    {
+        self.firsts[test as usize]
+    }
+
+    /// The word of a number.
+    pub(crate) fn word(&self, number: u32) -> Option<BusyWord>
+        ensures { MatchOption result ((place : ℕ) → number ≡ suc place → length self.now.words.items ≤ place)
+            (λ busy. (place : ℕ) × (number ≡ suc place) × (slice_get self.now.words.items place ≡ Some busy)) }
+    {
+        if number == 0 || self.words.len() < number as usize {
+            return None;
+        }
+        Some(self.words[number as usize - 1])
+    }
+}

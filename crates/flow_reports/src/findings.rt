@@ -1,0 +1,81 @@
+// What is found of a program before a text of it is written.
+
+ghost use Rattle.std.specs.Prelude.{◌≡◌, ℕ, ◌+◌, ◌*◌, ◌<◌, Some, slice_get, IfOk};
+ghost use Rattle.bit_rows.specs.Words.{has_bit};
+ghost use Rattle.flow_reports.specs.code.Findings.{AreFindings, TellDoubtful};
+ghost use Rattle.flow_reports.specs.code.Reported.{TellReport};
+ghost use Rattle.flow_reports.specs.code.Answered.{query_for, facts_in};
+
+use crate::OutOfMemory;
+use crate::doubt::doubtful_points;
+use crate::report_answers::ReportAnswers;
+use flow_graph::{Analysis, Graph};
+use flow_queries::Query;
+use flow_texts::texts_of_bits;
+use std::alloc::Global;
+use text_pieces::TextBlock;
+
+/// What was found of a program: answers to what a report asks, for each point whether it is doubtful, and what its expressions are called.
+#[derive(Drop)]
+pub struct Findings<'a> {
+    /// The program.
+    pub graph: &'a Graph<'a>,
+    /// The answers.
+    pub answers: &'a ReportAnswers,
+    /// Whether each point is doubtful.
+    pub doubtful: Vec<bool>,
+    /// The texts of its expressions.
+    pub expressions: TextBlock,
+}
+
+impl<'a> Findings<'a> {
+    /// What these answers tell of their program.
+    ///
+    /// The condition: they answer what a report on this graph's program asks. Fails only where memory runs out.
+    pub fn of(
+        alloc: Global,
+        graph: &'a Graph<'a>,
+        answers: &'a ReportAnswers,
+    ) -> Result<Findings<'a>, OutOfMemory>
+        requires { TellReport graph.now answers.now }
+        ensures program { IfOk result (λ found. found.graph.now ≡ graph.now) }
+        ensures found { IfOk result AreFindings }
+        ensures doubtful { IfOk result (λ found. TellDoubtful found.graph.now found.doubtful.items) }
+    {
+        let doubtful = doubtful_points(alloc, graph, answers)?;
+        let expressions = texts_of_bits(alloc, graph, Analysis::Avail)?;
+        Ok(Findings {
+            graph,
+            answers,
+            doubtful,
+            expressions,
+        })
+    }
+}
+
+impl Findings<'_> {
+    // The answer to the query of a number.
+    pub(crate) fn answer(&self, number: u32, query: Query) -> u64
+        requires found { AreFindings self.now }
+        requires queried { slice_get self.now.answers.now.replies.queries number ≡ Some query }
+        ensures { (k : ℕ) → k < 64 → has_bit result k ≡ (facts_in self.now.answers.now.replies query.analysis).contains query.point (64 * query.word + k) }
+    {
+        // Only the number tells which answer it is; the query says what it answers.
+        let _ = query;
+        self.answers.word(number)
+    }
+
+    // Whether the answer to the query of a number has the bit that it was asked for.
+    pub(crate) fn has(&self, number: u32, analysis: Analysis, point: u32, bit: u32) -> bool
+        requires found { AreFindings self.now }
+        requires queried { slice_get self.now.answers.now.replies.queries number ≡ Some (query_for analysis point bit) }
+        ensures { result ≡ (facts_in self.now.answers.now.replies analysis).contains point bit }
+    {
+        let query = Query {
+            analysis,
+            point,
+            word: bit / 64,
+        };
+        (self.answer(number, query) >> (bit % 64)) & 1 == 1
+    }
+}

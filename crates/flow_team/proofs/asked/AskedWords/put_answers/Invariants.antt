@@ -1,9 +1,0 @@
-use Rattle.std.proofs.Common.{◌≡◌, length}
-use Rattle.flow_team.specs.code.Boards.{AreAnswered}
-use Rattle.flow_team.proofs.asked.AskedWords.put_answers.Given as goal
-
-abbrev pub invariant-loop-j : goal.invariant-loop-j
-invariant-loop-j l = record {
-  count : length l.words ≡ length l.self.asks;
-  answered : AreAnswered l.self l.j l.words;
-}

@@ -1,9 +1,0 @@
-use Rattle.std.proofs.Common.{◌+◌, ◌-◌, slice_index}
-use Rattle.flow_texts.specs.code.Busy.{AreBusy, Keeps, busy_lists}
-use Rattle.flow_texts.proofs.busy_words.BusyWords.put_test.Given as goal
-
-abbrev pub invariant-loop-behind : goal.invariant-loop-behind
-invariant-loop-behind l = record {
-  keeps : Keeps (busy_lists l.fn.self) (busy_lists l.self) l.test;
-  told : AreBusy l.graph l.self.words.items (slice_index l.tests l.test) (l.from + (l.width - l.behind)) (slice_index l.self.firsts.items l.test);
-}

@@ -1,0 +1,309 @@
+// What both texts are made of.
+
+ghost use Rattle.std.specs.Prelude.{◌≡◌, ℕ, ◌+◌, ◌<◌, ◌≤◌, suc, None, Some, false, true, flat_map, length, map, IfOk, IfSome};
+ghost use Rattle.flow_graph.specs.Edges.{edges_from};
+ghost use Rattle.flow_graph.specs.Points.{end_place, entry_point, kind_at, point_count, points, procedure_at, statement_at};
+ghost use Rattle.flow_team.specs.Tables.{facts_of};
+ghost use Rattle.text_pieces.specs.Pieces.{CanWrite, Writes};
+ghost use Rattle.flow_views.specs.ViewTables.{AreViewTables, end_shown};
+ghost use Rattle.flow_reports.specs.Reports.{dead_at, remarks_at, unset_at};
+ghost use Rattle.flow_reports.specs.code.Reported.{TellReport};
+ghost use Rattle.text_pieces.specs.code.Lists.{some_stand};
+ghost use Rattle.tac_program.specs.Listings.{statement_text};
+ghost use Rattle.flow_views.specs.code.Names.{AreNamesOf};
+ghost use Rattle.flow_views.specs.code.ViewProgram.{AreShown, AreShownProcedures, IsShownPoint, IsShownProcedure, TellSame, contents};
+ghost use Rattle.flow_views.specs.code.ViewProgram.{known_of, numbers_of};
+ghost use Rattle.text_pieces.specs.Strings.{escaped};
+ghost use Rattle.flow_views.specs.Views.{analysis_name, names_at, points_in, procedure_name as name_of_procedure, shown_points, is_chosen};
+ghost use Rattle.flow_views.specs.Views.{shown_procedures, known_facts};
+
+use crate::OutOfMemory;
+use crate::names::{NameForm, Names};
+use crate::point_form::PointForm;
+use crate::scope::Scope;
+use crate::view::View;
+use crate::view_tables::ViewTables;
+use flow_graph::{Analysis, Edge, Graph};
+use flow_reports::{Findings, RemarkForm, ReportAnswers};
+use flow_team::Table;
+use smallvec::SmallVec;
+use std::alloc::Global;
+use tac_program::{Stmt, StmtKind};
+use text_pieces::{Pieces, Sink, TextBlock};
+
+/// Numbers from the first on and before the end.
+#[derive(Clone, Copy)]
+pub(crate) struct Numbers {
+    pub(crate) first: u32,
+    pub(crate) end: u32,
+}
+
+/// What was found of a program, what the bits of its analyses are called, its edges, and what is shown of it.
+#[derive(Drop)]
+pub(crate) struct ViewProgram<'a> {
+    /// What was found.
+    pub(crate) found: Findings<'a>,
+    /// The tables of the analyses whose facts are shown.
+    pub(crate) tables: &'a ViewTables,
+    /// What its bits are called.
+    pub(crate) names: Names,
+    /// The edges out of each point.
+    pub(crate) successors: Vec<SmallVec<Edge, 2, Global>>,
+    /// What is shown.
+    pub(crate) view: View,
+}
+
+/// The points of a procedure.
+pub(crate) fn points_of(graph: &Graph<'_>, procedure: u32) -> Numbers
+    requires { procedure < length graph.now.procedures }
+    ensures numbers { numbers_of result ≡ points_in graph.now procedure }
+    ensures first { result.first ≡ entry_point graph.now procedure }
+    ensures end { result.end ≡ entry_point graph.now procedure + suc (end_place graph.now procedure) }
+    ensures ordered { result.first ≤ result.end }
+    ensures there { result.end ≤ point_count graph.now }
+{
+    // Its contract tells that there are few points.
+    let _ = graph.points();
+    let procs = graph.program().procs();
+    let places = procs[procedure as usize].stmts().len() as u32;
+    let first = graph.point(procedure, 0);
+    let last = graph.point(procedure, places);
+    Numbers {
+        first,
+        end: last + 1,
+    }
+}
+
+// The edges out of each point.
+fn successors(
+    alloc: Global,
+    graph: &Graph<'_>,
+) -> Result<Vec<SmallVec<Edge, 2, Global>>, OutOfMemory>
+    ensures { IfOk result (λ lists. contents lists.items ≡ map (edges_from graph.now) (points graph.now)) }
+{
+    let mut lists = Vec::with_capacity(alloc, graph.points() as usize)?;
+    for point in 0..graph.points() {
+        lists.push(graph.succ(alloc, point)?)?;
+    }
+    Ok(lists)
+}
+
+/// What an analysis is called.
+pub(crate) fn name_of(analysis: Analysis) -> &'static [u8]
+    ensures { result.now ≡ analysis_name analysis }
+{
+    match analysis {
+        Analysis::Reach => b"reach",
+        Analysis::Live => b"live",
+        Analysis::Avail => b"avail",
+        Analysis::Busy => b"busy",
+    }
+}
+
+impl<'a> ViewProgram<'a> {
+    /// What is shown of a graph with its tables, and the names of bits in this form.
+    ///
+    /// The conditions: the answers to what a report asks and the tables are of this graph, these of the analyses that are shown, and the
+    /// procedure is there. Fails only where memory runs out.
+    pub(crate) fn of(
+        alloc: Global,
+        graph: &'a Graph<'a>,
+        tables: &'a ViewTables,
+        answers: &'a ReportAnswers,
+        view: View,
+        form: NameForm,
+    ) -> Result<ViewProgram<'a>, OutOfMemory>
+        requires tables { AreViewTables graph.now view tables.now }
+        requires answers { TellReport graph.now answers.now }
+        requires procedure { IfSome view.procedure (λ procedure. procedure < length graph.now.procedure_names) }
+        ensures program { IfOk result (λ shown. shown.found.graph.now ≡ graph.now) }
+        ensures view { IfOk result (λ shown. shown.view ≡ view) }
+        ensures form { IfOk result (λ shown. shown.names.form ≡ form) }
+        ensures shown { IfOk result AreShown }
+    {
+        let found = Findings::of(alloc, graph, answers)?;
+        let names = Names::of(alloc, graph, form)?;
+        let successors = successors(alloc, graph)?;
+        Ok(ViewProgram {
+            found,
+            tables,
+            names,
+            successors,
+            view,
+        })
+    }
+}
+
+impl ViewProgram<'_> {
+    /// What the bits of an analysis are called.
+    pub(crate) fn names(&self, analysis: Analysis) -> &TextBlock
+        requires { AreShown self.now }
+        ensures { AreNamesOf self.now.names.form self.now.found.graph.now analysis result.now }
+    {
+        match analysis {
+            Analysis::Reach => &self.names.definitions,
+            Analysis::Live => &self.names.variables,
+            Analysis::Avail => &self.names.expressions,
+            Analysis::Busy => &self.names.expressions,
+        }
+    }
+
+    /// The table of an analysis, where its facts are shown.
+    pub(crate) fn table(&self, analysis: Analysis) -> Option<&Table>
+        requires { AreShown self.now }
+        ensures none { result ≡ None → is_chosen self.now.view.facts analysis ≡ false }
+        ensures some { IfSome result (λ table. is_chosen self.now.view.facts analysis ≡ true) }
+        ensures points { IfSome result
+            (λ table. length table.now.paths ≡ end_shown self.now.found.graph.now self.now.view.procedure) }
+        ensures facts { IfSome result (λ table. (point : ℕ) → IsShownPoint self.now point
+            → TellSame (facts_of table.now) (known_facts (known_of self.now) analysis) point) }
+    {
+        self.tables.table(analysis)
+    }
+
+    /// Writes the remarks of a point, each in that form.
+    pub(crate) fn write_remarks_at<F: RemarkForm, K: Sink>(
+        &self,
+        form: &F,
+        out: &mut Pieces<'_, K>,
+        point: u32,
+    )
+        requires ready { CanWrite K.Sink out.old }
+        requires shown { AreShown self.now }
+        requires point { point < point_count self.now.found.graph.now }
+        ensures { Writes K.Sink out.old out.new
+            (flat_map (F.text form.now self.now.found.graph.now point) (remarks_at self.now.found.graph.now (known_of self.now) point)) }
+    {
+        self.found.write_remarks(form, out, point);
+    }
+
+    /// Whether the statement at a point reads a variable that may not be set there.
+    pub(crate) fn reads_unset(&self, point: u32, kind: &StmtKind) -> bool
+        requires shown { AreShown self.now }
+        requires point { point < point_count self.now.found.graph.now }
+        requires kind { kind_at self.now.found.graph.now point ≡ Some kind.now }
+        ensures { result ≡ some_stand (unset_at self.now.found.graph.now (known_of self.now) point) }
+    {
+        self.found.reads_unset(point, kind)
+    }
+
+    /// Whether the statement at a point assigns a variable that is dead behind it.
+    pub(crate) fn sets_dead(&self, point: u32, kind: &StmtKind) -> bool
+        requires shown { AreShown self.now }
+        requires point { point < point_count self.now.found.graph.now }
+        requires kind { kind_at self.now.found.graph.now point ≡ Some kind.now }
+        ensures { result ≡ some_stand (dead_at self.now.found.graph.now (known_of self.now) point) }
+    {
+        self.found.sets_dead(point, kind)
+    }
+
+    /// The edges out of a point.
+    pub(crate) fn edges(&self, point: u32) -> &[Edge]
+        requires shown { AreShown self.now }
+        requires point { point < point_count self.now.found.graph.now }
+        ensures { result.now ≡ edges_from self.now.found.graph.now point }
+    {
+        self.successors[point as usize].as_slice()
+    }
+
+    /// The procedures that are shown.
+    pub(crate) fn procedures(&self) -> Numbers
+        requires { AreShown self.now }
+        ensures numbers { numbers_of result ≡ shown_procedures self.now.found.graph.now self.now.view }
+        ensures ordered { result.first ≤ result.end }
+        ensures there { result.end ≤ length self.now.found.graph.now.procedures }
+        ensures shown { AreShownProcedures self.now.view.procedure result }
+    {
+        let procs = self.found.graph.program().procs();
+        match self.view.procedure {
+            Some(procedure) => Numbers {
+                first: procedure,
+                end: procedure + 1,
+            },
+            None => Numbers {
+                first: 0,
+                end: procs.len() as u32,
+            },
+        }
+    }
+
+    /// The points of a procedure.
+    pub(crate) fn points_of(&self, procedure: u32) -> Numbers
+        requires shown { AreShown self.now }
+        requires procedure { procedure < length self.now.found.graph.now.procedures }
+        ensures numbers { numbers_of result ≡ points_in self.now.found.graph.now procedure }
+        ensures first { result.first ≡ entry_point self.now.found.graph.now procedure }
+        ensures end { result.end ≡ entry_point self.now.found.graph.now procedure + suc (end_place self.now.found.graph.now procedure) }
+        ensures there { result.end ≤ point_count self.now.found.graph.now }
+    {
+        points_of(self.found.graph, procedure)
+    }
+
+    /// The name of a procedure.
+    pub(crate) fn procedure_name(&self, procedure: u32) -> &[u8]
+        requires { procedure < length self.now.found.graph.now.procedures }
+        ensures { result.now ≡ name_of_procedure self.now.found.graph.now procedure }
+    {
+        let program = self.found.graph.program();
+        // Its contract tells that each procedure has a name.
+        let _ = program.procs();
+        program.procedure(procedure)
+    }
+
+    /// The procedure of a point.
+    pub(crate) fn scope(&self, point: u32) -> Scope<'_>
+        requires { point < point_count self.now.found.graph.now }
+        ensures program { result.program.now ≡ self.now.found.graph.now }
+        ensures procedure { result.procedure ≡ procedure_at self.now.found.graph.now point }
+        ensures there { result.procedure < length self.now.found.graph.now.procedures }
+    {
+        Scope {
+            program: self.found.graph.program(),
+            procedure: self.found.graph.place(point).procedure,
+        }
+    }
+
+    /// Writes the statement at a point as it stands between quotes.
+    pub(crate) fn write_statement<K: Sink>(&self, out: &mut Pieces<'_, K>, point: u32, stmt: &Stmt)
+        requires ready { CanWrite K.Sink out.old }
+        requires shown { AreShown self.now }
+        requires point { point < point_count self.now.found.graph.now }
+        requires statement { statement_at self.now.found.graph.now point ≡ Some stmt.now }
+        ensures { Writes K.Sink out.old out.new (escaped (statement_text (names_at self.now.found.graph.now point) stmt.now.kind)) }
+    {
+        self.scope(point).write_statement(out, &stmt.kind);
+    }
+
+    /// Writes each point of a procedure that is shown.
+    pub(crate) fn write_points<F: PointForm, K: Sink>(
+        &self,
+        form: &F,
+        out: &mut Pieces<'_, K>,
+        procedure: u32,
+    )
+        requires ready { CanWrite K.Sink out.old }
+        requires shown { AreShown self.now }
+        requires form { self.now.names.form ≡ F.name_form form.now }
+        requires procedure { procedure < length self.now.found.graph.now.procedures }
+        requires shows { IsShownProcedure self.now.view.procedure procedure }
+        ensures { Writes K.Sink out.old out.new (flat_map (F.text form.now self.now) (points_in self.now.found.graph.now procedure)) }
+    {
+        let points = self.points_of(procedure);
+        for point in points.first..points.end {
+            form.write_point(out, self, point);
+        }
+    }
+
+    /// Writes each point that is shown.
+    pub(crate) fn write_all_points<F: PointForm, K: Sink>(&self, form: &F, out: &mut Pieces<'_, K>)
+        requires ready { CanWrite K.Sink out.old }
+        requires shown { AreShown self.now }
+        requires form { self.now.names.form ≡ F.name_form form.now }
+        ensures { Writes K.Sink out.old out.new (flat_map (F.text form.now self.now) (shown_points self.now.found.graph.now self.now.view)) }
+    {
+        let procedures = self.procedures();
+        for procedure in procedures.first..procedures.end {
+            self.write_points(form, out, procedure);
+        }
+    }
+}

@@ -1,9 +1,0 @@
-use Rattle.slice_board.specs.Boards.{IsOf}
-use Rattle.slice_team.proofs.draining.Drained.{left_of}
-use Rattle.slice_team.proofs.workers.drain_slices.Given as goal
-
-abbrev pub invariant-slices : goal.invariant-slices
-invariant-slices g l = IsOf l.job l.pass
-
-abbrev pub decreases-slices : goal.decreases-slices
-decreases-slices g l = left_of l.job l.pass

@@ -1,4 +1,0 @@
-pub mod Groups
-pub mod Marks
-pub mod Orders
-pub mod Tables

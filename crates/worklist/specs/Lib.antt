@@ -1,0 +1,4 @@
+pub mod Groups
+pub mod Worklist
+pub mod Orders
+pub mod Tables
