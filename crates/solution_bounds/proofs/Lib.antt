@@ -1,0 +1,4 @@
+pub mod bounds
+pub mod quotients
+pub mod selections
+pub mod witnesses

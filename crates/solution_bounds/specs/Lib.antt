@@ -1,0 +1,5 @@
+pub mod Bounds
+pub mod Laws
+pub mod Quotients
+pub mod Selections
+pub mod Witnesses
