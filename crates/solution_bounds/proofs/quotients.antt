@@ -1,1 +1,2 @@
+pub mod ExampleTests
 pub mod Quotients

@@ -1,4 +1,5 @@
 pub mod Bounds
+pub mod Examples
 pub mod Laws
 pub mod Quotients
 pub mod Selections
