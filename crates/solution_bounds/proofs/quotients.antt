@@ -1,2 +1,3 @@
 pub mod ExampleTests
+pub mod Pieces
 pub mod Quotients

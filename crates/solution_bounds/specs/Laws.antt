@@ -7,6 +7,7 @@ use Rattle.summary_equations.specs.Equations.{Reached, Preserved, Generated, Ent
 use Rattle.summary_equations.specs.Equations.{IsClosedGenerated, IsClosedEntered, IsClosedBrought}
 use Rattle.summary_equations.specs.Laws.{Passes}
 use Rattle.solution_bounds.specs.Bounds.{Values, is_in_values, IsUpperBound, IsLowerBound, AreClosed}
+use Rattle.solution_bounds.specs.Pieces.{Summary, Rows, IsPiece, IsSummary, HasPieces, summary_of}
 use Rattle.solution_bounds.specs.Quotients.{Quotient, values_of, preserved_by, generated_by, brought_by, IsInside, IsQuotientBound}
 use Rattle.solution_bounds.specs.Selections.{Choice, IsSelection, IsSelectionOfBits}
 use Rattle.solution_bounds.specs.Witnesses.{Way, PreservesThrough, HaveWaysThrough, IsTree, Ranks, AreJustified}
@@ -56,6 +57,25 @@ QuotientsBoundPoints =
     → IsWellFormed shape → IsQuotientBound shape transfer (Reached shape) (Entered shape) quotient → IsInside shape quotient point
     → IsInSolution shape transfer point
     → (quotient.generated point || (quotient.brought (shape.procedure_of point) && quotient.preserved point)) ≡ true
+
+-- The same by a summary and pieces: whatever values of the point's procedure fit the summary bound the solution there.
+abbrev pub PiecesBoundPoints : Type 0
+PiecesBoundPoints =
+    (shape : Shape) (transfer : Transfer) (summary : Summary) (rows : Rows) (point : ℕ)
+    → IsWellFormed shape → IsSummary shape transfer (Reached shape) (Entered shape) summary
+    → HasPieces shape transfer (Reached shape) (Entered shape) summary
+    → Passes summary.inside (shape.procedure_of point)
+    → IsPiece shape transfer (Reached shape) (Entered shape) summary (shape.procedure_of point) rows
+    → IsInSolution shape transfer point
+    → (rows.generated point || (summary.brought (shape.procedure_of point) && rows.preserved point)) ≡ true
+
+-- No bound is lost: each quotient that meets its conditions has a summary with pieces.
+abbrev pub QuotientsHavePieces : Type 0
+QuotientsHavePieces =
+    (shape : Shape) (transfer : Transfer) (reached entered : ℕ → Bool) (quotient : Quotient)
+    → IsQuotientBound shape transfer (Passes reached) (Passes entered) quotient
+    → IsSummary shape transfer (Passes reached) (Passes entered) (summary_of shape quotient)
+    × HasPieces shape transfer (Passes reached) (Passes entered) (summary_of shape quotient)
 
 -- What is reached, preserved or generated at a point is so behind a way that begins there.
 abbrev pub WaysCarry : Type 0

@@ -1,9 +1,9 @@
 -- An upper bound for a bit whose statements stand in few procedures: all others are taken as one.
 --
--- The procedures inside have values at their points. Of those outside it is known that no statement generates the bit. So a call of
--- one preserves it, as far as the bound knows. It generates the bit only if it leads back to a procedure inside; whether that
--- happens anywhere is one value for all of them, and so is whether the bit is brought to one. These are the summary equations (Reps,
--- Horwitz, Sagiv 1995) over the graph in which the procedures outside are one node.
+-- The procedures inside have values at their points. Of those outside it is known that no statement generates the bit; whether one kills
+-- it is of no account, since a bound from above may take each call of one to preserve the bit. Such a call generates the bit only if it
+-- leads back to a procedure inside; whether that happens anywhere is one value for all of them, and so is whether the bit is brought to
+-- one. These are the summary equations (Reps, Horwitz, Sagiv 1995) over the graph in which the procedures outside are one node.
 use Rattle.std.specs.Prelude.{◌≡◌, ℕ, Bool, true, false, not, ◌<◌, ◌&&◌, ◌||◌, if◌then◌else◌}
 use Rattle.flow_graph.specs.declared.edge.Edge.TheVariants.{Step}
 use Rattle.flow_graph.specs.Paths.{Shape, Transfer, IsEdge}

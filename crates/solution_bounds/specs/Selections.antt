@@ -1,4 +1,6 @@
 -- Bits of one or several analyses, chosen and solved side by side.
+--
+-- Gen-kill problems are separable: each bit is a problem of its own (Kildall 1973; locally separable problems: Reps, Horwitz, Sagiv 1995).
 use Rattle.std.specs.Prelude.{◌≡◌, ℕ, Some, List, slice_get}
 use Rattle.flow_graph.specs.Analyses.{is_backward}
 use Rattle.flow_graph.specs.Paths.{Shape, Transfer}

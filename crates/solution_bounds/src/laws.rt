@@ -1,12 +1,13 @@
 //! Laws of bounds: each is the clause of a function without a body.
 //!
 //! A bit at a point is settled by an upper and a lower bound that agree there (`bounds_settle_points`). Upper bounds are
-//! `quotients_are_above`; lower ones are `ways_carry`, `trees_bring` and `justified_values_are_below`. What is left is packed and solved
-//! (`selections_are_solved`).
+//! `quotients_are_above`; lower ones are `ways_carry`, `trees_bring` and `justified_values_are_below`. What is left is packed
+//! and solved (`selections_are_solved`).
 
 ghost use Rattle.solution_bounds.specs.Laws.{ClosedValuesAreAbove, PointsAreBounded, AgreeingBoundsAreExact, QuotientsAreClosed, QuotientsAreAbove};
-ghost use Rattle.solution_bounds.specs.Laws.{QuotientsBoundPoints, WaysCarry, WaysPreserve, TreesBring, TreesReachPoints, JustifiedValuesAreBelow};
-ghost use Rattle.solution_bounds.specs.Laws.{SelectionsAreSolved, SelectedBitsAreSolved};
+ghost use Rattle.solution_bounds.specs.Laws.{QuotientsBoundPoints, PiecesBoundPoints, WaysCarry, WaysPreserve, TreesBring};
+ghost use Rattle.solution_bounds.specs.Laws.{TreesReachPoints, JustifiedValuesAreBelow, SelectionsAreSolved};
+ghost use Rattle.solution_bounds.specs.Laws.{SelectedBitsAreSolved, QuotientsHavePieces};
 
 /// Values that are closed under the clauses lie above the least solution, so that a point where such values and values below agree is
 /// settled (Kildall 1973).
@@ -17,21 +18,25 @@ pub fn bounds_settle_points()
 {}
 
 /// The values of a quotient, in which all procedures where no statement generates the bit are one, are closed under the clauses of the
-/// equations at all points and procedures (summaries of procedures: Reps, Horwitz, Sagiv 1995).
+/// equations at all points and procedures; and so are those of a summary whose procedures have pieces that fit, of which each quotient has
+/// some (summaries of procedures: Reps, Horwitz, Sagiv 1995).
 pub fn quotients_are_above()
     ensures closed { QuotientsAreClosed }
     ensures above { QuotientsAreAbove }
     ensures points { QuotientsBoundPoints }
+    ensures pieces { PiecesBoundPoints }
+    ensures have_pieces { QuotientsHavePieces }
 {}
 
-/// What holds at a point holds behind each way that begins there; procedures with ways through them preserve the bit.
+/// What holds at a point holds behind each way that begins there; procedures with ways through them preserve the bit (matched paths inside
+/// procedures: Reps, Horwitz, Sagiv 1995).
 pub fn ways_carry()
     ensures carry { WaysCarry }
     ensures through { WaysPreserve }
 {}
 
 /// A tree of calls, each reached by a way that preserves the bit, brings it to its procedures, and to each point there to which a way leads
-/// from the entry.
+/// from the entry (valid paths with open calls: Reps, Horwitz, Sagiv 1995).
 pub fn trees_bring()
     ensures procedures { TreesBring }
     ensures points { TreesReachPoints }
@@ -43,7 +48,8 @@ pub fn justified_values_are_below()
     ensures { JustifiedValuesAreBelow }
 {}
 
-/// Bits of any analyses over one shape, solved side by side, have each its own solution.
+/// Bits of any analyses over one shape, solved side by side, have each its own solution (locally separable problems: Reps, Horwitz, Sagiv
+/// 1995).
 pub fn selections_are_solved()
     ensures transfers { SelectionsAreSolved }
     ensures analyses { SelectedBitsAreSolved }

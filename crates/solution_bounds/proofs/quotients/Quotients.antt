@@ -15,15 +15,15 @@ use Rattle.solution_bounds.specs.Laws.{QuotientsAreClosed, QuotientsAreAbove, Qu
 use Rattle.solution_bounds.proofs.bounds.Bounds.{closed_values_are_above}
 
 -- a choice passes where each of its sides does
-choose : (test a b : Bool) → (test ≡ true → a ≡ true) → (test ≡ false → b ≡ true) → (if test then a else b) ≡ true
+pub choose : (test a b : Bool) → (test ≡ true → a ≡ true) → (test ≡ false → b ≡ true) → (if test then a else b) ≡ true
 choose true a b at_first at_second = at_first refl
 choose false a b at_first at_second = at_second refl
 
-chosen_first : (test a b : Bool) → test ≡ true → (if test then a else b) ≡ true → a ≡ true
+pub chosen_first : (test a b : Bool) → test ≡ true → (if test then a else b) ≡ true → a ≡ true
 chosen_first true a b is passes = passes
 chosen_first false a b is passes = absurd (cc is)
 
-chosen_second : (test a b : Bool) → test ≡ false → (if test then a else b) ≡ true → b ≡ true
+pub chosen_second : (test a b : Bool) → test ≡ false → (if test then a else b) ≡ true → b ≡ true
 chosen_second true a b is passes = absurd (cc is)
 chosen_second false a b is passes = passes
 
