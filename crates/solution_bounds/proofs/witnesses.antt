@@ -1,2 +1,4 @@
 pub mod Justified
+pub mod Reversals
+pub mod Turns
 pub mod Ways

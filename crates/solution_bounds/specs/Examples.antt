@@ -1,8 +1,8 @@
--- A small program worked by hand, and bounds of its bits.
+-- Small programs worked by hand, and bounds of their bits.
 use Rattle.std.specs.Prelude.{ℕ, true, false, Bool, nat_eq, nat_lt, List, [], ◌∷◌, if◌then◌else◌}
 use Rattle.std.specs.List.{list_any}
 use Rattle.flow_graph.specs.declared.edge.Edge.TheVariants.{Step, Call, Ret}
-use Rattle.flow_graph.specs.Examples.{definition_made_at}
+use Rattle.flow_graph.specs.Examples.{definition_made_at, definition_at_entry}
 use Rattle.flow_graph.specs.Paths.{Shape, Transfer}
 use Rattle.solution_bounds.specs.Bounds.{Values}
 use Rattle.solution_bounds.specs.Quotients.{Quotient, values_of}
@@ -88,3 +88,22 @@ inner_below = record {
   entered = among (0 ∷ []);
   brought = among [];
 }
+
+-- the value that x has at the beginning, where no statement defines it: a tree of calls brings it to q
+abbrev pub beginning_value : Transfer
+beginning_value = definition_at_entry []
+
+-- main: 0 call f, 1 call g, 2 its end; f: 3 x = 1, 4 its end; g: 5 skip, 6 its end
+abbrev pub calls_in_turn : Shape
+calls_in_turn = record {
+  root_procedure = 0;
+  procedures = 3;
+  entry = λ p. if nat_eq p 0 then 0 else if nat_eq p 1 then 3 else 5;
+  exit = λ p. if nat_eq p 0 then 2 else if nat_eq p 1 then 4 else 6;
+  procedure_of = λ x. if nat_lt x 3 then 0 else if nat_lt x 5 then 1 else 2;
+  edges = Call 0 0 3 ∷ Ret 0 4 1 ∷ Call 1 1 5 ∷ Ret 1 6 2 ∷ Step 3 4 ∷ Step 5 6 ∷ [];
+}
+
+-- f's definition of x, which comes to g by main
+abbrev pub first_definition : Transfer
+first_definition = definition_made_at 3 []

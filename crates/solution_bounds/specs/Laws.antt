@@ -1,7 +1,8 @@
 -- What joins bounds of the least solution to it.
-use Rattle.std.specs.Prelude.{◌≡◌, ◌↔◌, ℕ, Bool, true, Some, List, slice_get, ◌&&◌, ◌||◌}
+use Rattle.std.specs.Prelude.{◌≡◌, ◌↔◌, ℕ, Bool, true, Some, List, slice_get, ◌&&◌, ◌||◌, nat_eq}
 use Rattle.flow_graph.specs.Paths.{Shape, Transfer}
 use Rattle.flow_graph.specs.Problems.{MayForm, may_shape, may_transfer}
+use Rattle.flow_graph.specs.Reversals.{reversed_shape, reversed_transfer}
 use Rattle.flow_graph.specs.WellFormed.{IsWellFormed}
 use Rattle.summary_equations.specs.Equations.{Reached, Preserved, Generated, Entered, Brought, IsInSolution, IsClosedReached, IsClosedPreserved}
 use Rattle.summary_equations.specs.Equations.{IsClosedGenerated, IsClosedEntered, IsClosedBrought}
@@ -10,6 +11,7 @@ use Rattle.solution_bounds.specs.Bounds.{Values, is_in_values, IsUpperBound, IsL
 use Rattle.solution_bounds.specs.Pieces.{Summary, Rows, IsPiece, IsSummary, HasPieces, summary_of}
 use Rattle.solution_bounds.specs.Quotients.{Quotient, values_of, preserved_by, generated_by, brought_by, IsInside, IsQuotientBound}
 use Rattle.solution_bounds.specs.Selections.{Choice, IsSelection, IsSelectionOfBits}
+use Rattle.solution_bounds.specs.Turns.{IsReturnTree}
 use Rattle.solution_bounds.specs.Witnesses.{Way, PreservesThrough, HaveWaysThrough, IsTree, Ranks, AreJustified}
 
 -- Values that are closed under the clauses lie above the least solution.
@@ -92,6 +94,14 @@ WaysPreserve =
     (shape : Shape) (kill : ℕ → ℕ → Bool) (through : ℕ → Bool) (rank : ℕ → ℕ)
     → HaveWaysThrough shape kill through rank → PreservesThrough shape kill through
 
+-- A way of the reversed problem is a way, read from its end; so ways through procedures serve both directions.
+abbrev pub WaysReverse : Type 0
+WaysReverse =
+    (shape : Shape) (transfer : Transfer) (through : ℕ → Bool) (rank : ℕ → ℕ)
+    → ((start finish : ℕ) → Way (reversed_shape shape) (reversed_transfer transfer).kill through start finish
+    → Way shape transfer.kill through finish start)
+    × (HaveWaysThrough (reversed_shape shape) (reversed_transfer transfer).kill through rank → HaveWaysThrough shape transfer.kill through rank)
+
 -- Procedures of a tree of calls are entered, and the bit is brought to them.
 abbrev pub TreesBring : Type 0
 TreesBring =
@@ -110,6 +120,22 @@ TreesReachPoints =
     → IsTree shape transfer through generated tree rank
     → Passes tree (shape.procedure_of point) → Way shape transfer.kill through (shape.entry (shape.procedure_of point)) point
     → IsInSolution shape transfer point
+
+-- What a procedure of a tree of returns generates is generated at the tree's point,
+abbrev pub ReturnTreesCarry : Type 0
+ReturnTreesCarry =
+    (shape : Shape) (transfer : Transfer) (through : ℕ → Bool) (point : ℕ) (tree : ℕ → Bool) (rank : ℕ → ℕ)
+    → PreservesThrough shape transfer.kill through → IsReturnTree shape transfer.kill through point tree rank
+    → (procedure : ℕ) → Passes tree procedure → Generated shape transfer (shape.exit procedure) → Generated shape transfer point
+
+-- and so brought to each procedure of a tree of calls that hangs by a way from this point.
+abbrev pub TurnsBring : Type 0
+TurnsBring =
+    (shape : Shape) (transfer : Transfer) (through : ℕ → Bool) (point : ℕ) (returning : ℕ → Bool) (returning_rank : ℕ → ℕ) (tree : ℕ → Bool) (rank : ℕ → ℕ)
+    → IsWellFormed shape → PreservesThrough shape transfer.kill through
+    → IsReturnTree shape transfer.kill through point returning returning_rank → IsTree shape transfer through (nat_eq point) tree rank
+    → (source procedure : ℕ) → Passes returning source → Generated shape transfer (shape.exit source) → Passes tree procedure
+    → Brought shape transfer procedure
 
 -- Values that follow one from another lie below the least solution.
 abbrev pub JustifiedValuesAreBelow : Type 0

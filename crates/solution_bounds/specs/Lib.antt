@@ -4,4 +4,5 @@ pub mod Laws
 pub mod Pieces
 pub mod Quotients
 pub mod Selections
+pub mod Turns
 pub mod Witnesses

@@ -1,5 +1,5 @@
 -- Ways carry what holds where they begin; ways through procedures and trees of calls are witnesses of the least solution
-use Rattle.std.proofs.Common.{ℕ, zero, suc, Bool, nat_lt, ◌<◌, inr, arith}
+use Rattle.std.proofs.Common.{ℕ, zero, suc, Bool, ◌<◌, inr, arith}
 use Rattle.std.proofs.lemmas.Bool.{and_parts, ltb-true}
 use Rattle.flow_graph.specs.Paths.{Shape, Transfer}
 use Rattle.flow_graph.specs.WellFormed.{IsWellFormed}
