@@ -19,6 +19,13 @@ EXCEPTIONS: dict[str, str] = {  # what needs neither a caller nor an edit, each 
     "bit_rows: Row::minus": "its proof names each step; row_minus_is_and turns what it calls",
     "bit_rows: Row::lo": "a field, which its clause names",
     "bit_rows: Rows::lo": "a field, which its clause names",
+    "flow_rows: Board::claim": "hands on WordBoard::claim; claim_takes_taken turns it",
+    "flow_rows: Board::cut": "hands on WordBoard::cut, a field, which its clause names",
+    "flow_rows: Board::finish": "hands on WordBoard::finish; finish_other_slice turns it",
+    "flow_rows: Board::join": "hands on WordBoard::join; join_drops_what_the_second_holds turns it",
+    "flow_rows: Board::look": "hands on WordBoard::look; look_hides turns it",
+    "flow_rows: Board::post": "hands on WordBoard::post; post_nothing turns it",
+    "flow_rows: Board::split": "hands on WordBoard::split; split_holds_the_same_slice turns it",
 }
 NOTHING_RUNS = re.compile(r"[/_](laws|examples)\.rt$")
 NOT_CALLS = re.compile(r"//.*|\buse [^;]*;")  # comments, and what is brought in
