@@ -1,5 +1,5 @@
-"""Checks the documents against the sources: names, paths, links, counts, lists of definitions,
-widths and sizes.
+"""Checks the documents against the sources: names, where they are defined, paths, links, counts,
+lists of definitions, widths and sizes.
 
     checks/docs              one line for each fault, as FILE:LINE: what is wrong; status 1 where
                              there is one
@@ -15,9 +15,11 @@ import subprocess
 import sys
 import tempfile
 from collections.abc import Callable, Iterator
+from typing import NamedTuple
 
 Fault = tuple[str, int, str]  # a file, a line, what is wrong
 Row = tuple[int, list[str]]  # a row of a table: its line, and its cells
+Table = tuple[int, list[str], list[Row]]  # the line of a table's head, its cells, and the rows
 Reading = tuple[int, list[Row]]  # the line that tells a table's sum, and the table
 Plant = tuple[str, Callable[[str], None], str]
 
@@ -53,18 +55,48 @@ IDENTIFIER = re.compile(r"^[A-Za-z_][A-Za-z0-9_+'-]*(?:(?:::|\.)[A-Za-z_][A-Za-z
 # Goals and facts, as the prover names them: they are of one function each.
 GOAL = re.compile(r"^[cglwF]\.")
 JOINS_NAMES = re.compile(r"^\*{0,2}(,| and|, and|, or| or)\s+\*{0,2}$")
+# Between a place and the names that are said to stand there: "PLACE: NAME", "NAME of PLACE".
+BEFORE_NAMES = re.compile(r"^:\s+\*?$")
+BEHIND_NAMES = re.compile(r"^\s+(of|in)\s+$")
+# A list's element, a row, a heading: it begins a block.
+BEGINS_BLOCK = re.compile(r"^\s*([-*]|\d+\.)\s|^[|#]")
+# How a name is defined: in Rattle and Rust, in definitions and lemmas, in Python.
+RUST_DEFINITION = re.compile(
+    r"\b(?:fn|struct|enum|trait|static|type|mod|union|const(?!\s+fn\b))\s+(?:mut\s+)?(\w+)"
+    r"|macro_rules!\s+(\w+)|^\s*(?:pub\s+)?ghost\s+(\w+)\s*[:=]",
+    re.M,
+)
+ANTT_DEFINITION = re.compile(
+    r"^\s*(?:(?:abbrev|unfoldable|pub)\s+)*(?:record|data|ruleset|mod)\s+([\w'+-]+)"
+    r"|^\s*(?:(?:abbrev|unfoldable|pub)\s+)*([\w'+-]+)\s+:\s",
+    re.M,
+)
+PYTHON_DEFINITION = re.compile(r"^\s*(?:def|class)\s+(\w+)|^(\w+)\s*(?::[^=\n]*)?=", re.M)
+DEFINITIONS = {
+    ".rt": RUST_DEFINITION,
+    ".rs": RUST_DEFINITION,
+    ".antt": ANTT_DEFINITION,
+    ".py": PYTHON_DEFINITION,
+}
+# The columns of a table in which each name is an edit's.
+EDIT_COLUMNS = {"Edit", "Refused by"}
 
 
-# The words of each text that was looked at.
+# The words of each text that was looked at, and what each defines.
 WORDS: dict[str, set[str]] = {}
+DEFINED: dict[str, set[str]] = {}
+
+
+def without_comments(path: str, text: str) -> str:
+    if path.endswith((".rt", ".rs", ".c", ".h")):
+        return re.sub(r"//.*", "", text)
+    if path.endswith(".antt"):
+        return re.sub(r"(^|\s)--\s.*", "", text)
+    return text
 
 
 def words_of(path: str, text: str) -> set[str]:
-    if path.endswith((".rt", ".rs", ".c", ".h")):
-        text = re.sub(r"//.*", "", text)
-    elif path.endswith(".antt"):
-        text = re.sub(r"(^|\s)--\s.*", "", text)
-    found = set(re.findall(r"[A-Za-z_][A-Za-z0-9_+'-]*", text))
+    found = set(re.findall(r"[A-Za-z_][A-Za-z0-9_+'-]*", without_comments(path, text)))
     return found | {part for word in found for part in re.findall(r"[A-Za-z_][A-Za-z0-9_]*", word)}
 
 
@@ -92,6 +124,8 @@ class Repository:
             }
         )
         self.texts: dict[str, str] = {}
+        # the crates, and the libraries of the kit on which they stand
+        self.libraries = set(re.findall(r"\w+", self.text("crates.txt")))
         self.words: set[str] = set()
         self.bench_words: set[str] = set()
         for path in self.files:
@@ -126,13 +160,30 @@ class Repository:
             WORDS[text] = words_of(path, text)
         return WORDS[text]
 
-    def words_of_crate(self, crate: str) -> set[str]:
-        words = set()
+    def defined_in(self, path: str) -> set[str]:
+        """What a file defines; of one in another language its words."""
+        definition = DEFINITIONS.get(os.path.splitext(path)[1])
+        if definition is None:
+            return self.words_in(path)
+        text = self.text(path)
+        if text not in DEFINED:
+            found = definition.findall(without_comments(path, text))
+            DEFINED[text] = {name for names in found for name in names if name}
+        return DEFINED[text]
+
+    def defined_by_crate(self, crate: str) -> set[str]:
+        """What a crate defines, with its modules and edits."""
+        names = set()
         for path in self.files:
             if path.startswith(f"crates/{crate}/"):
-                words |= {os.path.splitext(os.path.basename(path))[0]}
-                words |= self.words_in(path) if self.is_source(path) else set()
-        return words
+                names.add(os.path.splitext(os.path.basename(path))[0])
+                names |= self.defined_in(path) if path.endswith((".rt", ".antt")) else set()
+        return names
+
+    def has_type(self, path: str, name: str) -> bool:
+        """Whether a file of sources declares a type of this name."""
+        text = without_comments(path, self.text(path))
+        return re.search(rf"\b(struct|enum|type) {re.escape(name)}\b", text) is not None
 
     def edits(self, crate: str | None = None) -> list[str]:
         return [
@@ -182,6 +233,31 @@ class Repository:
         return False
 
 
+class Block(NamedTuple):
+    """Lines that are read as one."""
+
+    text: str
+    starts: list[tuple[int, int]]  # where each line begins in the text, and its number
+    crates: list[str]  # at hand
+    spans: list[re.Match[str]]  # what stands between backticks
+
+    @staticmethod
+    def of(lines: list[tuple[int, str]], crates: list[str]) -> Block:
+        starts, end = [], 0
+        for number, line in lines:
+            starts.append((end, number))
+            end += len(line) + 1
+        text = " ".join(line for _, line in lines)
+        return Block(text, starts, crates, list(SPAN.finditer(text)))
+
+    def line(self, span: re.Match[str]) -> int:
+        return max(number for start, number in self.starts if start <= span.start())
+
+    def between(self, at: int) -> str:
+        """What stands between a span and the next one."""
+        return self.text[self.spans[at].end() : self.spans[at + 1].start()]
+
+
 class Page:
     """A document: its lines, which of them are code, and the crates that its headings name."""
 
@@ -208,54 +284,138 @@ class Page:
             if not is_code:
                 yield number, line, crates
 
+    def blocks(self) -> Iterator[Block]:
+        """What is read as one: a paragraph, an element of a list, a row of a table, a heading."""
+        block: list[tuple[int, str]] = []
+        at_hand: list[str] = []
+        for number, line, crates in self.prose():
+            last = (number - 1, self.lines[number - 2])
+            goes_on = line.strip() and not BEGINS_BLOCK.match(line)
+            if block and (not goes_on or block[-1] != last or last[1].startswith(("|", "#"))):
+                yield Block.of(block, at_hand)
+                block = []
+            if line.strip():
+                block.append((number, line))
+                at_hand = crates
+        if block:
+            yield Block.of(block, at_hand)
 
-def names_told(page: Page, number: int, line: str, crates: list[str], faults: list[Fault]) -> None:
-    """Looks at each name between backticks."""
+    def tables(self) -> Iterator[Table]:
+        at = 0
+        while at < len(self.lines):
+            head, rows, row = self.lines[at], [], at + 2
+            if head.startswith("|"):
+                while row < len(self.lines) and self.lines[row].startswith("|"):
+                    rows.append((row + 1, cells(self.lines[row])))
+                    row += 1
+                yield at + 1, cells(head), rows
+                at = row
+            at += 1
+
+
+def cells(line: str) -> list[str]:
+    return [cell.strip() for cell in line.strip().strip("|").split("|")]
+
+
+def place_named(page: Page, name: str, crates: list[str]) -> set[str] | None:
+    """What the file or the crate of this name defines; None where it is neither."""
     repository = page.repository
-    last, at = None, 0
-    for match in SPAN.finditer(line):
-        between, span = line[at : match.start()], match.group(1)
-        at = match.end()
-        # behind "FILE: " or "CRATE: " stand names of that file or crate
-        if last and not (
-            re.fullmatch(r":\s+\*?", between)
-            and last[1] == 0
-            or JOINS_NAMES.match(between)
-            and last[1] > 0
-        ):
-            last = None
-        fault = fault_of_span(page, span, crates)
+    if PATH_ENDINGS.search(name) and " " not in name:
+        hits = [
+            path
+            for path in repository.found(name, crates, page.near)
+            if path in repository.known and repository.is_source(path)
+        ]
+        return set().union(*(repository.defined_in(path) for path in hits)) if hits else None
+    crate = name.removeprefix("crates/").rstrip("/")
+    return repository.defined_by_crate(crate) if crate in repository.crates else None
+
+
+def is_name(page: Page, text: str) -> bool:
+    """Whether what stands between two backticks is the name of something in a file."""
+    is_path = PATH_ENDINGS.search(text) or text in page.repository.libraries
+    return IDENTIFIER.match(text) is not None and not is_path
+
+
+def names_at(page: Page, block: Block, at: int) -> list[re.Match[str]]:
+    """The names that are said to stand in the place that is the block's span of a number: behind
+    "PLACE: ", before " of PLACE" or " in PLACE", or before " (PLACE)"."""
+    spans = block.spans
+    named: list[re.Match[str]] = []
+    for behind in range(at + 1, len(spans)):
+        joins = JOINS_NAMES if named else BEFORE_NAMES
+        if not joins.match(block.between(behind - 1)) or not is_name(page, name_in(spans[behind])):
+            break
+        named.append(spans[behind])
+    between = block.between(at - 1) if at else ""
+    in_brackets = between == " (" and block.text[spans[at].end() :].startswith(")")
+    if BEHIND_NAMES.match(between) or in_brackets:
+        for before in range(at - 1, -1, -1):
+            if not is_name(page, name_in(spans[before])):
+                break
+            named.append(spans[before])
+            if not JOINS_NAMES.match(block.between(before - 1) if before else ""):
+                break
+    return named
+
+
+def name_in(span: re.Match[str]) -> str:
+    return span.group(1).removesuffix("()").removesuffix("!")
+
+
+def is_defined(name: str, defined: set[str]) -> bool:
+    """A name of several parts is defined by its last one."""
+    last = name.split("::")[-1]
+    return last in defined or last.split(".")[-1] in defined
+
+
+def names_told(page: Page, block: Block, faults: list[Fault]) -> None:
+    """Looks at each name between backticks: that it is there, and where it is said to stand that it
+    is defined there."""
+    for at, span in enumerate(block.spans):
+        fault = fault_of_span(page, span.group(1), block.crates)
         if fault:
-            faults.append((page.path, number, fault))
-            last = None
+            faults.append((page.path, block.line(span), fault))
             continue
-        name = span.removesuffix("()")
-        is_path = bool(PATH_ENDINGS.search(name)) and " " not in name
-        if last and IDENTIFIER.match(name) and not is_path:
-            words = last[0]
-            missing = [
-                part
-                for part in re.split(r"::", name)
-                if part not in words and part.split(".")[-1] not in words
-            ]
-            if missing:
-                faults.append((page.path, number, f"`{span}` is not in `{last[2]}`"))
-            last = (last[0], 1, last[2])
-        elif is_path:
-            hits = [
-                path
-                for path in repository.found(name, crates, page.near)
-                if path in repository.known and repository.is_source(path)
-            ]
-            last = (
-                (set().union(*(repository.words_in(path) for path in hits)), 0, name)
-                if hits
-                else None
-            )
-        elif name in repository.crates and page.path != "docs/DECISIONS.md":
-            last = (repository.words_of_crate(name), 0, name)
-        else:
-            last = None
+        named = names_at(page, block, at)
+        defined = place_named(page, span.group(1), block.crates) if named else None
+        for name in named if defined is not None else []:
+            if not is_defined(name_in(name), defined or set()):
+                what = f"`{name.group(1)}` is not defined in `{span.group(1)}`"
+                faults.append((page.path, block.line(name), what))
+
+
+def edits_told(page: Page, faults: list[Fault]) -> None:
+    """In a column of edits each name is that of an edit, or of a test where the cell says so."""
+    edits = {os.path.splitext(os.path.basename(path))[0] for path in page.repository.edits()}
+    for _, head, rows in page.tables():
+        for column in (number for number, cell in enumerate(head) if cell in EDIT_COLUMNS):
+            for number, row in rows:
+                cell = row[column] if column < len(row) else ""
+                names = [] if cell.startswith("tests:") else SPAN.findall(cell)
+                for name in names:
+                    if is_name(page, name) and name not in edits:
+                        faults.append((page.path, number, f"`{name}` is no edit"))
+
+
+def types_told(page: Page, faults: list[Fault]) -> None:
+    """In a row of files and types each file declares one of the types, and each type stands in
+    one; in a row of a file and its lines what is named is defined there."""
+    repository = page.repository
+    for _, head, rows in page.tables():
+        for number, row in rows if head[0] == "File" and len(head) > 1 else []:
+            files = [file for file in SPAN.findall(row[0]) if file in repository.known]
+            names = [name for name in SPAN.findall(row[-1]) if is_name(page, name)]
+            for name in names:
+                if head[1] == "Types":
+                    is_there = any(repository.has_type(file, name) for file in files)
+                else:
+                    is_there = any(is_defined(name, repository.defined_in(file)) for file in files)
+                if not is_there:
+                    faults.append((page.path, number, f"`{name}` is not defined in {row[0]}"))
+            for file in files if head[1] == "Types" else []:
+                if not any(repository.has_type(file, name) for name in names):
+                    faults.append((page.path, number, f"{file} has none of these types"))
 
 
 def fault_of_span(page: Page, span: str, crates: list[str]) -> str | None:
@@ -263,49 +423,41 @@ def fault_of_span(page: Page, span: str, crates: list[str]) -> str | None:
     repository = page.repository
     name = span.strip().removesuffix("()")
     if " " in name:
-        for word in name.split():
-            if re.match(
-                r"^(\./[a-z]|(crates|docs|checks|bench|bindings|frontends|examples|\.ci)/)", word
-            ):
-                if not MADE.search(word) and not repository.found(
-                    word.rstrip(",;:."), crates, page.near
-                ):
-                    return f"`{span}`: there is no {word}"
-        return None
+        return fault_of_command(page, span, crates)
     if name.startswith(("/", "-", "~", "<")) or "://" in name or MADE.search(name):
         return None
     if re.match(r"^[A-Za-z0-9_.*+/-]+$", name) and ("/" in name or PATH_ENDINGS.search(name)):
-        if name in OUTSIDE or re.fullmatch(r"[0-9/+*-]+", name):
+        is_known = name in OUTSIDE or re.fullmatch(r"[0-9/+*-]+", name)
+        if is_known or repository.found(name, crates, page.near):
             return None
-        return (
-            None
-            if repository.found(name, crates, page.near)
-            else f"`{span}`: there is no such file"
-        )
-    if (
-        not IDENTIFIER.match(name)
-        or len(name) < 3
-        or PLACEHOLDER.fullmatch(name)
-        or GOAL.match(name)
-    ):
+        return f"`{span}`: there is no such file"
+    is_any = PLACEHOLDER.fullmatch(name) or GOAL.match(name)
+    if not IDENTIFIER.match(name) or len(name) < 3 or is_any:
         return None
     parts = name.split("::")
     if len(parts) > 1:
-        if parts[0] in ("std", "core", "u32", "u64", "usize"):
+        is_of_kit = parts[0] in ("std", "core", "u32", "u64", "usize")
+        if is_of_kit or repository.has_member(parts[-2], parts[-1]):
             return None
-        return (
-            None
-            if repository.has_member(parts[-2], parts[-1])
-            else f"`{span}`: there is no such item"
-        )
-    words = (
-        repository.words | repository.bench_words
-        if page.path.startswith("bench/")
-        else repository.words
-    )
+        return f"`{span}`: there is no such item"
+    words = repository.words
+    if page.path.startswith("bench/"):
+        words = words | repository.bench_words
     if name in words or all(part in words for part in name.split(".") if part):
         return None
     return f"`{span}`: no source has this name"
+
+
+def fault_of_command(page: Page, span: str, crates: list[str]) -> str | None:
+    """What is wrong with several words between two backticks: the files among them are there."""
+    for word in span.strip().split():
+        is_file = re.match(
+            r"^(\./[a-z]|(crates|docs|checks|bench|bindings|frontends|examples|\.ci)/)", word
+        )
+        if is_file and not MADE.search(word):
+            if not page.repository.found(word.rstrip(",;:."), crates, page.near):
+                return f"`{span}`: there is no {word}"
+    return None
 
 
 def benchmarks_of(root: str) -> set[str]:
@@ -376,33 +528,21 @@ def counts_told(
             )
 
 
-def cells(line: str) -> list[str]:
-    return [cell.strip() for cell in line.strip().strip("|").split("|")]
-
-
 def reading_lists(page: Page) -> tuple[list[Reading], set[tuple[str, str]]]:
     """The tables of a page whose head begins with File and Lines, each with the line before it that
     tells their sum; and the types."""
-    lists, types, at = [], set(), 0
-    while at < len(page.lines):
-        head = cells(page.lines[at]) if page.lines[at].startswith("|") else []
-        if head[:2] in (["File", "Lines"], ["File", "Types"]):
-            rows, row = [], at + 2
-            while row < len(page.lines) and page.lines[row].startswith("|"):
-                rows.append((row + 1, cells(page.lines[row])))
-                row += 1
-            if head[1] == "Lines":
-                told = next((n for n in range(at - 1, -1, -1) if page.lines[n].strip()), 0)
-                lists.append((told + 1, rows))
-            else:
-                types |= {
-                    (file, name)
-                    for _, cell in rows
-                    for file in SPAN.findall(cell[0])
-                    for name in SPAN.findall(cell[1])
-                }
-            at = row
-        at += 1
+    lists, types = [], set()
+    for at, head, rows in page.tables():
+        if head[:2] == ["File", "Lines"]:
+            told = next((n for n in range(at - 1, 0, -1) if page.lines[n - 1].strip()), 1)
+            lists.append((told, rows))
+        elif head[:2] == ["File", "Types"]:
+            types |= {
+                (file, name)
+                for _, row in rows
+                for file in SPAN.findall(row[0])
+                for name in SPAN.findall(row[1])
+            }
     return lists, types
 
 
@@ -431,44 +571,55 @@ def imports_of(repository: Repository, path: str) -> tuple[set[str], set[tuple[s
 def reading_told(page: Page, faults: list[Fault]) -> int:
     """Looks at the lists of definitions: the lines of each file, the sums, and that each list is
     closed. The sum of the first one."""
-    repository = page.repository
     lists, types = reading_lists(page)
-    listed, headline = set(), 0
+    listed: set[str] = set()
+    headline = 0
     for told, rows in lists:
-        sum_of_lines = 0
-        for number, row in rows:
-            file = row[0].strip("`")
-            if file not in repository.known:
-                faults.append((page.path, number, f"{file}: there is no such file"))
-                continue
-            lines = len(repository.lines(file))
-            if number_of(row[1]) != lines:
-                faults.append((page.path, number, f"{file} has {lines} lines"))
-            sum_of_lines += lines
-            listed.add(file)
+        sum_of_lines = lines_told(page, rows, listed, faults)
         headline = headline or sum_of_lines
         sums = re.findall(r"\b([\d,]*\d) lines\b", page.lines[told - 1])
         if [number_of(text) for text in sums] != [sum_of_lines]:
             faults.append((page.path, told, f"the list below has {sum_of_lines} lines"))
-        for number, row in rows:
-            file = row[0].strip("`")
-            if file in repository.known and file.endswith(".antt"):
-                definitions, used = imports_of(repository, file)
-                for other in sorted(definitions - listed):
-                    faults.append(
-                        (page.path, number, f"{file} imports {other}, which is not listed")
-                    )
-                for source, name in sorted(used - types):
-                    faults.append(
-                        (
-                            page.path,
-                            number,
-                            f"{file} uses `{name}` of {source}, which is not among the types",
-                        )
-                    )
+        imports_told(page, rows, listed, types, faults)
     if not lists:
         faults.append((page.path, 1, "it has no list of definitions"))
     return headline
+
+
+def lines_told(page: Page, rows: list[Row], listed: set[str], faults: list[Fault]) -> int:
+    """How many lines a list's files have, which then are listed."""
+    repository = page.repository
+    sum_of_lines = 0
+    for number, row in rows:
+        file = row[0].strip("`")
+        if file not in repository.known:
+            faults.append((page.path, number, f"{file}: there is no such file"))
+            continue
+        lines = len(repository.lines(file))
+        if number_of(row[1]) != lines:
+            faults.append((page.path, number, f"{file} has {lines} lines"))
+        sum_of_lines += lines
+        listed.add(file)
+    return sum_of_lines
+
+
+def imports_told(
+    page: Page,
+    rows: list[Row],
+    listed: set[str],
+    types: set[tuple[str, str]],
+    faults: list[Fault],
+) -> None:
+    """What a list's files import is listed."""
+    for number, row in rows:
+        file = row[0].strip("`")
+        if file in page.repository.known and file.endswith(".antt"):
+            definitions, used = imports_of(page.repository, file)
+            for other in sorted(definitions - listed):
+                faults.append((page.path, number, f"{file} imports {other}, which is not listed"))
+            for source, name in sorted(used - types):
+                what = f"{file} uses `{name}` of {source}, which is not among the types"
+                faults.append((page.path, number, what))
 
 
 def pages_named(repository: Repository, faults: list[Fault]) -> None:
@@ -510,10 +661,13 @@ def faults_of(root: str) -> list[Fault]:
         for number, line in enumerate(page.lines, 1):
             if len(line) > WIDTH:
                 faults.append((path, number, f"{len(line)} columns: a line has at most {WIDTH}"))
+        for block in page.blocks():
+            names_told(page, block, faults)
+        edits_told(page, faults)
+        types_told(page, faults)
         for number, line, crates in page.prose():
             if line.count("`") % 2:
                 faults.append((path, number, "a name between backticks goes on in the next line"))
-            names_told(page, number, line, crates, faults)
             links_told(page, number, line, faults)
             benchmarks_told(page, number, line, benchmarks, faults)
             counts_told(page, number, line, crates, headline, faults)
@@ -556,55 +710,58 @@ def without_first_row(root: str) -> None:
         target.write("\n".join(lines) + "\n")
 
 
+GLOSSARY = "docs/GLOSSARY.md"
+TABLES = "crates/flow_team/specs/Tables.antt"
+PUTTING = "crates/slice_board/proofs/rows/Putting.antt"
+# Faults that stand in a text: what each is called, the page, the text that is put behind it, and
+# what has to be told of a line of that text.
+TEXTS = [
+    ("a name that is gone", GLOSSARY, "`no_such_function_here`", "no source has this name"),
+    ("a member that is gone", GLOSSARY, "`Graph::no_such_call`", "no such item"),
+    ("a name of another file", GLOSSARY, "`graph.rt`: `take_up`", "is not defined in"),
+    ("a type that a file uses", GLOSSARY, "`graph.rt`: `Analysis`", "is not defined in"),
+    ("a name that a file imports", GLOSSARY, f"`{TABLES}`: `point_count`", "is not defined in"),
+    ("one of several names", GLOSSARY, f"`{TABLES}`: `IsTableOf`, `bits_at`", "`bits_at` is"),
+    ("a name of a file", GLOSSARY, f"`point_count` of `{TABLES}`", "is not defined in"),
+    ("a name in brackets", GLOSSARY, f"`point_count` (`{TABLES}`)", "is not defined in"),
+    ("a name in the next line", GLOSSARY, f"`{TABLES}`:\n`point_count`", "is not defined in"),
+    ("a name that a crate uses", GLOSSARY, "`flow_team`: `point_count`", "is not defined in"),
+    ("a name in a crate", GLOSSARY, "`point_count` in `flow_team`", "is not defined in"),
+    ("a lemma that a file uses", GLOSSARY, f"`{PUTTING}`: `omega`", "is not defined in"),
+    ("a member that a file calls", GLOSSARY, "`team.rt`: `Job::open`", "is not defined in"),
+    ("an edit that is gone", READING, "`bit_rows`: `row_that_never_was`", "no source has"),
+    (
+        "an edit that is none",
+        READING,
+        "| A body | Refused by |\n|---|---|\n| any | `analyse` |",
+        "is no edit",
+    ),
+    (
+        "a type of another file",
+        READING,
+        "| File | Types |\n|---|---|\n| `crates/flow_graph/src/edge.rt` | `Edge`, `Expr` |",
+        "`Expr` is not defined in",
+    ),
+    (
+        "a file without its type",
+        READING,
+        "| File | Types |\n|---|---|\n"
+        "| `crates/flow_graph/src/edge.rt`, `crates/flow_graph/src/graph.rt` | `Edge` |",
+        "has none of these types",
+    ),
+    ("a file that is gone", GLOSSARY, "`docs/GONE.md`", "no such file"),
+    ("a link that leads nowhere", "README.md", "[gone](docs/GONE.md)", "leads nowhere"),
+    ("a wrong count of edits", "crates/bit_rows/README.md", "It has 9,999 edits.", "9,999 edits"),
+    ("a wrong count of crates", "README.md", "There are 9,999 crates.", "9,999 crates"),
+    ("a wrong sum of definitions", "README.md", "On 3 lines of definitions.", "3 lines of"),
+    ("a line that is too long", GLOSSARY, "long " * 40, "a line has at most"),
+    ("a page that is too long", "docs/ARCHITECTURE.md", "\n" * 200, "it may have"),
+]
+
+
 def plants() -> list[Plant]:
-    """The faults that are planted: what each is called, how it is planted, and what has to be
-    told."""
+    """The other faults: what each is called, how it is planted, and what has to be told."""
     return [
-        (
-            "a name that is gone",
-            lambda root: appended(root, "docs/GLOSSARY.md", "\n`no_such_function_here`\n"),
-            "no source has this name",
-        ),
-        (
-            "a member that is gone",
-            lambda root: appended(root, "docs/GLOSSARY.md", "\n`Graph::no_such_call`\n"),
-            "no such item",
-        ),
-        (
-            "a name of another file",
-            lambda root: appended(root, "docs/GLOSSARY.md", "\n`graph.rt`: `take_up`\n"),
-            "is not in",
-        ),
-        (
-            "an edit that is gone",
-            lambda root: appended(root, READING, "\n`bit_rows`: `row_that_never_was`\n"),
-            "no source has this name",
-        ),
-        (
-            "a file that is gone",
-            lambda root: appended(root, "docs/GLOSSARY.md", "\n`docs/GONE.md`\n"),
-            "no such file",
-        ),
-        (
-            "a link that leads nowhere",
-            lambda root: appended(root, "README.md", "\n[gone](docs/GONE.md)\n"),
-            "leads nowhere",
-        ),
-        (
-            "a wrong count of edits",
-            lambda root: appended(root, "crates/bit_rows/README.md", "\nIt has 9,999 edits.\n"),
-            "9,999 edits",
-        ),
-        (
-            "a wrong count of crates",
-            lambda root: appended(root, "README.md", "\nThere are 9,999 crates.\n"),
-            "9,999 crates",
-        ),
-        (
-            "a wrong sum of definitions",
-            lambda root: appended(root, "README.md", "\nOn 3 lines of definitions.\n"),
-            "3 lines of definitions",
-        ),
         (
             "a definition that grew",
             lambda root: appended(root, "crates/flow_graph/specs/Paths.antt", "\n-- more\n"),
@@ -615,16 +772,6 @@ def plants() -> list[Plant]:
             "a type that is not listed",
             lambda root: replaced(root, READING, "`StmtKind`", "-"),
             "not among the types",
-        ),
-        (
-            "a line that is too long",
-            lambda root: appended(root, "docs/GLOSSARY.md", "\n" + "long " * 40 + "\n"),
-            "a line has at most",
-        ),
-        (
-            "a page that is too long",
-            lambda root: appended(root, "docs/ARCHITECTURE.md", "\n" * 200),
-            "it may have",
         ),
         (
             "a crate without a page",
@@ -649,22 +796,42 @@ def restored(root: str, target: str) -> None:
             shutil.copyfile(os.path.join(root, path), os.path.join(target, path))
 
 
+def new_faults(root: str, before: list[Fault]) -> list[Fault]:
+    return [fault for fault in faults_of(root) if fault not in before]
+
+
+def texts_missed(root: str, before: list[Fault]) -> list[str]:
+    """Plants all texts, and answers those of which nothing is told."""
+    planted = []
+    for name, page, text, wanted in TEXTS:
+        with open(os.path.join(root, page), encoding="utf-8") as file:
+            first = len(file.read().splitlines()) + 2
+        appended(root, page, f"\n{text}\n")
+        planted.append((name, page, range(first, first + text.count("\n") + 1), wanted))
+    told = new_faults(root, before)
+    return [
+        name
+        for name, page, lines, wanted in planted
+        if not any(path == page and at in lines and wanted in what for path, at, what in told)
+    ]
+
+
 def self_test(root: str) -> int:
     before = faults_of(root)
-    failed = 0
     with tempfile.TemporaryDirectory() as target:
         copied(root, target)
+        missed = texts_missed(target, before)
+        restored(root, target)
         for name, plant, wanted in plants():
             plant(target)
-            told = [
-                fault for fault in faults_of(target) if fault not in before and wanted in fault[2]
-            ]
-            if not told:
-                failed += 1
-                print(f"not told: {name}")
+            if not any(wanted in what for _, _, what in new_faults(target, before)):
+                missed.append(name)
             restored(root, target)
-    print(f"{len(plants()) - failed} of {len(plants())} planted faults told")
-    return 1 if failed else 0
+    for name in missed:
+        print(f"not told: {name}")
+    count = len(TEXTS) + len(plants())
+    print(f"{count - len(missed)} of {count} planted faults told")
+    return 1 if missed else 0
 
 
 def main() -> int:
