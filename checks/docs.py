@@ -78,8 +78,10 @@ DEFINITIONS = {
     ".antt": ANTT_DEFINITION,
     ".py": PYTHON_DEFINITION,
 }
-# The columns of a table in which each name is an edit's.
-EDIT_COLUMNS = {"Edit", "Refused by"}
+# The columns of a table in which each name is an edit's, and how the head of one begins in which
+# each name is a test's, an example's or a law's.
+EDIT_COLUMNS = ("Edit", "Refused by")
+EXAMPLE_COLUMNS = ("Examples", "Laws", "Tests")
 
 
 # The words of each text that was looked at, and what each defines.
@@ -126,6 +128,7 @@ class Repository:
         self.texts: dict[str, str] = {}
         # the crates, and the libraries of the kit on which they stand
         self.libraries = set(re.findall(r"\w+", self.text("crates.txt")))
+        self.defined: set[str] = set()
         self.words: set[str] = set()
         self.bench_words: set[str] = set()
         for path in self.files:
@@ -179,6 +182,12 @@ class Repository:
                 names.add(os.path.splitext(os.path.basename(path))[0])
                 names |= self.defined_in(path) if path.endswith((".rt", ".antt")) else set()
         return names
+
+    def all_defined(self) -> set[str]:
+        if not self.defined:
+            sources = (path for path in self.files if os.path.splitext(path)[1] in DEFINITIONS)
+            self.defined = set().union(*(self.defined_in(path) for path in sources))
+        return self.defined
 
     def has_type(self, path: str, name: str) -> bool:
         """Whether a file of sources declares a type of this name."""
@@ -385,17 +394,26 @@ def names_told(page: Page, block: Block, faults: list[Fault]) -> None:
                 faults.append((page.path, block.line(name), what))
 
 
-def edits_told(page: Page, faults: list[Fault]) -> None:
-    """In a column of edits each name is that of an edit, or of a test where the cell says so."""
-    edits = {os.path.splitext(os.path.basename(path))[0] for path in page.repository.edits()}
+def names_below(page: Page, heads: tuple[str, ...]) -> Iterator[tuple[int, str]]:
+    """The names in the columns of tables whose head begins so, each with its line. A cell of edits
+    may tell tests in their place."""
     for _, head, rows in page.tables():
-        for column in (number for number, cell in enumerate(head) if cell in EDIT_COLUMNS):
+        for column in (number for number, cell in enumerate(head) if cell.startswith(heads)):
             for number, row in rows:
                 cell = row[column] if column < len(row) else ""
                 names = [] if cell.startswith("tests:") else SPAN.findall(cell)
-                for name in names:
-                    if is_name(page, name) and name not in edits:
-                        faults.append((page.path, number, f"`{name}` is no edit"))
+                yield from ((number, name) for name in names if is_name(page, name))
+
+
+def columns_told(page: Page, faults: list[Fault]) -> None:
+    """In a column of edits each name is that of an edit, in one of tests it is defined."""
+    edits = {os.path.splitext(os.path.basename(path))[0] for path in page.repository.edits()}
+    for number, name in names_below(page, EDIT_COLUMNS):
+        if name not in edits:
+            faults.append((page.path, number, f"`{name}` is no edit"))
+    for number, name in names_below(page, EXAMPLE_COLUMNS):
+        if not is_defined(name, page.repository.all_defined()):
+            faults.append((page.path, number, f"`{name}`: no source defines it"))
 
 
 def types_told(page: Page, faults: list[Fault]) -> None:
@@ -663,7 +681,7 @@ def faults_of(root: str) -> list[Fault]:
                 faults.append((path, number, f"{len(line)} columns: a line has at most {WIDTH}"))
         for block in page.blocks():
             names_told(page, block, faults)
-        edits_told(page, faults)
+        columns_told(page, faults)
         types_told(page, faults)
         for number, line, crates in page.prose():
             if line.count("`") % 2:
@@ -735,6 +753,12 @@ TEXTS = [
         READING,
         "| A body | Refused by |\n|---|---|\n| any | `analyse` |",
         "is no edit",
+    ),
+    (
+        "a test that is none",
+        GLOSSARY,
+        "| Rule | Tests |\n|---|---|\n| any | `trailing_zeros` |",
+        "no source defines it",
     ),
     (
         "a type of another file",
