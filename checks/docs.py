@@ -1,5 +1,5 @@
 """Checks the documents against the sources: names, where they are defined, paths, links, counts,
-lists of definitions, widths and sizes.
+lists of definitions, widths and sizes; and the manual pages against the table of options.
 
     checks/docs              one line for each fault, as FILE:LINE: what is wrong; status 1 where
                              there is one
@@ -650,6 +650,24 @@ def pages_named(repository: Repository, faults: list[Fault]) -> None:
                         faults.append((path, number, f"there is no {name}"))
 
 
+def manuals_told(repository: Repository, faults: list[Fault]) -> None:
+    """The options of each manual page are those that packaging/manual makes of their table."""
+    command = os.path.join(repository.root, "packaging/manual")
+    for path in repository.files:
+        program = re.fullmatch(r"packaging/man/(.*)\.1", path)
+        if not program:
+            continue
+        made = subprocess.run(
+            ["sh", command, program.group(1)], capture_output=True, text=True, check=True
+        ).stdout
+        page = repository.text(path)
+        begins = page.find(".SH OPTIONS\n")
+        ends = page.find("\n.SH ", begins)
+        if begins < 0 or page[begins : ends + 1] != made:
+            at = page.count("\n", 0, max(begins, 0)) + 1
+            faults.append((path, at, "its options are not those of packaging/manual --write"))
+
+
 def size_told(page: Page, faults: list[Fault]) -> None:
     least, most = (
         CRATE_PAGE
@@ -691,6 +709,7 @@ def faults_of(root: str) -> list[Fault]:
             counts_told(page, number, line, crates, headline, faults)
         size_told(page, faults)
     pages_named(repository, faults)
+    manuals_told(repository, faults)
     for crate in repository.crates:
         if f"crates/{crate}/README.md" not in repository.known:
             faults.append((f"crates/{crate}", 1, "it has no README.md"))
@@ -729,6 +748,7 @@ def without_first_row(root: str) -> None:
 
 
 GLOSSARY = "docs/GLOSSARY.md"
+MANUAL = "packaging/man/tacflow.1"
 TABLES = "crates/flow_team/specs/Tables.antt"
 PUTTING = "crates/slice_board/proofs/rows/Putting.antt"
 # Faults that stand in a text: what each is called, the page, the text that is put behind it, and
@@ -798,6 +818,16 @@ def plants() -> list[Plant]:
             "not among the types",
         ),
         (
+            "a page of the manual that was changed",
+            lambda root: replaced(root, MANUAL, "\\fIKIND", "\\fIWORD"),
+            "its options are not those",
+        ),
+        (
+            "an option that the manual has not",
+            lambda root: appended(root, "packaging/options", "tacflow|--more|||Says more\n"),
+            "its options are not those",
+        ),
+        (
             "a crate without a page",
             lambda root: os.remove(os.path.join(root, "crates/bit_rows/README.md")),
             "has no README.md",
@@ -814,9 +844,9 @@ def copied(root: str, target: str) -> None:
 
 
 def restored(root: str, target: str) -> None:
-    """Takes a planted fault back: faults stand in documents and definitions."""
+    """Takes a planted fault back: faults stand in documents, definitions and the manual."""
     for path in Repository(root).files:
-        if path.endswith((".md", "Paths.antt")):
+        if path.endswith((".md", "Paths.antt", "packaging/options", MANUAL)):
             shutil.copyfile(os.path.join(root, path), os.path.join(target, path))
 
 
