@@ -59,9 +59,10 @@ IDENTIFIER = re.compile(r"^[A-Za-z_][A-Za-z0-9_+'-]*(?:(?:::|\.)[A-Za-z_][A-Za-z
 # Goals and facts, as the prover names them: they are of one function each.
 GOAL = re.compile(r"^[cglwF]\.")
 JOINS_NAMES = re.compile(r"^\*{0,2}(,| and|, and|, or| or)\s+\*{0,2}$")
-# Between a place and the names that are said to stand there: "PLACE: NAME", "NAME of PLACE".
+# Between a place and the names that are said to stand there: "PLACE: NAME", "NAME of PLACE",
+# "NAME, in PLACE".
 BEFORE_NAMES = re.compile(r"^:\s+\*?$")
-BEHIND_NAMES = re.compile(r"^\s+(of|in)\s+$")
+BEHIND_NAMES = re.compile(r"^,?\s+(?:(?:is|are|stands?)\s+)?(?:of|in)\s+$")
 # A list's element, a row, a heading: it begins a block.
 BEGINS_BLOCK = re.compile(r"^\s*([-*]|\d+\.)\s|^[|#]")
 # How a name is defined: in Rattle and Rust, in definitions and lemmas, in Python.
@@ -774,6 +775,7 @@ TEXTS = [
     ("a name that a file imports", GLOSSARY, f"`{TABLES}`: `point_count`", "is not defined in"),
     ("one of several names", GLOSSARY, f"`{TABLES}`: `IsTableOf`, `bits_at`", "`bits_at` is"),
     ("a name of a file", GLOSSARY, f"`point_count` of `{TABLES}`", "is not defined in"),
+    ("a name behind a comma", GLOSSARY, f"`point_count`, in `{TABLES}`", "is not defined in"),
     ("a name in brackets", GLOSSARY, f"`point_count` (`{TABLES}`)", "is not defined in"),
     ("a name in the next line", GLOSSARY, f"`{TABLES}`:\n`point_count`", "is not defined in"),
     ("a name that a crate uses", GLOSSARY, "`flow_team`: `point_count`", "is not defined in"),
