@@ -9,6 +9,7 @@ table of options.
 
 from __future__ import annotations
 
+import functools
 import os
 import re
 import shutil
@@ -134,6 +135,8 @@ class Repository:
         # the crates, and the libraries of the kit on which they stand
         self.libraries = set(re.findall(r"\w+", self.text("crates.txt")))
         self.defined: set[str] = set()
+        declared = (self.text(path) for path in self.files if path.endswith(".rt"))
+        self.types = set(re.findall(r"\b(?:struct|enum|trait) ([A-Z]\w*)", "\n".join(declared)))
         self.words: set[str] = set()
         self.bench_words: set[str] = set()
         for path in self.files:
@@ -233,7 +236,7 @@ class Repository:
         crate of that one."""
         owns = re.compile(rf"\b(impl\b.*|struct |enum |trait |type ){owner}\b")
         declares = re.compile(
-            rf"\b(fn|const|static|struct|enum|trait|type) {member}\b"
+            rf"\b(fn|const|static|struct|enum|trait|type|ghost) {member}\b"
             rf"|^\s*(pub )?{member}\b\s*(,|:|\(|\{{)",
             re.M,
         )
@@ -331,7 +334,18 @@ def cells(line: str) -> list[str]:
     return [cell.strip() for cell in line.strip().strip("|").split("|")]
 
 
-def place_named(page: Page, name: str, crates: list[str]) -> set[str] | None:
+def place_named(page: Page, name: str, crates: list[str]) -> Callable[[str], bool] | None:
+    """Whether a name is defined in the file or the crate of this name, or is a member of the type;
+    None where it is no place."""
+    defined = defined_there(page, name, crates)
+    if defined is not None:
+        return functools.partial(is_defined, defined)
+    if name in page.repository.types:
+        return functools.partial(page.repository.has_member, name)
+    return None
+
+
+def defined_there(page: Page, name: str, crates: list[str]) -> set[str] | None:
     """What the file or the crate of this name defines; None where it is neither."""
     repository = page.repository
     if PATH_ENDINGS.search(name) and " " not in name:
@@ -377,7 +391,7 @@ def name_in(span: re.Match[str]) -> str:
     return span.group(1).removesuffix("()").removesuffix("!")
 
 
-def is_defined(name: str, defined: set[str]) -> bool:
+def is_defined(defined: set[str], name: str) -> bool:
     """A name of several parts is defined by its last one."""
     last = name.split("::")[-1]
     return last in defined or last.split(".")[-1] in defined
@@ -392,9 +406,9 @@ def names_told(page: Page, block: Block, faults: list[Fault]) -> None:
             faults.append((page.path, block.line(span), fault))
             continue
         named = names_at(page, block, at)
-        defined = place_named(page, span.group(1), block.crates) if named else None
-        for name in named if defined is not None else []:
-            if not is_defined(name_in(name), defined or set()):
+        is_there = place_named(page, span.group(1), block.crates) if named else None
+        for name in named if is_there else []:
+            if is_there and not is_there(name_in(name)):
                 what = f"`{name.group(1)}` is not defined in `{span.group(1)}`"
                 faults.append((page.path, block.line(name), what))
 
@@ -417,7 +431,7 @@ def columns_told(page: Page, faults: list[Fault]) -> None:
         if name not in edits:
             faults.append((page.path, number, f"`{name}` is no edit"))
     for number, name in names_below(page, EXAMPLE_COLUMNS):
-        if not is_defined(name, page.repository.all_defined()):
+        if not is_defined(page.repository.all_defined(), name):
             faults.append((page.path, number, f"`{name}`: no source defines it"))
 
 
@@ -433,7 +447,7 @@ def types_told(page: Page, faults: list[Fault]) -> None:
                 if head[1] == "Types":
                     is_there = any(repository.has_type(file, name) for file in files)
                 else:
-                    is_there = any(is_defined(name, repository.defined_in(file)) for file in files)
+                    is_there = any(is_defined(repository.defined_in(file), name) for file in files)
                 if not is_there:
                     faults.append((page.path, number, f"`{name}` is not defined in {row[0]}"))
             for file in files if head[1] == "Types" else []:
@@ -780,6 +794,7 @@ TEXTS = [
     ("a name in the next line", GLOSSARY, f"`{TABLES}`:\n`point_count`", "is not defined in"),
     ("a name that a crate uses", GLOSSARY, "`flow_team`: `point_count`", "is not defined in"),
     ("a name in a crate", GLOSSARY, "`point_count` in `flow_team`", "is not defined in"),
+    ("a member of another type", GLOSSARY, "`Graph`: `solve_from`", "is not defined in"),
     ("a lemma that a file uses", GLOSSARY, f"`{PUTTING}`: `omega`", "is not defined in"),
     ("a member that a file calls", GLOSSARY, "`team.rt`: `Job::open`", "is not defined in"),
     ("an edit that is gone", READING, "`bit_rows`: `row_that_never_was`", "no source has"),
