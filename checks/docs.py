@@ -78,6 +78,14 @@ ANTT_DEFINITION = re.compile(
     re.M,
 )
 PYTHON_DEFINITION = re.compile(r"^\s*(?:def|class)\s+(\w+)|^(\w+)\s*(?::[^=\n]*)?=", re.M)
+# A type, a trait or an implementation, and the members that such a body declares.
+BODY = re.compile(
+    r"^(?:pub(?:\(\w+\))? )?(struct|enum|trait|impl)\b([^;{]*)\{$(.*?)^\}$", re.M | re.S
+)
+FIELD = re.compile(r"^    (?:pub(?:\(\w+\))? )?(?:ghost )?(\w+)\s*[:,({]", re.M)
+METHOD = re.compile(
+    r"^    (?:pub(?:\(\w+\))? )?(?:(?:const|unsafe) )*(?:fn|const|type|ghost) (\w+)", re.M
+)
 DEFINITIONS = {
     ".rt": RUST_DEFINITION,
     ".rs": RUST_DEFINITION,
@@ -135,6 +143,7 @@ class Repository:
         # the crates, and the libraries of the kit on which they stand
         self.libraries = set(re.findall(r"\w+", self.text("crates.txt")))
         self.defined: set[str] = set()
+        self.members: dict[str, set[str]] = {}
         declared = (self.text(path) for path in self.files if path.endswith(".rt"))
         self.types = set(re.findall(r"\b(?:struct|enum|trait) ([A-Z]\w*)", "\n".join(declared)))
         self.words: set[str] = set()
@@ -232,22 +241,26 @@ class Repository:
         return [path for path in self.files + sorted(self.folders) if path.endswith("/" + name)]
 
     def has_member(self, owner: str, member: str) -> bool:
-        """Whether some source file declares an item of this name for a type, a trait, a module or a
-        crate of that one."""
-        owns = re.compile(rf"\b(impl\b.*|struct |enum |trait |type ){owner}\b")
-        declares = re.compile(
-            rf"\b(fn|const|static|struct|enum|trait|type|ghost) {member}\b"
-            rf"|^\s*(pub )?{member}\b\s*(,|:|\(|\{{)",
-            re.M,
-        )
-        for path in self.files:
-            if path.endswith((".rt", ".rs")) and member in self.words_in(path):
-                is_module = owner == os.path.splitext(os.path.basename(path))[
-                    0
-                ] or owner in path.split("/")
-                if (is_module or owns.search(self.text(path))) and declares.search(self.text(path)):
-                    return True
-        return False
+        """Whether some source declares this name in a type or a trait, or in a module or crate."""
+        if not self.members:
+            for path in (path for path in self.files if path.endswith((".rt", ".rs"))):
+                places = {os.path.splitext(os.path.basename(path))[0], *path.split("/")[:-1]}
+                for name in places:
+                    self.members.setdefault(name, set()).update(self.defined_in(path))
+                for name, members in members_in(self.text(path)):
+                    self.members.setdefault(name, set()).update(members)
+        return member in self.members.get(owner, ())
+
+
+def members_in(text: str) -> Iterator[tuple[str, set[str]]]:
+    """The types and traits of a source with what their bodies declare; of an implementation all
+    that its head names."""
+    for found in BODY.finditer(text):
+        kind, head, body = found.groups()
+        names = re.findall(r"\b[A-Z]\w*", head)
+        members = (FIELD if kind in ("struct", "enum") else METHOD).findall(body)
+        for name in names if kind == "impl" else names[:1]:
+            yield name, set(members)
 
 
 class Block(NamedTuple):
@@ -784,6 +797,7 @@ PUTTING = "crates/slice_board/proofs/rows/Putting.antt"
 TEXTS = [
     ("a name that is gone", GLOSSARY, "`no_such_function_here`", "no source has this name"),
     ("a member that is gone", GLOSSARY, "`Graph::no_such_call`", "no such item"),
+    ("a member that a type calls", GLOSSARY, "`ReportAnswers::next`", "no such item"),
     ("a name of another file", GLOSSARY, "`graph.rt`: `take_up`", "is not defined in"),
     ("a type that a file uses", GLOSSARY, "`graph.rt`: `Analysis`", "is not defined in"),
     ("a name that a file imports", GLOSSARY, f"`{TABLES}`: `point_count`", "is not defined in"),
