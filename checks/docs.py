@@ -1,5 +1,5 @@
 """Checks the documents against the sources: names, where they are defined, paths, links, counts,
-lists of definitions, widths and sizes; where times come from; and the manual pages against the
+lists of definitions, widths and sizes; where figures come from; and the manual pages against the
 table of options.
 
     checks/docs              one line for each fault, as FILE:LINE: what is wrong; status 1 where
@@ -52,9 +52,10 @@ OUTSIDE = set(
 # installation.
 MADE = re.compile(r"(^|/)out(/|$)|^(bin|lib|libexec|include|share)/")
 PLACEHOLDER = re.compile(r"\b(NAME|CRATE|FILE|F|M|X|PREFIX|DATE|MACHINE)\b")
-# A time, and the text of a span that says where it comes from: a command, or a run that is kept.
-TIME = re.compile(r"\b\d[\d.,]*\s?(ms|s|min|seconds?|minutes?|hours?)\b")
-SOURCE_OF_TIME = re.compile(r"\S \S|^bench/runs/")
+# A time or a size of memory, and the text of a span that says where it comes from: a command, or a
+# run that is kept.
+FIGURE = re.compile(r"\b\d[\d.,]*\s?(ms|s|min|seconds?|minutes?|hours?|MB|GB)\b")
+SOURCE_OF_FIGURE = re.compile(r"\S \S|^bench/runs/")
 SPAN = re.compile(r"`([^`]+)`")
 IDENTIFIER = re.compile(r"^[A-Za-z_][A-Za-z0-9_+'-]*(?:(?:::|\.)[A-Za-z_][A-Za-z0-9_+'-]*)*$")
 # Goals and facts, as the prover names them: they are of one function each.
@@ -468,12 +469,12 @@ def types_told(page: Page, faults: list[Fault]) -> None:
                     faults.append((page.path, number, f"{file} has none of these types"))
 
 
-def times_told(page: Page, block: Block, faults: list[Fault]) -> None:
-    """Beside a time stands the command that takes it, or the run that has it."""
-    time = TIME.search(block.text)
-    if time and not any(SOURCE_OF_TIME.search(span.group(1)) for span in block.spans):
-        what = f"{time.group(0)}: no command and no run of bench/runs stands beside it"
-        faults.append((page.path, block.line(time), what))
+def figures_told(page: Page, block: Block, faults: list[Fault]) -> None:
+    """Beside what was measured stands the command that does so, or the run that has it."""
+    figure = FIGURE.search(block.text)
+    if figure and not any(SOURCE_OF_FIGURE.search(span.group(1)) for span in block.spans):
+        what = f"{figure.group(0)}: no command and no run of bench/runs stands beside it"
+        faults.append((page.path, block.line(figure), what))
 
 
 def fault_of_span(page: Page, span: str, crates: list[str]) -> str | None:
@@ -739,7 +740,7 @@ def faults_of(root: str) -> list[Fault]:
                 faults.append((path, number, f"{len(line)} columns: a line has at most {WIDTH}"))
         for block in page.blocks():
             names_told(page, block, faults)
-            times_told(page, block, faults)
+            figures_told(page, block, faults)
         columns_told(page, faults)
         types_told(page, faults)
         for number, line, crates in page.prose():
@@ -840,6 +841,7 @@ TEXTS = [
     ("a file that is gone", GLOSSARY, "`docs/GONE.md`", "no such file"),
     ("a run that is not kept", GLOSSARY, "`bench/runs/1970-01-01-vm.csv`", "no such file"),
     ("a time from nowhere", GLOSSARY, "It takes 17 ms, as `analyse` does.", "17 ms: no command"),
+    ("a size from nowhere", GLOSSARY, "It takes 17 MB, as `analyse` does.", "17 MB: no command"),
     ("a link that leads nowhere", "README.md", "[gone](docs/GONE.md)", "leads nowhere"),
     ("a wrong count of edits", "crates/bit_rows/README.md", "It has 9,999 edits.", "9,999 edits"),
     ("a wrong count of crates", "README.md", "There are 9,999 crates.", "9,999 crates"),
