@@ -5,8 +5,10 @@ from __future__ import annotations
 import csv
 import os
 import platform
+import shlex
 import statistics
 import subprocess
+import sys
 import time
 from collections.abc import Sequence
 from pathlib import Path
@@ -44,6 +46,7 @@ def header(programs: Sequence[Program], target: str) -> list[str]:
         else ", changed"
     )
     lines = [
+        "command " + shlex.join(["bench/run", *sys.argv[1:]]),
         "date " + time.strftime("%Y-%m-%d %H:%M:%S UTC", time.gmtime()),
         "machine %s, %s, %s %s"
         % (platform.node(), processor(), platform.system(), platform.release()),
