@@ -75,7 +75,7 @@ CALLS = {
         "Problem::of",
         "Problem::edges",
     },
-    "flow_team_answers_tests": {"answer", "answer_here", "Answers::of_tables"},
+    "flow_team_answers_tests": {"answer", "answer_here", "answers_of_tables"},
     "flow_team_tests": {"Job::open", "analyse", "table_at"},
     "flow_texts_tests": {
         "table_of",
@@ -84,7 +84,7 @@ CALLS = {
         "Tables::of",
         "ReportAnswers::of",
         "ReportAnswers::answered_here",
-        "ReportAnswers::of_tables",
+        "report_answers_of_tables",
         "ReportText::of",
         "report",
         "report_here",
