@@ -616,7 +616,9 @@ def imports_of(repository: Repository, path: str) -> tuple[set[str], set[tuple[s
             for end in range(len(parts) - 1, 3, -1):
                 source = f"crates/{parts[0]}/src/{'/'.join(parts[3:end])}.rt"
                 if source in repository.known:
-                    types.add((source, parts[end]))
+                    # of a type's constants the type
+                    named = [part for part in parts[end:] if part != "TheConstants"]
+                    types |= {(source, name) for name in named[:1]}
                     break
             continue
         for end in range(len(parts), 2, -1):
@@ -632,6 +634,7 @@ def reading_told(page: Page, faults: list[Fault]) -> int:
     closed. The sum of the first one."""
     lists, types = reading_lists(page)
     listed: set[str] = set()
+    used: set[str] = set()
     headline = 0
     for told, rows in lists:
         sum_of_lines = lines_told(page, rows, listed, faults)
@@ -639,7 +642,11 @@ def reading_told(page: Page, faults: list[Fault]) -> int:
         sums = re.findall(r"\b([\d,]*\d) lines\b", page.lines[told - 1])
         if [number_of(text) for text in sums] != [sum_of_lines]:
             faults.append((page.path, told, f"the list below has {sum_of_lines} lines"))
-        imports_told(page, rows, listed, types, faults)
+        used |= imports_told(page, rows, listed, types, faults)
+    for number, name in names_below(page, ("Types",)):
+        if name not in used:
+            what = f"`{name}` is used by no definition that is listed"
+            faults.append((page.path, number, what))
     if not lists:
         faults.append((page.path, 1, "it has no list of definitions"))
     return headline
@@ -668,8 +675,9 @@ def imports_told(
     listed: set[str],
     types: set[tuple[str, str]],
     faults: list[Fault],
-) -> None:
-    """What a list's files import is listed."""
+) -> set[str]:
+    """What a list's files import is listed. The types among that."""
+    names = set()
     for number, row in rows:
         file = row[0].strip("`")
         if file in page.repository.known and file.endswith(".antt"):
@@ -679,6 +687,8 @@ def imports_told(
             for source, name in sorted(used - types):
                 what = f"{file} uses `{name}` of {source}, which is not among the types"
                 faults.append((page.path, number, what))
+            names |= {name for _, name in used}
+    return names
 
 
 def pages_named(repository: Repository, faults: list[Fault]) -> None:
@@ -837,6 +847,12 @@ TEXTS = [
         "| File | Types |\n|---|---|\n"
         "| `crates/flow_graph/src/edge.rt`, `crates/flow_graph/src/graph.rt` | `Edge` |",
         "has none of these types",
+    ),
+    (
+        "a type that nothing uses",
+        READING,
+        "| File | Types |\n|---|---|\n| `crates/flow_graph/src/graph.rt` | `Graph` |",
+        "is used by no definition",
     ),
     ("a file that is gone", GLOSSARY, "`docs/GONE.md`", "no such file"),
     ("a run that is not kept", GLOSSARY, "`bench/runs/1970-01-01-vm.csv`", "no such file"),
