@@ -220,7 +220,8 @@ class Repository:
         ]
 
     def found(self, name: str, crates: list[str], near: str) -> list[str]:
-        """The files and folders that a path in a document may mean."""
+        """The files and folders that a path in a document may mean. A source's bare name means one
+        of the crates at hand, where there are some; tests are in crates of their own."""
         name = name.removeprefix("./")
         if PLACEHOLDER.search(name) or "*" in name:
             pattern = re.escape(PLACEHOLDER.sub("*", name).rstrip("/")).replace(r"\*", "[^/]*")
@@ -239,7 +240,11 @@ class Repository:
         hits = [path for path in tries if path in self.known or path in self.folders]
         if hits:
             return list(dict.fromkeys(hits))
-        return [path for path in self.files + sorted(self.folders) if path.endswith("/" + name)]
+        hits = [path for path in self.files + sorted(self.folders) if path.endswith("/" + name)]
+        if crates and re.fullmatch(r"\w+(?<!_tests)\.(rt|antt)", name):
+            at_hand = tuple(f"crates/{crate}/" for crate in crates)
+            hits = [path for path in hits if path.startswith(at_hand)]
+        return hits
 
     def has_member(self, owner: str, member: str) -> bool:
         """Whether some source declares this name in a type or a trait, or in a module or crate."""
@@ -855,6 +860,7 @@ TEXTS = [
         "is used by no definition",
     ),
     ("a file that is gone", GLOSSARY, "`docs/GONE.md`", "no such file"),
+    ("a file of another crate", "crates/bit_rows/README.md", "`succ.rt`", "no such file"),
     ("a run that is not kept", GLOSSARY, "`bench/runs/1970-01-01-vm.csv`", "no such file"),
     ("a time from nowhere", GLOSSARY, "It takes 17 ms, as `analyse` does.", "17 ms: no command"),
     ("a size from nowhere", GLOSSARY, "It takes 17 MB, as `analyse` does.", "17 MB: no command"),
