@@ -99,7 +99,7 @@ CALLS = {
         "solve_slice",
         "solve_counted",
         "Order::of, or its list",
-        "Marks::none",
+        "Worklist::none",
         "group",
     },
     "slice_board_tests": {"Board::open, its rows or its cut"},
