@@ -17,6 +17,10 @@ ASKED = [
     "-fdump-ipa-cgraph",
     "-fdump-tree-original",
 ]
+# Has gcc end behind the dumps: it then writes no machine code, which takes more than half its time.
+# A gcc that was built without link-time optimisation says so, and writes that code.
+ENDING_EARLY = ["-flto", "-fno-fat-lto-objects"]
+NO_EARLY_END = "LTO support has not been enabled"
 # Options with a word behind them: those that go to gcc, those that are left out, since what gcc
 # writes is not wanted, and those of other compilers.
 WITH_WORD = frozenset(
@@ -170,10 +174,13 @@ def dump_into(given: Input, folder: str, order: str) -> None:
     written += ["-MMD", "-MF", os.path.join(folder, "c.sources")]
     while True:
         options = [word for word in given.options if word not in unknown]
-        asked = ["-S", "-w", *options, *given.words, *ASKED, order, *written, given.file]
-        done = run(asked, given.directory)
+        asked = ["-S", "-w", *options, *given.words, *ASKED, *ENDING_EARLY, order, *written]
+        done = run([*asked, given.file], given.directory)
         if not done.returncode:
             return
+        if ENDING_EARLY and NO_EARLY_END in done.stderr:
+            ENDING_EARLY.clear()
+            continue
         refused = {word for word in options if is_refused(word, done.stderr)}
         if not refused:
             told = done.stderr.strip().splitlines()

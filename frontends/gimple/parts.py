@@ -102,7 +102,7 @@ class Parts:
         for match in found if len(found) <= MOST else ():
             word = match.group()
             pointer = self.variable(match[1] or match[2])
-            key = self.procedure.function.name, pointer.source if pointer else ""
+            key = self.procedure.function.uid, pointer.source if pointer else ""
             if pointer is not None and key not in self.file.symbols.volatile_behind:
                 self.behind[word] = self.new(word, pointer, True)
                 self.by_pointer.setdefault(pointer, []).append(self.behind[word])

@@ -15,9 +15,9 @@ DEFINITION = re.compile(r"/\* (?P<file>.*):(?P<line>\d+):[NO]F \*/ (?P<rest>.*)$
 DEFINED_NAME = re.compile(r"([A-Za-z_$][\w$]*) \(")
 ORIGINAL = re.compile(r";; Function (\S+) \(|[ (]\(void\) ([A-Za-z_$][\w$]*)[;,)]")
 NO_SUCCESSOR = re.compile(r"\n;;    succ:[ ]*\n")
-ENDLESS = re.compile(rf"(?:\S+ = )?({operands.DECLARED}) \(")
+ENDLESS = re.compile(r"(?:\S+ = )?\S*?D\.(\d+) \(")
 IN_SECTION = re.compile(r"^\S.*((?:\n .*)*?\n  Visibility:.* section:.*)", re.MULTILINE)
-FUNCTION = re.compile(r"^;; Function (\S+) \(", re.MULTILINE)
+FUNCTION = re.compile(r"^;; Function .* decl_uid=(\d+)", re.MULTILINE)
 VERSION = re.compile(r"([A-Za-z_$][\w$]*)_\d+(?:\(D\))?(?![\w$])")
 TABLES = (".init_array", ".preinit_array", ".fini_array", ".ctors", ".dtors")
 
@@ -48,18 +48,19 @@ class Symbols:
 
     by_name: the symbols of the file's own level. addressed: the names of variables of which some
     initialiser takes the address, or to which something leads that gcc doesn't see. endless: the
-    declared names of functions whose calls never return. volatile: the declared names that are
-    accessed as volatile. volatile_behind: the functions and, by the source's names, their pointers
-    to what is. definitions: by name, file and line where a function is defined. cast_away: pairs of
+    functions whose calls never return, by their numbers, since gcc may have other names for them
+    where it finds that out. volatile: the declared names that are accessed as volatile.
+    volatile_behind: the functions, by their numbers, and, by the source's names, their pointers to
+    what is. definitions: by name, file and line where a function is defined. cast_away: pairs of
     a function's name and that of a variable which it casts to void. sources: the files that it was
     made of, but for the system's headers.
     """
 
     by_name: dict[str, Symbol] = field(default_factory=dict)
     addressed: set[str] = field(default_factory=set)
-    endless: set[str] = field(default_factory=set)
+    endless: set[int] = field(default_factory=set)
     volatile: set[str] = field(default_factory=set)
-    volatile_behind: set[tuple[str, str]] = field(default_factory=set)
+    volatile_behind: set[tuple[int, str]] = field(default_factory=set)
     definitions: dict[str, tuple[str, int]] = field(default_factory=dict)
     cast_away: set[tuple[str, str]] = field(default_factory=set)
     sources: list[str] = field(default_factory=list)
@@ -154,14 +155,16 @@ def read_blocks(text: str, symbols: Symbols) -> None:
     for found in NO_SUCCESSOR.finditer(text):
         callee = ENDLESS.match(operands.without_places(line_at(text, found.start() - 1)))
         if callee:
-            symbols.endless.add(callee[1])
+            symbols.endless.add(int(callee[1]))
     heads = list(FUNCTION.finditer(text)) if "={v}" in text else []
-    starts, names = [head.start() for head in heads], [head[1] for head in heads]
+    starts, functions = [head.start() for head in heads], [int(head[1]) for head in heads]
     for found in re.finditer(r"=\{v\}", text):
         line = line_at(text, found.start())
         if not line.startswith(";;") and "{CLOBBER" not in line:
             at = bisect.bisect(starts, found.start()) - 1
-            take_volatile(operands.without_places(line), names[at] if at >= 0 else "", symbols)
+            take_volatile(
+                operands.without_places(line), functions[at] if at >= 0 else 0, symbols
+            )
 
 
 def line_at(text: str, at: int) -> str:
@@ -169,7 +172,7 @@ def line_at(text: str, at: int) -> str:
     return text[text.rfind("\n", 0, at + 1) + 1 : text.find("\n", at + 1)].strip()
 
 
-def take_volatile(line: str, function: str, symbols: Symbols) -> None:
+def take_volatile(line: str, function: int, symbols: Symbols) -> None:
     """Takes in the variables of a statement with a volatile access; no fields."""
     for found in re.finditer(operands.DECLARED, operands.STRING.sub("", line)):
         if not line[: found.start()].endswith((".", "->")):

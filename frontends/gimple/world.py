@@ -183,7 +183,7 @@ class World:
         symbol = None if is_nested else file.symbols.by_name.get(source)
         if procedure is None and uid not in file.outside:
             procedure = self.defined(file, source)
-        endless = declared in file.symbols.endless or bool(
+        endless = uid in file.symbols.endless or bool(
             procedure and procedure.function.is_noreturn
         )
         name = symbol.linkage if symbol and not source.startswith("__builtin_") else source
