@@ -105,8 +105,11 @@ def one_activation(procedure: Procedure, variables: list[Variable]) -> Procedure
         reads = tuple(copies[part] for part in step.reads() if part in copies)
         if step.kind in ("label", "goto", "return", "fork"):
             single.steps.append(step.jump())
-        elif step.kind == "use":
+        elif step.kind == "use" and step.label:
             build.add("use" if reads else "fork", operands=reads, label=step.label)
+        elif step.kind == "use" and not reads:
+            build.slot += 1
+            build.label()
         else:
             build.use(reads)
         if is_own_set(step) and step.variable in copies:

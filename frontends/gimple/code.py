@@ -63,7 +63,8 @@ class Step:
 
     kind: 'set', 'read', 'use', 'fork', 'goto', 'call', 'return', 'label', 'note'. A set has
     `variable` and, for an expression, `operator` and `operands`; one that is `weak` may also leave
-    the variable as it is. A use reads its operands, and leads to `label` or on where it is a test.
+    the variable as it is. A use reads its operands; one with a `label` is a test, which leads there
+    or on.
     A fork leads to `label` or on. A note stands for no statement: it says that the variables of
     `touched` may be written from there on, through an address or a part. A test that compares one
     variable with a number has variable, operation and number in `compares`, one of two numbers its
@@ -99,15 +100,6 @@ class Step:
     def reads(self) -> list[Variable]:
         """The variables that it reads."""
         return [operand for operand in self.operands if isinstance(operand, Variable)]
-
-    @staticmethod
-    def reading(variables: tuple[Variable, ...], origin: Statement | None) -> list["Step"]:
-        """Steps that read variables for a C statement."""
-        after = Label()
-        return [
-            Step("use", operands=variables, label=after, origin=origin),
-            Step("label", label=after),
-        ]
 
     def jump(self) -> Step:
         """Another step that leads where this one leads."""
@@ -182,9 +174,7 @@ class Builder:
         """Reads the variables, two a statement."""
         variables = tuple(dict.fromkeys(variables))
         for at in range(0, len(variables), 2):
-            after = Label()
-            self.add("use", operands=variables[at : at + 2], label=after, role=role or self.role)
-            self.label(after)
+            self.add("use", operands=variables[at : at + 2], role=role or self.role)
 
     def set(
         self,

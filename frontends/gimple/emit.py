@@ -116,15 +116,16 @@ class Writer:
     def write_step(
         self, procedure: Procedure, step: Step, label: str, labels: dict[Label | Step, str]
     ) -> None:
-        """One statement, with a way round it where it is weak."""
-        kept = ""
+        """One statement, with a way round it where it is weak; what only reads leads on by a test."""
+        after = ""
+        if step.weak or step.kind == "use" and not label:
+            after = labels.setdefault(step, f"L{len(labels) + 1}")
         if step.weak:
-            kept = labels.setdefault(step, f"L{len(labels) + 1}")
-            self.lines.append(f"  if 0 goto {kept}")
-        self.lines.append("  " + self.statement(step, label))
+            self.lines.append(f"  if 0 goto {after}")
+        self.lines.append("  " + self.statement(step, label or after))
         self.notes.append((len(self.lines), step, procedure))
-        if step.weak:
-            self.lines.append(f"{kept}:")
+        if after:
+            self.lines.append(f"{after}:")
 
     def statement(self, step: Step, label: str) -> str:
         """The words of a statement."""

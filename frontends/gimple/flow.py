@@ -10,8 +10,9 @@ if TYPE_CHECKING:
     from .code import Number, Procedure, Step, Variable
 
 
-# The steps behind which not only the next one comes.
-JUMPS = frozenset(["return", "goto", "use", "fork"])
+def is_jump(step: Step) -> bool:
+    """Whether not only the next step may come behind a step."""
+    return step.kind == "return" or step.label is not None and step.kind != "label"
 
 
 def successors(steps: list[Step], by_outcome: bool = False) -> list[tuple[int, ...]]:
@@ -23,7 +24,7 @@ def successors(steps: list[Step], by_outcome: bool = False) -> list[tuple[int, .
     places = {step.label: at for at, step in enumerate(steps) if step.kind == "label"}
     found = [(at,) for at in range(1, len(steps) + 1)]
     for at, step in enumerate(steps):
-        if step.kind not in JUMPS:
+        if not is_jump(step):
             continue
         if step.kind == "return":
             found[at] = ()
@@ -45,7 +46,7 @@ def blocks_of(
     follow = successors(steps, by_outcome)
     firsts = {0}
     for at, step in enumerate(steps):
-        if step.kind in JUMPS:
+        if is_jump(step):
             firsts.add(at + 1)
             firsts.update(follow[at])
     firsts = sorted(first for first in firsts if first < len(steps))

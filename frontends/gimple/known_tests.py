@@ -128,8 +128,8 @@ class Way:
         if variable not in self.values:
             return None
         read = copy.copy(step)
-        read.label = Label()
-        self.passed += [read, Step("label", label=read.label)]
+        read.label = None
+        self.passed.append(read)
         self.target = (
             self.places[step.label]
             if OUTCOMES[operation](self.values[variable], number)

@@ -13,7 +13,7 @@ from dataclasses import dataclass
 
 from . import operands
 from .code import Procedure, Step, Variable
-from .dump import statements_in
+from .dump import Statement, statements_in
 from .world import File, World
 
 NAMED = r"[A-Za-z_$][\w$]*D\.\d+"
@@ -154,12 +154,12 @@ class Parts:
         kept: list[Step] = []
         for step in self.procedure.steps:
             if step.variable in self.by_pointer and step.kind in ("set", "read"):
-                kept += reading(step, self.by_pointer[step.variable])
+                kept += reading(step.origin, self.by_pointer[step.variable])
             elif may_read_memory(step, self.procedure, writing):
-                kept += reading(step, every)
+                kept += reading(step.origin, every)
             kept.append(step)
         if not kept or kept[-1].kind not in ("goto", "return"):
-            kept += reading(kept[-1], every)
+            kept += reading(None if is_reading(kept[-1]) else kept[-1].origin, every)
         self.procedure.steps = kept
 
 
@@ -172,9 +172,14 @@ def may_read_memory(step: Step, procedure: Procedure, writing: Procedure | None)
     return any(operand.is_addressed for operand in step.reads())
 
 
-def reading(step: Step, variables: list[Variable]) -> list[Step]:
-    """Steps before this one that read variables."""
-    found = []
-    for at in range(0, len(variables), 2):
-        found += Step.reading(tuple(variables[at : at + 2]), step.origin)
-    return found
+def is_reading(step: Step) -> bool:
+    """Whether a step reads variables and does nothing else."""
+    return step.kind == "use" and step.label is None
+
+
+def reading(origin: Statement | None, variables: list[Variable]) -> list[Step]:
+    """Steps that read variables for a C statement."""
+    return [
+        Step("use", operands=tuple(variables[at : at + 2]), origin=origin)
+        for at in range(0, len(variables), 2)
+    ]
