@@ -113,8 +113,7 @@ def one_activation(procedure: Procedure, variables: list[Variable]) -> Procedure
         else:
             build.use(reads)
         if is_own_set(step) and step.variable in copies:
-            own = replace(step, variable=copies[step.variable], operator="", operands=())
-            single.steps.append(own)
+            single.steps.append(step.setting(copies[step.variable]))
             step.told_once = True
     return single
 
@@ -140,7 +139,7 @@ def change_locals(
             steps.append(step)
         if step is None or id(step) in wanted:
             steps += (
-                [Step("call", callees=[change])]
+                [Step("call", callees=(change,))]
                 if is_long
                 else [Step("set", variable=variables[0], weak=True)]
             )

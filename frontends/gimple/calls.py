@@ -115,7 +115,7 @@ class Calls:
         """A call of one of these procedures, by way of their parameters and results."""
         self.pass_arguments(procedures, values)
         self.state.flush_reached()
-        call = [*others, *procedures]
+        call = (*others, *procedures)
         self.state.build.call(call)
         if is_endless:
             self.state.flush_all()

@@ -2,9 +2,10 @@
 
 from __future__ import annotations
 
+import copy
 from collections.abc import Iterable
 from dataclasses import dataclass, field
-from typing import TYPE_CHECKING, Any, NamedTuple
+from typing import TYPE_CHECKING, NamedTuple
 
 if TYPE_CHECKING:
     from .dump import Function, Place, Statement
@@ -57,7 +58,6 @@ class Label:
     name: str = ""
 
 
-@dataclass(eq=False, slots=True)
 class Step:
     """One statement of the program.
 
@@ -74,28 +74,64 @@ class Step:
     0`.
     """
 
-    kind: str
-    variable: Variable | None = None
-    operator: str = ""
-    operands: tuple[Variable | Number, ...] = ()
-    label: Label | None = None
-    callees: tuple[Procedure, ...] = ()
-    weak: bool = False
+    # What most steps have; all else stands in a step's own dictionary where it is not as below.
+    __slots__ = (
+        "kind",
+        "variable",
+        "operator",
+        "operands",
+        "label",
+        "callees",
+        "weak",
+        "origin",
+        "slot",
+        "role",
+        "expression",
+        "is_copy",
+        "__dict__",
+    )
     touched: tuple[Variable, ...] = ()
     ends_life: bool = False
-    origin: Statement | None = None
-    slot: int = 0
-    role: str = "made"
     unset: tuple[Variable, ...] = ()
     surely_unset: tuple[Variable, ...] = ()
     result_of_call: bool = False
     is_element: bool = False
-    expression: str = ""
-    compares: tuple = ()
+    compares: tuple[Variable, str, int] | None = None
     outcome: bool | None = None
     told_once: bool = False
-    is_copy: bool = False
     chained: Place | None = None
+
+    def __init__(
+        self,
+        kind: str,
+        variable: Variable | None = None,
+        operands: tuple[Variable | Number, ...] = (),
+        operator: str = "",
+        label: Label | None = None,
+        callees: tuple[Procedure, ...] = (),
+        weak: bool = False,
+        origin: Statement | None = None,
+        slot: int = 0,
+        role: str = "made",
+    ) -> None:
+        self.kind = kind
+        self.variable = variable
+        self.operands = operands
+        self.operator = operator
+        self.label = label
+        self.callees = callees
+        self.weak = weak
+        self.origin = origin
+        self.slot = slot
+        self.role = role
+        self.expression = ""
+        self.is_copy = False
+
+    def setting(self, variable: Variable) -> Step:
+        """This step with another variable, which is set to a value that is not told."""
+        own = copy.copy(self)
+        own.variable, own.operator, own.operands = variable, "", ()
+        return own
 
     def reads(self) -> list[Variable]:
         """The variables that it reads."""
@@ -152,52 +188,70 @@ class Builder:
 
     def __init__(self, procedure: Procedure) -> None:
         self.procedure = procedure
-        self.origin = None
+        self.origin: Statement | None = None
         self.role = "made"
         self.slot = 0
 
-    def add(self, kind: str, **parts: Any) -> Step:
+    def add(
+        self,
+        kind: str,
+        variable: Variable | None = None,
+        operands: tuple[Variable | Number, ...] = (),
+        operator: str = "",
+        label: Label | None = None,
+        callees: tuple[Procedure, ...] = (),
+        weak: bool = False,
+        role: str | None = None,
+    ) -> Step:
         """Adds a step of this kind for the C statement at hand."""
-        self.slot += 1
-        parts.setdefault("role", self.role)
-        step = Step(kind, origin=self.origin, slot=self.slot, **parts)
+        self.slot = slot = self.slot + 1
+        role = role or self.role
+        step = Step(
+            kind, variable, operands, operator, label, callees, weak, self.origin, slot, role
+        )
         self.procedure.steps.append(step)
         return step
 
-    def label(self, label: Label = None) -> Label:
+    def note(self, touched: tuple[Variable, ...]) -> None:
+        """Notes that these variables may be written from here on."""
+        self.add("note").touched = touched
+
+    def label(self, given: Label | None = None) -> Label:
         """Sets a label, a new one unless one is given."""
-        label = label or Label()
+        label = given or Label()
         self.procedure.steps.append(Step("label", label=label))
         return label
 
     def use(self, variables: Iterable[Variable], role: str | None = None) -> None:
         """Reads the variables, two a statement."""
-        variables = tuple(dict.fromkeys(variables))
-        for at in range(0, len(variables), 2):
-            self.add("use", operands=variables[at : at + 2], role=role or self.role)
+        read = tuple(dict.fromkeys(variables))
+        for at in range(0, len(read), 2):
+            self.add("use", None, read[at : at + 2], role=role)
 
     def set(
         self,
         variable: Variable,
-        operands: list[Variable] | tuple[Number | Variable, ...] = (),
+        operands: tuple[Number | Variable, ...] = (),
         operator: str = "",
-        **parts: Any,
+        weak: bool = False,
+        role: str | None = None,
     ) -> Step:
         """Sets a variable to an expression, a copy, or a value that is not told."""
-        return self.add(
-            "set", variable=variable, operands=tuple(operands), operator=operator, **parts
-        )
+        return self.add("set", variable, operands, operator, None, (), weak, role)
 
-    def call(self, callees: dict[Procedure, None] | list[Procedure]) -> None:
+    def call(self, procedures: Iterable[Procedure]) -> None:
         """Calls one of these procedures, eight a statement, more by tests."""
-        callees = list(dict.fromkeys(callees))
+        callees = tuple(dict.fromkeys(procedures))
+        if len(callees) == 1:
+            self.add("call", callees=callees)
+            return
         done = Label()
         for at in range(0, len(callees), 8):
             is_last = at + 8 >= len(callees)
             other = Label()
             if not is_last:
                 self.add("fork", label=other, role="made")
-            self.add("call", callees=tuple(callees[at : at + 8]))
+            self.add("call", callees=callees[at : at + 8])
             if not is_last:
                 self.add("goto", label=done, role="made")
                 self.label(other)

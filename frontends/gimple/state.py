@@ -5,18 +5,21 @@ targets.
 from __future__ import annotations
 
 import re
-from typing import TYPE_CHECKING
+from typing import TYPE_CHECKING, NoReturn
 
 from . import operands
 from .code import Builder, Variable
 from .faults import Refusal
 from .labels import Labels
-from .values import Pending, Value
+from .parts import Parts
+from .values import NOTHING, Pending, Value
 from .world import function_place
 
 if TYPE_CHECKING:
-    from .code import Number, Procedure
-    from .dump import Statement
+    from .code import Label, Number, Procedure, Step
+    from .dump import Place, Statement
+    from .labels import Copies, Exits
+    from .operands import Reference
     from .services import Services
     from .values import Constants
     from .world import File, World
@@ -29,6 +32,7 @@ class State:
 
     services: the procedures that stand for memory and for unknown code. Where these keep
     temporaries, each of gcc's is a variable of its own, and address arithmetic an expression.
+    steady: the values of operands that are the same wherever they stand in the function.
     """
 
     def __init__(
@@ -46,17 +50,29 @@ class State:
         self.constants = constants
         self.build = Builder(procedure)
         self.pending = Pending()
-        self.kept = {}
-        self.evaluations = {}
-        self.halves = {}
-        self.labels = Labels()
-        self.anywhere = None
-        self.statement = self.previous = None
+        self.parts = Parts(world, file, procedure)
+        self.steady: dict[str, Value] = {"NULL": NOTHING}
+        self.kept: dict[str, Variable] = {}
+        self.evaluations: dict[str, Step] = {}
+        self.halves: dict[str, str | None] = {}
+        self.labels: Labels | Exits | Copies = Labels()
+        self.anywhere: Label | None = None
+        self.statement: Statement | None = None
+        self.previous: Statement | None = None
         self.start = self.previous_start = 0
-        self.given = self.previous_given = Value()
-        self.last_place = None
+        self.given = self.previous_given = NOTHING
+        self.last_place: Place | None = None
 
-    def refuse(self, message: str) -> None:
+    def begin(self, statement: Statement) -> None:
+        """Takes up a statement; the one at hand is the previous one from now on."""
+        self.previous, self.statement = self.statement, statement
+        self.previous_start, self.start = self.start, len(self.procedure.steps)
+        self.previous_given, self.given = self.given, NOTHING
+        self.last_place = statement.place or self.last_place
+        build = self.build
+        build.origin, build.slot, build.role = statement, 0, "plain"
+
+    def refuse(self, message: str) -> NoReturn:
         """Refuses the statement at hand."""
         raise Refusal(message, self.last_place or function_place(self.file, self.procedure))
 
@@ -75,24 +91,49 @@ class State:
         ):
             return Value(exact=self.constants.number(name, self.file.name))
         variable = self.world.variable(self.file, self.procedure, name)
-        return Value((variable,), variable) if variable else Value()
+        return Value((variable,), variable) if variable else NOTHING
 
     def reads_of(self, names: list[str]) -> tuple[Variable, ...]:
         """The variables that are read with these names."""
+        if not names:
+            return ()
+        if len(names) == 1:
+            return self.name_value(names[0]).reads
         return tuple(variable for name in names for variable in self.name_value(name).reads)
 
     def value(self, word: str) -> Value:
         """The value of an operand. What is behind a pointer is read at once."""
-        if word == "NULL":
-            return Value()
+        known = self.steady.get(word)
+        if known is not None:
+            return known
+        if not self.parts.of_whole and operands.is_temporary(word):
+            return self.name_value(word)
         reference = operands.parse(word)
+        value = self.value_of(reference, word)
+        if not reference.is_memory and self.is_steady(reference):
+            self.steady[word] = value
+        return value
+
+    def is_steady(self, reference: Reference) -> bool:
+        """Whether an operand has no temporary in it, and is of nothing that has parts."""
+        if reference.reads:
+            return False
+        if reference.base is None:
+            return True
+        return (
+            operands.is_declared(reference.base)
+            and self.name_value(reference.base).exact not in self.parts.of_whole
+        )
+
+    def value_of(self, reference: Reference, word: str) -> Value:
+        """The value of an operand, by what it stands for."""
         if reference.is_address or reference.constant is not None:
             reads = self.reads_of(reference.reads)
             return Value(reads, self.constants.number(word, self.file.name) if not reads else None)
         if reference.is_memory:
             self.build.use(self.reads_of(reference.reads))
             self.read_memory()
-            return Value()
+            return NOTHING
         base = self.name_value(reference.base)
         parts = self.part_reads(word, base.exact) if self.parts.of_whole else ()
         if reference.is_whole:
@@ -103,7 +144,7 @@ class State:
         """The parts of a variable that an operand may read."""
         exact, others = self.parts.read_as(word, whole)
         if others:  # nothing is told of those that are unset
-            self.build.add("note", touched=tuple(others))
+            self.build.note(tuple(others))
         return (*exact, *others)
 
     def element(self, word: str) -> tuple[Variable, Variable] | None:
@@ -121,11 +162,12 @@ class State:
 
     def read_memory(self) -> None:
         """Reads what pointers may lead to."""
-        self.build.use(self.parts.behind.values(), "made")
+        if self.parts.behind:
+            self.build.use(self.parts.behind.values(), "made")
         if self.services.reading:
             self.build.call([self.services.reading])
 
-    def read_now(self, wanted: list[tuple[Statement, tuple[Variable, ...]]]) -> None:
+    def read_now(self, wanted: list[tuple[Statement | None, tuple[Variable, ...]]]) -> None:
         """Reads what temporaries still had to read, as their own statements do."""
         at_hand = self.build.origin
         for origin, reads in wanted:
@@ -135,15 +177,18 @@ class State:
 
     def flush_all(self) -> None:
         """Reads what the temporaries still have to read."""
-        self.read_now(self.pending.flush_all())
+        if self.pending.holding:
+            self.read_now(self.pending.flush_all())
 
     def flush_reached(self) -> None:
         """The same of those whose variables may be written by other code."""
-        self.read_now(self.pending.flush_reached())
+        if self.pending.reached:
+            self.read_now(self.pending.flush_reached())
 
     def flush_variable(self, variable: Variable) -> None:
         """The same of those that read this variable."""
-        self.read_now(self.pending.flush_variable(variable))
+        if self.pending.reading.get(variable):
+            self.read_now(self.pending.flush_variable(variable))
 
     def store(
         self,
@@ -177,7 +222,8 @@ class State:
         self.flush_variable(variable)
         if not parts and reads:
             parts, reads = reads[:1], reads[1:]
-        self.build.use([*reads, *extra])
+        if reads or extra:
+            self.build.use([*reads, *extra])
         self.build.set(variable, parts, operator, weak=not reference.is_whole)
         if variable in self.parts.of_whole:
             self.store_parts(target, variable)
@@ -186,7 +232,7 @@ class State:
         """Writes the parts that a store writes."""
         exact, others = self.parts.written_as(target, whole)
         if others:
-            self.build.add("note", touched=tuple(others))
+            self.build.note(tuple(others))
         for part in exact:
             self.build.set(part, role="made" if operands.is_declared(target) else self.build.role)
 
@@ -203,9 +249,10 @@ class State:
         if self.services.keeps_temporaries:
             self.keep(temporary, operator, parts, reads)
         elif operator:
-            self.build.use(reads)
+            if reads:
+                self.build.use(reads)
             self.evaluations[temporary] = self.build.set(self.services.scratch, parts, operator)
-            self.pending.put(temporary, Value())
+            self.pending.put(temporary, NOTHING)
         elif parts:
             exact = parts[0]
             self.pending.put(
@@ -240,11 +287,11 @@ class State:
 
     def note_addresses(self, words: list[str]) -> None:
         """Notes the locals whose address a statement takes."""
-        touched = []
+        found = []
         for word in words:
-            for name in operands.parse(word).addressed:
+            for name in operands.parse(word).addressed if "&" in word else ():
                 if operands.is_declared(name) and self.world.is_local(self.procedure, name):
-                    touched.append(self.world.variable(self.file, self.procedure, name))
-        touched = tuple(variable for variable in touched if variable)
+                    found.append(self.world.variable(self.file, self.procedure, name))
+        touched = tuple(variable for variable in found if variable)
         if touched:
-            self.build.add("note", touched=touched)
+            self.build.note(touched)

@@ -12,7 +12,6 @@ from .dump import Statement, Try, statements_in
 from .faults import Refusal
 from .jumps import Jumps
 from .labels import Copies, Exits, label_name, labels_in, named_labels
-from .parts import Parts
 from .state import State
 from .values import Value
 from .world import function_place
@@ -82,7 +81,6 @@ class Translator:
         self.state.procedure.stop = Label()
         if function.fault or self.state.procedure.refusal:
             raise function.fault or self.state.procedure.refusal
-        self.state.parts = Parts(self.state.world, self.state.file, self.state.procedure)
         self.block(function.body)
         self.state.flush_all()
         if self.state.anywhere:
@@ -150,20 +148,7 @@ class Translator:
 
     def turn(self, statement: Statement) -> None:
         """One statement."""
-        self.state.previous, self.state.previous_start, self.state.previous_given = (
-            self.state.statement,
-            self.state.start,
-            self.state.given,
-        )
-        self.state.statement, self.state.start, self.state.given = (
-            statement,
-            len(self.state.procedure.steps),
-            Value(),
-        )
-        self.state.last_place = statement.place or self.state.last_place
-        self.state.build.origin = statement
-        self.state.build.slot = 0
-        self.state.build.role = "plain"
+        self.state.begin(statement)
         if statement.kind in SIMPLE:
             return
         turn = TURNS.get(statement.kind)
@@ -178,27 +163,28 @@ class Translator:
 
     def turn_assign(self, statement: Statement) -> None:
         """An assignment."""
+        state = self.state
         operation, target = statement.words[0], statement.words[1]
         words = [word for word in statement.words[2:] if word != "NULL"]
         if words[0].startswith("{CLOBBER"):
             self.end_life(target)
             return
-        self.state.note_addresses(words)
+        state.note_addresses(words)
         self.follow_scaling(operation, target, words)
         if operation == "complex_expr" and self.keeps_half(target, words):
             return
         operator, parts, reads, is_element = self.right_side(operation, words)
-        start = len(self.state.procedure.steps)
-        self.state.store(target, operator, parts, reads)
+        start = len(state.procedure.steps)
+        state.store(target, operator, parts, reads)
         if operation in HALVES and operands.is_temporary(target):
-            self.state.halves[target] = operands.parse(words[0]).base
-        for step in self.state.procedure.steps[start:]:
-            step.is_element = is_element
-            step.is_copy = bool(parts) and not operator
-        if parts and not operator:
-            self.state.given = Value(
-                (parts[0],) if isinstance(parts[0], Variable) else (), parts[0]
-            )
+            state.halves[target] = operands.parse(words[0]).base
+        if is_element:
+            for step in state.procedure.steps[start:]:
+                step.is_element = True
+        elif parts and not operator:
+            for step in state.procedure.steps[start:]:
+                step.is_copy = True
+            state.given = Value((parts[0],) if isinstance(parts[0], Variable) else (), parts[0])
 
     def follow_scaling(self, operation: str, target: str, words: list[str]) -> None:
         """Follows what gcc multiplies, negates or adds to, as it may add that to a pointer."""
@@ -273,18 +259,22 @@ class Translator:
         self, operation: str, values: list[Value]
     ) -> tuple[str, tuple[Number | Variable, ...], tuple[Variable, ...]]:
         """An operation's operator, '' for none, its operands, and what else it reads."""
-        exact = [value.exact for value in values]
-        has_variable = any(isinstance(part, Variable) for part in exact)
-        binary = BINARY | ADDRESSES if self.state.services.keeps_temporaries else BINARY
-        if None not in exact and has_variable:
-            if operation in binary and len(exact) == 2:
-                return binary[operation], tuple(exact), ()
-            if operation in UNARY and len(exact) == 1:
-                return UNARY[operation], tuple(exact), ()
-        reads = tuple(dict.fromkeys(variable for value in values for variable in value.reads))
-        if operation in COPIES and len(values) == 1 and exact[0] is not None:
-            return "", (exact[0],), values[0].reads[1:] if has_variable else ()
-        return "", (), reads
+        first = values[0].exact
+        if len(values) == 1:
+            is_variable = isinstance(first, Variable)
+            if first is not None and operation in COPIES:
+                return "", (first,), values[0].reads[1:] if is_variable else ()
+            if first is not None and is_variable and operation in UNARY:
+                return UNARY[operation], (first,), ()
+        elif len(values) == 2:
+            second = values[1].exact
+            operator = BINARY.get(operation)
+            if operator is None and self.state.services.keeps_temporaries:
+                operator = ADDRESSES.get(operation)
+            is_told = operator is not None and first is not None and second is not None
+            if is_told and (isinstance(first, Variable) or isinstance(second, Variable)):
+                return operator, (first, second), ()
+        return "", (), tuple(dict.fromkeys(read for value in values for read in value.reads))
 
     def end_life(self, target: str) -> None:
         """The end of a variable's life: what pointers may have read of it is read no more."""
@@ -295,7 +285,7 @@ class Translator:
         )
         if variable and variable.is_addressed:
             self.state.flush_variable(variable)
-            self.state.build.set(variable, role="made", ends_life=True)
+            self.state.build.set(variable, role="made").ends_life = True
 
     def turn_asm(self, statement: Assembler) -> None:
         """Assembler: reads and writes of its operands; what touches memory may do anything."""

@@ -27,11 +27,14 @@ class Value(NamedTuple):
     exact: Variable | Number | None = None
 
 
+NOTHING = Value()
+
+
 class Constants:
     """Numbers for the constants of C: small ones as they are, others by numbers of their own."""
 
     def __init__(self) -> None:
-        self.numbers = {}
+        self.numbers: dict[str | tuple[str, str], int] = {}
 
     def number(self, text: str, file: str) -> Number:
         """The number of a constant's text in a file; an address is told apart from one of another
@@ -53,21 +56,23 @@ class Pending:
     """
 
     def __init__(self) -> None:
-        self.values = {}
-        self.origins = {}
-        self.unread = set()
-        self.reading = {}
-        self.holding = set()
-        self.reached = set()
+        self.values: dict[str, Value] = {}
+        self.origins: dict[str, Statement | None] = {}
+        self.unread: set[str] = set()
+        self.reading: dict[Variable, set[str]] = {}
+        self.holding: set[str] = set()
+        self.reached: set[str] = set()
 
     def put(self, name: str, value: Value, origin: Statement | None = None) -> None:
         """Holds a temporary's value; where it reads something, that is still to be read."""
-        self.forget(name)
+        if name in self.values:
+            self.forget(name)
         self.values[name] = value
         self.origins[name] = origin
-        if value.reads:
-            self.unread.add(name)
-            self.holding.add(name)
+        if not value.reads:
+            return
+        self.unread.add(name)
+        self.holding.add(name)
         for variable in value.reads:
             self.reading.setdefault(variable, set()).add(name)
             if variable.owner is None or variable.is_addressed:
@@ -75,7 +80,7 @@ class Pending:
 
     def forget(self, name: str) -> None:
         """Takes a temporary's value out."""
-        for variable in self.values.pop(name, Value()).reads:
+        for variable in self.values.pop(name, NOTHING).reads:
             self.reading[variable].discard(name)
         for names in (self.unread, self.holding, self.reached):
             names.discard(name)
@@ -83,18 +88,17 @@ class Pending:
     def take(self, name: str) -> Value:
         """A temporary's value, which is used now."""
         self.unread.discard(name)
-        return self.values.get(name, Value())
+        return self.values.get(name, NOTHING)
 
-    def flush(self, names: list[str]) -> list[tuple[Statement, tuple[Variable, ...]]]:
+    def flush(self, names: set[str]) -> list[tuple[Statement | None, tuple[Variable, ...]]]:
         """Ends the values of these temporaries; answers what is to be read before that, with its
         statement.
         """
         wanted = [
             (self.origins[name], self.values[name].reads)
-            for name in sorted(names, key=self.order)
-            if name in self.unread
+            for name in sorted(names & self.unread, key=self.order)
         ]
-        for name in names:
+        for name in list(names):
             self.forget(name)
         return wanted
 
@@ -105,14 +109,14 @@ class Pending:
 
     def flush_all(self) -> list[tuple[Statement | None, tuple[Variable, ...]]]:
         """Ends all values."""
-        return self.flush(list(self.holding))
+        return self.flush(self.holding)
 
-    def flush_reached(self) -> list[tuple[Statement, tuple[Variable, ...]]]:
+    def flush_reached(self) -> list[tuple[Statement | None, tuple[Variable, ...]]]:
         """Ends the values that read what other code may write."""
-        return self.flush(list(self.reached))
+        return self.flush(self.reached)
 
     def flush_variable(
         self, variable: Variable
     ) -> list[tuple[Statement | None, tuple[Variable, ...]]]:
         """Ends the values that read this variable."""
-        return self.flush(list(self.reading.get(variable, ())))
+        return self.flush(self.reading[variable])
