@@ -17,7 +17,7 @@ from collections.abc import Callable
 from dataclasses import dataclass, field
 from typing import TYPE_CHECKING
 
-from gimple import dump, emit, inputs, program
+from gimple import emit, inputs, program
 from gimple.faults import Refusal
 from gimple.world import World
 
@@ -278,7 +278,7 @@ class Analysis:
             counts.update((*definition, 0) for definition in defined if definition)
             told = Counter(text for function in file.functions for text in function.places())
             for text, count in told.items():
-                counts[dump.place_in(text, file.functions[0].shown)] += count
+                counts[file.functions[0].known.new(*text.rsplit(":", 2))] += count
         return frozenset(place for place, count in counts.items() if count > 1)
 
     def own_files(self) -> set[str]:

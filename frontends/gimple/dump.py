@@ -24,7 +24,11 @@ STATEMENT_PLACE = re.compile(
 SWITCH = re.compile(r"^ *gimple_switch .*", re.MULTILINE)
 # A text without them falls apart into words, in which alone there are declared names.
 SIGNS = str.maketrans(dict.fromkeys("[]<>(),;:&+-={}\"/!|^%~?'\\", " "))
-STATEMENT = re.compile(r"gimple_(?P<kind>\w+) <(?P<words>.*)>(?P<rest>[^>]*)$")
+STATEMENT = re.compile(
+    r"\s*(?:\[([^\[\]\"]*:\d+:\d+)(?: discrim \d+)?\] ?)?gimple_(\w+) <(.*)>([^>]*)$"
+)
+# Of statements that are written in one line, those that are read in another way, or not at all.
+OTHERWISE = ("nop", "debug", "asm", "try")
 CASE = re.compile(r"(?:default|case [^:]*): <([^>]*)>")
 OPERAND_NAME = re.compile(r'(?:"\w+" )?"(?P<constraint>[^"]*)" (?P<operand>.*)$')
 VALUES = {
@@ -35,6 +39,7 @@ VALUES = {
     "return": slice(0, 1),
     "goto": slice(0, 1),
 }
+NONE = slice(0, 0)
 STRUCT = re.compile(r"(?:const )?struct [\w$]+ [\w$]+D\.\d+$")
 PASSED_OVER = ("//", "#", "gimple_nop", "GIMPLE_NOP", "gimple_debug")
 
@@ -93,15 +98,15 @@ class Function:
 
     attributes: what stands before its heading. arrays: the locals that are arrays. structs: what is
     declared as a struct, of locals and parameters. text: the lines of its statements, of which the
-    first has this `number` in the dump. words: its operands, once they were asked for. shown: what
-    a file of the dump's is called in places.
+    first has this `number` in the dump. words: its operands, once they were asked for. known: the
+    places of the dump.
     """
 
     name: str
     linkage: str
     uid: int
     file: str
-    shown: Callable[[str], str] = str
+    known: KnownPlaces
     attributes: str = ""
     parameters: list[str] = field(default_factory=list)
     locals: set[str] = field(default_factory=set)
@@ -111,20 +116,22 @@ class Function:
     text: str = ""
     number: int = 1
     named: tuple[str, ...] | None = None
-    used: tuple | None = None
+    used: tuple[tuple[tuple[str, bool], ...], tuple[str, Place | None] | None] | None = None
     words: dict[str, Place | None] = field(default_factory=dict)
 
     @functools.cached_property
-    def contents(self) -> tuple[list[Statement | Try], None]:
-        """Its statements, and why they can't be read, or None."""
+    def contents(self) -> tuple[list[Statement | Try], list[Statement], Refusal | None]:
+        """Its statements, as they stand and one behind the other, and why they can't be read, or
+        None.
+        """
         try:
-            return Reader(self).block("}"), None
+            reader = Reader(self)
+            return reader.block("}"), reader.statements, None
         except Refusal as refusal:
-            return [], refusal
+            return [], [], refusal
         except (ValueError, IndexError):
-            return [], Refusal(
-                f"'{self.name}' has a dump that is not written as expected", self.file
-            )
+            told = f"'{self.name}' has a dump that is not written as expected"
+            return [], [], Refusal(told, self.file)
 
     @property
     def body(self) -> list[Statement | Try]:
@@ -132,23 +139,32 @@ class Function:
         return self.contents[0]
 
     @property
-    def fault(self) -> None:
-        """Why its statements can't be read, or None."""
+    def statements(self) -> list[Statement]:
+        """All of its statements, those of cleanups too."""
         return self.contents[1]
+
+    @property
+    def fault(self) -> Refusal | None:
+        """Why its statements can't be read, or None."""
+        return self.contents[2]
+
+    @functools.cached_property
+    def own(self) -> frozenset[str]:
+        """The names of its parameters and locals."""
+        return frozenset(self.locals.union(self.parameters))
 
     def names(self) -> tuple[str, ...]:
         """The declared names in its statements that are none of its locals, callees and fields too;
         its statements need not be read.
         """
         if self.named is None:
-            own = self.locals.union(self.parameters)
             words = [
                 word for word in dict.fromkeys(self.text.translate(SIGNS).split()) if "D." in word
             ]
             self.named = tuple(
                 name
                 for name in dict.fromkeys(name for word in words for name in declared_in(word))
-                if name not in own
+                if name not in self.own
             )
         return self.named
 
@@ -160,31 +176,29 @@ class Function:
                 found.update(":".join(place) for place in operands.PLACE.findall(switch))
         return found
 
-    def uses(self) -> tuple[tuple[tuple[str, bool], ...], None]:
+    def uses(
+        self,
+    ) -> tuple[tuple[tuple[str, bool], ...], tuple[str, Place | None] | None]:
         """The names that its operands have, each with whether its address is taken there, and the
-        operand that is not known, if any.
+        operand that is not known, if any, with its place.
         """
-        if self.used is None:
-            found, unknown = {}, None
+        if self.used is None and not self.fault:
+            found: dict[tuple[str, bool], None] = {}
+            unknown = None
             self.words = {
                 word: statement.place
-                for statement in statements_in(self.body)
+                for statement in self.statements
                 for word in words_of(statement)
             }
             for word, place in self.words.items():
-                reference = operands.parse(word)
-                if (
-                    reference is None
-                    or reference.base is None
-                    and reference.constant is None
-                    and not reference.is_memory
-                ):
+                named = operands.names_in(word)
+                if named is None:
                     unknown = word, place
                     continue
-                for name in [*reference.addressed, *operands.names_read(reference)]:
-                    found[name, name in reference.addressed] = None
-            self.used = tuple(pair for pair in found if operands.is_declared(pair[0])), unknown
-        return self.used
+                for pair in named:
+                    found[pair] = None
+            self.used = tuple(found), unknown
+        return self.used or ((), None)
 
     def size(self) -> int:
         """How many statements it has, about."""
@@ -211,12 +225,13 @@ class Reader:
 
     def __init__(self, function: Function) -> None:
         self.file = function.file
-        self.shown = function.shown
         self.lines = function.text.split("\n")
         self.number = function.number
         self.at = 0
-        self.last_place = None
-        self.known: dict[str, str] = {}
+        self.known = function.known
+        self.last_place: Place | None = None
+        self.words: dict[str, str] = {}
+        self.statements: list[Statement] = []
 
     def next_line(self) -> str:
         """The next line, which has to be there."""
@@ -227,19 +242,36 @@ class Reader:
 
     def block(self, closing: str) -> list[Statement | Try]:
         """The statements up to this closing line."""
-        found = []
-        while True:
-            line = self.next_line().strip()
+        found: list[Statement | Try] = []
+        lines, match = self.lines, STATEMENT.match
+        while self.at < len(lines):
+            line = lines[self.at]
+            self.at += 1
+            parts = match(line)
+            if parts and not parts[2].startswith(OTHERWISE):
+                statement = self.statement(line, *parts.groups())
+                self.statements.append(statement)
+                found.append(statement)
+                continue
+            line = line.strip()
             if line == closing:
                 return found
-            place, line = self.placed(line)
-            self.last_place = place or self.last_place
-            if line.startswith("gimple_try <"):
-                found.append(self.try_block(line))
-            elif line.startswith("gimple_asm"):
-                found.append(self.assembler(place))
-            elif line and not line.startswith(PASSED_OVER):
-                found.append(self.statement(line, place))
+            self.take_other(line, found)
+        raise Refusal("the dump ends within a function", self.last_place or self.file)
+
+    def take_other(self, line: str, found: list[Statement | Try]) -> None:
+        """Takes in what is not written as most statements are."""
+        place, line = self.placed(line)
+        self.last_place = place or self.last_place
+        if line.startswith("gimple_try <"):
+            found.append(self.try_block(line))
+        elif line.startswith("gimple_asm"):
+            statement = self.assembler(place)
+            self.statements.append(statement)
+            found.append(statement)
+        elif line and not line.startswith(PASSED_OVER):
+            told = f"a statement that is not known: {line[:60]}"
+            raise Refusal(told, place or self.last_place)
 
     def try_block(self, line: str) -> Try:
         """A try with its cleanup, the first line passed."""
@@ -257,12 +289,9 @@ class Reader:
         found = operands.PLACE.match(line)
         if not found:
             return None, line
-        rest = line[found.end() :]
-        if found[1] == "<built-in>" or found[2] == "0":
-            return None, rest
-        return Place(self.shown(found[1]), int(found[2]), int(found[3])), rest
+        return self.known.place(":".join(found.groups())), line[found.end() :]
 
-    def first_place(self, line: str) -> Place:
+    def first_place(self, line: str) -> Place | None:
         """The first place that a line names: a switch of which gcc tells none is placed at its
         first case.
         """
@@ -277,21 +306,22 @@ class Reader:
                 f"a dump in which '{line}' stands where '{wanted}' should", self.last_place
             )
 
-    def statement(self, line: str, place: Place | None) -> Statement:
+    def statement(
+        self, line: str, place_text: str | None, kind: str, inside: str, rest: str
+    ) -> Statement:
         """A statement of one line."""
-        if line.startswith("gimple_switch") and place is None:
+        place = self.known.place(place_text) if place_text else None
+        if place is not None:
+            self.last_place = place
+        elif kind == "switch":
             place = self.first_place(line)
-        found = STATEMENT.match(line)
-        if not found:
-            raise Refusal(f"a statement that is not known: {line[:60]}", place or self.last_place)
-        words = operands.split_words(operands.without_places(found["words"]))
+        words = operands.split_words(operands.without_places(inside))
         # most words stand in many statements: one of each is kept
-        words = [self.known.setdefault(word, word) for word in words]
-        kind = sys.intern(found["kind"])
-        number = self.number + self.at
-        return Statement(kind, words, place, number, self.file, found["rest"])
+        keep = self.words.setdefault
+        words = [keep(word, word) for word in words]
+        return Statement(sys.intern(kind), words, place, self.number + self.at, self.file, rest)
 
-    def assembler(self, place: Place) -> Assembler:
+    def assembler(self, place: Place | None) -> Assembler:
         """A statement of assembler, its first line passed."""
         found = Assembler("asm", [], place, self.number + self.at, self.file)
         opening = self.next_line()
@@ -326,10 +356,27 @@ class Reader:
                 raise Refusal("assembler that is not written as expected", statement.place)
 
 
-def place_in(text: str, shown: Callable[[str], str]) -> Place:
-    """A place, from `file:line:column` as a dump has it."""
-    file, line, column = text.rsplit(":", 2)
-    return Place(shown(file), int(line), int(column))
+class KnownPlaces:
+    """The places of a dump, each read once.
+
+    shown: what a file of the dump's is called in places.
+    """
+
+    def __init__(self, shown: Callable[[str], str]) -> None:
+        self.shown = functools.cache(shown)
+        self.known: dict[str, Place | None] = {}
+
+    def place(self, text: str) -> Place | None:
+        """The place of a text as `file:line:column`, None where gcc made the statement."""
+        if text not in self.known:
+            file, line, column = text.rsplit(":", 2)
+            is_made = file == "<built-in>" or line == "0"
+            self.known[text] = None if is_made else self.new(file, line, column)
+        return self.known[text]
+
+    def new(self, file: str, line: str, column: str) -> Place:
+        """A place by its parts as the dump has them."""
+        return Place(self.shown(file), int(line), int(column))
 
 
 @functools.lru_cache(maxsize=1 << 16)
@@ -390,20 +437,20 @@ def cases_of(statement: Statement) -> list[str]:
 
 def read(text: str, file: str, shown: Callable[[str], str]) -> list[Function]:
     """The functions of a dump."""
-    shown = functools.cache(shown)
+    known = KnownPlaces(shown)
     starts = [found.start() for found in HEADER.finditer(text)]
     found, number = [], 1
     for start, end in zip(starts, [*starts[1:], len(text)]):
         part = text[start:end]
-        found.append(function_in(part, number, file, shown))
+        found.append(function_in(part, number, file, known))
         number += part.count("\n")
     return found
 
 
-def function_in(text: str, number: int, file: str, shown: Callable[[str], str]) -> Function:
+def function_in(text: str, number: int, file: str, known: KnownPlaces) -> Function:
     """The function of a part of a dump, whose first line has this number."""
     header = HEADER.match(text)
-    function = Function(header["name"], header["linkage"], int(header["uid"]), file, shown)
+    function = Function(header["name"], header["linkage"], int(header["uid"]), file, known)
     heading, _, inside = text[text.index("\n") :].partition("\n{\n")
     heading = heading.replace("\n", " ")
     name = f"{function.name}D.{function.uid}"
@@ -438,10 +485,10 @@ def words_of(statement: Statement) -> list[str]:
     """The operands of a statement, without the function that it calls."""
     if isinstance(statement, Assembler):
         return [word for _, word in [*statement.outputs, *statement.inputs]]
-    words = statement.words[VALUES.get(statement.kind, slice(0, 0))]
-    if "[static-chain:" in statement.rest:
+    words = statement.words[VALUES.get(statement.kind, NONE)]
+    if statement.rest and "[static-chain:" in statement.rest:
         words.append(statement.rest.split("[static-chain:")[1].rstrip("] "))
-    return [word for word in words if word != "NULL"]
+    return [word for word in words if word != "NULL"] if "NULL" in words else words
 
 
 def statements_in(body: list[Statement | Try]) -> Iterator[Statement]:

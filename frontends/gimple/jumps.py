@@ -79,7 +79,7 @@ class Jumps:
             self.jump(name, "jump")
             return
         if isinstance(self.state.labels, Copies) or not named_labels(
-            self.state.procedure.function.body
+            self.state.procedure.function.statements
         ):
             self.state.refuse("a computed jump in a cleanup can't be turned")
         self.state.anywhere = self.state.anywhere or Label()

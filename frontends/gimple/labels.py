@@ -2,34 +2,37 @@
 
 from __future__ import annotations
 
+from collections.abc import Iterable
 from typing import TYPE_CHECKING
 
 from . import operands
 from .code import Label
-from .dump import statements_in
 
 if TYPE_CHECKING:
-    from .dump import Statement, Try
+    from .dump import Statement
 
 
 class Labels:
     """The labels of a function, by their names in the dump."""
 
     def __init__(self) -> None:
-        self.made = {}
+        self.made: dict[str, Label] = {}
 
     def get(self, name: str) -> Label:
         """The label of this name."""
-        return self.made.setdefault(name, Label())
+        label = self.made.get(name)
+        if label is None:
+            label = self.made[name] = Label()
+        return label
 
 
 class Exits:
     """Labels within a guarded body: a jump to one outside leads to a cleanup of its own."""
 
-    def __init__(self, outer: Exits | Labels, inner: set[str]) -> None:
+    def __init__(self, outer: Labels | Exits | Copies, inner: set[str]) -> None:
         self.outer = outer
         self.inner = inner
-        self.made = {}
+        self.made: dict[str, Label] = {}
 
     def get(self, name: str) -> Label:
         """The label to which a jump to this name leads."""
@@ -39,7 +42,7 @@ class Exits:
 class Copies:
     """Labels within one copy of a cleanup: its own are new, all others are those outside."""
 
-    def __init__(self, outer: Exits | Labels, inner: set[str]) -> None:
+    def __init__(self, outer: Labels | Exits | Copies, inner: set[str]) -> None:
         self.outer = outer
         self.made = {name: Label() for name in inner}
 
@@ -53,19 +56,17 @@ def label_name(word: str) -> str:
     return word.strip("<>")
 
 
-def labels_in(body: list[Statement | Try]) -> set[str]:
-    """The names of all labels that a body sets."""
+def labels_in(statements: Iterable[Statement]) -> set[str]:
+    """The names of all labels among statements."""
     return {
-        label_name(statement.words[0])
-        for statement in statements_in(body)
-        if statement.kind == "label"
+        label_name(statement.words[0]) for statement in statements if statement.kind == "label"
     }
 
 
-def named_labels(body: list[Statement]) -> list[str]:
+def named_labels(statements: Iterable[Statement]) -> list[str]:
     """The labels that have a name in the source: those to which a computed jump may lead."""
     return sorted(
         name
-        for name in labels_in(body)
+        for name in labels_in(statements)
         if operands.is_declared(name) and operands.split_declared(name)[0]
     )

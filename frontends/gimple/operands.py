@@ -4,7 +4,7 @@ or points to.
 
 import functools
 import re
-from dataclasses import dataclass, field
+from dataclasses import dataclass
 
 PLACE = re.compile(r"\[([^\[\]\"]*):(\d+):(\d+)(?: discrim \d+)?\] ?")
 STRING = re.compile(r'[uUL8]{0,2}"(?:\\.|[^"\\])*"')
@@ -76,7 +76,7 @@ def split_declared(name: str) -> tuple[str, int]:
     return source, int(number)
 
 
-@dataclass
+@dataclass(slots=True)
 class Reference:
     """What an operand stands for.
 
@@ -91,8 +91,8 @@ class Reference:
     is_whole: bool = True
     is_memory: bool = False
     is_address: bool = False
-    reads: list[str] = field(default_factory=list)
-    addressed: list[str] = field(default_factory=list)
+    reads: tuple[str, ...] = ()
+    addressed: tuple[str, ...] = ()
     index: str | None = None
     constant: str | None = None
 
@@ -116,7 +116,7 @@ class Parser:
         if not self.next_is(sign):
             raise ValueError(sign)
 
-    def parse(self) -> Reference:
+    def parse(self) -> Reference | None:
         """The whole operand."""
         try:
             reference = self.place()
@@ -239,7 +239,7 @@ class Parser:
             base=reference.base,
             is_address=True,
             reads=reference.reads,
-            addressed=[*reference.addressed, reference.base],
+            addressed=(*reference.addressed, reference.base),
         )
 
     def bracketed(self) -> Reference:
@@ -279,14 +279,29 @@ class Parser:
         return whole
 
 
-def names_read(reference: Reference) -> list[str]:
+def names_read(reference: Reference) -> tuple[str, ...]:
     """The names that are read for the value of a reference; not what is behind a pointer."""
-    own = [reference.base] if reference.base and not reference.is_address else []
-    return own + reference.reads
+    if reference.base and not reference.is_address:
+        return (reference.base, *reference.reads)
+    return reference.reads
 
 
 @functools.lru_cache(maxsize=1 << 16)
-def parse(text: str) -> Reference:
+def names_in(text: str) -> tuple[tuple[str, bool], ...] | None:
+    """The declared names in an operand, each with whether its address is taken there; None where
+    the operand is not known.
+    """
+    reference = parse(text)
+    if reference is None or (
+        reference.base is None and reference.constant is None and not reference.is_memory
+    ):
+        return None
+    names = [name for name in reference.addressed + names_read(reference) if is_declared(name)]
+    return tuple((name, name in reference.addressed) for name in names)
+
+
+@functools.lru_cache(maxsize=1 << 16)
+def parse(text: str) -> Reference | None:
     """The Reference of an operand without places, or None where its form is not known.
 
     It is shared: nobody changes it.

@@ -13,7 +13,7 @@ from dataclasses import dataclass
 
 from . import operands
 from .code import Procedure, Step, Variable
-from .dump import Statement, statements_in
+from .dump import Statement
 from .world import File, World
 
 NAMED = r"[A-Za-z_$][\w$]*D\.\d+"
@@ -62,7 +62,7 @@ class Parts:
         if any(word.startswith("*") or "->" in word for word in words):
             stored = Counter(
                 statement.words[1]
-                for statement in statements_in(procedure.function.body)
+                for statement in procedure.function.statements
                 if statement.kind in ("assign", "call") and len(statement.words) > 1
             )
             self.take_behind([word for word, count in stored.items() if count > 1])

@@ -8,7 +8,6 @@ from typing import TYPE_CHECKING
 from . import flow
 from .activations import callees_of, keep_activations_apart
 from .code import Builder, Label, Procedure, Step, Variable
-from .dump import statements_in
 from .faults import Refusal
 from .known_tests import lead_past
 from .services import (
@@ -24,7 +23,7 @@ from .translate import Translator
 from .values import Constants
 
 if TYPE_CHECKING:
-    from .dump import Statement, Try
+    from .dump import Statement
     from .services import Services
     from .world import World
 
@@ -50,7 +49,8 @@ def build(world: World, keeps_temporaries: bool = False) -> Program:
     services = make_services(bool(reached), keeps_temporaries)
     functions = list(world.procedures.values())
     refused = translate_all(world, services)
-    services.fill_any(world, named_in(functions))
+    if services.any_of:
+        services.fill_any(world, named_in(functions))
     fill_unknown(services, world)
     helpers = services.all()
     close_stops(
@@ -135,7 +135,7 @@ def prepare_functions(world: World) -> None:
         procedure.parameters = [
             world.variable(file, procedure, name) for name in function.parameters
         ]
-        returned = returned_words(function.body)
+        returned = returned_words(function.statements)
         if not returned and not function.fault and not procedure.refusal:
             continue
         only = returned[0] if len(set(returned)) == 1 else ""
@@ -150,11 +150,11 @@ def prepare_functions(world: World) -> None:
         procedure.result = variable
 
 
-def returned_words(body: list[Statement | Try]) -> list[str]:
-    """What the returns of a body give."""
+def returned_words(statements: list[Statement]) -> list[str]:
+    """What the returns among statements give."""
     return [
         statement.words[0]
-        for statement in statements_in(body)
+        for statement in statements
         if statement.kind == "return" and statement.words[0] != "NULL"
     ]
 

@@ -5,6 +5,7 @@ targets.
 from __future__ import annotations
 
 import re
+from collections.abc import Sequence
 from typing import TYPE_CHECKING, NoReturn
 
 from . import operands
@@ -93,7 +94,7 @@ class State:
         variable = self.world.variable(self.file, self.procedure, name)
         return Value((variable,), variable) if variable else NOTHING
 
-    def reads_of(self, names: list[str]) -> tuple[Variable, ...]:
+    def reads_of(self, names: Sequence[str]) -> tuple[Variable, ...]:
         """The variables that are read with these names."""
         if not names:
             return ()

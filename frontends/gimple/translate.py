@@ -84,9 +84,9 @@ class Translator:
         self.block(function.body)
         self.state.flush_all()
         if self.state.anywhere:
-            self.jumps.lead_anywhere(named_labels(function.body))
+            self.jumps.lead_anywhere(named_labels(function.statements))
         self.state.parts.add_reads_behind(self.state.services.writing)
-        missing = set(self.state.labels.made) - labels_in(function.body)
+        missing = set(self.state.labels.made) - labels_in(function.statements)
         if missing:
             raise Refusal(
                 f"a jump to {missing.pop()}, which is not there",
@@ -109,7 +109,7 @@ class Translator:
             self.block(item.body)
             return
         outer = self.state.labels
-        self.state.labels = exits = Exits(outer, labels_in(item.body))
+        self.state.labels = exits = Exits(outer, labels_in(statements_in(item.body)))
         self.block(item.body)
         self.state.flush_all()
         self.state.labels = outer
@@ -141,7 +141,7 @@ class Translator:
     def cleanup(self, item: Try) -> None:
         """One copy of a cleanup. Its own labels are new ones each time."""
         outer = self.state.labels
-        self.state.labels = Copies(outer, labels_in(item.cleanup))
+        self.state.labels = Copies(outer, labels_in(statements_in(item.cleanup)))
         self.block(item.cleanup)
         self.state.flush_all()
         self.state.labels = outer
