@@ -153,7 +153,8 @@ class Step:
 class Procedure:
     """A procedure of the program.
 
-    function: the C function's dump, or None where the front end made it. refusal: why it stands for
+    function: the C function's dump, or None where the front end made it. named: what its names of
+    the dump stand for, of those that were asked for. refusal: why it stands for
     unknown code, or None. is_once: it has the locals of one activation of the function and nothing
     else.
     """
@@ -161,6 +162,7 @@ class Procedure:
     wish: str
     source: str = ""
     function: Function | None = None
+    named: dict[str, Variable | None] = field(default_factory=dict)
     steps: list[Step] = field(default_factory=list)
     parameters: list[Variable | None] = field(default_factory=list)
     result: Variable | None = None

@@ -11,7 +11,7 @@ from .code import Variable
 from .faults import Refusal
 
 if TYPE_CHECKING:
-    from .code import Label, Procedure, Step
+    from .code import Label, Number, Procedure, Step
 
 KEYWORDS = frozenset("proc end goto if ifFalse call return read print skip".split())
 LONGEST_NAME = 64
@@ -67,10 +67,11 @@ class Writer:
 
     def __init__(self) -> None:
         self.variables = Names()
-        self.lines = []
-        self.notes = []
-        self.expressions = {}
-        self.counts = {}
+        self.lines: list[str] = []
+        self.notes: list[tuple[int, Step, Procedure]] = []
+        self.expressions: dict[str, str] = {}
+        self.points: dict[Procedure, int] = {}
+        self.places: dict[Procedure, tuple[int, int]] = {}
 
     def write(self, procedures: list[Procedure]) -> Written:
         """The text and the map of a program."""
@@ -91,64 +92,61 @@ class Writer:
 
     def write_procedure(self, procedure: Procedure) -> None:
         """One procedure."""
-        start = len(self.lines)
-        self.lines.append(f"proc {procedure.name}")
-        labels = {}
+        lines = self.lines
+        start = len(lines)
+        lines.append(f"proc {procedure.name}")
+        labels: dict[Label | Step, str] = {}
         points = 1
         for step in procedure.steps:
-            label = self.label(labels, step)
+            label = ""
+            # what only reads leads on by a test, and what is weak has a way round it
+            key = step.label or (step if step.weak or step.kind == "use" else None)
+            if key is not None:
+                label = labels.get(key, "")
+                if not label:
+                    label = labels[key] = f"L{len(labels) + 1}"
             if step.kind == "label":
-                self.lines.append(f"{label}:")
+                lines.append(f"{label}:")
                 continue
-            points += 2 if step.weak else 1
-            self.write_step(procedure, step, label, labels)
-        self.lines.append("end")
-        self.counts[procedure] = {
-            "points": points,
-            "bytes of text": sum(len(line) + 1 for line in self.lines[start:]),
-        }
-
-    @staticmethod
-    def label(labels: dict[Label | Step, str], step: Step) -> str:
-        """The name of a step's label."""
-        return labels.setdefault(step.label, f"L{len(labels) + 1}") if step.label else ""
-
-    def write_step(
-        self, procedure: Procedure, step: Step, label: str, labels: dict[Label | Step, str]
-    ) -> None:
-        """One statement, with a way round it where it is weak; what only reads leads on by a test."""
-        after = ""
-        if step.weak or step.kind == "use" and not label:
-            after = labels.setdefault(step, f"L{len(labels) + 1}")
-        if step.weak:
-            self.lines.append(f"  if 0 goto {after}")
-        self.lines.append("  " + self.statement(step, label or after))
-        self.notes.append((len(self.lines), step, procedure))
-        if after:
-            self.lines.append(f"{after}:")
+            points += 1
+            if step.weak:
+                points += 1
+                lines.append(f"  if 0 goto {label}")
+            lines.append(self.statement(step, label))
+            self.notes.append((len(lines), step, procedure))
+            if key is step:
+                lines.append(f"{label}:")
+        lines.append("end")
+        self.points[procedure] = points
+        self.places[procedure] = start, len(lines)
 
     def statement(self, step: Step, label: str) -> str:
-        """The words of a statement."""
-        operands = [
-            self.name(part) if isinstance(part, Variable) else str(part.value)
-            for part in step.operands
-        ]
-        if step.kind == "set":
-            return f"{self.name(step.variable)} = {self.right_side(step, operands)}"
-        if step.kind == "use":
-            return f"if {' < '.join(operands)} goto {label}"
-        if step.kind == "call":
-            return "call " + " | ".join(callee.name for callee in step.callees)
-        if step.kind == "read":
-            return f"read {self.name(step.variable)}"
-        return {"goto": f"goto {label}", "fork": f"if 0 goto {label}", "return": "return"}[
-            step.kind
-        ]
+        """The line of a statement."""
+        kind = step.kind
+        if kind == "set":
+            value = self.right_side(step)  # its names are given first
+            return f"  {self.name(step.variable)} = {value}"
+        if kind == "use":
+            return f"  if {' < '.join(map(self.operand, step.operands))} goto {label}"
+        if kind == "call":
+            return "  call " + " | ".join([callee.name for callee in step.callees])
+        if kind == "goto":
+            return f"  goto {label}"
+        if kind == "fork":
+            return f"  if 0 goto {label}"
+        return f"  read {self.name(step.variable)}" if kind == "read" else "  return"
 
-    def right_side(self, step: Step, operands: list[str]) -> str:
+    def operand(self, part: Variable | Number) -> str:
+        """An operand's word."""
+        return self.name(part) if isinstance(part, Variable) else str(part.value)
+
+    def right_side(self, step: Step) -> str:
         """What a variable is set to."""
+        if not step.operands:
+            return "0"
         if not step.operator:
-            return operands[0] if operands else "0"
+            return self.operand(step.operands[0])
+        operands = [self.operand(part) for part in step.operands]
         shown = [part.source if isinstance(part, Variable) else part.text for part in step.operands]
         text = (
             f"{step.operator}{operands[0]}"
@@ -166,7 +164,7 @@ class Writer:
             "expressions": len(self.expressions),
             "bytes of text": len(text),
         }
-        totals["points"] = sum(count["points"] for count in self.counts.values())
+        totals["points"] = sum(self.points.values())
         totals["variables"] = len(self.variables.taken) - len(KEYWORDS)
         for what, limit in LIMITS.items():
             if totals[what] > limit:
@@ -175,10 +173,18 @@ class Writer:
                     f"the {limit} that tacflow takes; " + self.advice(what)
                 )
 
+    def weight(self, procedure: Procedure, what: str) -> int:
+        """How much of a limit a procedure takes, as far as that is counted."""
+        if what == "points":
+            return self.points[procedure]
+        start, end = self.places[procedure]
+        is_bytes = what == "bytes of text"
+        return sum(len(line) + 1 for line in self.lines[start:end]) if is_bytes else 1
+
     def advice(self, what: str) -> str:
         """Where such a program is split best."""
-        functions = [procedure for procedure in self.counts if procedure.source]
-        weights = [self.counts[procedure].get(what, 1) for procedure in functions]
+        functions = [procedure for procedure in self.points if procedure.source]
+        weights = [self.weight(procedure, what) for procedure in functions]
         if not functions:
             return "give it fewer files"
         largest = functions[weights.index(max(weights))]
@@ -209,20 +215,10 @@ def map_lines(written: Written) -> Iterator[str]:
         yield "\t".join(["expression", text, in_source])
     for line, step, procedure in written.notes:
         place = step.origin.place if step.origin else None
-        yield "\t".join(
-            [
-                "line",
-                str(line),
-                place.file if place else "",
-                str(place.line if place else 0),
-                str(place.column if place else 0),
-                id_of(step),
-                str(step.slot),
-                step.role,
-                procedure.name,
-                " ".join(variable.name for variable in step.unset),
-            ]
-        )
+        where = f"{place.file}\t{place.line}\t{place.column}" if place else "\t0\t0"
+        unset = " ".join([variable.name for variable in step.unset]) if step.unset else ""
+        made_of = f"{id_of(step)}\t{step.slot}\t{step.role}"
+        yield f"line\t{line}\t{where}\t{made_of}\t{procedure.name}\t{unset}"
 
 
 def kind_of(variable: Variable) -> str:

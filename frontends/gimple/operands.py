@@ -18,7 +18,9 @@ PIECE = re.compile(
 )
 MARK = re.compile(rf"{STRING.pattern}|->|[<>()\[\]{{}},]")
 OPENING = {"<": ">", "(": ")", "[": "]", "{": "}"}
-NESTED = re.compile(r'[<(\[{"]')
+# Words without brackets, but for labels in them, and without strings: each comma is of the outermost
+# level.
+FLAT = re.compile(r'[^<(\[{"]*(?:<[\w.$]+>[^<(\[{"]*)*$')
 
 
 def without_places(text: str) -> str:
@@ -39,7 +41,7 @@ def without_places(text: str) -> str:
 
 def split_words(text: str) -> list[str]:
     """The words between the commas of the outermost level."""
-    if not NESTED.search(text):
+    if FLAT.match(text):
         return [word.strip() for word in text.split(",")] if "  " in text else text.split(", ")
     words = []
     depth = start = 0

@@ -93,13 +93,14 @@ class World:
         self.files = files
         self.is_whole = is_whole
         self.outside = outside
-        self.globals = {}
-        self.locals = {}
-        self.procedures = {}
-        self.public = {}
-        self.addressed_procedures = {}
-        self.visible = {}
-        self.own_starts = {}
+        self.globals: dict[str | tuple[File, str], Variable] = {}
+        self.locals: dict[tuple[Procedure, str], Variable] = {}
+        self.procedures: dict[tuple[File, int], Procedure] = {}
+        self.public: dict[str, Procedure] = {}
+        self.callees: dict[tuple[File, str], Callee] = {}
+        self.addressed_procedures: dict[Procedure, None] = {}
+        self.visible: dict[Procedure, None] = {}
+        self.own_starts: dict[Procedure, None] = {}
         self.defined_here = {
             symbol.linkage
             for file in files
@@ -177,6 +178,13 @@ class World:
 
     def callee(self, file: File, declared: str) -> Callee:
         """The function that a declared name stands for."""
+        key = file, declared
+        if key not in self.callees:
+            self.callees[key] = self.find_callee(file, declared)
+        return self.callees[key]
+
+    def find_callee(self, file: File, declared: str) -> Callee:
+        """The same where it was not asked for before."""
         source, uid = operands.split_declared(declared)
         procedure = file.by_uid.get(uid)
         is_nested = bool(procedure and procedure.function.is_nested)
@@ -210,6 +218,13 @@ class World:
         """The variable of a declared name in a procedure, or None where it is volatile and may not
         be followed.
         """
+        named = procedure.named
+        if declared not in named:
+            named[declared] = self.find_variable(file, procedure, declared)
+        return named[declared]
+
+    def find_variable(self, file: File, procedure: Procedure, declared: str) -> Variable | None:
+        """The same where it was not asked for before."""
         if declared in file.symbols.volatile:
             return None
         if declared == "<retval>" or self.is_local(procedure, declared):
@@ -225,8 +240,7 @@ class World:
     @staticmethod
     def is_local(procedure: Procedure, declared: str) -> bool:
         """Whether a declared name is a parameter or local of the procedure."""
-        function = procedure.function
-        return declared in function.parameters or declared in function.locals
+        return declared in procedure.function.own
 
     def local(self, procedure: Procedure, declared: str) -> Variable:
         """The variable of a parameter or local."""
@@ -292,6 +306,7 @@ class World:
         for file in self.files:
             for name in file.named_outside():
                 self.take_outside_name(file, name)
+            taken: set[tuple[str, bool]] = set()
             for function in file.functions:
                 procedure = file.by_uid.get(function.uid)
                 if procedure is None:
@@ -299,15 +314,21 @@ class World:
                 if function.fault:
                     self.take_all(file)
                 else:
-                    self.take_uses(file, procedure)
+                    self.take_uses(file, procedure, taken)
         if any(file.symbols.starts_by_table for file in self.files):
             self.own_starts.update(self.addressed_procedures)
 
-    def take_uses(self, file: File, procedure: Procedure) -> None:
-        """Marks what a function's statements take the address of."""
+    def take_uses(self, file: File, procedure: Procedure, taken: set[tuple[str, bool]]) -> None:
+        """Marks what a function's statements take the address of.
+
+        taken: the names that are no function's own, of those that were marked for this file.
+        """
         names, unknown = procedure.function.uses()
-        for name, is_address in names:
-            self.take_name(file, procedure, name, is_address)
+        own = procedure.function.own
+        for pair in names:
+            if pair[0] in own or pair not in taken:
+                self.take_name(file, procedure, *pair)
+        taken.update(pair for pair in names if pair[0] not in own)
         if unknown:
             procedure.refusal = Refusal(
                 f"an operand that is not known: {unknown[0]}",
