@@ -16,6 +16,10 @@ PIECE = re.compile(
     rf"(?P<name>{DECLARED}|{TEMPORARY}|<retval>)|(?P<word>[A-Za-z_$][\w$.]*)|(?P<arrow>->)"
     r"|(?P<number>[-+]?\d+(?:\.\d+)?(?:[eE][-+]\d+)?\w*)|(?P<sign>\S)"
 )
+# A number, or a name with fields behind it, behind a pointer or with its address taken.
+COMMON = re.compile(
+    rf"(?:(-?\d+)|([&*]?)({DECLARED}|{TEMPORARY}|<retval>)((?:->{DECLARED})?(?:\.{DECLARED})*))$"
+)
 MARK = re.compile(rf"{STRING.pattern}|->|[<>()\[\]{{}},]")
 OPENING = {"<": ">", "(": ")", "[": "]", "{": "}"}
 # Words without brackets, but for labels in them, and without strings: each comma is of the outermost
@@ -308,6 +312,23 @@ def parse(text: str) -> Reference | None:
 
     It is shared: nobody changes it.
     """
+    found = COMMON.match(text)
+    if found:
+        return common(*found.groups())
     if text.startswith("{CLOBBER"):
         return Reference(constant="clobber")
     return Parser(STRING.sub(" string_ ", text)).parse()
+
+
+def common(number: str | None, sign: str, name: str, way: str) -> Reference:
+    """What the parser makes of an operand as most are, by the parts of its text."""
+    if number:
+        return Reference(constant=number)
+    is_behind = sign == "*" or way.startswith("->")
+    if sign == "&" and is_behind:
+        return Reference(constant="address", reads=(name,))
+    if sign == "&":
+        return Reference(base=name, is_address=True, addressed=(name,))
+    if is_behind:
+        return Reference(is_memory=True, is_whole=False, reads=(name,))
+    return Reference(base=name, is_whole=not way)
