@@ -315,7 +315,7 @@ class Analysis:
         world = World(self.files, self.is_whole, outside)
         built = program.build(world, self.task.shows_all)
         written = emit.Writer().write(built.procedures)
-        told, said = run_tacview(written.text, self.workers)
+        told, said = run_tacview(written.pieces, self.workers)
         if self.task.keep:
             keep(self.task.keep, written, told)
         found = Findings.of(
@@ -359,7 +359,7 @@ def cut(
     return parts
 
 
-def run_tacview(text: str, workers: int) -> tuple[str, list[str]]:
+def run_tacview(pieces: list[str], workers: int) -> tuple[str, list[str]]:
     """What tacview tells of a program, as lines of JSON, by so many workers, and what it says on
     standard error, as that it runs unproved.
     """
@@ -376,7 +376,10 @@ def run_tacview(text: str, workers: int) -> tuple[str, list[str]]:
             str(workers),
         ]
         done = subprocess.run(
-            [tacview, *words], input=text.encode("ascii"), capture_output=True, check=False
+            [tacview, *words],
+            input=b"".join(piece.encode("ascii") for piece in pieces),
+            capture_output=True,
+            check=False,
         )
     except OSError as fault:
         raise Refusal(f"{tacview}: {fault.strerror}") from None
@@ -409,8 +412,9 @@ def read_facts(
 def keep(folder: str, written: Written, told: str) -> None:
     """Leaves what was made in a folder."""
     os.makedirs(folder, exist_ok=True)
-    for name, text in (("tac", written.text), ("map", written.map_text()), ("report", told)):
+    made = {"tac": written.pieces, "map": emit.map_lines(written), "report": [told]}
+    for name, lines in made.items():
         with open(
             os.path.join(folder, "program." + name), "w", encoding="utf-8", errors="surrogateescape"
         ) as file:
-            file.write(text)
+            file.writelines(lines)

@@ -71,7 +71,7 @@ class Findings:
     ) -> "Findings":
         """The remarks on a program of which tacflow tells these facts."""
         found = cls(program, facts, sources, files, shows_all)
-        lines = [line for line in written.notes if line[1].origin and line[1].origin.place]
+        lines = [line for line in written.notes() if line[1].origin and line[1].origin.place]
         found.lines = [line for line in lines if not line[2].is_once]
         found.lines_once = [line for line in lines if line[2].is_once and line[1].kind == "set"]
         both = [*found.lines, *found.lines_once]

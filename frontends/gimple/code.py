@@ -69,7 +69,7 @@ class Step:
     `touched` may be written from there on, through an address or a part. A test that compares one
     variable with a number has variable, operation and number in `compares`, one of two numbers its
     outcome in `outcome`. Of a set that is `told_once` a copy in a procedure of one activation tells
-    whether its value is read. One that `is_copy` sets its variable to its operand, as it is; one
+    whether its value is read. `line` is its line in the text, once that was written. One that `is_copy` sets its variable to its operand, as it is; one
     that is `chained` stands behind another sign of assignment at that place, as `y = 0` in `x = y =
     0`.
     """
@@ -86,6 +86,7 @@ class Step:
         "origin",
         "slot",
         "role",
+        "line",
         "expression",
         "is_copy",
         "__dict__",
@@ -124,6 +125,7 @@ class Step:
         self.origin = origin
         self.slot = slot
         self.role = role
+        self.line = 0
         self.expression = ""
         self.is_copy = False
 

@@ -40,6 +40,7 @@ VALUES = {
     "goto": slice(0, 1),
 }
 NONE = slice(0, 0)
+PLACED = re.compile(r"\]$|D\..*D\.|^\*|->", re.DOTALL)
 STRUCT = re.compile(r"(?:const )?struct [\w$]+ [\w$]+D\.\d+$")
 PASSED_OVER = ("//", "#", "gimple_nop", "GIMPLE_NOP", "gimple_debug")
 
@@ -62,7 +63,7 @@ class Statement:
     """
 
     kind: str
-    words: list[str]
+    words: tuple[str, ...]
     place: Place | None
     number: int
     file: str
@@ -98,8 +99,9 @@ class Function:
 
     attributes: what stands before its heading. arrays: the locals that are arrays. structs: what is
     declared as a struct, of locals and parameters. text: the lines of its statements, of which the
-    first has this `number` in the dump. words: its operands, once they were asked for. known: the
-    places of the dump.
+    first has this `number` in the dump. known: the places of the dump. used: what `uses` answers,
+    once that was asked for, and placed, those of its operands that are parts of something or behind
+    a pointer.
     """
 
     name: str
@@ -117,7 +119,7 @@ class Function:
     number: int = 1
     named: tuple[str, ...] | None = None
     used: tuple[tuple[tuple[str, bool], ...], tuple[str, Place | None] | None] | None = None
-    words: dict[str, Place | None] = field(default_factory=dict)
+    placed: tuple[str, ...] = ()
 
     @functools.cached_property
     def contents(self) -> tuple[list[Statement | Try], list[Statement], Refusal | None]:
@@ -185,12 +187,13 @@ class Function:
         if self.used is None and not self.fault:
             found: dict[tuple[str, bool], None] = {}
             unknown = None
-            self.words = {
+            words = {
                 word: statement.place
                 for statement in self.statements
                 for word in words_of(statement)
             }
-            for word, place in self.words.items():
+            self.placed = tuple(word for word in words if PLACED.search(word))
+            for word, place in words.items():
                 named = operands.names_in(word)
                 if named is None:
                     unknown = word, place
@@ -230,7 +233,6 @@ class Reader:
         self.at = 0
         self.known = function.known
         self.last_place: Place | None = None
-        self.words: dict[str, str] = {}
         self.statements: list[Statement] = []
 
     def next_line(self) -> str:
@@ -315,15 +317,13 @@ class Reader:
             self.last_place = place
         elif kind == "switch":
             place = self.first_place(line)
-        words = operands.split_words(operands.without_places(inside))
         # most words stand in many statements: one of each is kept
-        keep = self.words.setdefault
-        words = [keep(word, word) for word in words]
+        words = tuple(map(sys.intern, operands.split_words(operands.without_places(inside))))
         return Statement(sys.intern(kind), words, place, self.number + self.at, self.file, rest)
 
     def assembler(self, place: Place | None) -> Assembler:
         """A statement of assembler, its first line passed."""
-        found = Assembler("asm", [], place, self.number + self.at, self.file)
+        found = Assembler("asm", (), place, self.number + self.at, self.file)
         opening = self.next_line()
         if opening.strip() != "STRING <":
             raise Refusal("assembler that is not written as expected", place or self.last_place)
@@ -481,14 +481,14 @@ def take_declarations(function: Function, text: str) -> None:
             declaration = ""
 
 
-def words_of(statement: Statement) -> list[str]:
+def words_of(statement: Statement) -> tuple[str, ...]:
     """The operands of a statement, without the function that it calls."""
     if isinstance(statement, Assembler):
-        return [word for _, word in [*statement.outputs, *statement.inputs]]
+        return tuple(word for _, word in [*statement.outputs, *statement.inputs])
     words = statement.words[VALUES.get(statement.kind, NONE)]
     if statement.rest and "[static-chain:" in statement.rest:
-        words.append(statement.rest.split("[static-chain:")[1].rstrip("] "))
-    return [word for word in words if word != "NULL"] if "NULL" in words else words
+        words += (statement.rest.split("[static-chain:")[1].rstrip("] "),)
+    return tuple(word for word in words if word != "NULL") if "NULL" in words else words
 
 
 def statements_in(body: list[Statement | Try]) -> Iterator[Statement]:

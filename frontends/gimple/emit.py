@@ -50,16 +50,18 @@ class TooLarge(Refusal):
 
 @dataclass
 class Written:
-    """A program's text, and what its lines stand for: number, step, procedure."""
+    """A program's text, in pieces, and its procedures, whose steps know their lines."""
 
-    text: str
-    notes: list[tuple[int, Step, Procedure]]
+    pieces: list[str]
     expressions: dict[str, str]
     procedures: list[Procedure]
 
-    def map_text(self) -> str:
-        """The map: names, expressions, then what each line stands for."""
-        return "\n".join(map_lines(self)) + "\n"
+    def notes(self) -> Iterator[tuple[int, Step, Procedure]]:
+        """What the lines of the text stand for."""
+        for procedure in self.procedures:
+            for step in procedure.steps:
+                if step.line:
+                    yield step.line, step, procedure
 
 
 class Writer:
@@ -67,11 +69,10 @@ class Writer:
 
     def __init__(self) -> None:
         self.variables = Names()
-        self.lines: list[str] = []
-        self.notes: list[tuple[int, Step, Procedure]] = []
+        self.pieces: dict[Procedure, str] = {}
+        self.line = 0
         self.expressions: dict[str, str] = {}
         self.points: dict[Procedure, int] = {}
-        self.places: dict[Procedure, tuple[int, int]] = {}
 
     def write(self, procedures: list[Procedure]) -> Written:
         """The text and the map of a program."""
@@ -80,9 +81,8 @@ class Writer:
             procedure.name = procedure_names.new(procedure.wish)
         for procedure in procedures:
             self.write_procedure(procedure)
-        text = "\n".join(self.lines) + "\n"
-        self.check(procedures, text)
-        return Written(text, self.notes, self.expressions, procedures)
+        self.check()
+        return Written(list(self.pieces.values()), self.expressions, procedures)
 
     def name(self, variable: Variable) -> str:
         """A variable's name."""
@@ -92,9 +92,8 @@ class Writer:
 
     def write_procedure(self, procedure: Procedure) -> None:
         """One procedure."""
-        lines = self.lines
-        start = len(lines)
-        lines.append(f"proc {procedure.name}")
+        first = self.line
+        lines = [f"proc {procedure.name}"]
         labels: dict[Label | Step, str] = {}
         points = 1
         for step in procedure.steps:
@@ -113,12 +112,13 @@ class Writer:
                 points += 1
                 lines.append(f"  if 0 goto {label}")
             lines.append(self.statement(step, label))
-            self.notes.append((len(lines), step, procedure))
+            step.line = first + len(lines)
             if key is step:
                 lines.append(f"{label}:")
-        lines.append("end")
+        lines.append("end\n")
+        self.line += len(lines)
         self.points[procedure] = points
-        self.places[procedure] = start, len(lines)
+        self.pieces[procedure] = "\n".join(lines)
 
     def statement(self, step: Step, label: str) -> str:
         """The line of a statement."""
@@ -157,12 +157,12 @@ class Writer:
         step.expression = text
         return text
 
-    def check(self, procedures: list[Procedure], text: str) -> None:
+    def check(self) -> None:
         """Refuses a program beyond a limit of the language."""
         totals = {
-            "procedures": len(procedures),
+            "procedures": len(self.pieces),
             "expressions": len(self.expressions),
-            "bytes of text": len(text),
+            "bytes of text": sum(map(len, self.pieces.values())),
         }
         totals["points"] = sum(self.points.values())
         totals["variables"] = len(self.variables.taken) - len(KEYWORDS)
@@ -177,9 +177,7 @@ class Writer:
         """How much of a limit a procedure takes, as far as that is counted."""
         if what == "points":
             return self.points[procedure]
-        start, end = self.places[procedure]
-        is_bytes = what == "bytes of text"
-        return sum(len(line) + 1 for line in self.lines[start:end]) if is_bytes else 1
+        return len(self.pieces[procedure]) if what == "bytes of text" else 1
 
     def advice(self, what: str) -> str:
         """Where such a program is split best."""
@@ -202,23 +200,24 @@ class Writer:
 
 
 def map_lines(written: Written) -> Iterator[str]:
-    """The lines of a map."""
-    seen = set()
+    """The lines of a map: names, expressions, then what each line of the text stands for."""
+    seen: set[Variable] = set()
     for procedure in written.procedures:
-        yield "\t".join(["procedure", procedure.name, procedure.source])
+        yield "\t".join(["procedure", procedure.name, procedure.source]) + "\n"
         for step in procedure.steps:
             for variable in [step.variable, *step.operands]:
                 if isinstance(variable, Variable) and variable not in seen:
                     seen.add(variable)
-                    yield "\t".join(["variable", variable.name, variable.source, kind_of(variable)])
+                    parts = ["variable", variable.name, variable.source, kind_of(variable)]
+                    yield "\t".join(parts) + "\n"
     for text, in_source in written.expressions.items():
-        yield "\t".join(["expression", text, in_source])
-    for line, step, procedure in written.notes:
+        yield "\t".join(["expression", text, in_source]) + "\n"
+    for line, step, procedure in written.notes():
         place = step.origin.place if step.origin else None
         where = f"{place.file}\t{place.line}\t{place.column}" if place else "\t0\t0"
         unset = " ".join([variable.name for variable in step.unset]) if step.unset else ""
         made_of = f"{id_of(step)}\t{step.slot}\t{step.role}"
-        yield f"line\t{line}\t{where}\t{made_of}\t{procedure.name}\t{unset}"
+        yield f"line\t{line}\t{where}\t{made_of}\t{procedure.name}\t{unset}\n"
 
 
 def kind_of(variable: Variable) -> str:

@@ -57,7 +57,7 @@ class Parts:
         self.of_whole: dict[Variable, list[Part]] = {}
         self.behind: dict[str, Variable] = {}
         self.by_pointer: dict[Variable, list[Variable]] = {}
-        words = procedure.function.words
+        words = procedure.function.placed
         self.take_parts(word for word in words if word.endswith("]") or word.count("D.") > 1)
         if any(word.startswith("*") or "->" in word for word in words):
             stored = Counter(

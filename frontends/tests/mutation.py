@@ -218,10 +218,10 @@ class Changes:
         self.bodies = bodies
         self.facts = facts
         self.declared = {variable: declared for (_, declared), variable in world.locals.items()}
-        self.notes = [note for note in written.notes if note[1].origin and not note[2].is_once]
+        self.notes = [note for note in written.notes() if note[1].origin and not note[2].is_once]
         self.once = [
             note
-            for note in written.notes
+            for note in written.notes()
             if note[1].origin and note[2].is_once and note[1].kind == "set"
         ]
         self.never = {number for number, told in facts.items() if ("never_reached", "") in told}
