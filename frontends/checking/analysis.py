@@ -7,8 +7,8 @@ from __future__ import annotations
 import contextlib
 import functools
 import gc
-import json
 import os
+import re
 import signal
 import subprocess
 import tempfile
@@ -42,6 +42,14 @@ MANY_STATEMENTS = 800000
 PART = 400000
 FUNCTION = 20
 HOPELESS = 1600000
+# A line of a report, and how one ends that tells of a name or an expression.
+REMARK = re.compile(r"^(\d+): (.*)$", re.MULTILINE)
+ENDINGS = {
+    "computed": " is already computed",
+    "busy": " is very busy",
+    "dead": " is dead",
+    "unset": " may be used before it is set",
+}
 HERE = os.path.dirname(os.path.realpath(__file__))
 
 
@@ -360,21 +368,12 @@ def cut(
 
 
 def run_tacview(pieces: list[str], workers: int) -> tuple[str, list[str]]:
-    """What tacview tells of a program, as lines of JSON, by so many workers, and what it says on
-    standard error, as that it runs unproved.
+    """The report of tacview on a program, by so many workers, and what it says on standard error,
+    as that it runs unproved.
     """
     tacview = os.environ.get("TACVIEW", os.path.join(HERE, "..", "..", "tacview"))
     try:
-        words = [
-            "--format",
-            "json",
-            "--facts",
-            "none",
-            "--limits",
-            "large",
-            "--workers",
-            str(workers),
-        ]
+        words = ["--format", "report", "--limits", "large", "--workers", str(workers)]
         done = subprocess.run(
             [tacview, *words],
             input=b"".join(piece.encode("ascii") for piece in pieces),
@@ -394,19 +393,28 @@ def run_tacview(pieces: list[str], workers: int) -> tuple[str, list[str]]:
 def read_facts(
     told: str, kinds: frozenset[str] = frozenset(KINDS)
 ) -> dict[int, list[tuple[str, str]]]:
-    """The remarks in tacview's answer, by the line of the program: a kind and a name or expression.
+    """The remarks of a report, by the line of the program: a kind and a name or expression.
 
     Of expressions only those that are of these kinds.
     """
     left_out = [kind for kind in ("computed", "busy") if kind not in kinds]
     facts: dict[int, list[tuple[str, str]]] = {}
-    for line in told.splitlines():
-        if line.startswith('{"type":"remark"'):
-            row = json.loads(line)
-            if row["kind"] not in left_out:
-                name = row.get("variable") or row.get("expression") or ""
-                facts.setdefault(row["line"], []).append((row["kind"], name))
+    known: dict[str, tuple[str, str]] = {}
+    for found in REMARK.finditer(told):
+        fact = known.get(found[2])
+        if fact is None:
+            fact = known[found[2]] = fact_of(found[2])
+        if fact[0] not in left_out:
+            facts.setdefault(int(found[1]), []).append(fact)
     return facts
+
+
+def fact_of(text: str) -> tuple[str, str]:
+    """A remark's text as its kind and a name or expression."""
+    if text == "never reached":
+        return "never_reached", ""
+    kind, ending = next((kind, end) for kind, end in ENDINGS.items() if text.endswith(end))
+    return kind, text.removesuffix(ending).removeprefix("assignment to ")
 
 
 def keep(folder: str, written: Written, told: str) -> None:
