@@ -2,7 +2,6 @@
 
 from __future__ import annotations
 
-import hashlib
 import json
 import os
 from collections import Counter
@@ -86,6 +85,8 @@ def json_lines(remarks: list[Remark]) -> Iterator[str]:
 
 def sarif_lines(remarks: list[Remark], sources: Sources, version: str) -> Iterator[str]:
     """The remarks as one object of SARIF 2.1.0."""
+    import hashlib  # it takes a while, and the other formats need none
+
     numbers = {kind: number for number, kind in enumerate(KINDS)}
     seen: Counter[str] = Counter()
     results = []

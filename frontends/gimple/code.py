@@ -175,16 +175,12 @@ class Procedure:
 
     def locals(self) -> list[Variable]:
         """The variables of its own that its statements name."""
-        named = dict.fromkeys(
-            variable
-            for step in self.steps
-            for variable in (step.variable, *step.operands, *step.touched)
-        )
-        return [
-            variable
-            for variable in named
-            if isinstance(variable, Variable) and variable.owner is self
-        ]
+        named: dict[Variable | Number | None, None] = {}
+        for step in self.steps:
+            named[step.variable] = None
+            for part in step.operands or step.touched:
+                named[part] = None
+        return [part for part in named if isinstance(part, Variable) and part.owner is self]
 
 
 class Builder:

@@ -4,27 +4,29 @@ what may be unset.
 
 from __future__ import annotations
 
+from collections.abc import Mapping
 from typing import TYPE_CHECKING
 
 if TYPE_CHECKING:
     from .code import Number, Procedure, Step, Variable
 
 
-def is_jump(step: Step) -> bool:
-    """Whether not only the next step may come behind a step."""
-    return step.kind == "return" or step.label is not None and step.kind != "label"
-
-
-def successors(steps: list[Step], by_outcome: bool = False) -> list[tuple[int, ...]]:
-    """For each step the places that may come next; the end is the number of steps.
+def leads(steps: list[Step], by_outcome: bool = False) -> dict[int, tuple[int, ...]]:
+    """For each step behind which not only the next one comes, the places that may come next; the
+    end is the number of steps.
 
     by_outcome: a test of two numbers leads one way. A program has both ways of it: which numbers
     they are is a matter of how it was compiled, and nothing is to be told of that.
     """
-    places = {step.label: at for at, step in enumerate(steps) if step.kind == "label"}
-    found = [(at,) for at in range(1, len(steps) + 1)]
-    for at, step in enumerate(steps):
-        if not is_jump(step):
+    marked = [
+        (at, step)
+        for at, step in enumerate(steps)
+        if step.label is not None or step.kind == "return"
+    ]
+    places = {step.label: at for at, step in marked if step.kind == "label"}
+    found: dict[int, tuple[int, ...]] = {}
+    for at, step in marked:
+        if step.kind == "label":
             continue
         if step.kind == "return":
             found[at] = ()
@@ -37,26 +39,34 @@ def successors(steps: list[Step], by_outcome: bool = False) -> list[tuple[int, .
     return found
 
 
+def successors(steps: list[Step]) -> list[tuple[int, ...]]:
+    """For each step the places that may come next; the end is the number of steps."""
+    found = leads(steps)
+    return [found[at] if at in found else (at + 1,) for at in range(len(steps))]
+
+
 def blocks_of(
     steps: list[Step], by_outcome: bool = False
 ) -> tuple[list[tuple[int, int]], list[list[int]]]:
     """The stretches of steps that run one after the other, as pairs of first place and the place
     behind, and where each leads.
     """
-    follow = successors(steps, by_outcome)
-    firsts = {0}
-    for at, step in enumerate(steps):
-        if is_jump(step):
-            firsts.add(at + 1)
-            firsts.update(follow[at])
-    firsts = sorted(first for first in firsts if first < len(steps))
+    follow = leads(steps, by_outcome)
+    marks = {0}
+    for at, places in follow.items():
+        marks.add(at + 1)
+        marks.update(places)
+    firsts = sorted(first for first in marks if first < len(steps))
     numbers = {first: number for number, first in enumerate(firsts)}
     ends = [*firsts[1:], len(steps)]
-    leads = [[numbers[place] for place in follow[end - 1] if place in numbers] for end in ends]
-    return list(zip(firsts, ends)), leads
+    ways = [follow[end - 1] if end - 1 in follow else (end,) for end in ends]
+    behind = [[numbers[place] for place in places if place in numbers] for places in ways]
+    return list(zip(firsts, ends)), behind
 
 
-def bits_of(variables: tuple[Number | Variable | None, ...], numbers: dict[Variable, int]) -> int:
+def bits_of(
+    variables: tuple[Number | Variable, ...], numbers: Mapping[Number | Variable | None, int]
+) -> int:
     """A set of variables as the bits of a number."""
     bits = 0
     for variable in variables:
@@ -66,20 +76,19 @@ def bits_of(variables: tuple[Number | Variable | None, ...], numbers: dict[Varia
 
 def live_before(
     steps: list[Step], variables: list[Variable]
-) -> tuple[list[int], dict[Variable, int]]:
+) -> tuple[list[int], dict[Number | Variable | None, int]]:
     """For each place the bits of the variables whose values are still read from there on, and the
     bit of each variable.
 
     What a step reads of the result of a call is left out: that value was made by the callee.
     """
+    numbers: dict[Number | Variable | None, int]
     numbers = {variable: 1 << number for number, variable in enumerate(variables)}
     reads = [
-        0 if step.result_of_call or not step.operands else bits_of(step.operands, numbers)
+        bits_of(step.operands, numbers) if step.operands and not step.result_of_call else 0
         for step in steps
     ]
-    kills = [
-        0 if step.weak or step.variable is None else numbers.get(step.variable, 0) for step in steps
-    ]
+    kills = [0 if step.weak else numbers.get(step.variable, 0) for step in steps]
     blocks, leads = blocks_of(steps)
     behind = live_behind(blocks, leads, reads, kills)
     live = [0] * (len(steps) + 1)
@@ -128,9 +137,13 @@ def mark_unset(steps: list[Step], variables: list[Variable]) -> None:
     """
     if not variables or not steps:
         return
+    numbers: dict[Number | Variable | None, int]
     numbers = {variable: 1 << number for number, variable in enumerate(variables)}
-    touches = [bits_of((step.variable, *step.touched), numbers) for step in steps]
-    ends = [touches[at] if step.ends_life else 0 for at, step in enumerate(steps)]
+    touches = [
+        bits_of(step.touched, numbers) if step.kind == "note" else numbers.get(step.variable, 0)
+        for step in steps
+    ]
+    ends = [touches[at] if bits and steps[at].ends_life else 0 for at, bits in enumerate(touches)]
     blocks, leads = blocks_of(steps, True)
     for (first, end), state in zip(
         blocks, states_before(blocks, leads, touches, ends, (1 << len(variables)) - 1)
@@ -184,7 +197,9 @@ def states_before(
     return states
 
 
-def note_unset(step: Step, numbers: dict[Variable, int], unset: int, touched: int) -> None:
+def note_unset(
+    step: Step, numbers: Mapping[Number | Variable | None, int], unset: int, touched: int
+) -> None:
     """Notes at a step which of the variables that it reads are unset before it."""
     found = tuple(variable for variable in step.operands if numbers.get(variable, 0) & unset)
     if found:
