@@ -63,12 +63,14 @@ def variables_in_use(
             [*procedure.locals(), *[parameter for parameter in procedure.parameters if parameter]]
         )
     )
+    if not own:
+        return [], []
     live, numbers = flow.live_before(procedure.steps, own)
     used = unread = 0
     for at, step in enumerate(procedure.steps):
         if id(step) in again:
             used |= live[at + 1]
-        if is_own_set(step) and not step.weak:
+        if step.kind == "set" and is_own_set(step) and not step.weak:
             unread |= numbers.get(step.variable, 0) & ~live[at + 1]
     found = []
     for variable in own:

@@ -42,6 +42,10 @@ VALUES = {
 NONE = slice(0, 0)
 PLACED = re.compile(r"\]$|D\..*D\.|^\*|->", re.DOTALL)
 STRUCT = re.compile(r"(?:const )?struct [\w$]+ [\w$]+D\.\d+$")
+# What stands behind a declared name, and the bounds of arrays.
+VALUE = re.compile(r" = | \[value-expr:")
+BOUND = re.compile(r"\[[^\[\]]*\]")
+BOUNDS_AT_END = re.compile(r"(\[[^\[\]]*\])+$")
 PASSED_OVER = ("//", "#", "gimple_nop", "GIMPLE_NOP", "gimple_debug")
 
 
@@ -399,7 +403,7 @@ def take_parameters(function: Function, heading: str, name: str) -> None:
     """Takes in the parameters in a function's heading, in order."""
     inside = heading[heading.index(name) + len(name) :].strip()
     for word in operands.split_words(inside[1 : closing_bracket(inside)]):
-        declared = re.findall(operands.DECLARED, word)
+        declared = operands.DECLARED_FIRST.findall(word)
         if declared:
             function.parameters.append(declared[-1])
             if is_struct(word):
@@ -413,11 +417,11 @@ def is_struct(declaration: str) -> bool:
 
 def declare(function: Function, text: str) -> None:
     """Takes in one declaration."""
-    plain = text.rstrip(";")
-    plain = re.split(r" = | \[value-expr:", plain)[0]
+    plain = VALUE.split(text.rstrip(";"), maxsplit=1)[0]
     is_array = plain.endswith("]")
-    plain = re.sub(r"\[[^\[\]]*\]", "", re.sub(r"(\[[^\[\]]*\])+$", "", plain))
-    declared = re.findall(operands.DECLARED, plain)
+    if "[" in plain:
+        plain = BOUND.sub("", BOUNDS_AT_END.sub("", plain))
+    declared = operands.DECLARED_FIRST.findall(plain)
     if not declared:
         return
     if plain.startswith("static "):

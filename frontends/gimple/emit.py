@@ -15,6 +15,7 @@ if TYPE_CHECKING:
 
 KEYWORDS = frozenset("proc end goto if ifFalse call return read print skip".split())
 LONGEST_NAME = 64
+NO_NAME = re.compile(r"[^A-Za-z0-9_]")
 # tacview's larger limits.
 LIMITS = {
     "procedures": 1 << 14,
@@ -33,7 +34,7 @@ class Names:
 
     def new(self, wish: str) -> str:
         """A name that looks like what is wished for."""
-        plain = re.sub(r"[^A-Za-z0-9_]", "_", wish) or "_"
+        plain = NO_NAME.sub("_", wish) or "_"
         plain = "_" + plain if plain[0].isdigit() else plain
         name = plain[:LONGEST_NAME]
         count = 1

@@ -27,13 +27,18 @@ OUTCOMES = {
 def lead_past(procedure: Procedure) -> None:
     """Writes the ways round tests of a procedure."""
     steps = procedure.steps
-    places = {step.label: at for at, step in enumerate(steps) if step.kind == "label"}
-    ways = {
-        at: Way(procedure, places, at)
+    starts = [
+        at
         for at, step in enumerate(steps)
-        if is_number(procedure, step)
-    }
-    ways = {at: way for at, way in ways.items() if way.target is not None}
+        if step.kind == "set" and step.operands and is_number(procedure, step)
+    ]
+    if not starts:
+        return
+    places = {step.label: at for at, step in enumerate(steps) if step.kind == "label"}
+    tried = {at: Way(procedure, places, at) for at in starts}
+    ways = {at: way for at, way in tried.items() if way.target is not None}
+    if not ways:
+        return
     targets = {way.target: Label() for way in ways.values()}
     procedure.steps = []
     for at, step in enumerate([*steps, None]):

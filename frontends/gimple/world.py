@@ -17,6 +17,7 @@ if TYPE_CHECKING:
     from .dump import Function
     from .symbols import Symbols
 
+NO_NAME = re.compile(r"[^A-Za-z0-9_]")
 ARTIFICIAL = re.compile(r"^$|\.|^<|^__(?:PRETTY_)?(?:func|FUNCTION)__$")
 
 
@@ -247,7 +248,7 @@ class World:
         key = (procedure, declared)
         if key not in self.locals:
             source = "" if declared == "<retval>" else operands.split_declared(declared)[0]
-            wish = f"{procedure.wish}__{re.sub(r'[^A-Za-z0-9_]', '_', source) or 'value'}"
+            wish = f"{procedure.wish}__{NO_NAME.sub('_', source) or 'value'}"
             variable = Variable(wish, "" if ARTIFICIAL.search(source) else source, procedure)
             variable.is_parameter = declared in procedure.function.parameters
             variable.is_array = declared in procedure.function.arrays
