@@ -326,10 +326,13 @@ class Analysis:
         told, said = run_tacview(written.pieces, self.workers)
         if self.task.keep:
             keep(self.task.keep, written, told)
+        written.pieces.clear()  # the text is in use no more
+        unset = frozenset(line for line, step, _ in written.notes() if step.unset)
+        facts = read_facts(told, self.task.kinds, unset)
         found = Findings.of(
             built,
             written,
-            read_facts(told, self.task.kinds),
+            facts,
             self.sources,
             self.files,
             self.task.shows_all,
@@ -374,12 +377,10 @@ def run_tacview(pieces: list[str], workers: int) -> tuple[str, list[str]]:
     tacview = os.environ.get("TACVIEW", os.path.join(HERE, "..", "..", "tacview"))
     try:
         words = ["--format", "report", "--limits", "large", "--workers", str(workers)]
-        done = subprocess.run(
-            [tacview, *words],
-            input=b"".join(piece.encode("ascii") for piece in pieces),
-            capture_output=True,
-            check=False,
-        )
+        with tempfile.TemporaryFile("w+", encoding="ascii") as text:
+            text.writelines(pieces)
+            text.seek(0)
+            done = subprocess.run([tacview, *words], stdin=text, capture_output=True, check=False)
     except OSError as fault:
         raise Refusal(f"{tacview}: {fault.strerror}") from None
     said = done.stderr.decode("utf-8", "replace").strip().splitlines()
@@ -391,11 +392,12 @@ def run_tacview(pieces: list[str], workers: int) -> tuple[str, list[str]]:
 
 
 def read_facts(
-    told: str, kinds: frozenset[str] = frozenset(KINDS)
+    told: str, kinds: frozenset[str] = frozenset(KINDS), unset: frozenset[int] | None = None
 ) -> dict[int, list[tuple[str, str]]]:
     """The remarks of a report, by the line of the program: a kind and a name or expression.
 
-    Of expressions only those that are of these kinds.
+    Of expressions only those that are of these kinds. unset: the lines of which it is asked whether
+    they read what is not set; all where it is None.
     """
     left_out = [kind for kind in ("computed", "busy") if kind not in kinds]
     facts: dict[int, list[tuple[str, str]]] = {}
@@ -404,8 +406,10 @@ def read_facts(
         fact = known.get(found[2])
         if fact is None:
             fact = known[found[2]] = fact_of(found[2])
-        if fact[0] not in left_out:
-            facts.setdefault(int(found[1]), []).append(fact)
+        line = int(found[1])
+        is_asked = unset is None or fact[0] != "unset" or line in unset
+        if fact[0] not in left_out and is_asked:
+            facts.setdefault(line, []).append(fact)
     return facts
 
 

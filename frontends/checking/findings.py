@@ -24,6 +24,8 @@ Facts = dict[int, list[tuple[str, str]]]
 Line = tuple[int, Step, Procedure]
 # What could be told: a place, a kind, a name.
 Claim = tuple[Place, str, str]
+# What is told only where it holds in every copy of its place.
+COPIED = ("dead", "computed", "busy")
 WORD = re.compile(r"[A-Za-z_$][\w$]*")
 # What stands at the place of a statement that makes a variable's value of its older one.
 COUNTING = re.compile(r"\+\+|--|(?:[-+*/%&|^]|<<|>>)=")
@@ -75,7 +77,11 @@ class Findings:
         found.lines = [line for line in lines if not line[2].is_once]
         found.lines_once = [line for line in lines if line[2].is_once and line[1].kind == "set"]
         both = [*found.lines, *found.lines_once]
-        told = {line[1].origin.place for line in both if line[0] in facts}
+        told = {
+            line[1].origin.place
+            for line in both
+            if any(kind in COPIED for kind, _ in facts.get(line[0], ()))
+        }
         found.by_claim = found.gather(line for line in both if line[1].origin.place in told)
         found.take_all()
         return found

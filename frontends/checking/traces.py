@@ -14,24 +14,32 @@ if TYPE_CHECKING:
     from gimple.dump import Place
 
 MOST = 3
+# Of so many procedures is kept what walks need: remarks are made procedure by procedure.
+KEPT = 64
+
+
+# What follows and what comes before each step of a procedure, the number of each step, and who
+# evaluates what.
+Known = tuple[list[tuple[int, ...]], list[list[int]], dict[Step, int], dict[str, list[Step]]]
 
 
 class Traces:
     """Walks, with what they need of each procedure kept."""
 
     def __init__(self) -> None:
-        self.known = {}
+        self.known: dict[Procedure, Known] = {}
 
-    def of(
-        self, procedure: Procedure
-    ) -> tuple[list[tuple[int, ...]], list[list[int]], dict[Step, int], dict[str, list[Step]]]:
+    def of(self, procedure: Procedure) -> Known:
         """A procedure's steps that follow and that come before each, the number of each step, and
         who evaluates what.
         """
         if procedure not in self.known:
+            if len(self.known) == KEPT:
+                del self.known[next(iter(self.known))]
             follow = flow.successors(procedure.steps)
-            before = [[] for _ in range(len(procedure.steps) + 1)]
-            numbers, evaluations = {}, {}
+            before: list[list[int]] = [[] for _ in range(len(procedure.steps) + 1)]
+            numbers: dict[Step, int] = {}
+            evaluations: dict[str, list[Step]] = {}
             for at, step in enumerate(procedure.steps):
                 numbers[step] = at
                 if step.expression:
