@@ -329,6 +329,7 @@ class Analysis:
         written.pieces.clear()  # the text is in use no more
         unset = frozenset(line for line, step, _ in written.notes() if step.unset)
         facts = read_facts(told, self.task.kinds, unset)
+        told = ""
         found = Findings.of(
             built,
             written,

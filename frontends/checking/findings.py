@@ -38,20 +38,27 @@ class Findings:
     """The remarks on one program.
 
     remarks: by keys, which are the same for all copies of a place in all programs. tried: the keys
-    that were looked at.
+    that were looked at. told: the lines of which there are facts.
     """
 
     def __init__(
-        self, program: Program, facts: Facts, sources: Sources, files: list[File], shows_all: bool
+        self,
+        program: Program,
+        written: Written,
+        facts: Facts,
+        sources: Sources,
+        files: list[File],
+        shows_all: bool,
     ) -> None:
         self.program = program
+        self.written = written
         self.facts = facts
         self.sources = sources
         self.files = {file.name: file for file in files}
         self.macros = {file.name: Macros(sources, file.symbols.sources) for file in files}
         self.shows_all = shows_all
-        self.lines: list[Line] = []
-        self.lines_once: list[Line] = []
+        self.told: list[Line] = []
+        self.by_file: dict[str, list[Line]] = {}
         self.never = {number for number, told in facts.items() if ("never_reached", "") in told}
         self.by_claim: dict[Claim, list[Line]] = {}
         self.traces = Traces()
@@ -72,19 +79,36 @@ class Findings:
         shows_all: bool,
     ) -> "Findings":
         """The remarks on a program of which tacflow tells these facts."""
-        found = cls(program, facts, sources, files, shows_all)
-        lines = [line for line in written.notes() if line[1].origin and line[1].origin.place]
-        found.lines = [line for line in lines if not line[2].is_once]
-        found.lines_once = [line for line in lines if line[2].is_once and line[1].kind == "set"]
-        both = [*found.lines, *found.lines_once]
+        found = cls(program, written, facts, sources, files, shows_all)
+        found.told = [line for line in found.both() if line[0] in facts]
         told = {
             line[1].origin.place
-            for line in both
-            if any(kind in COPIED for kind, _ in facts.get(line[0], ()))
+            for line in found.told
+            if any(kind in COPIED for kind, _ in facts[line[0]])
         }
-        found.by_claim = found.gather(line for line in both if line[1].origin.place in told)
+        found.by_claim = found.gather(line for line in found.both() if line[1].origin.place in told)
         found.take_all()
         return found
+
+    def lines(self, is_once: bool = False) -> Iterator[Line]:
+        """The lines that stand for what has a place in the source; those of one activation are
+        asked for by themselves.
+        """
+        for line in self.written.notes():
+            _, step, procedure = line
+            if procedure.is_once is is_once and step.origin and step.origin.place:
+                yield line
+
+    def both(self) -> Iterator[Line]:
+        """The lines, and behind them those that set something of one activation."""
+        yield from self.lines()
+        yield from (line for line in self.lines(True) if line[1].kind == "set")
+
+    def lines_in(self, file: str) -> list[Line]:
+        """Those of one file of the source."""
+        if file not in self.by_file:
+            self.by_file[file] = [line for line in self.both() if line[1].origin.place.file == file]
+        return self.by_file[file]
 
     # What can be told at a place
 
@@ -137,9 +161,8 @@ class Findings:
 
     def take_all(self) -> None:
         """Makes all remarks."""
-        for line in [*self.lines, *self.lines_once]:
-            told = self.facts.get(line[0], ())
-            for kind, name in told:
+        for line in self.told:
+            for kind, name in self.facts[line[0]]:
                 if kind == "dead" and not line[1].told_once:
                     self.take_dead(line)
                 elif kind == "computed":
@@ -283,10 +306,10 @@ class Findings:
         if self.macros[procedure.function.file].is_of_other(word, file):
             return False
         uses: dict[Place, bool] = {}
-        for line in [*self.lines, *self.lines_once]:
+        for line in self.lines_in(file):
             _, other, _ = line
             place = other.origin.place
-            if line[0] in self.never or place.file != file or self.word_at(place) != word:
+            if line[0] in self.never or self.word_at(place) != word:
                 continue
             is_set = other.kind == "set" and not other.told_once and other.role in SHOWN_ROLES
             is_set = is_set and bool(other.variable.source)
@@ -449,8 +472,8 @@ class Findings:
     def take_unset(self) -> None:
         """Uses of locals that are not set: the first use of each, with the others as notes."""
         uses = {}
-        for line in self.lines:
-            for kind, name in self.facts.get(line[0], ()):
+        for line in self.told:
+            for kind, name in () if line[2].is_once else self.facts[line[0]]:
                 variable = (
                     next((found for found in line[1].unset if found.name == name), None)
                     if kind == "unset"
@@ -494,7 +517,7 @@ class Findings:
 
     def take_copies(self) -> None:
         """Assignments of variables to themselves."""
-        for line in self.lines:
+        for line in self.lines():
             _, step, procedure = line
             if (
                 is_own_copy(step)
@@ -511,7 +534,7 @@ class Findings:
                     continue
                 lines = [
                     other
-                    for other in self.lines
+                    for other in self.lines()
                     if other[1].origin.place == step.origin.place and other[1].kind == "set"
                 ]
                 if all(is_own_copy(other[1]) for other in lines):
@@ -532,10 +555,10 @@ class Findings:
 
     def take_never_reached(self) -> None:
         """The first statement of each stretch that is never reached."""
-        reached = {line[1].origin for line in self.lines if line[0] not in self.never}
+        reached = {line[1].origin for line in self.lines() if line[0] not in self.never}
         reached_places = {origin.place for origin in reached}
         last = None
-        for line in self.lines:
+        for line in self.lines():
             _, step, procedure = line
             if step.origin in reached:
                 last = None
@@ -606,7 +629,7 @@ class Findings:
         found = set(
             self.gather(
                 line
-                for line in [*self.lines, *self.lines_once]
+                for line in self.both()
                 if line[0] not in self.never and is_shared(line[1].origin.place)
             )
         )

@@ -332,3 +332,9 @@ def common(number: str | None, sign: str, name: str, way: str) -> Reference:
     if is_behind:
         return Reference(is_memory=True, is_whole=False, reads=(name,))
     return Reference(base=name, is_whole=not way)
+
+
+def forget() -> None:
+    """Gives back the memory of what was kept of operands, when a program is made."""
+    for function in (is_declared, is_temporary, split_declared, names_in, parse):
+        function.cache_clear()

@@ -5,7 +5,7 @@ from __future__ import annotations
 from dataclasses import dataclass
 from typing import TYPE_CHECKING
 
-from . import flow
+from . import flow, operands
 from .activations import callees_of, keep_activations_apart
 from .code import Builder, Label, Procedure, Step, Variable
 from .faults import Refusal
@@ -78,6 +78,7 @@ def build(world: World, keeps_temporaries: bool = False) -> Program:
     everything = [root, *kept, *changes, *single]
     for procedure in everything:
         tidy(procedure)
+    operands.forget()
     return Program(
         everything, [procedure for procedure in functions if procedure not in called], refused
     )
@@ -106,6 +107,7 @@ def translate_all(world: World, services: Services) -> list[Procedure]:
             procedure.refusal = refusal
             services.make_unknown(file, procedure)
             refused.append(procedure)
+        procedure.named.clear()  # it is written
     return refused
 
 
