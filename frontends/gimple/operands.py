@@ -22,7 +22,7 @@ COMMON = re.compile(
 )
 MARK = re.compile(rf"{STRING.pattern}|->|[<>()\[\]{{}},]")
 OPENING = {"<": ">", "(": ")", "[": "]", "{": "}"}
-# Words without brackets, but for labels in them, and without strings: each comma is of the outermost
+# Words without strings, and without brackets but those of labels: each comma is of the outermost
 # level.
 FLAT = re.compile(r'[^<(\[{"]*(?:<[\w.$]+>[^<(\[{"]*)*$')
 

@@ -58,13 +58,7 @@ def build(world: World, keeps_temporaries: bool = False) -> Program:
     )
     called = reached_from(first_calls(services, world))
     kept = [procedure for procedure in functions if procedure in called]
-    for procedure in kept:
-        own = [
-            variable
-            for variable in procedure.locals()
-            if not variable.is_parameter and variable is not procedure.result
-        ]
-        flow.mark_unset(procedure.steps, own)
+    note_unset(kept)
     named = named_in(kept)
     fill_memory(services, [variable for variable in reached if variable in named])
     helpers = [helper for helper in helpers if helper in called]
@@ -82,6 +76,17 @@ def build(world: World, keeps_temporaries: bool = False) -> Program:
     return Program(
         everything, [procedure for procedure in functions if procedure not in called], refused
     )
+
+
+def note_unset(procedures: list[Procedure]) -> None:
+    """Notes which reads of functions may be of locals that are not set."""
+    for procedure in procedures:
+        own = [
+            variable
+            for variable in procedure.locals()
+            if not variable.is_parameter and variable is not procedure.result
+        ]
+        flow.mark_unset(procedure.steps, own)
 
 
 def named_in(procedures: list[Procedure]) -> set[Variable]:

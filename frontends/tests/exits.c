@@ -35,10 +35,23 @@ static int flag(int n)
     return ended;
 }
 
+/* gcc knows it by another name than the source does */
+extern void vanish(int n) __asm__("gone_for_good") __attribute__((noreturn));
+
+static int vanishes(int n)
+{
+    int ended = 0;
+    if (n > 8) {
+        ended = 1;          /* expect: assignment to 'ended' is dead */
+        vanish(n);
+    }
+    return ended;
+}
+
 int main(int argc, char **argv)
 {
     int gone = argc * 2;    /* expect: assignment to 'gone' is dead */
-    code = flag(argc);      /* fatal reads it */
+    code = flag(argc) + vanishes(argc); /* fatal reads it */
     gone = need(argc);
     if (gone > 5) {
         int last = gone;    /* expect: assignment to 'last' is dead */

@@ -29,9 +29,31 @@ out:
     return n;
 }
 
+static int writes(volatile int *p)
+{
+    int inner(volatile int *q)
+    {
+        *q = 1;
+        *q = 2;
+        return 0;
+    }
+    return inner(p);
+}
+
+static int sets(int *p)
+{
+    int inner(int *q)
+    {
+        *q = 1;             /* expect: assignment to '*q' is dead */
+        *q = 2;             /* note: overwritten here */
+        return *q;
+    }
+    return inner(p);
+}
+
 int main(int argc, char **argv)
 {
     if (argc > 5)
         ends(argc);
-    return goes_on(argc) + leaps(argc);
+    return goes_on(argc) + leaps(argc) + writes(&argc) + sets(&argc);
 }
