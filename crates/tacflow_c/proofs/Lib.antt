@@ -1,3 +1,2 @@
 pub mod answers
 pub mod buffers
-pub mod facts

@@ -3,4 +3,3 @@ pub mod Names
 pub mod Parts
 pub mod Statuses
 pub mod Texts
-pub mod code

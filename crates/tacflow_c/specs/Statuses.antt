@@ -1,11 +1,10 @@
 -- What a call answers: a status, and where there is a fault what it is.
 use Rattle.std.specs.Prelude.{◌≡◌, ℕ, ◌-◌, ◌≤◌, ◌*◌, ◌==◌, if◌then◌else◌, List, Option, Some, None, Result, Ok, Err}
-use Rattle.bit_rows.specs.Words.{word_count}
+use Rattle.flow_kept.specs.Facts.{AreInRange, HasRoom}
 use Rattle.flow_graph.specs.Limits.{HasFewBits, HasFewPoints, HasManyBits, HasManyPoints}
 use Rattle.tac_program.specs.declared.limits.Limits.{Limits}
 use Rattle.tac_program.specs.declared.limits.Limits.TheVariants.{Standard, Large}
 use Rattle.flow_graph.specs.Points.{point_count}
-use Rattle.flow_graph.specs.Universes.{bits}
 use Rattle.flow_graph.specs.declared.analysis.Analysis.{Analysis}
 use Rattle.flow_graph.specs.declared.analysis.Analysis.TheVariants.{Reach, Live, Avail, Busy}
 use Rattle.tac_reader.specs.Faults.{refusal_within}
@@ -58,14 +57,6 @@ analysis_of number =
 -- where a range of points ends; the largest number of 32 bits stands for the end of all points
 abbrev pub end_of : Program → ℕ → ℕ
 end_of program until = if until == 4294967295 then point_count program else until
-
--- from..until are points of the program, and lo..hi bits of the analysis
-abbrev pub AreInRange : Program → Analysis → ℕ → ℕ → ℕ → ℕ → Type 0
-AreInRange program analysis from until lo hi = (from ≤ until) × (until ≤ point_count program) × (lo ≤ hi) × (hi ≤ bits program analysis)
-
--- there is a flag for each point of from..until, and for each of them a word for each that holds bits of lo..hi
-abbrev pub HasRoom : ℕ → ℕ → ℕ → ℕ → ℕ → ℕ → Type 0
-HasRoom from until lo hi flags words = (flags ≡ until - from) × (words ≡ (until - from) * word_count lo hi)
 
 -- the status of a fault; 0 says that there is none
 abbrev pub status_of : Option Fault → ℕ

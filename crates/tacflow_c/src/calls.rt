@@ -8,17 +8,20 @@ ghost use Rattle.tacflow_c.specs.Facts.{AreFactsOfText, IsTableFault};
 ghost use Rattle.tac_reader.specs.Faults.{refusal_within};
 ghost use Rattle.tacflow_c.specs.Names.{AreNames, IsNamesFault, names_of as names_in};
 ghost use Rattle.tacflow_c.specs.Parts.{AreParts, ArePartsOf, definition_part, expression_part, point_part, sizes_of};
-ghost use Rattle.tacflow_c.specs.Statuses.{AreInRange, HasGraph, HasRoom, IsBadTable, IsFaultOf, IsRoomFault, analysis_of, end_of};
+ghost use Rattle.flow_kept.specs.Facts.{AreFactsOf, AreInRange, HasRoom};
+ghost use Rattle.tacflow_c.specs.Statuses.{HasGraph, IsBadTable, IsFaultOf, IsRoomFault, analysis_of, end_of};
 
 use crate::fault::Fault;
 use crate::names::{Named, count_names, have_room, put_names};
 use crate::parts::{
     Definition, Expression, Point, Sizes, find_sizes, put_definitions, put_expressions, put_points,
 };
-use crate::table::put_facts;
 use crate::text::{graph_of, program_of};
 use bit_rows::words_for;
-use flow_graph::{Analysis, Graph};
+use flow_graph::{Analysis, Graph, OutOfMemory};
+use flow_kept::put_facts;
+use gen_kill::Problem;
+use gk_solve::Routes;
 use std::alloc::Global;
 use tac_program::Limits;
 
@@ -153,6 +156,26 @@ fn check_table(
     Ok(())
 }
 
+// Puts the facts of an analysis of a graph, by routes that are made for it.
+fn put_facts_of(
+    alloc: Global,
+    graph: &Graph<'_>,
+    analysis: Analysis,
+    points: (u32, u32),
+    bits: (u32, u32),
+    flags: &mut [u8],
+    words: &mut [u64],
+) -> Result<(), OutOfMemory>
+    requires in_range { AreInRange graph.now analysis points.0 points.1 bits.0 bits.1 }
+    requires room { HasRoom points.0 points.1 bits.0 bits.1 (length flags.old) (length words.old) }
+    ensures facts { OnOk result (AreFactsOf graph.now analysis points.0 points.1 bits.0 bits.1 flags.new words.new) }
+    ensures kept { OnErr result ((flags.new ≡ flags.old) × (words.new ≡ words.old)) }
+{
+    let problem = Problem::of(alloc, graph, analysis)?;
+    let routes = Routes::of(alloc, &problem)?;
+    put_facts(alloc, problem, &routes, points, bits, flags, words)
+}
+
 /// The facts of an analysis of a text's program within limits: at a range of its points, on a range of the analysis's bits.
 pub(crate) fn facts_of_text(
     alloc: Global,
@@ -175,7 +198,7 @@ pub(crate) fn facts_of_text(
     let graph = graph_of(alloc, &program, limits)?;
     let points = (points.0, find_end(&graph, points.1));
     check_table(&graph, analysis, points, bits, flags.len(), words.len())?;
-    put_facts(alloc, &graph, analysis, points, bits, flags, words)?;
+    put_facts_of(alloc, &graph, analysis, points, bits, flags, words)?;
     Ok(())
 }
 

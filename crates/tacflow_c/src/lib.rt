@@ -10,7 +10,6 @@ mod calls;
 mod fault;
 mod names;
 mod parts;
-mod table;
 mod text;
 mod texts;
 

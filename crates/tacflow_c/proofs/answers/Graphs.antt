@@ -6,7 +6,8 @@ use Rattle.flow_graph.specs.declared.analysis.Analysis.{Analysis}
 use Rattle.tac_reader.specs.Faults.{refusal_within}
 use Rattle.tac_program.specs.Programs.{Program}
 use Rattle.tac_reader.specs.Parses.{program_of}
-use Rattle.tacflow_c.specs.Facts.{AreFactsOf, AreFactsOfText, IsTableFault}
+use Rattle.flow_kept.specs.Facts.{AreFactsOf}
+use Rattle.tacflow_c.specs.Facts.{AreFactsOfText, IsTableFault}
 use Rattle.tacflow_c.specs.Statuses.{HasGraph, IsBadTable, analysis_of, end_of}
 use Rattle.tacflow_c.specs.declared.fault.Fault.{Fault}
 use Rattle.tacflow_c.specs.declared.fault.Fault.TheVariants as fault

@@ -21,4 +21,4 @@ returns-clause-facts c =
     c.in_ok-graph.ensures.few_points c.in_ok-graph.ensures.few_bits in
     facts_of_text c.args.limits c.args.text.now c.in_ok-graph.graph c.args.number c.in-Some.analysis c.args.points.0 c.args.points.1 c.find_end.result
     _ _ _ _ is graph
-    (sym c.in-Some.ensures) c.find_end.ensures c.in_ok-put_facts.ensures.facts
+    (sym c.in-Some.ensures) c.find_end.ensures c.in_ok-put_facts_of.ensures.facts

@@ -1,0 +1,206 @@
+// A program that is kept with its edges and paths.
+
+ghost use Rattle.std.specs.Prelude.{◌≡◌, true, false, length, None, IfOk, IfErr, OnOk, OnErr, IsErrOf};
+ghost use Rattle.flow_graph.specs.Analyses.{is_backward};
+ghost use Rattle.flow_graph.specs.Limits.{HasFewBits, HasFewPoints, HasManyBits, HasManyPoints};
+ghost use Rattle.flow_graph.specs.declared.fault.GraphFault.TheVariants.{TooManyBits, TooManyPoints};
+ghost use Rattle.flow_kept.specs.Facts.{AreFactsOf, AreInRange, HasRoom};
+ghost use Rattle.flow_kept.specs.Kept.{IsUnkept};
+ghost use Rattle.tac_reader.specs.Faults.{refusal_within};
+ghost use Rattle.tac_reader.specs.Parses.{program_of};
+
+use crate::OutOfMemory;
+use crate::fault::KeepFault;
+use crate::table::put_facts;
+use flow_graph::{Analysis, Direction, Graph, GraphFault};
+use gen_kill::Problem;
+use gk_solve::Routes;
+use std::alloc::Global;
+use std::marker::Model;
+use tac_lines::ReadFault;
+use tac_program::{Limits, Program};
+use tac_reader::read_within;
+
+/// A program within limits, with its edges and paths in both directions.
+pub struct Kept {
+    program: Program,
+    limits: Limits,
+    forward: Routes,
+    backward: Routes,
+}
+
+impl Model for Kept {
+    ghost use Rattle.std.specs.Prelude.{◌≡◌, true, false};
+    ghost use Rattle.flow_graph.specs.Limits.{HasFewBits, HasFewPoints};
+    ghost use Rattle.flow_kept.specs.Kept.{KeptProgram};
+
+    ghost Value = { KeptProgram };
+
+    ghost view = { λ kept. record { program = kept.program; limits = kept.limits } };
+
+    ghost invariant = { λ kept. (kept.forward ≡ record { program = kept.program; backward = false })
+        × (kept.backward ≡ record { program = kept.program; backward = true })
+        × HasFewPoints kept.limits kept.program
+        × HasFewBits kept.limits kept.program };
+}
+
+impl Drop for Kept {
+    // By hand: who gives a kept program up then makes one call.
+    fn drop(self) {
+        let Kept {
+            program: _,
+            limits: _,
+            forward: _,
+            backward: _,
+        } = self;
+    }
+}
+
+// The edges and paths of an analysis's direction.
+fn routes_for(alloc: Global, graph: &Graph<'_>, analysis: Analysis) -> Result<Routes, OutOfMemory>
+    ensures { IfOk result (λ routes. routes ≡ record { program = graph.now; backward = is_backward analysis }) }
+{
+    let problem = Problem::of(alloc, graph, analysis)?;
+    Routes::of(alloc, &problem)
+}
+
+// The edges and paths of both directions: forward and backward. What borrows the program ends here, so that the program can move.
+fn both_routes(
+    alloc: Global,
+    program: &Program,
+    limits: Limits,
+) -> Result<(Routes, Routes), GraphFault>
+    ensures forward { IfOk result (λ routes. routes.0 ≡ record { program = program.now; backward = false }) }
+    ensures backward { IfOk result (λ routes. routes.1 ≡ record { program = program.now; backward = true }) }
+    ensures few_points { OnOk result (HasFewPoints limits program.now) }
+    ensures few_bits { OnOk result (HasFewBits limits program.now) }
+    ensures many_points { IsErrOf result TooManyPoints → HasManyPoints limits program.now }
+    ensures many_bits { IsErrOf result TooManyBits → HasManyBits limits program.now }
+{
+    let graph = Graph::build_within(alloc, program, limits)?;
+    let forward = routes_for(alloc, &graph, Analysis::Reach)?;
+    let backward = routes_for(alloc, &graph, Analysis::Live)?;
+    Ok((forward, backward))
+}
+
+// The program of a text.
+fn read_program(alloc: Global, text: &[u8], limits: Limits) -> Result<Program, KeepFault>
+    ensures program { IfOk result (λ program. program ≡ program_of text.now) }
+    ensures accepted { OnOk result (refusal_within limits text.now ≡ None) }
+    ensures fault { IfErr result (IsUnkept limits text.now) }
+{
+    match read_within(alloc, text, limits) {
+        Ok(program) => Ok(program),
+        Err(ReadFault::Refused(refusal)) => Err(KeepFault::Refused(refusal)),
+        Err(ReadFault::OutOfMemory) => Err(KeepFault::OutOfMemory),
+    }
+}
+
+impl Kept {
+    /// A program, kept.
+    ///
+    /// `TooManyPoints` (21) where it has more points than the limits allow; else `TooManyBits` (22) where some analysis has more bits;
+    /// `OutOfMemory` only where memory was refused.
+    pub fn of(alloc: Global, program: Program, limits: Limits) -> Result<Kept, GraphFault>
+        ensures kept { IfOk result (λ kept. kept ≡ record { program = program; limits = limits }) }
+        ensures few_points { OnOk result (HasFewPoints limits program) }
+        ensures few_bits { OnOk result (HasFewBits limits program) }
+        ensures many_points { IsErrOf result TooManyPoints → HasManyPoints limits program }
+        ensures many_bits { IsErrOf result TooManyBits → HasManyBits limits program }
+    {
+        let (forward, backward) = both_routes(alloc, &program, limits)?;
+        Ok(Kept {
+            program,
+            limits,
+            forward,
+            backward,
+        })
+    }
+
+    /// The program of a text, kept.
+    ///
+    /// `Refused` where the text is no program within the limits, with the place of its first fault; else `TooManyPoints` and `TooManyBits` as
+    /// [`Kept::of`] has them; `OutOfMemory` only where memory was refused.
+    pub fn read(alloc: Global, text: &[u8], limits: Limits) -> Result<Kept, KeepFault>
+        ensures kept { IfOk result (λ kept. kept ≡ record { program = program_of text.now; limits = limits }) }
+        ensures accepted { OnOk result (refusal_within limits text.now ≡ None) }
+        ensures few_points { OnOk result (HasFewPoints limits (program_of text.now)) }
+        ensures few_bits { OnOk result (HasFewBits limits (program_of text.now)) }
+        ensures fault { IfErr result (IsUnkept limits text.now) }
+    {
+        let program = read_program(alloc, text, limits)?;
+        match Kept::of(alloc, program, limits) {
+            Ok(kept) => Ok(kept),
+            Err(GraphFault::OutOfMemory) => Err(KeepFault::OutOfMemory),
+            Err(GraphFault::TooManyPoints) => Err(KeepFault::TooManyPoints),
+            Err(GraphFault::TooManyBits) => Err(KeepFault::TooManyBits),
+        }
+    }
+
+    /// The program.
+    pub fn program(&self) -> &Program
+        ensures { result.now ≡ self.now.program }
+    {
+        &self.program
+    }
+
+    /// The limits.
+    pub fn limits(&self) -> Limits
+        ensures { result ≡ self.now.limits }
+    {
+        self.limits
+    }
+
+    /// A graph of the program. Fails only where memory runs out.
+    pub fn graph(&self, alloc: Global) -> Result<Graph<'_>, OutOfMemory>
+        ensures graph { IfOk result (λ graph. graph ≡ self.now.program) }
+        ensures few_points { HasFewPoints self.now.limits self.now.program }
+        ensures few_bits { HasFewBits self.now.limits self.now.program }
+    {
+        match Graph::build_within(alloc, &self.program, self.limits) {
+            Ok(graph) => Ok(graph),
+            Err(GraphFault::OutOfMemory) => Err(OutOfMemory),
+            Err(GraphFault::TooManyPoints | GraphFault::TooManyBits) => unreachable!(),
+        }
+    }
+
+    /// The edges and paths of an analysis's direction.
+    pub fn routes(&self, analysis: Analysis) -> &Routes
+        ensures { result.now ≡ record { program = self.now.program; backward = is_backward analysis } }
+    {
+        match analysis.direction() {
+            Direction::Forward => &self.forward,
+            Direction::Backward => &self.backward,
+        }
+    }
+
+    /// Puts the facts of an analysis at the points `points.0..points.1` and on the bits `bits.0..bits.1` into flags and words: for each of
+    /// these points a flag, 1 where it has a valid path, and the words `bits.0 / 64` to `(bits.1 + 63) / 64` of its set. Fails only where
+    /// memory runs out, and has written nothing then.
+    pub fn put_facts(
+        &self,
+        alloc: Global,
+        analysis: Analysis,
+        points: (u32, u32),
+        bits: (u32, u32),
+        flags: &mut [u8],
+        words: &mut [u64],
+    ) -> Result<(), OutOfMemory>
+        requires in_range { AreInRange self.now.program analysis points.0 points.1 bits.0 bits.1 }
+        requires room { HasRoom points.0 points.1 bits.0 bits.1 (length flags.old) (length words.old) }
+        ensures facts { OnOk result (AreFactsOf self.now.program analysis points.0 points.1 bits.0 bits.1 flags.new words.new) }
+        ensures kept { OnErr result ((flags.new ≡ flags.old) × (words.new ≡ words.old)) }
+    {
+        let graph = self.graph(alloc)?;
+        let problem = Problem::of(alloc, &graph, analysis)?;
+        put_facts(
+            alloc,
+            problem,
+            self.routes(analysis),
+            points,
+            bits,
+            flags,
+            words,
+        )
+    }
+}
