@@ -1,4 +1,6 @@
 pub mod Facts
+pub mod Handles
+pub mod Held
 pub mod Names
 pub mod Parts
 pub mod Statuses

@@ -67,6 +67,7 @@ status_of (Some fault.BadAnalysis) = 3
 status_of (Some fault.BadRange) = 4
 status_of (Some fault.BadRoom) = 5
 status_of (Some fault.BadLimits) = 7
+status_of (Some fault.BadHandle) = 8
 status_of (Some fault.TooManyPoints) = 21
 status_of (Some fault.TooManyBits) = 22
 

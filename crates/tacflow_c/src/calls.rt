@@ -106,8 +106,8 @@ pub(crate) fn expressions_of_text(
     Ok(())
 }
 
-// The analysis of a number.
-fn find_analysis(number: u32) -> Option<Analysis>
+/// The analysis of a number.
+pub(crate) fn find_analysis(number: u32) -> Option<Analysis>
     ensures { result ≡ analysis_of number }
 {
     match number {
@@ -119,8 +119,8 @@ fn find_analysis(number: u32) -> Option<Analysis>
     }
 }
 
-// Where a range of points ends: the largest number stands for the end of all points.
-fn find_end(graph: &Graph<'_>, until: u32) -> u32
+/// Where a range of points ends: the largest number stands for the end of all points.
+pub(crate) fn find_end(graph: &Graph<'_>, until: u32) -> u32
     ensures { result ≡ end_of graph.now until }
 {
     if until == u32::MAX {
@@ -130,8 +130,8 @@ fn find_end(graph: &Graph<'_>, until: u32) -> u32
     }
 }
 
-// Whether points are none of the program, bits none of the analysis, or room is not what their facts need.
-fn check_table(
+/// Whether points are none of the program, bits none of the analysis, or room is not what their facts need.
+pub(crate) fn check_table(
     graph: &Graph<'_>,
     analysis: Analysis,
     points: (u32, u32),

@@ -25,6 +25,8 @@ pub(crate) enum Fault {
     BadRange,
     /// The room does not fit the answer.
     BadRoom,
+    /// The handle is closed where it has to be open, or open where it has to be closed.
+    BadHandle,
 }
 
 impl From<OutOfMemory> for Fault {
@@ -66,6 +68,7 @@ pub(crate) fn fault_status(fault: Fault, place: &mut Place) -> u32
         Fault::BadRange => 4,
         Fault::BadRoom => 5,
         Fault::BadLimits => 7,
+        Fault::BadHandle => 8,
         Fault::TooManyPoints => 21,
         Fault::TooManyBits => 22,
     }
@@ -80,4 +83,16 @@ pub(crate) fn answer_status(answer: Result<(), Fault>, place: &mut Place) -> u32
         Ok(()) => 0,
         Err(fault) => fault_status(fault, place),
     }
+}
+
+/// The status of an answer over a handle: 0, or that of a fault.
+pub(crate) fn asked_status(answer: Result<(), Fault>) -> u32
+    ensures { result ≡ status_of (fault_in answer) }
+{
+    let mut place = Place {
+        number: 0,
+        line: 0,
+        column: 0,
+    };
+    answer_status(answer, &mut place)
 }

@@ -1,13 +1,19 @@
 //! The analyses as a static library, for programs in C and for whatever calls C (`bindings/c/tacflow.h`).
 //!
-//! Each call reads the text anew within limits, 0 for the standard and 1 for the large ones, keeps nothing behind, and answers a status: 0,
-//! or the number of a fault. A number of no limits is told before all else. After a fault nothing is changed but the place of a refusal, and
-//! the size of a text for which there is too little room. No call starts a thread or waits: a caller who has several asks for ranges of
+//! A call over a text reads it anew within limits, 0 for the standard and 1 for the large ones, keeps nothing behind, and answers a status:
+//! 0, or the number of a fault. A number of no limits is told before all else. After a fault nothing is changed but the place of a refusal,
+//! and the size of a text for which there is too little room. No call starts a thread or waits: a caller who has several asks for ranges of
 //! bits in threads of its own, and together they are the table.
+//!
+//! A handle keeps a text's program between calls (`handle_calls`), and a call over it answers the same of that program.
 #![tactic(auto)]
 
 mod calls;
 mod fault;
+mod handle;
+mod handle_calls;
+mod held;
+mod kept_calls;
 mod names;
 mod parts;
 mod text;
@@ -31,6 +37,8 @@ use calls::{
 };
 pub use fault::Place;
 use fault::{answer_status, fault_status};
+pub use handle::Handle;
+pub use held::{Held, Opaque};
 use names::Named;
 pub use parts::{Definition, Expression, Part, Point, Sizes};
 use std::alloc::Global;

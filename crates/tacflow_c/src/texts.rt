@@ -9,8 +9,8 @@ use flow_reports::report_here;
 use std::alloc::Global;
 use tac_program::{Limits, listing};
 
-// Puts a text where there is room for it, and tells how long it is.
-fn put_text(text: &[u8], bytes: &mut [u8], size: &mut usize) -> bool
+/// Puts a text where there is room for it, and tells how long it is.
+pub(crate) fn put_text(text: &[u8], bytes: &mut [u8], size: &mut usize) -> bool
     ensures size { size.new ≡ length text.now }
     ensures bytes { MatchBool result (bytes.new ≡ text.now ++ drop (length text.now) bytes.old) (bytes.new ≡ bytes.old) }
     ensures room { MatchBool result (length text.now ≤ length bytes.old) (length bytes.old < length text.now) }

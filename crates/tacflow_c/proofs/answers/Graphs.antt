@@ -58,3 +58,4 @@ bad_table limits text program number analysis from until end lo hi flags words f
 bad_table limits text program number analysis from until end lo hi flags words fault.OutOfMemory is graph known ends bad = absurd bad
 bad_table limits text program number analysis from until end lo hi flags words fault.BadAnalysis is graph known ends bad = absurd bad
 bad_table limits text program number analysis from until end lo hi flags words fault.BadLimits is graph known ends bad = absurd bad
+bad_table limits text program number analysis from until end lo hi flags words fault.BadHandle is graph known ends bad = absurd bad

@@ -1,0 +1,180 @@
+// What a call answers for a kept program.
+
+ghost use Rattle.std.specs.Prelude.{◌≡◌, length, IfErr, OnOk, OnErr};
+ghost use Rattle.flow_graph.specs.Points.{point_count};
+ghost use Rattle.flow_graph.specs.Universes.{definitions as definitions_in, expressions as expressions_in};
+ghost use Rattle.flow_reports.specs.Reports.{ListsSafely};
+ghost use Rattle.tac_program.specs.Listings.{listing_of};
+ghost use Rattle.tacflow_c.specs.Handles.{AreFactsOfNumber, IsMemoryFault, IsNamesRoomFault, IsNumberFault, IsPartsFault, IsTextFault};
+ghost use Rattle.tacflow_c.specs.Names.{AreNames, names_of};
+ghost use Rattle.tacflow_c.specs.Parts.{AreParts, ArePartsOf, definition_part, expression_part, point_part, sizes_of};
+ghost use Rattle.tacflow_c.specs.Texts.{HoldsText, IsTextKept};
+
+use crate::calls::{check_table, find_analysis, find_end};
+use crate::fault::Fault;
+use crate::names::{Named, count_names, have_room, put_names};
+use crate::parts::{
+    Definition, Expression, Point, Sizes, find_sizes, put_definitions, put_expressions, put_points,
+};
+use crate::texts::put_text;
+use flow_graph::Analysis;
+use flow_kept::{Kept, put_facts};
+use flow_reports::report_here;
+use gen_kill::Problem;
+use std::alloc::Global;
+use tac_program::listing;
+
+/// How large a kept program is.
+pub(crate) fn sizes_of_kept(alloc: Global, kept: &Kept, sizes: &mut Sizes) -> Result<(), Fault>
+    ensures sizes { OnOk result (sizes.new ≡ sizes_of kept.now.program) }
+    ensures kept { OnErr result (sizes.new ≡ sizes.old) }
+    ensures fault { IfErr result IsMemoryFault }
+{
+    let graph = kept.graph(alloc)?;
+    *sizes = find_sizes(&graph);
+    Ok(())
+}
+
+/// What the points of a kept program are.
+pub(crate) fn points_of_kept(alloc: Global, kept: &Kept, points: &mut [Point]) -> Result<(), Fault>
+    ensures points { OnOk result (AreParts (point_part kept.now.program) (point_count kept.now.program) points.new) }
+    ensures kept { OnErr result (points.new ≡ points.old) }
+    ensures fault { IfErr result (IsPartsFault (length points.old) (point_count kept.now.program)) }
+{
+    let graph = kept.graph(alloc)?;
+    if points.len() != graph.points() as usize {
+        return Err(Fault::BadRoom);
+    }
+    put_points(&graph, points);
+    Ok(())
+}
+
+/// What the definitions of a kept program are.
+pub(crate) fn definitions_of_kept(
+    alloc: Global,
+    kept: &Kept,
+    definitions: &mut [Definition],
+) -> Result<(), Fault>
+    ensures definitions { OnOk result (ArePartsOf definition_part (definitions_in kept.now.program) definitions.new) }
+    ensures kept { OnErr result (definitions.new ≡ definitions.old) }
+    ensures fault { IfErr result (IsPartsFault (length definitions.old) (length (definitions_in kept.now.program))) }
+{
+    let graph = kept.graph(alloc)?;
+    if definitions.len() != graph.bits(Analysis::Reach) as usize {
+        return Err(Fault::BadRoom);
+    }
+    put_definitions(&graph, definitions);
+    Ok(())
+}
+
+/// What the expressions of a kept program are.
+pub(crate) fn expressions_of_kept(
+    alloc: Global,
+    kept: &Kept,
+    expressions: &mut [Expression],
+) -> Result<(), Fault>
+    ensures expressions { OnOk result (ArePartsOf expression_part (expressions_in kept.now.program) expressions.new) }
+    ensures kept { OnErr result (expressions.new ≡ expressions.old) }
+    ensures fault { IfErr result (IsPartsFault (length expressions.old) (length (expressions_in kept.now.program))) }
+{
+    let graph = kept.graph(alloc)?;
+    if expressions.len() != graph.bits(Analysis::Avail) as usize {
+        return Err(Fault::BadRoom);
+    }
+    put_expressions(&graph, expressions);
+    Ok(())
+}
+
+/// The facts of an analysis of a kept program: at a range of its points, on a range of the analysis's bits.
+pub(crate) fn facts_of_kept(
+    alloc: Global,
+    kept: &Kept,
+    number: u32,
+    points: (u32, u32),
+    bits: (u32, u32),
+    flags: &mut [u8],
+    words: &mut [u64],
+) -> Result<(), Fault>
+    ensures facts { OnOk result (AreFactsOfNumber kept.now.program number points.0 points.1 bits.0 bits.1 flags.new words.new) }
+    ensures kept { OnErr result ((flags.new ≡ flags.old) × (words.new ≡ words.old)) }
+    ensures fault { IfErr result
+        (IsNumberFault number points.0 points.1 bits.0 bits.1 (length flags.old) (length words.old) kept.now.program) }
+{
+    let Some(analysis) = find_analysis(number) else {
+        return Err(Fault::BadAnalysis);
+    };
+    let graph = kept.graph(alloc)?;
+    let points = (points.0, find_end(&graph, points.1));
+    check_table(&graph, analysis, points, bits, flags.len(), words.len())?;
+    let problem = Problem::of(alloc, &graph, analysis)?;
+    put_facts(
+        alloc,
+        problem,
+        kept.routes(analysis),
+        points,
+        bits,
+        flags,
+        words,
+    )?;
+    Ok(())
+}
+
+/// The names of a kept program's procedures or variables.
+pub(crate) fn names_of_kept(
+    kept: &Kept,
+    named: Named,
+    ends: &mut [usize],
+    bytes: &mut [u8],
+) -> Result<(), Fault>
+    ensures names { OnOk result (AreNames (names_of named kept.now.program) ends.new bytes.old bytes.new) }
+    ensures kept { OnErr result ((ends.new ≡ ends.old) × (bytes.new ≡ bytes.old)) }
+    ensures fault { IfErr result (IsNamesRoomFault kept.now.program named (length ends.old) (length bytes.old)) }
+{
+    let program = kept.program();
+    if ends.len() != count_names(program, named) as usize
+        || !have_room(program, named, bytes.len())
+    {
+        return Err(Fault::BadRoom);
+    }
+    put_names(program, named, ends, bytes);
+    Ok(())
+}
+
+/// The listing of a kept program.
+pub(crate) fn listing_of_kept(
+    alloc: Global,
+    kept: &Kept,
+    bytes: &mut [u8],
+    size: &mut usize,
+) -> Result<(), Fault>
+    ensures held { OnOk result (HoldsText (λ out. out ≡ listing_of kept.now.program) bytes.old bytes.new size.new) }
+    ensures kept { IfErr result (IsTextKept bytes.old bytes.new size.old size.new) }
+    ensures fault { IfErr result (IsTextFault (λ out. out ≡ listing_of kept.now.program) (length bytes.old) size.new) }
+{
+    let out = listing(alloc, kept.program())?;
+    if put_text(&out, bytes, size) {
+        Ok(())
+    } else {
+        Err(Fault::BadRoom)
+    }
+}
+
+/// The report on a kept program. It makes edges and paths of its own.
+pub(crate) fn report_of_kept(
+    alloc: Global,
+    kept: &Kept,
+    bytes: &mut [u8],
+    size: &mut usize,
+) -> Result<(), Fault>
+    ensures held { OnOk result (HoldsText (ListsSafely kept.now.program) bytes.old bytes.new size.new) }
+    ensures kept { IfErr result (IsTextKept bytes.old bytes.new size.old size.new) }
+    ensures fault { IfErr result (IsTextFault (ListsSafely kept.now.program) (length bytes.old) size.new) }
+{
+    let graph = kept.graph(alloc)?;
+    let out = report_here(alloc, &graph)?;
+    if put_text(&out, bytes, size) {
+        Ok(())
+    } else {
+        Err(Fault::BadRoom)
+    }
+}
