@@ -1,9 +1,9 @@
 /* tacflow: the data-flow facts of a program of three-address code, found in the caller's process.
  *
  * Facts hold at points: one before each statement of a procedure and one at its end (docs/ANALYSES.md). A program is a text
- * (docs/LANGUAGE.md). Each call reads the text anew, keeps nothing behind, starts no thread and waits for nobody. What it answers
- * is proved to be exactly what the definitions say of the text (crates/tacflow_c); the checks of pointers in this header are not
- * proved, but short.
+ * (docs/LANGUAGE.md). A call over a text reads it anew and keeps nothing behind; who asks often opens a handle, which keeps the program,
+ * and asks that (at the end of this file). No call starts a thread or waits for anybody. What it answers is proved to be exactly what the
+ * definitions say of the text (crates/tacflow_c); the checks of pointers in this header are not proved, but short.
  *
  * All memory is the caller's. Texts, names and spans are counted in bytes; lines and columns from 1; all other numbers from 0.
  * A range a..b has the numbers from a up to b - 1.
@@ -21,6 +21,7 @@
 #ifndef TACFLOW_H
 #define TACFLOW_H
 
+#include <stdbool.h>
 #include <stddef.h>
 #include <stdint.h>
 
@@ -38,6 +39,7 @@ enum tacflow_status {
     TACFLOW_BAD_ROOM = 5,         /* the room is not as large as the answer */
     TACFLOW_BAD_POINTER = 6,      /* a pointer is null */
     TACFLOW_BAD_LIMITS = 7,       /* there are no limits of this number */
+    TACFLOW_BAD_HANDLE = 8,       /* the handle is closed where it has to be open, or open where it has to be closed */
     TACFLOW_TOO_MANY_POINTS = 21, /* the program has more points than the limits allow: standard 16,384, large 1,048,576 */
     TACFLOW_TOO_MANY_BITS = 22    /* some analysis has more bits than the limits allow: standard 4,096, large: see tacflow_limits */
 };
@@ -282,6 +284,134 @@ static inline int tacflow_report_within(int limits, const char *text, size_t len
 
 static inline int tacflow_report(const char *text, size_t length, char *bytes, size_t room, size_t *size, tacflow_place *place) {
     return tacflow_report_within(TACFLOW_STANDARD, text, length, bytes, room, size, place);
+}
+
+/* Handles. A handle keeps the program of one text, with where its paths lead, and each call over it answers what the call over the text
+ * does, in a fraction of its time where few bits are asked for. tacflow_open begins it; tacflow_close ends it, and frees what it keeps. It
+ * is a variable of the caller's:
+ *
+ *     tacflow_handle handle = TACFLOW_CLOSED;
+ *
+ * A closed handle that is asked or closed, and an open one that is opened, are answered TACFLOW_BAD_HANDLE. After any other status than
+ * TACFLOW_OK the handle is as it was, open or closed, and so is the caller's room. The caller has to see to this, for nothing checks it:
+ *
+ * 1. A handle begins as TACFLOW_CLOSED, and the calls alone change it.
+ * 2. An open handle may be moved to another place, but is never used by two copies.
+ * 3. A handle is in one call at a time. Each thread has one of its own (tacflow_share).
+ * 4. It goes to another thread by a lock, by the thread's start or end, or by an atomic variable.
+ * 5. A room overlaps neither the handle nor another room. */
+typedef struct {
+    bool is_open;
+    struct {
+        void *at; /* the library's alone */
+    } held;
+} tacflow_handle;
+
+#define TACFLOW_CLOSED {false, {NULL}}
+
+/* The proved calls: no pointer may be null, also where it points to no element. */
+uint32_t tacflow_c_open(const uint8_t *text, size_t length, uint32_t limits, tacflow_handle *handle, tacflow_place *place);
+uint32_t tacflow_c_share(tacflow_handle *handle, tacflow_handle *other);
+uint32_t tacflow_c_close(tacflow_handle *handle);
+uint32_t tacflow_c_sizes_of(tacflow_handle *handle, tacflow_sizes_of_program *sizes);
+uint32_t tacflow_c_points_of(tacflow_handle *handle, tacflow_point *points, size_t count);
+uint32_t tacflow_c_definitions_of(tacflow_handle *handle, tacflow_definition *definitions, size_t count);
+uint32_t tacflow_c_expressions_of(tacflow_handle *handle, tacflow_expression *expressions, size_t count);
+uint32_t tacflow_c_procedures_of(tacflow_handle *handle, size_t *ends, size_t count, uint8_t *bytes, size_t room);
+uint32_t tacflow_c_variables_of(tacflow_handle *handle, size_t *ends, size_t count, uint8_t *bytes, size_t room);
+uint32_t tacflow_c_facts_of(tacflow_handle *handle, uint32_t analysis, uint32_t first_point, uint32_t end_point, uint32_t lo, uint32_t hi,
+                            uint8_t *flags, size_t flag_count, uint64_t *words, size_t word_count);
+uint32_t tacflow_c_listing_of(tacflow_handle *handle, uint8_t *bytes, size_t room, size_t *size);
+uint32_t tacflow_c_report_of(tacflow_handle *handle, uint8_t *bytes, size_t room, size_t *size);
+
+/* Opens a closed handle with the program of a text within limits. The text is not needed afterwards. */
+static inline int tacflow_open_within(int limits, const char *text, size_t length, tacflow_handle *handle, tacflow_place *place) {
+    uint64_t nothing = 0;
+    const uint8_t *bytes = (const uint8_t *)tacflow_some(text, length, &nothing);
+    if (!bytes || !handle || !place) return TACFLOW_BAD_POINTER;
+    return (int)tacflow_c_open(bytes, length, (uint32_t)limits, handle, place);
+}
+
+static inline int tacflow_open(const char *text, size_t length, tacflow_handle *handle, tacflow_place *place) {
+    return tacflow_open_within(TACFLOW_STANDARD, text, length, handle, place);
+}
+
+/* Opens a closed handle with what an open one keeps, which is not copied: for another thread. What they keep is freed with the last. */
+static inline int tacflow_share(tacflow_handle *handle, tacflow_handle *other) {
+    if (!handle || !other || handle == other) return TACFLOW_BAD_POINTER;
+    return (int)tacflow_c_share(handle, other);
+}
+
+/* Closes an open handle. */
+static inline int tacflow_close(tacflow_handle *handle) {
+    if (!handle) return TACFLOW_BAD_POINTER;
+    return (int)tacflow_c_close(handle);
+}
+
+/* The calls over a text, each over an open handle. */
+static inline int tacflow_sizes_of(tacflow_handle *handle, tacflow_sizes_of_program *sizes) {
+    if (!handle || !sizes) return TACFLOW_BAD_POINTER;
+    return (int)tacflow_c_sizes_of(handle, sizes);
+}
+
+static inline int tacflow_points_of(tacflow_handle *handle, tacflow_point *points, size_t count) {
+    uint64_t nothing = 0;
+    points = (tacflow_point *)tacflow_some(points, count, &nothing);
+    if (!handle || !points) return TACFLOW_BAD_POINTER;
+    return (int)tacflow_c_points_of(handle, points, count);
+}
+
+static inline int tacflow_definitions_of(tacflow_handle *handle, tacflow_definition *definitions, size_t count) {
+    uint64_t nothing = 0;
+    definitions = (tacflow_definition *)tacflow_some(definitions, count, &nothing);
+    if (!handle || !definitions) return TACFLOW_BAD_POINTER;
+    return (int)tacflow_c_definitions_of(handle, definitions, count);
+}
+
+static inline int tacflow_expressions_of(tacflow_handle *handle, tacflow_expression *expressions, size_t count) {
+    uint64_t nothing = 0;
+    expressions = (tacflow_expression *)tacflow_some(expressions, count, &nothing);
+    if (!handle || !expressions) return TACFLOW_BAD_POINTER;
+    return (int)tacflow_c_expressions_of(handle, expressions, count);
+}
+
+static inline int tacflow_procedures_of(tacflow_handle *handle, size_t *ends, size_t count, char *names, size_t room) {
+    uint64_t nothing = 0;
+    ends = (size_t *)tacflow_some(ends, count, &nothing);
+    names = (char *)tacflow_some(names, room, &nothing);
+    if (!handle || !ends || !names) return TACFLOW_BAD_POINTER;
+    return (int)tacflow_c_procedures_of(handle, ends, count, (uint8_t *)names, room);
+}
+
+static inline int tacflow_variables_of(tacflow_handle *handle, size_t *ends, size_t count, char *names, size_t room) {
+    uint64_t nothing = 0;
+    ends = (size_t *)tacflow_some(ends, count, &nothing);
+    names = (char *)tacflow_some(names, room, &nothing);
+    if (!handle || !ends || !names) return TACFLOW_BAD_POINTER;
+    return (int)tacflow_c_variables_of(handle, ends, count, (uint8_t *)names, room);
+}
+
+static inline int tacflow_facts_of(tacflow_handle *handle, int analysis, uint32_t first_point, uint32_t end_point, uint32_t lo, uint32_t hi,
+                                   uint8_t *flags, size_t flag_count, uint64_t *words, size_t word_count) {
+    uint64_t nothing = 0;
+    flags = (uint8_t *)tacflow_some(flags, flag_count, &nothing);
+    words = (uint64_t *)tacflow_some(words, word_count, &nothing);
+    if (!handle || !flags || !words) return TACFLOW_BAD_POINTER;
+    return (int)tacflow_c_facts_of(handle, (uint32_t)analysis, first_point, end_point, lo, hi, flags, flag_count, words, word_count);
+}
+
+static inline int tacflow_listing_of(tacflow_handle *handle, char *bytes, size_t room, size_t *size) {
+    uint64_t nothing = 0;
+    bytes = (char *)tacflow_some(bytes, room, &nothing);
+    if (!handle || !bytes || !size) return TACFLOW_BAD_POINTER;
+    return (int)tacflow_c_listing_of(handle, (uint8_t *)bytes, room, size);
+}
+
+static inline int tacflow_report_of(tacflow_handle *handle, char *bytes, size_t room, size_t *size) {
+    uint64_t nothing = 0;
+    bytes = (char *)tacflow_some(bytes, room, &nothing);
+    if (!handle || !bytes || !size) return TACFLOW_BAD_POINTER;
+    return (int)tacflow_c_report_of(handle, (uint8_t *)bytes, room, size);
 }
 
 #ifdef __cplusplus
