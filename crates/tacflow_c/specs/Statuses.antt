@@ -78,6 +78,11 @@ IsBadTable program analysis from until lo hi flags words fault.BadRoom =
     AreInRange program analysis from until lo hi × (¬ (HasRoom from until lo hi flags words))
 IsBadTable program analysis from until lo hi flags words _ = ⊥
 
+-- why room for so many parts is not right, where so many are needed
+abbrev pub IsBadRoom : ℕ → ℕ → Fault → Type 0
+IsBadRoom room needed fault.BadRoom = ¬ (room ≡ needed)
+IsBadRoom room needed _ = ⊥
+
 -- why a text has no answer in room for so many parts, where so many are needed
 abbrev pub IsRoomFault : Limits → List ℕ → ℕ → ℕ → Fault → Type 0
 IsRoomFault limits text room needed fault.BadRoom = HasGraph limits text × (¬ (room ≡ needed))

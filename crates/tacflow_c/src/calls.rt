@@ -12,9 +12,10 @@ ghost use Rattle.flow_kept.specs.Facts.{AreFactsOf, AreInRange, HasRoom};
 ghost use Rattle.tacflow_c.specs.Statuses.{HasGraph, IsBadTable, IsFaultOf, IsRoomFault, analysis_of, end_of};
 
 use crate::fault::Fault;
-use crate::names::{Named, count_names, have_room, put_names};
+use crate::names::{Named, fill_names};
 use crate::parts::{
-    Definition, Expression, Point, Sizes, find_sizes, put_definitions, put_expressions, put_points,
+    Definition, Expression, Point, Sizes, fill_definitions, fill_expressions, fill_points,
+    find_sizes,
 };
 use crate::text::{graph_of, program_of};
 use bit_rows::words_for;
@@ -57,11 +58,7 @@ pub(crate) fn points_of_text(
 {
     let program = program_of(alloc, text, limits)?;
     let graph = graph_of(alloc, &program, limits)?;
-    if points.len() != graph.points() as usize {
-        return Err(Fault::BadRoom);
-    }
-    put_points(&graph, points);
-    Ok(())
+    fill_points(&graph, points)
 }
 
 /// What the definitions of a text's program within limits are.
@@ -78,11 +75,7 @@ pub(crate) fn definitions_of_text(
 {
     let program = program_of(alloc, text, limits)?;
     let graph = graph_of(alloc, &program, limits)?;
-    if definitions.len() != graph.bits(Analysis::Reach) as usize {
-        return Err(Fault::BadRoom);
-    }
-    put_definitions(&graph, definitions);
-    Ok(())
+    fill_definitions(&graph, definitions)
 }
 
 /// What the expressions of a text's program within limits are.
@@ -99,11 +92,7 @@ pub(crate) fn expressions_of_text(
 {
     let program = program_of(alloc, text, limits)?;
     let graph = graph_of(alloc, &program, limits)?;
-    if expressions.len() != graph.bits(Analysis::Avail) as usize {
-        return Err(Fault::BadRoom);
-    }
-    put_expressions(&graph, expressions);
-    Ok(())
+    fill_expressions(&graph, expressions)
 }
 
 /// The analysis of a number.
@@ -217,11 +206,5 @@ pub(crate) fn names_of_text(
     ensures fault { IfErr result (IsNamesFault limits text.now named (length ends.old) (length bytes.old)) }
 {
     let program = program_of(alloc, text, limits)?;
-    if ends.len() != count_names(&program, named) as usize
-        || !have_room(&program, named, bytes.len())
-    {
-        return Err(Fault::BadRoom);
-    }
-    put_names(&program, named, ends, bytes);
-    Ok(())
+    fill_names(&program, named, ends, bytes)
 }

@@ -16,12 +16,13 @@ ghost use Rattle.tacflow_c.specs.declared.names.Named.TheVariants.{Procedures, V
 use crate::fault::{Place, answer_status, asked_status, fault_status};
 use crate::handle::{Handle, open_text, put_shared};
 use crate::kept_calls::{
-    definitions_of_kept, expressions_of_kept, facts_of_kept, listing_of_kept, names_of_kept,
-    points_of_kept, report_of_kept, sizes_of_kept,
+    definitions_of_kept, expressions_of_kept, facts_of_kept, points_of_kept, report_of_kept,
+    sizes_of_kept,
 };
-use crate::names::Named;
+use crate::names::{Named, fill_names};
 use crate::parts::{Definition, Expression, Point, Sizes};
 use crate::text::find_limits;
+use crate::texts::put_listing;
 use std::alloc::Global;
 
 /// Opens a closed handle with the program of a text within limits.
@@ -187,7 +188,7 @@ pub extern "C" fn tacflow_c_procedures_of(
         return 8;
     }
     let shared = handle.take(alloc);
-    let answer = names_of_kept(shared.kept(), Named::Procedures, ends, bytes);
+    let answer = fill_names(shared.kept().program(), Named::Procedures, ends, bytes);
     handle.put(shared);
     asked_status(answer)
 }
@@ -210,7 +211,7 @@ pub extern "C" fn tacflow_c_variables_of(
         return 8;
     }
     let shared = handle.take(alloc);
-    let answer = names_of_kept(shared.kept(), Named::Variables, ends, bytes);
+    let answer = fill_names(shared.kept().program(), Named::Variables, ends, bytes);
     handle.put(shared);
     asked_status(answer)
 }
@@ -271,7 +272,7 @@ pub extern "C" fn tacflow_c_listing_of(
         return 8;
     }
     let shared = handle.take(alloc);
-    let answer = listing_of_kept(alloc, shared.kept(), bytes, size);
+    let answer = put_listing(alloc, shared.kept().program(), bytes, size);
     handle.put(shared);
     asked_status(answer)
 }

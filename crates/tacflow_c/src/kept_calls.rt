@@ -4,25 +4,20 @@ ghost use Rattle.std.specs.Prelude.{◌≡◌, length, IfErr, OnOk, OnErr};
 ghost use Rattle.flow_graph.specs.Points.{point_count};
 ghost use Rattle.flow_graph.specs.Universes.{definitions as definitions_in, expressions as expressions_in};
 ghost use Rattle.flow_reports.specs.Reports.{ListsSafely};
-ghost use Rattle.tac_program.specs.Listings.{listing_of};
-ghost use Rattle.tacflow_c.specs.Handles.{AreFactsOfNumber, IsMemoryFault, IsNamesRoomFault, IsNumberFault, IsPartsFault, IsTextFault};
-ghost use Rattle.tacflow_c.specs.Names.{AreNames, names_of};
+ghost use Rattle.tacflow_c.specs.Handles.{AreFactsOfNumber, IsMemoryFault, IsNumberFault, IsPartsFault, IsTextFault};
 ghost use Rattle.tacflow_c.specs.Parts.{AreParts, ArePartsOf, definition_part, expression_part, point_part, sizes_of};
 ghost use Rattle.tacflow_c.specs.Texts.{HoldsText, IsTextKept};
 
 use crate::calls::{check_table, find_analysis, find_end};
 use crate::fault::Fault;
-use crate::names::{Named, count_names, have_room, put_names};
 use crate::parts::{
-    Definition, Expression, Point, Sizes, find_sizes, put_definitions, put_expressions, put_points,
+    Definition, Expression, Point, Sizes, fill_definitions, fill_expressions, fill_points,
+    find_sizes,
 };
-use crate::texts::put_text;
-use flow_graph::Analysis;
+use crate::texts::put_report;
 use flow_kept::{Kept, put_facts};
-use flow_reports::report_here;
 use gen_kill::Problem;
 use std::alloc::Global;
-use tac_program::listing;
 
 /// How large a kept program is.
 pub(crate) fn sizes_of_kept(alloc: Global, kept: &Kept, sizes: &mut Sizes) -> Result<(), Fault>
@@ -42,11 +37,7 @@ pub(crate) fn points_of_kept(alloc: Global, kept: &Kept, points: &mut [Point]) -
     ensures fault { IfErr result (IsPartsFault (length points.old) (point_count kept.now.program)) }
 {
     let graph = kept.graph(alloc)?;
-    if points.len() != graph.points() as usize {
-        return Err(Fault::BadRoom);
-    }
-    put_points(&graph, points);
-    Ok(())
+    fill_points(&graph, points)
 }
 
 /// What the definitions of a kept program are.
@@ -60,11 +51,7 @@ pub(crate) fn definitions_of_kept(
     ensures fault { IfErr result (IsPartsFault (length definitions.old) (length (definitions_in kept.now.program))) }
 {
     let graph = kept.graph(alloc)?;
-    if definitions.len() != graph.bits(Analysis::Reach) as usize {
-        return Err(Fault::BadRoom);
-    }
-    put_definitions(&graph, definitions);
-    Ok(())
+    fill_definitions(&graph, definitions)
 }
 
 /// What the expressions of a kept program are.
@@ -78,11 +65,7 @@ pub(crate) fn expressions_of_kept(
     ensures fault { IfErr result (IsPartsFault (length expressions.old) (length (expressions_in kept.now.program))) }
 {
     let graph = kept.graph(alloc)?;
-    if expressions.len() != graph.bits(Analysis::Avail) as usize {
-        return Err(Fault::BadRoom);
-    }
-    put_expressions(&graph, expressions);
-    Ok(())
+    fill_expressions(&graph, expressions)
 }
 
 /// The facts of an analysis of a kept program: at a range of its points, on a range of the analysis's bits.
@@ -119,46 +102,6 @@ pub(crate) fn facts_of_kept(
     Ok(())
 }
 
-/// The names of a kept program's procedures or variables.
-pub(crate) fn names_of_kept(
-    kept: &Kept,
-    named: Named,
-    ends: &mut [usize],
-    bytes: &mut [u8],
-) -> Result<(), Fault>
-    ensures names { OnOk result (AreNames (names_of named kept.now.program) ends.new bytes.old bytes.new) }
-    ensures kept { OnErr result ((ends.new ≡ ends.old) × (bytes.new ≡ bytes.old)) }
-    ensures fault { IfErr result (IsNamesRoomFault kept.now.program named (length ends.old) (length bytes.old)) }
-{
-    let program = kept.program();
-    if ends.len() != count_names(program, named) as usize
-        || !have_room(program, named, bytes.len())
-    {
-        return Err(Fault::BadRoom);
-    }
-    put_names(program, named, ends, bytes);
-    Ok(())
-}
-
-/// The listing of a kept program.
-pub(crate) fn listing_of_kept(
-    alloc: Global,
-    kept: &Kept,
-    bytes: &mut [u8],
-    size: &mut usize,
-) -> Result<(), Fault>
-    ensures held { OnOk result (HoldsText (λ out. out ≡ listing_of kept.now.program) bytes.old bytes.new size.new) }
-    ensures kept { IfErr result (IsTextKept bytes.old bytes.new size.old size.new) }
-    ensures fault { IfErr result (IsTextFault (λ out. out ≡ listing_of kept.now.program) (length bytes.old) size.new) }
-{
-    let out = listing(alloc, kept.program())?;
-    if put_text(&out, bytes, size) {
-        Ok(())
-    } else {
-        Err(Fault::BadRoom)
-    }
-}
-
 /// The report on a kept program. It makes edges and paths of its own.
 pub(crate) fn report_of_kept(
     alloc: Global,
@@ -171,10 +114,5 @@ pub(crate) fn report_of_kept(
     ensures fault { IfErr result (IsTextFault (ListsSafely kept.now.program) (length bytes.old) size.new) }
 {
     let graph = kept.graph(alloc)?;
-    let out = report_here(alloc, &graph)?;
-    if put_text(&out, bytes, size) {
-        Ok(())
-    } else {
-        Err(Fault::BadRoom)
-    }
+    put_report(alloc, &graph, bytes, size)
 }

@@ -1,9 +1,11 @@
 // The names of a program's procedures and variables.
 
-ghost use Rattle.std.specs.Prelude.{◌≡◌, ◌<◌, ◌≤◌, Some, length, slice_get, MatchBool};
+ghost use Rattle.std.specs.Prelude.{◌≡◌, ◌<◌, ◌≤◌, Some, length, slice_get, IfErr, MatchBool, OnErr, OnOk};
 ghost use Rattle.std.specs.List.{concat};
+ghost use Rattle.tacflow_c.specs.Handles.{IsNamesRoomFault};
 ghost use Rattle.tacflow_c.specs.Names.{AreNames, names_of};
 
+use crate::fault::Fault;
 use tac_program::Program;
 
 /// What is named.
@@ -13,8 +15,8 @@ pub(crate) enum Named {
     Variables,
 }
 
-/// How many names there are.
-pub(crate) fn count_names(program: &Program, named: Named) -> u32
+// How many names there are.
+fn count_names(program: &Program, named: Named) -> u32
     ensures { result ≡ length (names_of named program.now) }
 {
     match named {
@@ -33,8 +35,8 @@ fn name(program: &Program, named: Named, number: u32) -> &[u8]
     }
 }
 
-/// Whether the names have room in so many bytes.
-pub(crate) fn have_room(program: &Program, named: Named, room: usize) -> bool
+// Whether the names have room in so many bytes.
+fn have_room(program: &Program, named: Named, room: usize) -> bool
     ensures { MatchBool result (length (concat (names_of named program.now)) ≤ room) (room < length (concat (names_of named program.now))) }
 {
     let mut left = room;
@@ -48,8 +50,8 @@ pub(crate) fn have_room(program: &Program, named: Named, room: usize) -> bool
     true
 }
 
-/// Puts the names one after the other, and where each ends.
-pub(crate) fn put_names(program: &Program, named: Named, ends: &mut [usize], bytes: &mut [u8])
+// Puts the names one after the other, and where each ends.
+fn put_names(program: &Program, named: Named, ends: &mut [usize], bytes: &mut [u8])
     requires ends { length ends.old ≡ length (names_of named program.now) }
     requires room { length (concat (names_of named program.now)) ≤ length bytes.old }
     ensures { AreNames (names_of named program.now) ends.new bytes.old bytes.new }
@@ -62,4 +64,24 @@ pub(crate) fn put_names(program: &Program, named: Named, ends: &mut [usize], byt
         ends[number as usize] = end;
         at = end;
     }
+}
+
+/// Puts the names into room for them.
+pub(crate) fn fill_names(
+    program: &Program,
+    named: Named,
+    ends: &mut [usize],
+    bytes: &mut [u8],
+) -> Result<(), Fault>
+    ensures names { OnOk result (AreNames (names_of named program.now) ends.new bytes.old bytes.new) }
+    ensures kept { OnErr result ((ends.new ≡ ends.old) × (bytes.new ≡ bytes.old)) }
+    ensures fault { IfErr result (IsNamesRoomFault program.now named (length ends.old) (length bytes.old)) }
+{
+    if ends.len() != count_names(program, named) as usize
+        || !have_room(program, named, bytes.len())
+    {
+        return Err(Fault::BadRoom);
+    }
+    put_names(program, named, ends, bytes);
+    Ok(())
 }

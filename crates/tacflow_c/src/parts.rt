@@ -1,10 +1,12 @@
 // What a program's points and bits are, as numbers.
 
-ghost use Rattle.std.specs.Prelude.{◌≡◌, ◌<◌, Some, length};
+ghost use Rattle.std.specs.Prelude.{◌≡◌, ◌<◌, Some, length, IfErr, OnErr, OnOk};
 ghost use Rattle.flow_graph.specs.Points.{point_count};
 ghost use Rattle.flow_graph.specs.Universes.{definitions as definitions_in, expressions as expressions_in};
 ghost use Rattle.tacflow_c.specs.Parts.{AreParts, ArePartsOf, definition_part, expression_part, operand_part, operator_number, point_part, sizes_of};
+ghost use Rattle.tacflow_c.specs.Statuses.{IsBadRoom};
 
+use crate::fault::Fault;
 use flow_graph::{Analysis, Expr, Graph};
 use tac_program::{Op, Operand};
 
@@ -89,8 +91,8 @@ fn point_of(graph: &Graph<'_>, point: u32) -> Point
     }
 }
 
-/// Puts the points of a graph.
-pub(crate) fn put_points(graph: &Graph<'_>, points: &mut [Point])
+// Puts the points of a graph.
+fn put_points(graph: &Graph<'_>, points: &mut [Point])
     requires { length points.old ≡ point_count graph.now }
     ensures { AreParts (point_part graph.now) (point_count graph.now) points.new }
 {
@@ -111,8 +113,8 @@ fn definition_of(made: (u32, Option<u32>)) -> Definition
     }
 }
 
-/// Puts the definitions of a graph's program.
-pub(crate) fn put_definitions(graph: &Graph<'_>, definitions: &mut [Definition])
+// Puts the definitions of a graph's program.
+fn put_definitions(graph: &Graph<'_>, definitions: &mut [Definition])
     requires { length definitions.old ≡ length (definitions_in graph.now) }
     ensures { ArePartsOf definition_part (definitions_in graph.now) definitions.new }
 {
@@ -184,12 +186,57 @@ fn expression_of(expr: Expr) -> Expression
     }
 }
 
-/// Puts the expressions of a graph's program.
-pub(crate) fn put_expressions(graph: &Graph<'_>, expressions: &mut [Expression])
+// Puts the expressions of a graph's program.
+fn put_expressions(graph: &Graph<'_>, expressions: &mut [Expression])
     requires { length expressions.old ≡ length (expressions_in graph.now) }
     ensures { ArePartsOf expression_part (expressions_in graph.now) expressions.new }
 {
     for bit in 0..graph.bits(Analysis::Avail) {
         expressions[bit as usize] = expression_of(graph.expression(bit));
     }
+}
+
+/// Puts the points of a graph into room for as many as it has.
+pub(crate) fn fill_points(graph: &Graph<'_>, points: &mut [Point]) -> Result<(), Fault>
+    ensures points { OnOk result (AreParts (point_part graph.now) (point_count graph.now) points.new) }
+    ensures kept { OnErr result (points.new ≡ points.old) }
+    ensures fault { IfErr result (IsBadRoom (length points.old) (point_count graph.now)) }
+{
+    if points.len() != graph.points() as usize {
+        return Err(Fault::BadRoom);
+    }
+    put_points(graph, points);
+    Ok(())
+}
+
+/// Puts the definitions of a graph into room for as many as it has.
+pub(crate) fn fill_definitions(
+    graph: &Graph<'_>,
+    definitions: &mut [Definition],
+) -> Result<(), Fault>
+    ensures definitions { OnOk result (ArePartsOf definition_part (definitions_in graph.now) definitions.new) }
+    ensures kept { OnErr result (definitions.new ≡ definitions.old) }
+    ensures fault { IfErr result (IsBadRoom (length definitions.old) (length (definitions_in graph.now))) }
+{
+    if definitions.len() != graph.bits(Analysis::Reach) as usize {
+        return Err(Fault::BadRoom);
+    }
+    put_definitions(graph, definitions);
+    Ok(())
+}
+
+/// Puts the expressions of a graph into room for as many as it has.
+pub(crate) fn fill_expressions(
+    graph: &Graph<'_>,
+    expressions: &mut [Expression],
+) -> Result<(), Fault>
+    ensures expressions { OnOk result (ArePartsOf expression_part (expressions_in graph.now) expressions.new) }
+    ensures kept { OnErr result (expressions.new ≡ expressions.old) }
+    ensures fault { IfErr result (IsBadRoom (length expressions.old) (length (expressions_in graph.now))) }
+{
+    if expressions.len() != graph.bits(Analysis::Avail) as usize {
+        return Err(Fault::BadRoom);
+    }
+    put_expressions(graph, expressions);
+    Ok(())
 }

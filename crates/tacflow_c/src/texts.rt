@@ -1,16 +1,20 @@
 // Listings and reports in room of a caller's.
 
 ghost use Rattle.std.specs.Prelude.{◌≡◌, ◌<◌, ◌≤◌, ◌++◌, drop, length, IfErr, OnOk, MatchBool};
+ghost use Rattle.flow_reports.specs.Reports.{ListsSafely};
+ghost use Rattle.tac_program.specs.Listings.{listing_of};
+ghost use Rattle.tacflow_c.specs.Handles.{IsTextFault};
 ghost use Rattle.tacflow_c.specs.Texts.{HoldsText, IsListingFault, IsListingOf, IsReportFault, IsReportOf, IsTextKept};
 
 use crate::fault::Fault;
 use crate::text::{graph_of, program_of};
+use flow_graph::Graph;
 use flow_reports::report_here;
 use std::alloc::Global;
-use tac_program::{Limits, listing};
+use tac_program::{Limits, Program, listing};
 
-/// Puts a text where there is room for it, and tells how long it is.
-pub(crate) fn put_text(text: &[u8], bytes: &mut [u8], size: &mut usize) -> bool
+// Puts a text where there is room for it, and tells how long it is.
+fn put_text(text: &[u8], bytes: &mut [u8], size: &mut usize) -> bool
     ensures size { size.new ≡ length text.now }
     ensures bytes { MatchBool result (bytes.new ≡ text.now ++ drop (length text.now) bytes.old) (bytes.new ≡ bytes.old) }
     ensures room { MatchBool result (length text.now ≤ length bytes.old) (length bytes.old < length text.now) }
@@ -21,6 +25,44 @@ pub(crate) fn put_text(text: &[u8], bytes: &mut [u8], size: &mut usize) -> bool
     }
     bytes[..text.len()].copy_from_slice(text);
     true
+}
+
+/// Puts the listing of a program where there is room for it, and tells how long it is.
+pub(crate) fn put_listing(
+    alloc: Global,
+    program: &Program,
+    bytes: &mut [u8],
+    size: &mut usize,
+) -> Result<(), Fault>
+    ensures held { OnOk result (HoldsText (λ out. out ≡ listing_of program.now) bytes.old bytes.new size.new) }
+    ensures kept { IfErr result (IsTextKept bytes.old bytes.new size.old size.new) }
+    ensures fault { IfErr result (IsTextFault (λ out. out ≡ listing_of program.now) (length bytes.old) size.new) }
+{
+    let out = listing(alloc, program)?;
+    if put_text(&out, bytes, size) {
+        Ok(())
+    } else {
+        Err(Fault::BadRoom)
+    }
+}
+
+/// Puts the report on a graph's program where there is room for it, and tells how long it is.
+pub(crate) fn put_report(
+    alloc: Global,
+    graph: &Graph<'_>,
+    bytes: &mut [u8],
+    size: &mut usize,
+) -> Result<(), Fault>
+    ensures held { OnOk result (HoldsText (ListsSafely graph.now) bytes.old bytes.new size.new) }
+    ensures kept { IfErr result (IsTextKept bytes.old bytes.new size.old size.new) }
+    ensures fault { IfErr result (IsTextFault (ListsSafely graph.now) (length bytes.old) size.new) }
+{
+    let out = report_here(alloc, graph)?;
+    if put_text(&out, bytes, size) {
+        Ok(())
+    } else {
+        Err(Fault::BadRoom)
+    }
 }
 
 /// The listing of a text's program within limits.
@@ -36,12 +78,7 @@ pub(crate) fn listing_of_text(
     ensures fault { IfErr result (IsListingFault limits text.now (length bytes.old) size.new) }
 {
     let program = program_of(alloc, text, limits)?;
-    let out = listing(alloc, &program)?;
-    if put_text(&out, bytes, size) {
-        Ok(())
-    } else {
-        Err(Fault::BadRoom)
-    }
+    put_listing(alloc, &program, bytes, size)
 }
 
 /// The report on a text's program within limits.
@@ -58,10 +95,5 @@ pub(crate) fn report_of_text(
 {
     let program = program_of(alloc, text, limits)?;
     let graph = graph_of(alloc, &program, limits)?;
-    let out = report_here(alloc, &graph)?;
-    if put_text(&out, bytes, size) {
-        Ok(())
-    } else {
-        Err(Fault::BadRoom)
-    }
+    put_report(alloc, &graph, bytes, size)
 }
