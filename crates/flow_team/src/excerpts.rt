@@ -4,7 +4,9 @@ ghost use Rattle.bit_rows.specs.RowSet.{contains};
 ghost use Rattle.bit_rows.specs.RowTable.{set_at};
 ghost use Rattle.flow_graph.specs.Points.{point_count};
 ghost use Rattle.flow_graph.specs.Universes.{bits as bits_of};
-ghost use Rattle.slice_board.specs.Boards.{IsOf, fresh_pass};
+ghost use Rattle.slice_board.specs.Boards.{fresh_pass};
+ghost use Rattle.slice_board.specs.Passes.{IsWhole};
+ghost use Rattle.slice_board.specs.Teams.{IsDrained};
 ghost use Rattle.flow_team.specs.Excerpts.{IsTableAt};
 ghost use Rattle.flow_team.specs.code.Excerpts.{HasFlagsFrom, IsInExcerpt, IsExcerptBoard};
 
@@ -15,7 +17,7 @@ use crate::tables::even_cut;
 use bit_rows::Cut;
 use flow_graph::{Analysis, Graph};
 use slice_board::{
-    Gate, Pass, PostedWords, SliceJob, Solve, Team, Unfinished, Wanted, WordBoard, run_workers,
+    Gate, Pass, PostedWords, SliceJob, Solve, Team, Wanted, WordBoard, run_workers,
 };
 use std::alloc::Global;
 use std::marker::Model;
@@ -124,20 +126,18 @@ fn on_board<'g, 'p>(
     Ok((SliceJob::on_board(board, excerpt), pass))
 }
 
-// The table, where every slice is finished.
-fn closed_table<'g, 'p>(
-    job: ExcerptJob<'g, 'p>,
-    pass: Pass<ExcerptSets<'g, 'p>>,
-) -> Result<Table, OutOfMemory>
-    requires { IsOf job pass }
-    ensures analysis { IfOk result (λ table. table.analysis ≡ job.entry.wanted.form.analysis) }
-    ensures table { IfOk result (IsTableAt job.entry.wanted.form.program job.entry.wanted.first
-        (job.entry.wanted.first + job.entry.wanted.count)) }
+// The table, once the workers have finished every slice.
+fn closed_table<'g, 'p>(job: ExcerptJob<'g, 'p>, pass: Pass<ExcerptSets<'g, 'p>>) -> Table
+    requires drained { IsDrained job pass }
+    requires whole { IsWhole pass }
+    ensures analysis { result.analysis ≡ job.entry.wanted.form.analysis }
+    ensures table { IsTableAt job.entry.wanted.form.program job.entry.wanted.first
+        (job.entry.wanted.first + job.entry.wanted.count) result }
 {
     match job.close(pass) {
-        Ok((excerpt, posted)) => Ok(excerpt.table(posted)),
-        // A worker that was refused memory left its slice unfinished.
-        Err((Unfinished { .. }, _job, _pass)) => Err(OutOfMemory),
+        Ok((excerpt, posted)) => excerpt.table(posted),
+        // No other pass has a share of the board.
+        Err(_) => unreachable!(),
     }
 }
 
@@ -162,5 +162,5 @@ pub fn table_at<'g, 'p, R: Threads + Sync, G: Gate>(
     let slices = even_cut(alloc, graph.bits(analysis), team.cut)?;
     let (job, pass) = on_board(alloc, excerpt, slices)?;
     let pass = run_workers(team, alloc, &job, pass)?;
-    closed_table(job, pass)
+    Ok(closed_table(job, pass))
 }

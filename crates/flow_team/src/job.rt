@@ -2,8 +2,8 @@
 ghost use Rattle.std.specs.Prelude.{◌≡◌, ℕ, ◌+◌, ◌*◌, ◌<◌, ◌≤◌, ◌↔◌, [], ◌∷◌, ◌++◌, true, IfOk, IfErr, IfSome, IfNone, IsOk, IsErr, IsSome};
 ghost use Rattle.bit_rows.specs.Words.{has_bit};
 ghost use Rattle.flow_graph.specs.Universes.{bits as bits_of};
-ghost use Rattle.slice_board.specs.Boards.{IsOf, IsPlace, CountsOnce, fresh_pass, slice_count};
-ghost use Rattle.slice_board.specs.Passes.{IsLogged, joined, logged_word, times};
+ghost use Rattle.slice_board.specs.Boards.{IsOf, IsPlace, CountsOnce, fresh_pass, split_pass, slice_count};
+ghost use Rattle.slice_board.specs.Passes.{IsLogged, IsWhole, halved, joined, logged_word, times};
 ghost use Rattle.flow_team.specs.Sets.{IsInMaySet};
 ghost use Rattle.flow_team.specs.Tables.{IsTableOf};
 ghost use Rattle.slice_board.specs.Teams.{Works, Idles, Holds, IsDrained};
@@ -71,17 +71,17 @@ impl<'g, 'p> Job<'g, 'p> {
         Ok((Job { slices }, pass))
     }
 
-    /// A new pass of the job, with empty lists. The old one is unchanged.
+    /// A new pass of the job, with empty lists. It has half of the old one's share, and the old one keeps the other half and all else.
     pub fn split(&self, pass: &mut Pass<GraphSets<'g, 'p>>) -> Pass<GraphSets<'g, 'p>>
         requires { IsOf self.now pass.old }
-        ensures new { result ≡ fresh_pass self.now }
-        ensures old { pass.new ≡ pass.old }
+        ensures new { result ≡ split_pass self.now pass.old }
+        ensures old { pass.new ≡ halved pass.old }
     {
         self.slices.split(pass)
     }
 
-    /// Two passes as one: the lists of the first, followed by those of the second, and what either holds. Refused only
-    /// where both hold a slice.
+    /// Two passes as one: the lists of the first, followed by those of the second, both shares, and what either holds. Refused
+    /// only where both hold a slice.
     pub fn join(
         &self,
         first: Pass<GraphSets<'g, 'p>>,
@@ -149,7 +149,8 @@ impl<'g, 'p> Job<'g, 'p> {
         pass: Pass<GraphSets<'g, 'p>>,
     ) -> Result<Pass<GraphSets<'g, 'p>>, OutOfMemory>
         requires { IsOf self.now pass }
-        ensures { IfOk result (IsDrained self.now) }
+        ensures drained { IfOk result (IsDrained self.now) }
+        ensures whole { IfOk result (λ worked. IsWhole pass.entry → IsWhole worked) }
     {
         run_workers(team, alloc, &self.slices, pass)
     }
@@ -165,6 +166,8 @@ impl<'g, 'p> Job<'g, 'p> {
         ensures analysis { IfOk result (λ table. table.analysis ≡ self.entry.wanted.analysis) }
         ensures table { IfOk result (IsTableOf self.entry.wanted.program) }
         ensures all_finished { ((s : ℕ) → s < slice_count self.entry.cut → 0 < times s pass.entry.finished) → IsOk result }
+        // No other pass can have left a slice unfinished.
+        ensures drained { IsDrained self.entry pass.entry → IsWhole pass.entry → IsOk result }
         ensures holding { IsSome pass.entry.held → IsErr result }
         ensures unfinished { IfErr result (λ r. (r.0.done < r.0.of) × (r.0.of ≡ slice_count self.entry.cut)) }
         ensures counted { IfErr result (λ r. CountsOnce (slice_count self.entry.cut) pass.entry.counted r.2.counted r.0.done) }

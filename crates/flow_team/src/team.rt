@@ -9,7 +9,7 @@ use crate::job::Job;
 use crate::table::Table;
 use bit_rows::Cut;
 use flow_graph::{Analysis, Graph};
-use slice_board::{Gate, Team, Unfinished};
+use slice_board::{Gate, Team};
 use std::alloc::Global;
 use std::thread::Threads;
 
@@ -32,8 +32,8 @@ pub(crate) fn worked_table<'g, 'p, R: Threads + Sync, G: Gate>(
     let pass = job.run(team, alloc, pass)?;
     match job.close(pass) {
         Ok(table) => Ok(table),
-        // All that the workers drew is finished: another pass would have left a slice.
-        Err((Unfinished { .. }, _job, _pass)) => Err(OutOfMemory),
+        // The workers finished every slice: no other pass has a share of the board.
+        Err(_) => unreachable!(),
     }
 }
 

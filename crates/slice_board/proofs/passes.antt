@@ -2,3 +2,4 @@ pub mod Counting
 pub mod Endings
 pub mod Keeps
 pub mod Passing
+pub mod Shares

@@ -46,7 +46,7 @@ module _ {T : Type 0} where
     pub table : pass.table ≡ board.table
     pub about : pass.about ≡ Some (about_board board)
 
-  -- a pass of the board with empty lists
+  -- the pass that comes with the board, which has all of it, with empty lists
   abbrev pub fresh_pass : BoardState T → PassState T
   fresh_pass board = record {
     table = board.table;
@@ -57,9 +57,15 @@ module _ {T : Type 0} where
     seen = [];
     found = [];
     counted = [];
+    share = 1;
+    halvings = 0;
     held = None;
     next = 0;
   }
+
+  -- the new pass that a split makes: half of the share, and empty lists
+  abbrev pub split_pass : BoardState T → PassState T → PassState T
+  split_pass board old = record (fresh_pass board) { share = old.share; halvings = old.halvings + 1 }
 
 -- how many of the slices below n the values of the done words show as finished
 abbrev pub shown_below : ℕ → List ℕ → ℕ

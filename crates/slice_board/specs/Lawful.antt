@@ -1,6 +1,6 @@
 -- The lawful board: what holds between any two steps, over all passes that were ever split off. One that was dropped is
 -- among them; one that was given up in a join is spent, and counts through the joined pass alone.
-use Rattle.std.specs.Prelude.{◌≡◌, ℕ, ◌+◌, ◌*◌, ◌/◌, ◌%◌, ◌<◌, ◌≤◌, List, [], ◌∷◌, min, Some, if◌then◌else◌, ◌==◌}
+use Rattle.std.specs.Prelude.{◌≡◌, ℕ, ◌+◌, ◌-◌, ◌*◌, ◌/◌, ◌%◌, ◌^◌, ◌<◌, ◌≤◌, List, [], ◌∷◌, min, Some, None, if◌then◌else◌, ◌==◌}
 use mathlib.Core.Option.{some}
 use lib.ListN.{get_elem?}
 use Rattle.std.specs.Int.{bit_at}
@@ -44,11 +44,21 @@ module _ {T : Type 0} where
   abbrev pub posts_of : ℕ → ℕ → ℕ → List (View T) → ℕ
   posts_of point word place = total (λ v. logged_at point word place v.posted)
 
+  -- how many halvings all passes have
+  abbrev pub halvings_of : List (View T) → ℕ
+  halvings_of = total (λ v. v.halvings)
+
+  -- how many of the board's 2 ^ k parts all passes have
+  abbrev pub parts_of : ℕ → List (View T) → ℕ
+  parts_of k = total (λ v. v.share * 2 ^ (k - v.halvings))
+
   module _ (wants : T → ℕ → ℕ → Type 0) (about : About T) where
     -- what one pass knows is so
     pub record IsTrueOf (words : BoardWords) (v : View T) : Type 0 where
       -- Unless it is spent, it knows the board.
       pub board : (known : About T) → v.about ≡ Some known → known ≡ about
+      -- Without a share of the board it is spent: it knows no board, and claimed nothing.
+      pub spent : v.share ≡ 0 → (v.about ≡ None) × (v.claimed ≡ [])
       -- It finished only what it claimed.
       pub own : (s : ℕ) → times s v.finished ≤ times s v.claimed
       -- The claim bit of a slice that it found is set.
@@ -81,3 +91,5 @@ module _ {T : Type 0} where
       -- 6. No bit of a claim or done word is set at or beyond the number of slices.
       pub padding : (s : ℕ) → slice_count about.cut ≤ s → s / 64 < words_for (slice_count about.cut)
           → (bit_in words.claims s ≡ 0) × (bit_in words.dones s ≡ 0)
+      -- 7. All passes together have the whole board, in parts that are small enough for each share to be so many of them.
+      pub whole : (k : ℕ) → halvings_of views ≤ k → parts_of k views ≡ 2 ^ k

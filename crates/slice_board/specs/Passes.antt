@@ -1,5 +1,5 @@
--- What a contract sees of a pass: its four lists, its two records, and what it holds.
-use Rattle.std.specs.Prelude.{◌≡◌, ℕ, ◌+◌, ◌/◌, ◌%◌, ◌<◌, List, [], ◌∷◌, ◌++◌, ◌&&◌, ◌==◌, if◌then◌else◌, max, Option, Some, None}
+-- What a contract sees of a pass: its four lists, its two records, its share of the board, and what it holds.
+use Rattle.std.specs.Prelude.{◌≡◌, ℕ, ◌+◌, ◌*◌, ◌/◌, ◌%◌, ◌^◌, ◌<◌, List, [], ◌∷◌, ◌++◌, ◌&&◌, ◌==◌, if◌then◌else◌, max, Option, Some, None}
 use Rattle.std.specs.Int.{bit_at}
 use Rattle.atomic_table.specs.Seated.{TableId}
 use Rattle.slice_board.specs.declared.view.About.{About}
@@ -20,6 +20,9 @@ pub record PassState (T : Type 0) : Type 0 where
   -- the slices whose claim bit a draw of this pass found set, and the done words that it loaded
   pub found : List ℕ
   pub counted : List Count
+  -- The pass has `share / 2 ^ halvings` of the board: all of it where the board was opened, half of what it had after a split.
+  pub share : ℕ
+  pub halvings : ℕ
   -- the claimed slice that is not finished, if there is one, and the next slice to try
   pub held : Option ℕ
   pub next : ℕ
@@ -53,12 +56,20 @@ abbrev pub HoldsUnfinished : {T : Type 0} → PassState T → Type 0
 HoldsUnfinished pass =
     (s : ℕ) → times s pass.claimed ≡ times s pass.finished + held_times s pass.held
 
+-- It has the whole board: no other pass can still claim or hold a slice.
+abbrev pub IsWhole : {T : Type 0} → PassState T → Type 0
+IsWhole pass = pass.share ≡ 2 ^ pass.halvings
+
+-- what is left of a pass after a split, which gives the other half of its share to the new pass
+abbrev pub halved : {T : Type 0} → PassState T → PassState T
+halved pass = record pass { halvings = pass.halvings + 1 }
+
 -- the one that is there
 abbrev pub either_of : Option ℕ → Option ℕ → Option ℕ
 either_of (Some s) other = Some s
 either_of None other = other
 
--- two passes as one: the lists one after the other, and what either holds
+-- two passes as one: the lists one after the other, both shares together, and what either holds
 abbrev pub joined : {T : Type 0} → PassState T → PassState T → PassState T
 joined first second = record first {
   claimed = first.claimed ++ second.claimed;
@@ -67,6 +78,8 @@ joined first second = record first {
   seen = first.seen ++ second.seen;
   found = first.found ++ second.found;
   counted = first.counted ++ second.counted;
+  share = first.share * 2 ^ second.halvings + second.share * 2 ^ first.halvings;
+  halvings = first.halvings + second.halvings;
   held = either_of first.held second.held;
   next = max first.next second.next;
 }

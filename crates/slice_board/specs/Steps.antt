@@ -1,5 +1,5 @@
 -- What each kind of step changes of the pass that makes it. A step is made with one pass and changes that pass alone.
-use Rattle.std.specs.Prelude.{ℕ, [], ◌∷◌, ◌++◌, Option, None}
+use Rattle.std.specs.Prelude.{ℕ, ◌+◌, ◌*◌, ◌^◌, [], ◌∷◌, ◌++◌, Option, Some, None}
 use Rattle.slice_board.specs.declared.view.About.{About}
 use Rattle.slice_board.specs.declared.view.View.{View}
 use Rattle.slice_board.specs.declared.view.LoggedWord.{LoggedWord}
@@ -30,14 +30,32 @@ module _ {T : Type 0} where
   abbrev pub after_count : Count → View T → View T
   after_count c v = record v { counted = v.counted ++ c ∷ [] }
 
-  -- A pass with empty lists, which is what a split adds. It leaves the old pass as it is.
-  abbrev pub fresh_view : Option (About T) → View T
-  fresh_view about = record { about = about; claimed = []; finished = []; posted = []; seen = []; found = []; counted = [] }
+  -- A pass with empty lists.
+  abbrev pub fresh_view : Option (About T) → ℕ → ℕ → View T
+  fresh_view about share halvings = record {
+    about = about;
+    claimed = [];
+    finished = [];
+    posted = [];
+    seen = [];
+    found = [];
+    counted = [];
+    share = share;
+    halvings = halvings;
+  }
+
+  -- The first pass has the whole board.
+  abbrev pub first_view : About T → View T
+  first_view about = fresh_view (Some about) 1 0
+
+  -- A split adds a pass with empty lists, and gives each of the two half of the old one's share.
+  abbrev pub halved_view : View T → View T
+  halved_view v = record v { halvings = v.halvings + 1 }
 
   abbrev pub split_view : View T → View T
-  split_view v = fresh_view v.about
+  split_view v = fresh_view v.about v.share (v.halvings + 1)
 
-  -- A join gives one pass the lists of both, and leaves the other spent: it knows no board, and its lists are empty.
+  -- A join gives one pass the lists and shares of both, and leaves the other spent: it knows no board, its lists are empty, and it has no share.
   abbrev pub joined_view : View T → View T → View T
   joined_view v w = record v {
     claimed = v.claimed ++ w.claimed;
@@ -46,7 +64,9 @@ module _ {T : Type 0} where
     seen = v.seen ++ w.seen;
     found = v.found ++ w.found;
     counted = v.counted ++ w.counted;
+    share = v.share * 2 ^ w.halvings + w.share * 2 ^ v.halvings;
+    halvings = v.halvings + w.halvings;
   }
 
   abbrev pub spent_view : View T
-  spent_view = fresh_view None
+  spent_view = fresh_view None 0 0

@@ -1,14 +1,24 @@
 -- What a worker's call does with its pass.
 use Rattle.std.specs.List.{range_with_len}
-use Rattle.std.specs.Prelude.{◌≡◌, ℕ, ◌+◌, ◌-◌, ◌<◌, ◌≤◌, List, [], ◌∷◌, ◌++◌, Some, None}
+use Rattle.std.specs.Prelude.{◌≡◌, ℕ, ◌+◌, ◌-◌, ◌*◌, ◌^◌, ◌<◌, ◌≤◌, List, [], ◌∷◌, ◌++◌, Some, None}
 use Rattle.slice_board.specs.Boards.{BoardState, InSlice, IsOf, slice_count}
 use Rattle.slice_board.specs.Passes.{PassState, IsLogged, times}
 use Rattle.slice_board.specs.declared.view.About.{About}
 use Rattle.slice_board.specs.declared.view.LoggedWord.{LoggedWord}
 
 module _ {T : Type 0} where
+  -- The pass has as much of the board as it had.
+  pub record KeepsShare (old new : PassState T) : Type 0 where
+    pub share : new.share ≡ old.share
+    pub halvings : new.halvings ≡ old.halvings
+
+  -- Two passes have as much of the board, in parts that may be larger or smaller.
+  abbrev pub HaveSameShare : PassState T → PassState T → Type 0
+  HaveSameShare first second = first.share * 2 ^ second.halvings ≡ second.share * 2 ^ first.halvings
+
   -- What was finished, posted, seen and counted stands, and nothing came to it.
   pub record Keeps (old new : PassState T) : Type 0 where
+    pub kept_share : KeepsShare old new
     pub finished : new.finished ≡ old.finished
     pub posted : new.posted ≡ old.posted
     pub seen : new.seen ≡ old.seen
@@ -41,6 +51,7 @@ module _ {T : Type 0} where
   -- The slice was taken, all that is wanted of it is posted, and it alone was finished. What was posted, seen and counted before stands.
   pub record Works (wants : T → ℕ → ℕ → Type 0) (board : BoardState T) (old new : PassState T) (slice : ℕ) : Type 0 where
     pub there : slice < slice_count board.cut
+    pub kept_share : KeepsShare old new
     pub taken : Takes old new slice
     pub more : List LoggedWord
     pub posted : new.posted ≡ old.posted ++ more

@@ -57,9 +57,9 @@ impl<T> Play<(), View<T>> for Check {
 pub(crate) struct Fork;
 
 impl<T> Split<View<T>> for Fork {
-    ghost use Rattle.slice_board.specs.Steps.{split_view};
+    ghost use Rattle.slice_board.specs.Steps.{halved_view, split_view};
 
-    ghost left = { λ v. v };
+    ghost left = { halved_view };
 
     ghost right = { split_view };
 }

@@ -27,11 +27,10 @@ pub struct Law<T> {
 }
 
 impl<T: Wanted> TableRule<(), View<T>, Key<T>> for Law<T> {
-    ghost use Rattle.std.specs.Prelude.{Some};
-    ghost use Rattle.slice_board.specs.Steps.{fresh_view};
+    ghost use Rattle.slice_board.specs.Steps.{first_view};
     ghost use Rattle.slice_board.specs.code.Words.{about_key, LawfulTable};
 
     ghost holds = { λ key. LawfulTable T.wants (about_key key) };
 
-    ghost first = { λ key. fresh_view (Some (about_key key)) };
+    ghost first = { λ key. first_view (about_key key) };
 }

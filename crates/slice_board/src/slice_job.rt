@@ -3,9 +3,9 @@ ghost use Rattle.std.specs.Prelude.{◌≡◌, ℕ, ◌+◌, ◌*◌, ◌<◌, �
 ghost use Rattle.bit_rows.specs.RowSet.{contains};
 ghost use Rattle.bit_rows.specs.RowTable.{set_at};
 ghost use Rattle.bit_rows.specs.Words.{has_bit};
-ghost use Rattle.slice_board.specs.Boards.{IsOf, IsPlace, CountsOnce, fresh_pass, slice_count};
-ghost use Rattle.slice_board.specs.Passes.{IsLogged, joined, logged_word, times};
-ghost use Rattle.slice_board.specs.Teams.{Keeps, Takes, Works, Idles, Holds};
+ghost use Rattle.slice_board.specs.Boards.{IsOf, IsPlace, CountsOnce, split_pass, slice_count};
+ghost use Rattle.slice_board.specs.Passes.{IsLogged, IsWhole, halved, joined, logged_word, times};
+ghost use Rattle.slice_board.specs.Teams.{Keeps, Takes, Works, Idles, Holds, IsDrained};
 
 use crate::OutOfMemory;
 use crate::gate::Gate;
@@ -43,17 +43,17 @@ impl<W: Wanted + Sync + Send, S: Solve<W>> SliceJob<W, S> {
         SliceJob { board, sets }
     }
 
-    /// A new pass of the job, with empty lists. The old one is unchanged.
+    /// A new pass of the job, with empty lists. It has half of the old one's share, and the old one keeps the other half and all else.
     pub fn split(&self, pass: &mut Pass<W>) -> Pass<W>
         requires { IsOf self.now pass.old }
-        ensures new { result ≡ fresh_pass self.now }
-        ensures old { pass.new ≡ pass.old }
+        ensures new { result ≡ split_pass self.now pass.old }
+        ensures old { pass.new ≡ halved pass.old }
     {
         self.board.split(pass)
     }
 
-    /// Two passes as one: the lists of the first, followed by those of the second, and what either holds. Refused only
-    /// where both hold a slice.
+    /// Two passes as one: the lists of the first, followed by those of the second, both shares, and what either holds. Refused
+    /// only where both hold a slice.
     pub fn join(&self, first: Pass<W>, second: Pass<W>) -> Result<Pass<W>, (Pass<W>, Pass<W>)>
         requires first { IsOf self.now first }
         requires second { IsOf self.now second }
@@ -136,6 +136,7 @@ impl<W: Wanted + Sync + Send, S: Solve<W>> SliceJob<W, S> {
         ensures flags { IfOk result (λ r. r.1.flags ≡ self.blank.flags) }
         ensures rows { IfOk result (λ r. (point bit : ℕ) → (contains (set_at r.1 point) bit ≡ true) ↔ W.wants self.wanted point bit) }
         ensures all_finished { ((s : ℕ) → s < slice_count self.cut → 0 < times s pass.finished) → IsOk result }
+        ensures drained { IsDrained self pass → IsWhole pass → IsOk result }
         ensures holding { IsSome pass.held → IsErr result }
         ensures unfinished { IfErr result (λ r. (r.0.done < r.0.of) × (r.0.of ≡ slice_count self.cut)) }
         ensures counted { IfErr result (λ r. CountsOnce (slice_count self.cut) pass.counted r.2.counted r.0.done) }

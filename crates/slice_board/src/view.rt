@@ -33,4 +33,7 @@ pub struct View<T> {
     pub seen: [LoggedWord; 0],
     pub found: [u32; 0],
     pub counted: [Count; 0],
+    // The pass has `share / 2 ^ halvings` of the board.
+    pub share: u32,
+    pub halvings: u32,
 }

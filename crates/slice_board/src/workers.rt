@@ -1,8 +1,9 @@
 // The workers of a job.
-ghost use Rattle.std.specs.Prelude.{◌<◌, IfOk};
+ghost use Rattle.std.specs.Prelude.{◌≡◌, ◌<◌, IfOk};
 ghost use Rattle.std.specs.Thread.{IsSync};
 ghost use Rattle.slice_board.specs.Boards.{IsOf};
-ghost use Rattle.slice_board.specs.Teams.{IsDrained};
+ghost use Rattle.slice_board.specs.Passes.{IsWhole, joined};
+ghost use Rattle.slice_board.specs.Teams.{IsDrained, HaveSameShare};
 
 use crate::OutOfMemory;
 use crate::gate::{Gate, OpenGate};
@@ -23,7 +24,8 @@ fn drain_slices<W: Wanted + Sync + Send, S: Solve<W>, G: Gate>(
     pass: Pass<W>,
 ) -> Result<Pass<W>, OutOfMemory>
     requires { IsOf job.now pass }
-    ensures { IfOk result (IsDrained job.now) }
+    ensures drained { IfOk result (IsDrained job.now) }
+    ensures share { IfOk result (HaveSameShare pass) }
 {
     let mut pass = pass;
     'slices: while job.work(alloc, &mut pass, worker, gate)?.is_some() {}
@@ -40,7 +42,8 @@ fn united_pass<W: Wanted + Sync + Send, S: Solve<W>>(
 ) -> Pass<W>
     requires first { IsDrained job.now first }
     requires second { IsDrained job.now second }
-    ensures { IsDrained job.now result }
+    ensures drained { IsDrained job.now result }
+    ensures joined { result ≡ joined first second }
 {
     match job.join(first, second) {
         Ok(pass) => pass,
@@ -57,14 +60,16 @@ fn run_thread<W: Wanted + Sync + Send, S: Solve<W>, R: Threads + Sync, G: Gate>(
     pass: Pass<W>,
 ) -> Result<Pass<W>, OutOfMemory>
     requires { IsOf job.now pass }
-    ensures { IfOk result (IsDrained job.now) }
+    ensures drained { IfOk result (IsDrained job.now) }
+    ensures share { IfOk result (HaveSameShare pass) }
 {
     let gate = team.gate;
     let (worked, ()) = join(
         team.rt,
         move || -> Result<Pass<W>, OutOfMemory>
             requires { IsSync G.row × IsOf job.now pass }
-            ensures { IfOk result (IsDrained job.entry.now) }
+            ensures drained { IfOk result (IsDrained job.entry.now) }
+            ensures share { IfOk result (HaveSameShare pass) }
         { drain_slices(alloc, job, gate, worker, pass) },
         || {},
     );
@@ -81,7 +86,8 @@ fn run_threads<W: Wanted + Sync + Send, S: Solve<W>, R: Threads + Sync, G: Gate>
 ) -> Result<Pass<W>, OutOfMemory>
     requires some { from < team.now.workers }
     requires pass { IsOf job.now pass }
-    ensures { IfOk result (IsDrained job.now) }
+    ensures drained { IfOk result (IsDrained job.now) }
+    ensures share { IfOk result (HaveSameShare pass) }
 {
     let next = from + 1;
     if next == team.workers {
@@ -94,11 +100,13 @@ fn run_threads<W: Wanted + Sync + Send, S: Solve<W>, R: Threads + Sync, G: Gate>
         team.rt,
         move || -> Result<Pass<W>, OutOfMemory>
             requires { IsSync G.row × IsOf job.now mine }
-            ensures { IfOk result (IsDrained job.entry.now) }
+            ensures drained { IfOk result (IsDrained job.entry.now) }
+            ensures share { IfOk result (HaveSameShare mine) }
         { drain_slices(alloc, job, gate, from, mine) },
         move || -> Result<Pass<W>, OutOfMemory>
             requires { IsSync R.row × IsSync G.row × (next < team.now.workers) × IsOf job.now theirs }
-            ensures { IfOk result (IsDrained job.entry.now) }
+            ensures drained { IfOk result (IsDrained job.entry.now) }
+            ensures share { IfOk result (HaveSameShare theirs) }
         { run_threads(team, alloc, job, next, theirs) },
     );
     Ok(united_pass(job, mine?, theirs?))
@@ -116,7 +124,8 @@ pub fn run_workers<W: Wanted + Sync + Send, S: Solve<W>, R: Threads + Sync, G: G
     pass: Pass<W>,
 ) -> Result<Pass<W>, OutOfMemory>
     requires { IsOf job.now pass }
-    ensures { IfOk result (IsDrained job.now) }
+    ensures drained { IfOk result (IsDrained job.now) }
+    ensures whole { IfOk result (λ worked. IsWhole pass → IsWhole worked) }
 {
     team.gate.begun(job.slices());
     let answered = run_threads(team, alloc, job, 0, pass);
@@ -131,7 +140,8 @@ pub fn run_here<W: Wanted + Sync + Send, S: Solve<W>>(
     pass: Pass<W>,
 ) -> Result<Pass<W>, OutOfMemory>
     requires { IsOf job.now pass }
-    ensures { IfOk result (IsDrained job.now) }
+    ensures drained { IfOk result (IsDrained job.now) }
+    ensures whole { IfOk result (λ worked. IsWhole pass → IsWhole worked) }
 {
     drain_slices(alloc, job, &OpenGate, 0, pass)
 }

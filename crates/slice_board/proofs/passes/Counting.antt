@@ -1,13 +1,13 @@
 -- A count of the finished slices, one done word after the other.
 use Rattle.std.proofs.Common.{◌≡◌, ℕ, zero, suc, ◌+◌, ◌-◌, ◌*◌, ◌/◌, ◌%◌, ◌<◌, ◌≤◌, min, List, [], ◌∷◌, ◌++◌, length, get_or, cond, eqb, eq-eqb, refl}
-use Rattle.std.proofs.Common.{sym, ap, ◌∙◌, inl, inr, arith, append_assoc}
+use Rattle.std.proofs.Common.{sym, ap, ◌∙◌, inl, inr, arith, append_assoc, subst}
 use mathlib.Core.Logic.{dite}
 use native.Mathlib.Decide.{ℕ_discrete}
 use Rattle.std.specs.Int.{bit_at}
 use Rattle.std.proofs.lemmas.Bool.{cases_lt}
 use Rattle.std.proofs.lemmas.List.{get_or_append_left, get_or_push, length_push, append-nil}
 use Rattle.std.proofs.lemmas.Nat.Bits.{bit_at-lt, bit_at-zero}
-use Rattle.slice_board.specs.Passes.{PassState, times, loads_from}
+use Rattle.slice_board.specs.Passes.{PassState, IsWhole, times, loads_from}
 use Rattle.slice_board.specs.Boards.{shown_below, words_for}
 use Rattle.slice_board.specs.Lawful.{shows_at}
 use Rattle.slice_board.specs.code.Told.{load_of, ShowsOwn}
@@ -54,13 +54,15 @@ module _ {T : Type 0} where
     shown = let e : min (64 * 0) slices ≡ 0 = omega arith in sym (ap (λ (n : ℕ). shown_below n []) e);
     has_finished = λ s low h. absurd (omega arith);
     lacks_held = λ s low h. absurd (omega arith);
+    found_own = λ whole s low h. absurd (omega arith);
   }
 
   pub CountedTo-more : (slices w done d v : ℕ) (old mid new : PassState T) → CountedTo slices w old mid done
       → mid ≡ record old { counted = mid.counted } → 64 * w < slices
-      → new.counted ≡ mid.counted ++ load_of w v ∷ [] → ShowsOwn slices mid.claimed mid.finished w v → d ≡ ones_below (min (slices - 64 * w) 64) v
+      → new.counted ≡ mid.counted ++ load_of w v ∷ [] → ShowsOwn slices mid.claimed mid.finished w v
+      → (IsWhole mid → (s : ℕ) → s < slices → 0 < times s mid.found → 0 < times s mid.claimed) → d ≡ ones_below (min (slices - 64 * w) 64) v
       → CountedTo slices (w + 1) old new (done + d)
-  CountedTo-more slices w done d v old mid new c same more added own ones =
+  CountedTo-more slices w done d v old mid new c same more added own found ones =
       let values = c.values ++ v ∷ [] in
       let size = c.each_word in
       let finished_is : (s : ℕ) → times s mid.finished ≡ times s old.finished = λ s. ap (λ (p : PassState T). times s p.finished) same in
@@ -90,6 +92,10 @@ module _ {T : Type 0} where
           | inl early ↦ shown_front c.values (v ∷ []) s (omega arith) ∙ c.lacks_held s low early some
           | inr late ↦ shown_last c.values v s (omega arith) ∙ own.lacks_held s low (omega arith) (omega (arith, finished_is s, claimed_is s))
         ];
+        found_own =
+            let P : PassState T → Type 0 = λ p. IsWhole p → (s : ℕ) → s < slices → 0 < times s p.found → 0 < times s p.claimed in
+            let owns : P old = subst P same found in
+            λ whole s low _. owns whole s low;
       }
 
   pub Counted-all : (slices w done : ℕ) (old new : PassState T) → CountedTo slices w old new done → w ≡ words_for slices → Counted slices old new done
@@ -102,6 +108,7 @@ module _ {T : Type 0} where
     };
     has_finished = λ s low. c.has_finished s low (omega arith);
     lacks_held = λ s low. c.lacks_held s low (omega arith);
+    found_own = λ whole s low. c.found_own whole s low (omega arith);
   }
 
 -- ---- what the count says of all slices

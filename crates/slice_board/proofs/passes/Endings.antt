@@ -1,6 +1,8 @@
 -- The words of a board at the end, where a pass counted every slice as finished.
 use Rattle.std.proofs.Common.{◌≡◌, ℕ, ◌+◌, ◌*◌, ◌/◌, ◌%◌, ◌<◌, ◌≤◌, ◌↔◌, Bool, true, false, List, length, get_or, Option, Some, None, IsSome, refl}
 use Rattle.std.proofs.Common.{sym, ap, ◌∙◌, subst, arith}
+use mathlib.Core.Logic.{dite}
+use native.Mathlib.Decide.{dec_le}
 use Rattle.std.specs.Int.{bit_at}
 use Rattle.std.proofs.lemmas.Bool.{false_from_ne_true}
 use Rattle.atomic_table.specs.Table.{Final, Seen}
@@ -9,8 +11,9 @@ use Rattle.bit_rows.specs.RowTable.{set_at}
 use Rattle.bit_rows.specs.Words.{has_bit}
 use Rattle.bit_rows.specs.Slices.{CoverBits}
 use Rattle.bit_rows.proofs.slices.Cuts.{slice_of_bit}
-use Rattle.slice_board.specs.Passes.{PassState, times, loads_from}
-use Rattle.slice_board.specs.Boards.{slice_count, words_for}
+use Rattle.slice_board.specs.Passes.{PassState, IsWhole, times, loads_from}
+use Rattle.slice_board.specs.Boards.{BoardState, slice_count, words_for}
+use Rattle.slice_board.specs.Teams.{IsDrained}
 use Rattle.slice_board.specs.Lawful.{shows_at}
 use Rattle.slice_board.specs.code.Words.{LawfulTable, tally_words, row_place}
 use Rattle.slice_board.specs.code.Closing.{Counted}
@@ -37,6 +40,14 @@ module _ {T : Type 0} (slices done : ℕ) (old new : PassState T) (c : Counted s
   -- where the pass finished every slice, the count shows all
   pub full : ((s : ℕ) → s < slices → 0 < times s old.finished) → done ≡ slices
   full all = c.once.shown ∙ shown_below-full slices c.once.values (λ s h. c.has_finished s h (all s h))
+
+  -- where a pass with the whole board is drained, it finished every slice
+  pub all_finished : (board : BoardState T) → slices ≡ slice_count board.cut → IsDrained board old → IsWhole old → (s : ℕ) → s < slices
+      → 0 < times s old.finished
+  all_finished board same drained whole s low =
+      let here = drained.all_claimed s (omega arith) in
+      let equal = drained.finished s in
+      dite (dec_le 1 (times s old.claimed)) (λ some. omega arith) (λ none. let own = c.found_own whole s low (omega arith) in omega arith)
 
   -- and where it holds one, it does not
   pub not_whole : (s : ℕ) → s < slices → times s old.finished < times s old.claimed → slices ≤ done → ⊥

@@ -1,5 +1,5 @@
 -- Each step keeps the rule.
-use Rattle.std.proofs.Common.{◌≡◌, ℕ, ◌+◌, ◌*◌, ◌/◌, ◌%◌, ◌^◌, ◌<◌, ◌≤◌, ◌≢◌, ◌⊎◌, List, [], ◌∷◌, ◌++◌, length, get_or, set, sym, refl, ap, ◌∙◌}
+use Rattle.std.proofs.Common.{◌≡◌, ℕ, ◌+◌, ◌-◌, ◌*◌, ◌/◌, ◌%◌, ◌^◌, ◌<◌, ◌≤◌, ◌≢◌, ◌⊎◌, List, [], ◌∷◌, ◌++◌, length, get_or, set, sym, refl, ap, ◌∙◌}
 use Rattle.std.proofs.Common.{subst, inl, inr, ⊎_elim, arith, max, min, length-set, Option, Some, None}
 use mathlib.Core.Logic.{dite}
 use mathlib.Core.Option.{none, some}
@@ -14,16 +14,17 @@ use Rattle.atomic_table.specs.Table.{State, step, keeps, stepped, Allows, Splits
 use Rattle.atomic_table.proofs.Lists.{at_set, at_snoc, set_again, set_else}
 use Rattle.slice_board.specs.Passes.{times, logged_at, logged_word}
 use Rattle.slice_board.specs.Boards.{slice_count, words_for, InSlice}
-use Rattle.slice_board.specs.Lawful.{shows_at, total, claims_of, IsTrueOf}
-use Rattle.slice_board.specs.Steps.{after_claim, after_finding, after_post, after_finish, after_look, after_count, fresh_view, split_view}
-use Rattle.slice_board.specs.Steps.{joined_view, spent_view}
+use Rattle.slice_board.specs.Lawful.{shows_at, total, claims_of, halvings_of, IsTrueOf}
+use Rattle.slice_board.specs.Steps.{after_claim, after_finding, after_post, after_finish, after_look, after_count, fresh_view}
+use Rattle.slice_board.specs.Steps.{halved_view, split_view, joined_view, spent_view}
 use Rattle.slice_board.specs.code.Words.{tally_words, done_place, row_place, board_words, LawfulTable}
-use Rattle.slice_board.specs.code.Told.{Sat, load_of, DrawTells, FinishTells, PostTells, LookTells, ShowsOwn, CountTells, CheckTells}
+use Rattle.slice_board.specs.code.Told.{Sat, load_of, DrawTells, FinishTells, PostTells, LookTells, ShowsOwn, FoundOwn, CountTells, CheckTells}
 use Rattle.slice_board.specs.declared.view.About.{About}
 use Rattle.slice_board.specs.declared.view.View.{View}
 use Rattle.slice_board.proofs.words.Sums.{total-append, total-set, term_le, times-same, times-other, ored, ored_here, ored_else, Grows, ored_grows}
 use Rattle.slice_board.proofs.words.Sums.{bit_put, bit_stays, one_bit, one_slice, times-append, logged_at-append, shows_at-append, total_lt}
 use Rattle.slice_board.proofs.words.Sums.{logged_here, logged_else, count_here, count_else}
+use Rattle.slice_board.proofs.passes.Shares.{no_parts, whole_parts, halved_parts, joined_parts, total_one, set_there}
 
 module _ {T : Type 0} (wants : T → ℕ → ℕ → Type 0) (about : About T) where
   abbrev St : Type 0
@@ -51,6 +52,7 @@ module _ {T : Type 0} (wants : T → ℕ → ℕ → Type 0) (about : About T) w
   grow : (ws us : List ℕ) (v : View T) → Grows ws us → F ws v → F us v
   grow ws us v g f = record {
     board = f.board;
+    spent = f.spent;
     own = f.own;
     found = λ x h. g _ _ (f.found x h);
     seen = λ p q j a b h. g _ _ (f.seen p q j a b h);
@@ -69,6 +71,8 @@ module _ {T : Type 0} (wants : T → ℕ → ℕ → Type 0) (about : About T) w
     wide : length ws ≡ length s.words
     grows : Grows s.words ws
     fits : F ws w
+    share : w.share ≡ v.share
+    halvings : w.halvings ≡ v.halvings
     claimed : (x : ℕ) → x < slices → claim_bit ws x + times x v.claimed ≡ claim_bit s.words x + times x w.claimed
     below : (x : ℕ) → slices ≤ x → times x w.claimed ≤ times x v.claimed
     finished : (x : ℕ) → x < slices → done_bit ws x + times x v.finished ≡ done_bit s.words x + times x w.finished
@@ -102,6 +106,12 @@ module _ {T : Type 0} (wants : T → ℕ → ℕ → Type 0) (about : About T) w
           finished = λ x h. omega (arith, total-set (λ o. times x o.finished) s.views id v w me, l.lawful.finished x h, c.finished x h);
           complete = c.complete;
           padding = c.padding;
+          whole = λ k small.
+              let same : w.share * 2 ^ (k - w.halvings) ≡ v.share * 2 ^ (k - v.halvings) = λ i. c.share i * 2 ^ (k - c.halvings i) in
+              let most = total-set (λ o. o.halvings) s.views id v w me in
+              let equal = c.halvings in
+              let parts = total-set (λ o. o.share * 2 ^ (k - o.halvings)) s.views id v w me in
+              omega (arith, l.lawful.whole k (omega arith));
         };
       }
 
@@ -122,6 +132,8 @@ module _ {T : Type 0} (wants : T → ℕ → ℕ → Type 0) (about : About T) w
         wide = length-set s.words i (bit_or (get_or s.words i 0) (2 ^ (x % 64)));
         grows = ored_grows s.words i (2 ^ (x % 64)) in_words;
         fits = fits;
+        share = refl;
+        halvings = refl;
         claimed = λ y _. claimed y;
         below = below;
         finished = λ y _. ap (λ (n : ℕ). n + times y v.finished) (stays (done_place about (y / 64)) (y % 64) (omega arith));
@@ -135,7 +147,7 @@ module _ {T : Type 0} (wants : T → ℕ → ℕ → Type 0) (about : About T) w
         );
       }
 
-  module _ (s : St) (l : L s) (id x : ℕ) (v : View T) (me : get_elem? s.views id ≡ some v) (h : x < slices) where
+  module _ (s : St) (l : L s) (id x : ℕ) (v : View T) (me : get_elem? s.views id ≡ some v) (knows : v.about ≡ Some about) (h : x < slices) where
     in_words : x / 64 < length s.words
     in_words = let wide = l.wide in omega arith
 
@@ -152,6 +164,7 @@ module _ {T : Type 0} (wants : T → ℕ → ℕ → Type 0) (about : About T) w
     draws_new clear = claims_only s l x v (v.claimed ++ x ∷ []) v.found h
         (record {
           board = grown.board;
+          spent = λ e. let no_board = (grown.spent e).0 in absurd (cc (knows, no_board));
           own = λ y. let a = grown.own y in let b = times-append y v.claimed (x ∷ []) in omega arith;
           found = grown.found;
           seen = grown.seen;
@@ -167,6 +180,7 @@ module _ {T : Type 0} (wants : T → ℕ → ℕ → Type 0) (about : About T) w
     draws_old was = claims_only s l x v v.claimed (v.found ++ x ∷ []) h
         (record {
           board = grown.board;
+          spent = grown.spent;
           own = grown.own;
           found = λ y some. dite (ℕ_discrete y x) (λ e. subst (λ (n : ℕ). claim_bit (claimed_in s x) n ≡ 1) (sym e) is_put)
               (λ n. grown.found y (let b = times-other x y v.found n in omega arith));
@@ -179,15 +193,15 @@ module _ {T : Type 0} (wants : T → ℕ → ℕ → Type 0) (about : About T) w
         (λ n. let a = kept y n in omega arith))
         (λ y far. omega arith)
 
-  pub draws : (slots id x : ℕ) (m : Sat T) → x < slices
+  pub draws : (slots id x : ℕ) (m : Sat T) → m.0.about ≡ Some about → x < slices
       → Allows L slots id m (x / 64) (λ n. bit_or n (2 ^ (x % 64))) (DrawTells (step slots (x / 64) (2 ^ (x % 64)) 0 none) m)
-  draws slots id x m h s l _ at _ =
+  draws slots id x m knows h s l _ at _ =
       dite (ℕ_discrete (claim_bit s.words x) 0)
       (λ clear. (
         after_claim x m.0,
         keeps,
         tt,
-        moved s l id m.0 (after_claim x m.0) (claimed_in s x) at (draws_new s l id x m.0 at h clear),
+        moved s l id m.0 (after_claim x m.0) (claimed_in s x) at (draws_new s l id x m.0 at knows h clear),
         λ y w f. let it = one_slice x y w f in (
           (λ _. λ i. (after_claim (it i) m.0, m.1)),
           λ set. absurd (let c : claim_bit s.words y ≡ 0 = subst (λ (n : ℕ). claim_bit s.words n ≡ 0) it clear in
@@ -198,7 +212,7 @@ module _ {T : Type 0} (wants : T → ℕ → ℕ → Type 0) (about : About T) w
         after_finding x m.0,
         keeps,
         tt,
-        moved s l id m.0 (after_finding x m.0) (claimed_in s x) at (draws_old s l id x m.0 at h was),
+        moved s l id m.0 (after_finding x m.0) (claimed_in s x) at (draws_old s l id x m.0 at knows h was),
         λ y w f. let it = one_slice x y w f in (
           (λ clear. absurd (let c : claim_bit s.words y ≡ 1 = subst (λ (n : ℕ). claim_bit s.words n ≡ 1) it was in
               let d : claim_bit s.words y ≡ 0 = subst (λ (n : ℕ). bit_at (get_or s.words n 0) (y % 64) ≡ 0) w clear in omega arith)),
@@ -207,10 +221,11 @@ module _ {T : Type 0} (wants : T → ℕ → ℕ → Type 0) (about : About T) w
       ))
 
   -- the same at a mask that is computed
-  pub draws_by : (slots id x k : ℕ) (m : Sat T) → x < slices → k ≡ 2 ^ (x % 64)
+  pub draws_by : (slots id x k : ℕ) (m : Sat T) → m.0.about ≡ Some about → x < slices → k ≡ 2 ^ (x % 64)
       → Allows L slots id m (x / 64) (λ n. bit_or n k) (DrawTells (step slots (x / 64) k 0 none) m)
-  draws_by slots id x k m h e =
-      subst (λ (j : ℕ). Allows L slots id m (x / 64) (λ n. bit_or n j) (DrawTells (step slots (x / 64) j 0 none) m)) (sym e) (draws slots id x m h)
+  draws_by slots id x k m knows h e =
+      subst (λ (j : ℕ). Allows L slots id m (x / 64) (λ n. bit_or n j) (DrawTells (step slots (x / 64) j 0 none) m)) (sym e)
+      (draws slots id x m knows h)
 
   -- ---- split, join, and the load after a join
   -- what a pass knows at a word that does not change
@@ -228,39 +243,55 @@ module _ {T : Type 0} (wants : T → ℕ → ℕ → Type 0) (about : About T) w
     (refl, λ x. omega (arith, term_le (λ o. times x o.claimed) s.views id m.0 at, l.lawful.once x)),
   )
 
-  fresh_fits : (ws : List ℕ) (o : Option (About T)) → ((known : About T) → o ≡ Some known → known ≡ about) → F ws (fresh_view o)
-  fresh_fits ws o board = record {
+  fresh_fits : (ws : List ℕ) (o : Option (About T)) (share halvings : ℕ) → ((known : About T) → o ≡ Some known → known ≡ about)
+      → (share ≡ 0 → o ≡ None) → F ws (fresh_view o share halvings)
+  fresh_fits ws o share halvings board no_share = record {
     board = board;
+    spent = λ e. (no_share e, refl);
     own = λ x. omega arith;
     found = λ x h. absurd (omega arith);
     seen = λ p q j a b h. absurd (omega arith);
     counted = λ k j a h. absurd (omega arith);
   }
 
-  pub splits : (id : ℕ) (v : View T) → Splits L id v v (split_view v)
-  splits id v s l at = subst (λ (vs : List (View T)). L (record { words = s.words; homes = s.homes; views = vs ++ split_view v ∷ [] }))
-      (sym (set_again s.views id v at))
-      (let new : View T = split_view v in
-      let below : (x : ℕ) → slices ≤ x → claims_of x (s.views ++ new ∷ []) ≡ 0 =
-      λ x h. omega (arith, total-append (λ o. times x o.claimed) s.views (new ∷ []), l.lawful.below x h) in
-      let claimed : (x : ℕ) → x < slices → claims_of x (s.views ++ new ∷ []) ≡ claim_bit s.words x =
-      λ x h. omega (arith, total-append (λ o. times x o.claimed) s.views (new ∷ []), l.lawful.claimed x h) in
+  pub splits : (id : ℕ) (v : View T) → Splits L id v (halved_view v) (split_view v)
+  splits id v s l at =
+      let vs = set s.views id (halved_view v) in
+      let new : View T = split_view v in
+      let f = l.lawful.known id v at in
+      let same : (k : View T → ℕ) → k (halved_view v) ≡ k v → k new ≡ 0 → total k (vs ++ new ∷ []) ≡ total k s.views =
+      λ k e h. omega (arith, total-append k vs (new ∷ []), total-set k s.views id v (halved_view v) at) in
+      let below : (x : ℕ) → slices ≤ x → claims_of x (vs ++ new ∷ []) ≡ 0 =
+      λ x h. same (λ o. times x o.claimed) refl refl ∙ l.lawful.below x h in
+      let claimed : (x : ℕ) → x < slices → claims_of x (vs ++ new ∷ []) ≡ claim_bit s.words x =
+      λ x h. same (λ o. times x o.claimed) refl refl ∙ l.lawful.claimed x h in
       record {
         wide = l.wide;
         lawful = record {
           below = below;
-          once = once_of s.words (s.views ++ new ∷ []) below claimed;
+          once = once_of s.words (vs ++ new ∷ []) below claimed;
           claimed = claimed;
-          posted = λ p q j hp hq. let a = total-append (λ o. logged_at p q j o.posted) s.views (new ∷ []) in let b = l.lawful.posted p q j hp hq in
-              omega arith;
+          posted = λ p q j hp hq. ap (λ (n : ℕ). min 1 n) (same (λ o. logged_at p q j o.posted) refl refl) ∙ l.lawful.posted p q j hp hq;
           within = l.lawful.within;
-          known = λ k u e. ⊎_elim (λ h. l.lawful.known k u h) (λ h. subst (F s.words) h (fresh_fits s.words v.about (l.lawful.known id v at).board))
-              (at_snoc s.views new u k e);
-          finished = λ x h. omega (arith, total-append (λ o. times x o.finished) s.views (new ∷ []), l.lawful.finished x h);
+          known = λ k u e. ⊎_elim
+              (λ h. ⊎_elim
+              (λ i. subst (F s.words) i.1
+              (record { board = f.board; spent = f.spent; own = f.own; found = f.found; seen = f.seen; counted = f.counted }))
+              (λ i. l.lawful.known k u i.1) (at_set s.views id k (halved_view v) u h))
+              (λ h. subst (F s.words) h (fresh_fits s.words v.about v.share (v.halvings + 1) f.board (λ e. (f.spent e).0)))
+              (at_snoc vs new u k e);
+          finished = λ x h. same (λ o. times x o.finished) refl refl ∙ l.lawful.finished x h;
           complete = l.lawful.complete;
           padding = l.lawful.padding;
+          whole = λ k small.
+              let most = total-append (λ o. o.halvings) vs (new ∷ []) in
+              let more = total-set (λ o. o.halvings) s.views id v (halved_view v) at in
+              let mine = term_le (λ o. o.halvings) s.views id v at in
+              let all = total-append (λ o. o.share * 2 ^ (k - o.halvings)) vs (new ∷ []) in
+              let half = total-set (λ o. o.share * 2 ^ (k - o.halvings)) s.views id v (halved_view v) at in
+              omega (arith, halved_parts v.share v.halvings k (omega arith), l.lawful.whole k (omega arith));
         };
-      })
+      }
 
   no_board : (known : About T) → None ≡ Some known → known ≡ about
   no_board known e = absurd (cc)
@@ -285,9 +316,13 @@ module _ {T : Type 0} (wants : T → ℕ → ℕ → Type 0) (about : About T) w
           posted = λ p q j hp hq. ap (λ (n : ℕ). min 1 n) (once (λ o. logged_at p q j o.posted) refl (logged_at-append p q j v.posted w.posted))
               ∙ l.lawful.posted p q j hp hq;
           within = l.lawful.within;
-          known = λ k u e. ⊎_elim (λ h. subst (F s.words) h.1 (fresh_fits s.words None no_board))
+          known = λ k u e. ⊎_elim (λ h. subst (F s.words) h.1 (fresh_fits s.words None 0 0 no_board (λ _. refl)))
               (λ h. ⊎_elim (λ i. subst (F s.words) i.1 (record {
                 board = f.board;
+                spent = λ e.
+                    let mine = f.spent (no_parts v.share w.halvings (omega arith)) in
+                    let theirs = g.spent (no_parts w.share v.halvings (omega arith)) in
+                    (mine.0, λ j. mine.1 j ++ theirs.1 j);
                 own = λ x. let a = f.own x in let b = g.own x in let c = times-append x v.finished w.finished in
                     let d = times-append x v.claimed w.claimed in omega arith;
                 found = λ x some. let c = times-append x v.found w.found in
@@ -300,6 +335,12 @@ module _ {T : Type 0} (wants : T → ℕ → ℕ → Type 0) (about : About T) w
           finished = λ x h. once (λ o. times x o.finished) refl (times-append x v.finished w.finished) ∙ l.lawful.finished x h;
           complete = l.lawful.complete;
           padding = l.lawful.padding;
+          whole = λ k small.
+              let most = once (λ o. o.halvings) refl refl in
+              let here = set_else vs other id spent_view (λ e. apart (sym e)) ∙ set_there s.views id v (joined_view v w) at in
+              let mine = term_le (λ o. o.halvings) (set vs other spent_view) id (joined_view v w) here in
+              once (λ o. o.share * 2 ^ (k - o.halvings)) (omega arith) (joined_parts v.share v.halvings w.share w.halvings k (omega arith))
+              ∙ l.lawful.whole k (omega arith);
         };
       }
 
@@ -345,8 +386,11 @@ module _ {T : Type 0} (wants : T → ℕ → ℕ → Type 0) (about : About T) w
     finishes_one = let f = grow s.words done_in v (ored_grows s.words done_word (2 ^ (x % 64)) has_word) (l.lawful.known id v me) in record {
       wide = length-set s.words done_word (bit_or (get_or s.words done_word 0) (2 ^ (x % 64)));
       grows = ored_grows s.words done_word (2 ^ (x % 64)) has_word;
+      share = refl;
+      halvings = refl;
       fits = record {
         board = f.board;
+        spent = f.spent;
         own = λ y. dite (ℕ_discrete y x) (λ e. subst (λ (n : ℕ). times n (v.finished ++ x ∷ []) ≤ times n v.claimed) (sym e)
             (let a = times-same x v.finished in omega arith)) (λ n. let a = times-other x y v.finished n in let b = f.own y in omega arith);
         found = f.found;
@@ -410,7 +454,9 @@ module _ {T : Type 0} (wants : T → ℕ → ℕ → Type 0) (about : About T) w
     posts_one = let g = ored_grows s.words (row_place about p q) m has_row in let f = grow s.words row_in v g (l.lawful.known id v me) in record {
       wide = length-set s.words (row_place about p q) (bit_or (get_or s.words (row_place about p q) 0) m);
       grows = g;
-      fits = record { board = f.board; own = f.own; found = f.found; seen = f.seen; counted = f.counted };
+      fits = record { board = f.board; spent = f.spent; own = f.own; found = f.found; seen = f.seen; counted = f.counted };
+      share = refl;
+      halvings = refl;
       claimed = λ y hy. ap (λ (n : ℕ). bit_at n (y % 64) + times y v.claimed) (low_stays (y / 64) (omega arith));
       below = λ y far. omega arith;
       finished = λ y hy. ap (λ (n : ℕ). bit_at n (y % 64) + times y v.finished) (low_stays (done_place about (y / 64)) (omega arith));
@@ -461,12 +507,14 @@ module _ {T : Type 0} (wants : T → ℕ → ℕ → Type 0) (about : About T) w
   read_only s l i id m v w me c = subst (λ (ws : List ℕ). L (record { words = ws; homes = s.homes; views = set s.views id w }))
       (sym (set-get_or s.words i 0)) (moved s l id v w s.words me c)
 
-  same_words : (s : St) (l : L s) (v w : View T) → F s.words w → w.claimed ≡ v.claimed → w.finished ≡ v.finished → w.posted ≡ v.posted
-      → Change s v s.words w
-  same_words s l v w f a b d = record {
+  same_words : (s : St) (l : L s) (v w : View T) → F s.words w → w.share ≡ v.share → w.halvings ≡ v.halvings → w.claimed ≡ v.claimed
+      → w.finished ≡ v.finished → w.posted ≡ v.posted → Change s v s.words w
+  same_words s l v w f share halvings a b d = record {
     wide = refl;
     grows = λ k j e. e;
     fits = f;
+    share = share;
+    halvings = halvings;
     claimed = λ y hy. ap (λ (c : List ℕ). claim_bit s.words y + times y c) (sym a);
     below = λ y far. let e = ap (times y) a in omega arith;
     finished = λ y hy. ap (λ (c : List ℕ). done_bit s.words y + times y c) (sym b);
@@ -488,6 +536,7 @@ module _ {T : Type 0} (wants : T → ℕ → ℕ → Type 0) (about : About T) w
     tt,
     read_only s l (row_place about p q) id m v (after_look (logged_word p q r) v) at (same_words s l v (after_look (logged_word p q r) v) (record {
       board = f.board;
+      spent = f.spent;
       own = f.own;
       found = f.found;
       seen = λ p' q' j hp' hq' some-seen. dite (ℕ_discrete p p')
@@ -500,7 +549,7 @@ module _ {T : Type 0} (wants : T → ℕ → ℕ → Type 0) (about : About T) w
           (λ n. f.seen p' q' j hp' hq' (let a = logged_else p q r p' q' j v.seen (λ both. n both.1) in omega arith)))
           (λ n. f.seen p' q' j hp' hq' (let a = logged_else p q r p' q' j v.seen (λ both. n both.0) in omega arith));
       counted = f.counted;
-    }) refl refl refl),
+    }) refl refl refl refl refl),
     λ known is p' q' h _ w. let same = same_board s l id m.0 known at is in let it = same_place known p q p' q' same hp h w in
         subst (Says r m (after_look (logged_word p q r) v, m.1))
         (λ i. (it.0 i, (it.1 i, same i))) (
@@ -512,8 +561,22 @@ module _ {T : Type 0} (wants : T → ℕ → ℕ → Type 0) (about : About T) w
         ),
   )
 
+  -- Where a pass has the whole board, no other one has claimed a slice.
+  found_own : (s : St) (l : L s) (id : ℕ) (v : View T) → get_elem? s.views id ≡ some v → FoundOwn slices v.share v.halvings v.claimed v.found
+  found_own s l id v me whole x low was_found =
+      let k : ℕ = halvings_of s.views in
+      let most = term_le (λ o. o.halvings) s.views id v me in
+      let mine : v.share * 2 ^ (k - v.halvings) ≡ 2 ^ k =
+      ap (λ (n : ℕ). n * 2 ^ (k - v.halvings)) whole ∙ whole_parts v.halvings k (omega arith) in
+      let all = l.lawful.whole k (omega arith) ∙ sym mine in
+      let only : claims_of x s.views ≡ times x v.claimed = total_one (λ o. times x o.claimed) (λ o. o.share * 2 ^ (k - o.halvings)) s.views
+      (λ j o at e. ap (times x) ((l.lawful.known j o at).spent (no_parts o.share (k - o.halvings) e)).1) id v me all in
+      let set = (l.lawful.known id v me).found x was_found in
+      omega (arith, l.lawful.claimed x low)
+
   abbrev Tells : ℕ → Sat T → Sat T → ℕ × About T → Type 0
   Tells r m n a = (n ≡ (after_count (load_of a.0 r) m.0, m.1)) × ShowsOwn (slice_count a.1.cut) m.0.claimed m.0.finished a.0 r
+      × FoundOwn (slice_count a.1.cut) m.0.share m.0.halvings m.0.claimed m.0.found
 
   pub tells : (slots id k : ℕ) (m : Sat T) → k < tally_words about
       → Allows L slots id m (done_place about k) (λ n. n) (CountTells (step slots (done_place about k) 0 0 none) m)
@@ -523,6 +586,7 @@ module _ {T : Type 0} (wants : T → ℕ → ℕ → Type 0) (about : About T) w
     tt,
     read_only s l (done_place about k) id m v (after_count (load_of k r) v) at (same_words s l v (after_count (load_of k r) v) (record {
       board = f.board;
+      spent = f.spent;
       own = f.own;
       found = f.found;
       seen = f.seen;
@@ -531,7 +595,7 @@ module _ {T : Type 0} (wants : T → ℕ → ℕ → Type 0) (about : About T) w
           (λ h. dite (dec_le 1 (shows_at k j v.counted)) (f.counted k j hk) (λ n. let a = count_here k r j v.counted in let b = bit_at-lt r j in
           omega arith)) some-told)
           (λ n. f.counted i j hi (let a = count_else k r i j v.counted n in omega arith));
-    }) refl refl refl),
+    }) refl refl refl refl refl),
     λ known is i hi w. let same = same_board s l id m.0 known at is in
         let it : k ≡ i = (let e = ap tally_words same in omega arith) in subst (Tells r m (after_count (load_of k r) v, m.1)) (λ j. (it j, same j)) (
           refl,
@@ -543,6 +607,7 @@ module _ {T : Type 0} (wants : T → ℕ → ℕ → Type 0) (about : About T) w
             lacks_held = λ x low word held. ap (λ (n : ℕ). bit_at (get_or s.words (done_place about n) 0) (x % 64)) (sym word)
                 ∙ not_done s l id x v at low held;
           },
+          found_own s l id v at,
         ),
   )
 

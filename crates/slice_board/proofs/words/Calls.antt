@@ -12,7 +12,7 @@ use Rattle.slice_board.specs.Passes.{PassState, times, logged_at, IsLogged}
 use Rattle.slice_board.specs.Boards.{BoardState, slice_count, words_for, about_board, IsOf, IsPlace, InSlice}
 use Rattle.slice_board.specs.code.Words.{about_key, tally_words, row_place}
 use Rattle.slice_board.specs.code.Fields.{pass_state, IsKept, IsLaid}
-use Rattle.slice_board.specs.code.Told.{Sat, ShowsOwn}
+use Rattle.slice_board.specs.code.Told.{Sat, ShowsOwn, FoundOwn}
 use Rattle.slice_board.specs.declared.view.About.{About}
 use Rattle.slice_board.specs.declared.view.View.{View}
 use Rattle.slice_board.specs.declared.view.LoggedWord.{LoggedWord}
@@ -86,3 +86,9 @@ module _ {T : Type 0} {wants : T → ℕ → ℕ → Type 0} {table : TableId} {
         → ShowsOwn (slice_count board.cut) pass.claimed pass.finished word value
     shows_own word value =
         subst (λ (a : ℕ × PassState T). ShowsOwn a.0 a.1.claimed a.1.finished word value) (λ i. (sym (same_slices laid board_is) i, pass_is i))
+
+    pub finds_own : FoundOwn (slice_count (about_key key).cut) v.share v.halvings v.claimed v.found
+        → FoundOwn (slice_count board.cut) pass.share pass.halvings pass.claimed pass.found
+    finds_own =
+        subst (λ (a : ℕ × PassState T). FoundOwn a.0 a.1.share a.1.halvings a.1.claimed a.1.found)
+        (λ i. (sym (same_slices laid board_is) i, pass_is i))

@@ -3,7 +3,7 @@ use Rattle.std.specs.Prelude.{◌≡◌, ℕ, zero, suc, ◌+◌, ◌*◌, ◌/�
 use Rattle.std.specs.Int.{bit_at}
 use Rattle.bit_rows.specs.RowSet.{contains}
 use Rattle.bit_rows.specs.RowTable.{RowTable, IsUniform, set_at, with_set}
-use Rattle.slice_board.specs.Passes.{PassState, times, loads_from}
+use Rattle.slice_board.specs.Passes.{PassState, IsWhole, times, loads_from}
 use Rattle.slice_board.specs.Boards.{CountsOnce, words_for, shown_below}
 
 -- how many of the lowest n places of a word are 1
@@ -15,11 +15,13 @@ ones_below (suc n) word = ones_below n word + bit_at word n
 abbrev pub shown_in : List ℕ → ℕ → ℕ
 shown_in values s = bit_at (slice_index values (s / 64)) (s % 64)
 
--- A count of the finished slices by one load of each done word. It has those that the pass finished, and not what it holds.
+-- A count of the finished slices by one load of each done word. It has those that the pass finished, and not what it holds. A pass with the
+-- whole board learns that it claimed each slice that it found taken.
 pub record Counted {T : Type 0} (slices : ℕ) (old new : PassState T) (done : ℕ) : Type 0 where
   pub once : CountsOnce slices old.counted new.counted done
   pub has_finished : (s : ℕ) → s < slices → 0 < times s old.finished → shown_in once.values s ≡ 1
   pub lacks_held : (s : ℕ) → s < slices → times s old.finished < times s old.claimed → shown_in once.values s ≡ 0
+  pub found_own : IsWhole old → (s : ℕ) → s < slices → 0 < times s old.found → 0 < times s old.claimed
 
 -- The same of the first n done words.
 pub record CountedTo {T : Type 0} (slices n : ℕ) (old new : PassState T) (done : ℕ) : Type 0 where
@@ -29,6 +31,7 @@ pub record CountedTo {T : Type 0} (slices n : ℕ) (old new : PassState T) (done
   pub shown : done ≡ shown_below (min (64 * n) slices) values
   pub has_finished : (s : ℕ) → s < slices → s < 64 * n → 0 < times s old.finished → shown_in values s ≡ 1
   pub lacks_held : (s : ℕ) → s < slices → s < 64 * n → times s old.finished < times s old.claimed → shown_in values s ≡ 0
+  pub found_own : IsWhole old → (s : ℕ) → s < slices → s < 64 * n → 0 < times s old.found → 0 < times s old.claimed
 
 -- bit `bit` of the row whose first word stands at `from`, and each further one `apart` words behind the one before
 abbrev pub row_bit : List ℕ → ℕ → ℕ → ℕ → ℕ

@@ -22,6 +22,8 @@ module _ {T : Type 0} where
     seen = v.seen;
     found = v.found;
     counted = v.counted;
+    share = v.share;
+    halvings = v.halvings;
     held = held;
     next = next;
   }

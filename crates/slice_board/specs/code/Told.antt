@@ -21,6 +21,10 @@ pub record ShowsOwn (slices : ℕ) (claimed finished : List ℕ) (word value : �
   pub has_finished : (s : ℕ) → s < slices → s / 64 ≡ word → 0 < times s finished → bit_at value (s % 64) ≡ 1
   pub lacks_held : (s : ℕ) → s < slices → s / 64 ≡ word → times s finished < times s claimed → bit_at value (s % 64) ≡ 0
 
+-- A pass with the whole board claimed each slice that it found taken: no other pass has claimed one.
+abbrev pub FoundOwn : ℕ → ℕ → ℕ → List ℕ → List ℕ → Type 0
+FoundOwn slices share halvings claimed found = share ≡ 2 ^ halvings → (s : ℕ) → s < slices → 0 < times s found → 0 < times s claimed
+
 module _ {T : Type 0} where
   -- the slice is claimed where its bit was clear, and else found
   abbrev pub DrawTells : Step (Unit {0}) → Sat T → ℕ → Sat T → Type 0
@@ -48,7 +52,9 @@ module _ {T : Type 0} where
   abbrev pub CountTells : Step (Unit {0}) → Sat T → ℕ → Sat T → Type 0
   CountTells step old value new = (about : About T) → old.0.about ≡ Some about
       → (word : ℕ) → word < tally_words about → step.word ≡ done_place about word
-      → (new ≡ (after_count (load_of word value) old.0, old.1)) × ShowsOwn (slice_count about.cut) old.0.claimed old.0.finished word value
+      → (new ≡ (after_count (load_of word value) old.0, old.1))
+      × ShowsOwn (slice_count about.cut) old.0.claimed old.0.finished word value
+      × FoundOwn (slice_count about.cut) old.0.share old.0.halvings old.0.claimed old.0.found
 
   -- A load after a join, which changes nothing, shows that the claims of the pass have no slice twice.
   abbrev pub CheckTells : Step (Unit {0}) → Sat T → ℕ → Sat T → Type 0

@@ -3,7 +3,8 @@ ghost use Rattle.std.specs.Prelude.{◌≡◌, ℕ, ◌+◌, ◌*◌, ◌<◌, �
 ghost use Rattle.bit_rows.specs.RowSet.{contains};
 ghost use Rattle.bit_rows.specs.RowTable.{set_at};
 ghost use Rattle.slice_board.specs.Boards.{IsOf, CountsOnce, slice_count, words_for};
-ghost use Rattle.slice_board.specs.Passes.{times};
+ghost use Rattle.slice_board.specs.Passes.{times, IsWhole};
+ghost use Rattle.slice_board.specs.Teams.{IsDrained};
 ghost use Rattle.slice_board.specs.code.Told.{load_of, ShowsOwn};
 ghost use Rattle.slice_board.specs.code.Closing.{Counted, ones_below};
 
@@ -39,6 +40,8 @@ impl<T: Wanted> WordBoard<T> {
         ensures range { IfOk result (λ rows. (rows.lo ≡ 0) × (rows.hi ≡ self.cut.bits)) }
         ensures all_finished { ((s : ℕ) → s < slice_count self.cut → 0 < times s pass.finished)
             → IsOk result }
+        // No other pass can have left a slice unfinished.
+        ensures drained { IsDrained self pass → IsWhole pass → IsOk result }
         ensures holding { IsSome pass.held → IsErr result }
         ensures unfinished { IfErr result (λ r. (r.0.done < r.0.of) × (r.0.of ≡ slice_count self.cut)) }
         ensures counted { IfErr result (λ r.
@@ -65,6 +68,7 @@ impl<T: Wanted> WordBoard<T> {
         ensures counted { pass.new
             ≡ record pass.old { counted = pass.old.counted ++ load_of word result ∷ [] } }
         ensures own { ShowsOwn (slice_count self.now.cut) pass.old.claimed pass.old.finished word result }
+        ensures found { IsWhole pass.old → (s : ℕ) → s < slice_count self.now.cut → 0 < times s pass.old.found → 0 < times s pass.old.claimed }
     {
         let place = words_for(self.cut.slices()) as usize + word as usize;
         self.table.shared.load::<Tally>(&mut pass.seat, place)

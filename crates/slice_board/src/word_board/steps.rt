@@ -3,8 +3,8 @@ ghost use Rattle.std.specs.Prelude.{◌≡◌, ℕ, ◌+◌, ◌-◌, ◌*◌, �
 ghost use Rattle.std.specs.Prelude.{IsSome, IsErr, if◌then◌else◌, true};
 ghost use Rattle.std.specs.List.{range_with_len};
 ghost use Rattle.bit_rows.specs.Words.{has_bit};
-ghost use Rattle.slice_board.specs.Boards.{IsOf, IsPlace, InSlice, fresh_pass, slice_count, about_board};
-ghost use Rattle.slice_board.specs.Passes.{IsLogged, logged_word, times, joined, either_of};
+ghost use Rattle.slice_board.specs.Boards.{IsOf, IsPlace, InSlice, split_pass, slice_count, about_board};
+ghost use Rattle.slice_board.specs.Passes.{IsLogged, logged_word, times, halved, joined, either_of};
 ghost use Rattle.slice_board.specs.code.Words.{row_place};
 
 use super::WordBoard;
@@ -14,11 +14,11 @@ use crate::rule::Wanted;
 use bit_rows::words_for;
 
 impl<T: Wanted> WordBoard<T> {
-    /// A new pass of the board, with empty lists. The old one is unchanged.
+    /// A new pass of the board, with empty lists. It has half of the old one's share, and the old one keeps the other half and all else.
     pub fn split(&self, pass: &mut Pass<T>) -> Pass<T>
         requires { IsOf self.now pass.old }
-        ensures new { result ≡ fresh_pass self.now }
-        ensures old { pass.new ≡ pass.old }
+        ensures new { result ≡ split_pass self.now pass.old }
+        ensures old { pass.new ≡ halved pass.old }
     {
         Pass {
             seat: self.table.shared.split_seat::<Fork>(&mut pass.seat),
@@ -27,8 +27,8 @@ impl<T: Wanted> WordBoard<T> {
         }
     }
 
-    /// Two passes as one: the lists of the first, followed by those of the second, and what either
-    /// holds. Refused only where both hold a slice.
+    /// Two passes as one: the lists of the first, followed by those of the second, both shares, and what
+    /// either holds. Refused only where both hold a slice.
     pub fn join(&self, first: Pass<T>, second: Pass<T>) -> Result<Pass<T>, (Pass<T>, Pass<T>)>
         requires first { IsOf self.now first }
         requires second { IsOf self.now second }

@@ -1,4 +1,4 @@
-use Rattle.std.proofs.Common.{◌≡◌, ◌<◌, ◌/◌, ◌%◌, ◌*◌, ◌∙◌, ◌↔◌, true, ap, ap₂, sym, subst, length, arith}
+use Rattle.std.proofs.Common.{◌≡◌, ◌<◌, ◌/◌, ◌%◌, ◌*◌, ◌∙◌, ◌↔◌, true, ap, ap₂, sym, subst, length, arith, refl}
 use Rattle.std.specs.Mem.Slots.{slots_items}
 use Rattle.bit_rows.specs.RowSet.{contains}
 use Rattle.bit_rows.specs.RowTable.{RowTable, set_at}
@@ -11,12 +11,22 @@ use Rattle.slice_board.specs.code.Fields.{pass_state}
 use Rattle.slice_board.specs.code.Worded.{word_of, worded_table}
 use Rattle.slice_board.proofs.passes.Passing.{knows, same_slices, same_wanted, held_low}
 use Rattle.slice_board.proofs.words.Calls.{tally_is}
-use Rattle.slice_board.proofs.passes.Endings.{whole, full, not_whole, finals, clear_past, words_exact, some_one}
+use Rattle.slice_board.proofs.passes.Endings.{whole, full, all_finished, not_whole, finals, clear_past, words_exact, some_one}
 use Rattle.slice_board.proofs.word_board.WordBoard.close.Goals as goal
 
 pub returns-then-done-of-clause-all_finished : goal.returns-then-done-of-clause-all_finished
 returns-then-done-of-clause-all_finished g c all =
     let done = full _ _ c.args.pass c.count_finished-done.new.pass c.count_finished-done.ensures.counted all in
+    let slices = ap (λ (b : BoardState _). slice_count b.cut) c.self.view_is in
+    let count = c.slices-of.ensures.count in
+    let less = c.if-done-of.true in
+    absurd (omega arith)
+
+pub returns-then-done-of-clause-drained : goal.returns-then-done-of-clause-drained
+returns-then-done-of-clause-drained g c drained whole =
+    let counted = c.count_finished-done.ensures.counted in
+    let all = all_finished _ _ c.args.pass c.count_finished-done.new.pass counted c.args.self refl drained whole in
+    let done = full _ _ c.args.pass c.count_finished-done.new.pass counted all in
     let slices = ap (λ (b : BoardState _). slice_count b.cut) c.self.view_is in
     let count = c.slices-of.ensures.count in
     let less = c.if-done-of.true in

@@ -1,9 +1,9 @@
-use Rattle.std.proofs.Common.{◌≡◌, ◌-◌, ◌*◌, [], ◌∷◌, ◌++◌, ℕ, min, ap, ◌∙◌, sym, arith}
+use Rattle.std.proofs.Common.{◌≡◌, ◌-◌, ◌*◌, [], ◌∷◌, ◌++◌, ℕ, min, ap, ◌∙◌, sym, refl, arith}
 use Rattle.slice_board.specs.Passes.{PassState}
 use Rattle.slice_board.specs.Boards.{BoardState, slice_count}
 use Rattle.slice_board.specs.code.Told.{load_of}
 use Rattle.slice_board.specs.code.Closing.{ones_below}
-use Rattle.slice_board.proofs.passes.Counting.{CountedTo-more, Counted-all, shown_below-most}
+use Rattle.slice_board.proofs.passes.Counting.{CountedTo-none, CountedTo-more, Counted-all, shown_below-most}
 use Rattle.slice_board.proofs.word_board.WordBoard.count_finished.Goals as goal
 
 pub overflow_add-done : goal.overflow_add-done
@@ -36,7 +36,7 @@ words-preserved g c =
       so_far = CountedTo-more (slice_count c.args.self.now.cut) c.words.word c.words.done c.low_ones-done.result c.load_done-value.result
           c.args.pass.now
           c.words.pass c.load_done-value.new.pass i.so_far i.same (omega arith)
-          (ap (λ (q : PassState _). q.counted) new) c.load_done-value.ensures.own
+          (ap (λ (q : PassState _). q.counted) new) c.load_done-value.ensures.own c.load_done-value.ensures.found
           (c.low_ones-done.ensures.value ∙ ap (λ (n : ℕ). ones_below n c.load_done-value.result) places);
     }
 
@@ -48,3 +48,10 @@ returns-clause-counted g c =
     let end = c.words_for-word-end.ensures in
     let auto = c.words.auto.word-end in
     Counted-all (slice_count c.args.self.now.cut) c.words.word c.words.done c.args.pass.now c.words.pass c.words.invariant.so_far (omega arith)
+
+pub words-init : goal.words-init
+words-init g c = record {
+  of = record { table = c.requires.table; about = c.requires.about };
+  same = refl;
+  so_far = CountedTo-none (slice_count c.args.self.now.cut) c.args.pass.now;
+}

@@ -14,7 +14,8 @@ fetch_or-before-requires g c =
     let wide = c.self.invariant.wide in (
       sits c.self.invariant c.self.view_is c.pass.view_is c.requires.of,
       omega arith,
-      draws_by g.T.Wanted.wants (about_key c.self.inside.table.shared.key) _ _ p.next _ p.seat.me below (one_shl (p.next % 64) 64 (omega arith)),
+      draws_by g.T.Wanted.wants (about_key c.self.inside.table.shared.key) _ _ p.next _ p.seat.me
+          (knows c.self.invariant c.self.view_is c.pass.view_is c.requires.of) below (one_shl (p.next % 64) 64 (omega arith)),
     )
 
 pub overflow_add-pass : goal.overflow_add-pass

@@ -5,7 +5,7 @@ use Rattle.slice_board.specs.code.Fields.{pass_state}
 use Rattle.slice_board.specs.code.Told.{load_of}
 use Rattle.slice_board.proofs.passes.Keeps.{tells_at}
 use Rattle.slice_board.proofs.passes.Passing.{sits, knows, kept_marks}
-use Rattle.slice_board.proofs.words.Calls.{tally_is, tally_below, shows_own, state_after, kept_after}
+use Rattle.slice_board.proofs.words.Calls.{tally_is, tally_below, shows_own, finds_own, state_after, kept_after}
 use Rattle.slice_board.proofs.word_board.WordBoard.load_done.Goals as goal
 
 pub load-requires : goal.load-requires
@@ -53,3 +53,12 @@ returns-clause-own g c =
     let after = c.load.ensures.2 (about_key c.self.inside.table.shared.key) (knows laid is c.pass.view_is c.requires.of) c.args.word
     (tally_below laid is c.args.word c.requires.below) (omega arith) in
     shows_own laid is c.pass.view_is c.requires.of c.args.word c.load.result after.1
+
+pub returns-clause-found : goal.returns-clause-found
+returns-clause-found g c =
+    let laid = c.self.invariant in
+    let is = c.self.view_is in
+    let tally = tally_is laid is _ _ c.words_for.ensures c.slices.ensures.count in
+    let after = c.load.ensures.2 (about_key c.self.inside.table.shared.key) (knows laid is c.pass.view_is c.requires.of) c.args.word
+    (tally_below laid is c.args.word c.requires.below) (omega arith) in
+    finds_own laid is c.pass.view_is c.requires.of after.2
