@@ -16,9 +16,7 @@ use crate::table::Table;
 use crate::tables::even_cut;
 use bit_rows::Cut;
 use flow_graph::{Analysis, Graph};
-use slice_board::{
-    Gate, Pass, PostedWords, SliceJob, Solve, Team, Wanted, WordBoard, run_workers,
-};
+use slice_board::{Gate, Pass, PostedWords, SliceJob, Solve, Team, Wanted, WordBoard, run_workers};
 use std::alloc::Global;
 use std::marker::Model;
 use std::thread::Threads;
