@@ -1,6 +1,8 @@
 // The job of what is asked of a graph.
 ghost use Rattle.std.specs.Prelude.{◌≡◌, ◌+◌, ◌*◌, ◌^◌, ◌<◌, ◌≤◌, length, IfOk};
-ghost use Rattle.slice_board.specs.Boards.{IsOf, fresh_pass};
+ghost use Rattle.slice_board.specs.Boards.{fresh_pass};
+ghost use Rattle.slice_board.specs.Passes.{IsWhole};
+ghost use Rattle.slice_board.specs.Teams.{IsDrained};
 ghost use Rattle.flow_queries.specs.Queries.{AreAnswers, AreQueriesOf};
 ghost use Rattle.flow_queries.specs.code.Cuts.{AreApart, EndTo};
 
@@ -12,7 +14,7 @@ use crate::queried::QueriedWords;
 use crate::query::Query;
 use crate::solvers::GraphSolvers;
 use bit_rows::{Cut, CutFault};
-use slice_board::{Pass, SliceJob, Unfinished, WordBoard};
+use slice_board::{Pass, SliceJob, WordBoard};
 use std::alloc::Global;
 
 // Where slices of this plan end.
@@ -95,20 +97,21 @@ pub(crate) fn queried_job<'g, 'p>(
     on_board(alloc, queried, cut)
 }
 
-/// The answers, where every slice is finished, and the solvers.
+/// The answers, once the workers have finished every slice, and the solvers.
 pub(crate) fn answers_of<'g, 'p>(
     alloc: Global,
     job: QueriedJob<'g, 'p>,
     pass: Pass<QueriedWords<'g, 'p>>,
 ) -> Result<(Answers, GraphSolvers<'g, 'p>), OutOfMemory>
-    requires { IsOf job pass }
+    requires drained { IsDrained job pass }
+    requires whole { IsWhole pass }
     ensures queries { IfOk result (λ r. r.0.queries ≡ job.entry.wanted.queries) }
     ensures answers { IfOk result (λ r. AreAnswers job.entry.wanted.program r.0) }
     ensures solvers { IfOk result (λ r. r.1 ≡ job.entry.wanted.program) }
 {
     match job.close(pass) {
         Ok((queried, posted)) => Answers::of(alloc, queried, &posted),
-        // All that the workers drew is finished: another pass would have left a slice.
-        Err((Unfinished { .. }, _job, _pass)) => Err(OutOfMemory),
+        // No other pass has a share of the board.
+        Err(_) => unreachable!(),
     }
 }
