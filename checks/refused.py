@@ -73,6 +73,8 @@ CALLS = {
         "Graph::succ",
         "Graph::leads_to",
         "Problem::of",
+        "Problem::of_chosen",
+        "Problem::copied",
         "Problem::edges",
     },
     "flow_team_answers_tests": {"answer", "answer_here", "answers_of_tables"},

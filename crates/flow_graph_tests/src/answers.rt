@@ -4,7 +4,7 @@ ghost use Rattle.std.specs.Prelude.{◌≡◌, ◌<◌, ◌^◌, length, IfOk};
 ghost use Rattle.flow_graph.specs.Points.{point_count};
 
 use flow_graph::{Analysis, Edge, Graph, GraphFault, OutOfMemory};
-use gen_kill::Problem;
+use gen_kill::{Problem, marked_numbers};
 use std::alloc::Global;
 use std::process::Abort;
 use std::test::Fail;
@@ -25,6 +25,8 @@ pub enum Question {
     Frame(Analysis),
     /// The boundary of an analysis' may form, and what it generates and kills at each point.
     Sets(Analysis),
+    /// The same of every other bit, from the second on, by columns.
+    SetsOfOdd(Analysis),
     /// What an analysis' may form generates and kills at this point.
     SetsAt(Analysis, u32),
 }
@@ -100,10 +102,32 @@ pub fn write_answer(
         Question::Sets(analysis) => {
             write_all_sets(text, alloc, &Problem::of(alloc, graph, analysis)?)
         }
+        Question::SetsOfOdd(analysis) => {
+            write_all_sets(text, alloc, &odd_problem(alloc, graph, analysis)?)
+        }
         Question::SetsAt(analysis, point) => {
             write_sets(text, alloc, &Problem::of(alloc, graph, analysis)?, point)
         }
     }
+}
+
+// Marks every other bit, from the second on.
+fn mark_odd(marks: &mut [bool]) {
+    for bit in 0..marks.len() {
+        marks[bit] = bit % 2 == 1;
+    }
+}
+
+/// The problem of every other bit of an analysis, from the second on.
+pub fn odd_problem<'g, 'p>(
+    alloc: Global,
+    graph: &'g Graph<'p>,
+    analysis: Analysis,
+) -> Result<Problem<'g, 'p>, OutOfMemory> {
+    let mut marks = vec![in alloc; false; graph.bits(analysis) as usize]?;
+    mark_odd(marks.as_mut_slice());
+    let chosen = marked_numbers(alloc, marks.as_slice())?;
+    Problem::of_chosen(alloc, graph, analysis, chosen)
 }
 
 /// Writes an edge behind a blank.

@@ -89,6 +89,35 @@ const MAY_FORMS: &[Row] = &[
     ),
 ];
 
+/// Of the rows above the bits of odd number: bit 1 is column 0, bit 3 column 1.
+const CHOSEN: &[Row] = &[
+    (
+        EACH_KIND,
+        Question::SetsOfOdd(Analysis::Reach),
+        "begins 0 0=1\n0: gens, kills 1 2 0=6\n1: gens 1 0=2, kills 2 0=4\n\
+        2: gens, kills 1 2 0=6\n3: gens 2 0=4, kills 1 0=2\n\
+        4: gens, kills 1 2 0=6\n5: gens, kills\n6: gens, kills\n7: gens, kills\n\
+        8: gens, kills\n9: gens, kills\n10: gens, kills\n11: gens, kills\n12: gens, kills\n13: gens, kills\n",
+    ),
+    (
+        EACH_KIND,
+        Question::SetsOfOdd(Analysis::Avail),
+        "begins 0 0=1\n0: gens 0 0=1, kills\n1: gens 0 0=1, kills\n2: gens 0 0=1, kills\n\
+        3: gens 0 0=1, kills\n4: gens 0 0=1, kills\n5: gens, kills\n6: gens, kills\n\
+        7: gens, kills\n8: gens, kills\n9: gens, kills\n10: gens, kills\n11: gens, kills\n12: gens, kills\n13: gens, kills\n",
+    ),
+    (
+        CALLS_MAIN,
+        Question::SetsOfOdd(Analysis::Live),
+        "begins\n0: gens, kills\n1: gens, kills\n2: gens, kills\n3: gens, kills\n4: gens, kills\n5: gens, kills\n",
+    ),
+];
+
+#[test]
+fn chosen_bits(rt: HostRuntime) -> Result<(), Fail> {
+    check_rows(&rt, CHOSEN)
+}
+
 #[test]
 fn may_forms(rt: HostRuntime) -> Result<(), Fail> {
     check_rows(&rt, MAY_FORMS)

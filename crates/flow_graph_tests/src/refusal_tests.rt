@@ -3,7 +3,9 @@
 ghost use Rattle.std.specs.Prelude.{◌≡◌, length};
 ghost use Rattle.flow_graph.specs.Points.{point_count};
 
-use crate::answers::{Question, marks, write_answer, write_edges, write_flags, write_frame};
+use crate::answers::{
+    Question, marks, odd_problem, write_answer, write_edges, write_flags, write_frame,
+};
 use flow_graph::{Analysis, Graph, OutOfMemory};
 use gen_kill::Problem;
 use std::alloc::Global;
@@ -66,8 +68,14 @@ fn lines_of_problem<'g, 'p>(
         "Problem::of",
         Problem::of(alloc, graph, Analysis::Reach)
     );
+    let chosen = again!(
+        *refused,
+        "Problem::of_chosen",
+        odd_problem(alloc, graph, Analysis::Reach)
+    );
+    let copied = again!(*refused, "Problem::copied", chosen.copied(alloc));
     let edges = again!(*refused, "Problem::edges", problem.edges(alloc));
-    write_frame(text, &problem, edges.as_slice())
+    write_frame(text, &copied, edges.as_slice())
 }
 
 fn lines_of_graph(

@@ -4,6 +4,7 @@ ghost use Rattle.std.specs.Prelude.{◌≡◌, ℕ, ◌+◌, ◌-◌, ◌*◌, �
 ghost use Rattle.bit_rows.specs.Words.{has_bit};
 ghost use Rattle.flow_graph.specs.Analyses.{is_must};
 ghost use Rattle.flow_graph.specs.Directions.{is_intersection};
+ghost use Rattle.gen_kill.specs.Selections.{all_bits};
 ghost use Rattle.gk_solve.specs.Solved.{AreMeetWords, IsSliceOf, direction_of};
 ghost use Rattle.flow_kept.specs.Facts.{AreFactsOf, AreInRange, HasRoom, IsRowWord};
 ghost use Rattle.flow_kept.specs.code.Filled.{AreFilled, CanFill, IsRowFilled};
@@ -51,6 +52,7 @@ fn put_row(
 )
     requires slice { IsSliceOf problem.now slice.now }
     requires meets { AreMeetWords problem.now slice.now }
+    requires whole { problem.now ≡ all_bits problem.now.program problem.now.analysis }
     requires lo { layout.lo ≡ slice.now.lo }
     requires hi { layout.hi ≡ slice.now.hi }
     requires join { is_intersection layout.join ≡ is_must problem.now.analysis }
@@ -89,6 +91,7 @@ fn put_words(
 )
     requires slice { IsSliceOf problem.now slice.now }
     requires meets { AreMeetWords problem.now slice.now }
+    requires whole { problem.now ≡ all_bits problem.now.program problem.now.analysis }
     requires lo { layout.lo ≡ slice.now.lo }
     requires hi { layout.hi ≡ slice.now.hi }
     requires join { is_intersection layout.join ≡ is_must problem.now.analysis }
@@ -170,6 +173,7 @@ fn put_solved<'a, 'g, 'p>(
     words: &mut [u64],
 ) -> Result<(), OutOfMemory>
     requires routes { routes.now ≡ direction_of solver.now }
+    requires whole { solver.now ≡ all_bits solver.now.program solver.now.analysis }
     requires in_range { AreInRange solver.now.program solver.now.analysis points.0 points.1 bits.0 bits.1 }
     requires room { HasRoom points.0 points.1 bits.0 bits.1 (length flags.old) (length words.old) }
     ensures facts { OnOk result (AreFactsOf solver.now.program solver.now.analysis points.0 points.1 bits.0 bits.1 flags.new words.new) }
@@ -197,7 +201,8 @@ fn put_solved<'a, 'g, 'p>(
 
 /// Puts the facts of a problem's analysis at the points `points.0..points.1` and on the bits `bits.0..bits.1` into flags and words, by the
 /// routes of its direction: for each of these points a flag, 1 where it has a valid path, and the words `bits.0 / 64` to
-/// `(bits.1 + 63) / 64` of its set. Fails only where memory runs out, and has written nothing then.
+/// `(bits.1 + 63) / 64` of its set. The condition: the problem has all bits of the analysis. Fails only where memory runs out, and has written
+/// nothing then.
 pub fn put_facts(
     alloc: Global,
     problem: Problem<'_, '_>,
@@ -208,6 +213,7 @@ pub fn put_facts(
     words: &mut [u64],
 ) -> Result<(), OutOfMemory>
     requires routes { routes.now ≡ direction_of problem }
+    requires whole { problem ≡ all_bits problem.program problem.analysis }
     requires in_range { AreInRange problem.program problem.analysis points.0 points.1 bits.0 bits.1 }
     requires room { HasRoom points.0 points.1 bits.0 bits.1 (length flags.old) (length words.old) }
     ensures facts { OnOk result (AreFactsOf problem.entry.program problem.entry.analysis points.0 points.1 bits.0 bits.1 flags.new words.new) }

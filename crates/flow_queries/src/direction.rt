@@ -2,7 +2,7 @@
 ghost use Rattle.std.specs.Prelude.{◌≡◌, Some, slice_get, IfOk};
 ghost use Rattle.flow_graph.specs.Analyses.{is_backward};
 ghost use Rattle.flow_graph.specs.Directions.{goes_backward};
-ghost use Rattle.flow_queries.specs.code.Directions.{analyses_of, form_of};
+ghost use Rattle.flow_queries.specs.code.Directions.{analyses_of, selection_of};
 
 use crate::OutOfMemory;
 use flow_graph::{Analysis, Direction, Graph};
@@ -47,7 +47,7 @@ fn solver_of<'g, 'p>(
     graph: &'g Graph<'p>,
     analysis: Analysis,
 ) -> Result<Solver<'g, 'p>, OutOfMemory>
-    ensures { IfOk result (λ solver. solver ≡ form_of graph.now analysis) }
+    ensures { IfOk result (λ solver. solver ≡ selection_of graph.now analysis) }
 {
     let problem = Problem::of(alloc, graph, analysis)?;
     Solver::of(alloc, problem)
@@ -92,7 +92,7 @@ impl<'g, 'p> DirectionSolvers<'g, 'p> {
     /// The solver of an analysis of the direction.
     pub(crate) fn solver(&self, analysis: Analysis) -> &Solver<'g, 'p>
         requires { is_backward analysis ≡ self.now.backward }
-        ensures { result.now ≡ form_of self.now.program analysis }
+        ensures { result.now ≡ selection_of self.now.program analysis }
     {
         &self.solvers[place_of(analysis)]
     }

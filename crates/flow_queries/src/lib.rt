@@ -14,6 +14,7 @@ mod query;
 mod solvers;
 
 pub use answers::Answers;
+pub use arrange::arranged_places;
 pub use calls::{answer, answer_here};
 pub use plan::SlicePlan;
 pub use query::Query;

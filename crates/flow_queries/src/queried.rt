@@ -3,15 +3,16 @@ ghost use Rattle.std.specs.Prelude.{◌≡◌, ℕ, ◌*◌, ◌^◌, ◌<◌, �
 ghost use Rattle.bit_rows.specs.RowSet.{contains};
 ghost use Rattle.bit_rows.specs.RowTable.{set_at};
 ghost use Rattle.flow_graph.specs.Universes.{bits as bits_of};
+ghost use Rattle.gen_kill.specs.Selections.{column_count, may_form};
 ghost use Rattle.gk_solve.specs.Solved.{HasPathFlags, TellWords, direction_of};
 ghost use Rattle.slice_board.specs.Boards.{IsOf};
 ghost use Rattle.flow_queries.specs.Queries.{AreQueriesOf, IsAnswerTo};
-ghost use Rattle.flow_team.specs.Sets.{IsInMaySet};
+ghost use Rattle.flow_team.specs.Sets.{IsInColumns};
 ghost use Rattle.slice_board.specs.Teams.{PostsMore};
 ghost use Rattle.flow_queries.specs.code.Boards.{AreDone, AreWordsOf, Arranges, IsArranged, IsQueryBoard, IsWanted};
 ghost use Rattle.flow_queries.specs.code.Boards.{ordered};
 ghost use Rattle.flow_queries.specs.code.Cuts.{AreAlike};
-ghost use Rattle.flow_queries.specs.code.Directions.{form_of};
+ghost use Rattle.flow_queries.specs.code.Directions.{selection_of};
 ghost use Rattle.flow_queries.specs.declared.query.Query.{Query as QueryValue};
 
 use crate::OutOfMemory;
@@ -69,7 +70,7 @@ fn solve_to<'a, 'g, 'p>(
 ) -> (u32, u32)
     requires routes { routes.now ≡ direction_of solver.now }
     requires solved { AreWordsOf solver.now solved.0 solved.1 words.old }
-    requires word { 64 * word < bits_of solver.now.program solver.now.analysis }
+    requires word { 64 * word < column_count solver.now }
     ensures solved { AreWordsOf solver.now result.0 result.1 words.new }
     ensures here { (result.0 ≤ word) × (word < result.1) }
 {
@@ -135,7 +136,7 @@ impl<'g, 'p> QueriedWords<'g, 'p> {
 
     // All memory in which an analysis is solved.
     fn memory(&self, alloc: Global, analysis: Analysis) -> Result<SliceWords, OutOfMemory>
-        ensures { IfOk result (AreWordsOf (form_of self.now.program analysis) 0 0) }
+        ensures { IfOk result (AreWordsOf (selection_of self.now.program analysis) 0 0) }
     {
         let solver = self.solvers.solver(analysis);
         let routes = self.solvers.routes(analysis);
@@ -177,7 +178,7 @@ impl<'g, 'p> QueriedWords<'g, 'p> {
 
     /// The path flags by which an analysis is solved. Fails only where memory runs out.
     pub(crate) fn flags(&self, alloc: Global, analysis: Analysis) -> Result<Vec<bool>, OutOfMemory>
-        ensures { IfOk result (λ flags. HasPathFlags (form_of self.now.program analysis) flags.items) }
+        ensures { IfOk result (λ flags. HasPathFlags (may_form (selection_of self.now.program analysis)) flags.items) }
     {
         self.solvers.flags(alloc, analysis)
     }
@@ -211,7 +212,7 @@ impl<'g, 'p> QueriedWords<'g, 'p> {
         requires from { words.now.from ≤ query.word }
         requires until { query.word < words.now.until }
         requires range { (words.now.lo ≡ 0) × (words.now.hi ≡ bits_of self.now.program query.analysis) }
-        requires tells { TellWords (IsInMaySet (form_of self.now.program query.analysis)) words.now }
+        requires tells { TellWords (IsInColumns (selection_of self.now.program query.analysis)) words.now }
         ensures more { PostsMore pass.old pass.new }
         ensures done { AreDone self.now (λ w. w ≡ j) pass.new.posted }
     {
@@ -235,10 +236,10 @@ impl<'g, 'p> QueriedWords<'g, 'p> {
         requires of { IsOf board.now pass.old }
         requires there { j < length self.now.order }
         requires solved { (query : QueryValue) → slice_get self.now.order j ≡ Some query
-            → AreWordsOf (form_of self.now.program query.analysis) solved.0 solved.1 words.old }
+            → AreWordsOf (selection_of self.now.program query.analysis) solved.0 solved.1 words.old }
         ensures more { PostsMore pass.old pass.new }
         ensures solved { (query : QueryValue) → slice_get self.now.order j ≡ Some query
-            → AreWordsOf (form_of self.now.program query.analysis) result.0 result.1 words.new }
+            → AreWordsOf (selection_of self.now.program query.analysis) result.0 result.1 words.new }
         ensures done { AreDone self.now (λ q. q ≡ j) pass.new.posted }
     {
         let query = self.query(j);

@@ -1,9 +1,10 @@
 // Solvers of all analyses of a graph.
 ghost use Rattle.std.specs.Prelude.{◌≡◌, ◌*◌, ◌^◌, ◌<◌, length, IfOk};
 ghost use Rattle.flow_graph.specs.Directions.{goes_backward};
+ghost use Rattle.gen_kill.specs.Selections.{may_form};
 ghost use Rattle.gk_solve.specs.Solved.{HasPathFlags, direction_of};
 ghost use Rattle.flow_queries.specs.Queries.{AreAnswers, AreQueriesOf};
-ghost use Rattle.flow_queries.specs.code.Directions.{form_of};
+ghost use Rattle.flow_queries.specs.code.Directions.{selection_of};
 
 use crate::OutOfMemory;
 use crate::answers::Answers;
@@ -108,14 +109,14 @@ impl<'g, 'p> GraphSolvers<'g, 'p> {
 
     /// The solver of an analysis.
     pub(crate) fn solver(&self, analysis: Analysis) -> &Solver<'g, 'p>
-        ensures { result.now ≡ form_of self.now analysis }
+        ensures { result.now ≡ selection_of self.now analysis }
     {
         self.direction(analysis.direction()).solver(analysis)
     }
 
     /// The edges and paths by which an analysis is solved.
     pub(crate) fn routes(&self, analysis: Analysis) -> &Routes
-        ensures { result.now ≡ direction_of (form_of self.now analysis) }
+        ensures { result.now ≡ direction_of (selection_of self.now analysis) }
     {
         self.direction(analysis.direction()).routes()
     }
@@ -127,7 +128,7 @@ impl<'g, 'p> GraphSolvers<'g, 'p> {
 
     /// The path flags by which an analysis is solved. Fails only where memory runs out.
     pub(crate) fn flags(&self, alloc: Global, analysis: Analysis) -> Result<Vec<bool>, OutOfMemory>
-        ensures { IfOk result (λ flags. HasPathFlags (form_of self.now analysis) flags.items) }
+        ensures { IfOk result (λ flags. HasPathFlags (may_form (selection_of self.now analysis)) flags.items) }
     {
         self.solver(analysis).flags(alloc, self.routes(analysis))
     }

@@ -4,7 +4,8 @@ use Rattle.bit_rows.specs.RowSet.{contains}
 use Rattle.bit_rows.specs.RowTable.{RowTable, flag_at, set_at}
 use Rattle.flow_graph.specs.Paths.{HasPath, SomePathHas}
 use Rattle.flow_graph.specs.Points.{point_count}
-use Rattle.flow_graph.specs.Problems.{may_shape, may_transfer, MayForm}
+use Rattle.flow_graph.specs.Problems.{may_shape}
+use Rattle.gen_kill.specs.Selections.{Selection, column_transfer}
 use Rattle.summary_equations.specs.Equations.{HasFlag, IsInSolution}
 
 -- The rows have one flag for each point, true exactly where the first family holds, and of the bits from lo to hi at a point
@@ -17,17 +18,17 @@ pub record TellsSlice (points lo hi : ℕ) (Flag : ℕ → Type 0) (Bit : ℕ �
   pub bit : (point bit : ℕ) → point < points → lo ≤ bit → bit < hi → (contains (set_at rows point) bit ≡ true) ↔ Bit point bit
 
 -- They are the least solution of the problem's equations:
-abbrev pub IsLeastSolution : MayForm → ℕ → ℕ → RowTable → Type 0
+abbrev pub IsLeastSolution : Selection → ℕ → ℕ → RowTable → Type 0
 IsLeastSolution form lo hi rows =
     TellsSlice (point_count form.program) lo hi
     (HasFlag (may_shape form.program form.analysis))
-    (λ point bit. IsInSolution (may_shape form.program form.analysis) (may_transfer form.program form.analysis bit) point)
+    (λ point bit. IsInSolution (may_shape form.program form.analysis) (column_transfer form bit) point)
     rows
 
 -- and its meet over valid paths.
-abbrev pub IsMeetOverPaths : MayForm → ℕ → ℕ → RowTable → Type 0
+abbrev pub IsMeetOverPaths : Selection → ℕ → ℕ → RowTable → Type 0
 IsMeetOverPaths form lo hi rows =
     TellsSlice (point_count form.program) lo hi
     (HasPath (may_shape form.program form.analysis))
-    (λ point bit. SomePathHas (may_shape form.program form.analysis) (may_transfer form.program form.analysis bit) point)
+    (λ point bit. SomePathHas (may_shape form.program form.analysis) (column_transfer form bit) point)
     rows

@@ -1,6 +1,6 @@
 // The solution of a slice as rows.
 ghost use Rattle.std.specs.Prelude.{◌≡◌, ◌*◌, ◌/◌, ◌<◌, ◌≤◌, IfOk};
-ghost use Rattle.flow_graph.specs.Universes.{bits as bits_of};
+ghost use Rattle.gen_kill.specs.Selections.{column_count};
 ghost use Rattle.gk_solve.specs.Solved.{direction_of};
 ghost use Rattle.flow_rows.specs.Solutions.{IsLeastSolution, IsMeetOverPaths};
 ghost use Rattle.flow_rows.specs.code.Rows.{TellsBelow};
@@ -48,7 +48,7 @@ fn solve_words<'a, 'g, 'p>(
 ) -> Result<(Rows, u64), OutOfMemory>
     requires routes { routes.now ≡ direction_of solver.now }
     requires ordered { lo < hi }
-    requires within { hi ≤ bits_of solver.now.program solver.now.analysis }
+    requires within { hi ≤ column_count solver.now }
     requires tells { TellsBelow solver.now (64 * (lo / 64)) lo hi rows }
     ensures { IfOk result (λ solved. IsLeastSolution solver.now lo hi solved.0) }
 {
@@ -68,7 +68,7 @@ fn solved_slice<'a, 'g, 'p>(
 ) -> Result<(Rows, u64), OutOfMemory>
     requires routes { routes.now ≡ direction_of solver.now }
     requires ordered { lo ≤ hi }
-    requires within { hi ≤ bits_of solver.now.program solver.now.analysis }
+    requires within { hi ≤ column_count solver.now }
     ensures { IfOk result (λ solved. IsLeastSolution solver.now lo hi solved.0) }
 {
     let rows = blank_rows(alloc, solver.problem(), routes, lo, hi)?;
@@ -88,7 +88,7 @@ pub fn solve_slice(
 ) -> Result<Rows, OutOfMemory>
     requires routes { routes.now ≡ direction_of solver.now }
     requires ordered { lo ≤ hi }
-    requires within { hi ≤ bits_of solver.now.program solver.now.analysis }
+    requires within { hi ≤ column_count solver.now }
     ensures equations { IfOk result (λ rows. IsLeastSolution solver.now lo hi rows) }
     ensures paths { IfOk result (λ rows. IsMeetOverPaths solver.now lo hi rows) }
 {
@@ -105,7 +105,7 @@ fn solver_of<'g, 'p>(
 ) -> Result<Solver<'g, 'p>, OutOfMemory>
     ensures { IfOk result (λ solver. solver ≡ problem.now) }
 {
-    let same = Problem::of(alloc, problem.graph(), problem.analysis())?;
+    let same = problem.copied(alloc)?;
     Solver::of(alloc, same)
 }
 
@@ -119,7 +119,7 @@ pub fn solve_counted(
     hi: u32,
 ) -> Result<(Rows, u64), OutOfMemory>
     requires ordered { lo ≤ hi }
-    requires within { hi ≤ bits_of problem.now.program problem.now.analysis }
+    requires within { hi ≤ column_count problem.now }
     ensures equations { IfOk result (λ solved. IsLeastSolution problem.now lo hi solved.0) }
     ensures paths { IfOk result (λ solved. IsMeetOverPaths problem.now lo hi solved.0) }
 {
@@ -148,7 +148,7 @@ pub fn solve(
     hi: u32,
 ) -> Result<Rows, OutOfMemory>
     requires ordered { lo ≤ hi }
-    requires within { hi ≤ bits_of problem.now.program problem.now.analysis }
+    requires within { hi ≤ column_count problem.now }
     ensures equations { IfOk result (λ rows. IsLeastSolution problem.now lo hi rows) }
     ensures paths { IfOk result (λ rows. IsMeetOverPaths problem.now lo hi rows) }
 {

@@ -96,8 +96,8 @@ fn post_words<W: Wanted>(
 }
 
 impl<W: Wanted> TakeWords for Posting<'_, W> {
-    ghost is_ready = { λ posting form _ hi.
-        CanPost (W.wants posting.board.now.wanted) form posting.first posting.count hi posting.board.now posting.pass.now };
+    ghost is_ready = { λ posting selection _ hi.
+        CanPost (W.wants posting.board.now.wanted) selection posting.first posting.count hi posting.board.now posting.pass.now };
 
     ghost has = { λ start posting _ lo hi word. (posting.board.now ≡ start.board.now)
         × ((posting.pass.ghost_name ≡ start.pass.ghost_name)

@@ -6,7 +6,7 @@ ghost use Rattle.flow_graph.specs.Universes.{bits as bits_of};
 ghost use Rattle.gk_solve.specs.Solved.{HasPathFlags};
 ghost use Rattle.slice_board.specs.Boards.{InSlice, slice_count};
 ghost use Rattle.slice_board.specs.Passes.{IsLogged};
-ghost use Rattle.flow_team.specs.Sets.{IsInMaySet};
+ghost use Rattle.flow_team.specs.Sets.{IsInMaySet, whole};
 ghost use Rattle.flow_team.specs.Excerpts.{IsTableAt};
 ghost use Rattle.flow_team.specs.Tables.{IsTableOf};
 ghost use Rattle.flow_team.specs.code.Boards.{IsTableBoard};
@@ -34,13 +34,15 @@ pub struct GraphSets<'g, 'p> {
 impl<'g, 'p> Model for GraphSets<'g, 'p> {
     ghost use Rattle.std.specs.Prelude.{◌≡◌};
     ghost use Rattle.flow_graph.specs.Problems.{MayForm};
+    ghost use Rattle.flow_team.specs.Sets.{whole};
+    ghost use Rattle.gen_kill.specs.Selections.{may_form};
     ghost use Rattle.gk_solve.specs.Solved.{direction_of};
 
     ghost Value = { MayForm };
 
-    ghost view = { λ sets. sets.solver };
+    ghost view = { λ sets. may_form sets.solver };
 
-    ghost invariant = { λ sets. sets.routes ≡ direction_of sets.solver };
+    ghost invariant = { λ sets. (whole (may_form sets.solver) ≡ sets.solver) × (sets.routes ≡ direction_of sets.solver) };
 }
 
 impl Drop for GraphSets<'_, '_> {
@@ -89,7 +91,7 @@ impl<'g, 'p> GraphSets<'g, 'p> {
         first: u32,
         count: u32,
     ) -> Result<(), OutOfMemory>
-        requires ready { CanPost (W.wants board.now.wanted) self.now first count board.now.cut.bits board.now pass.old }
+        requires ready { CanPost (W.wants board.now.wanted) (whole self.now) first count board.now.cut.bits board.now pass.old }
         requires bits { board.now.cut.bits ≡ bits_of self.now.program self.now.analysis }
         requires there { slice < slice_count board.now.cut }
         ensures more { PostsMore pass.old pass.new }

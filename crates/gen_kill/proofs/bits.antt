@@ -1,6 +1,10 @@
 pub mod Boundaries
+pub mod Chosen
+pub mod ColumnWords
 pub mod EffectSteps
 pub mod EffectWords
+pub mod Marked
+pub mod Marks
 pub mod MayWords
 pub mod OwnBits
 pub mod RootNumbers

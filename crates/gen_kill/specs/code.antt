@@ -1,3 +1,5 @@
 pub mod BitTables
+pub mod Columns
 pub mod Effects
 pub mod KeptEffects
+pub mod Problems

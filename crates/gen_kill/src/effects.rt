@@ -3,7 +3,9 @@
 ghost use Rattle.std.specs.List.{list_any};
 ghost use Rattle.std.specs.Prelude.{◌≡◌, ◌+◌, ◌*◌, ◌/◌, ◌<◌, ◌≤◌, ◌&&◌, ◌||◌, ℕ, IfOk, length, nat_eq, option_copied, option_map, Some};
 ghost use Rattle.gen_kill.specs.code.BitTables.{table_has};
-ghost use Rattle.gen_kill.specs.code.Effects.{AreDependentWords, AreEffects, IsNumberedEffect, depends, marks, owns_numbered};
+ghost use Rattle.gen_kill.specs.Selections.{column_count};
+ghost use Rattle.gen_kill.specs.code.Columns.{IsChosenOf};
+ghost use Rattle.gen_kill.specs.code.Effects.{AreDependentWords, AreEffects, IsNumberedEffect, column_depends, depends, marks, owns_numbered};
 ghost use Rattle.flow_graph.specs.Points.{kind_at, point_count, statement_at};
 ghost use Rattle.flow_graph.specs.Transfers.{has_operand, names_variable, operands_of};
 ghost use Rattle.flow_graph.specs.Universes.{bits};
@@ -11,6 +13,7 @@ ghost use Rattle.tac_program.specs.Sound.{IsSound};
 
 use crate::OutOfMemory;
 use crate::bit_table::BitTable;
+use crate::columns::Columns;
 use crate::effect::{Effect, KeptEffect};
 use flow_graph::{Analysis, Expr, Graph, Walk, target};
 use std::alloc::Global;
@@ -57,7 +60,7 @@ fn operand_variables(expression: Expr) -> (Option<u32>, Option<u32>)
 }
 
 /// The variables that a bit depends on.
-pub(crate) fn bit_variables(
+fn bit_variables(
     graph: &Graph<'_>,
     analysis: Analysis,
     bit: u32,
@@ -148,13 +151,14 @@ fn effect(
     }
 }
 
-/// What the statement at each point does.
+/// What the statement at each point does, by columns.
 pub(crate) fn effects(
     alloc: Global,
     graph: &Graph<'_>,
     analysis: Analysis,
+    columns: &Columns,
 ) -> Result<Vec<KeptEffect>, OutOfMemory>
-    ensures { IfOk result (λ v. AreEffects graph.now analysis v.items) }
+    ensures { IfOk result (λ v. AreEffects (record { program = graph.now; analysis = analysis; chosen = columns.now }) v.items) }
 {
     let mut effects = Vec::with_capacity(alloc, graph.points() as usize)?;
     // The dummies come first, one for each variable.
@@ -163,7 +167,7 @@ pub(crate) fn effects(
     for point in 0..graph.points() {
         let (stmt, next) = walk.step();
         let effect = effect(graph, analysis, number, point, stmt);
-        effects.push(KeptEffect::of(effect))?;
+        effects.push(KeptEffect::of(columns.effect(effect)))?;
         match effect.written {
             Some(_) => number += 1,
             None => {},
@@ -192,40 +196,68 @@ fn mark_bit(table: &mut BitTable, rows: u32, row: Option<u32>, bit: u32)
     }
 }
 
-/// For each variable the words of 64 bits in which some bit depends on it: word `w` at place `w % 64`.
+/// The variables that a column's bit depends on.
+pub(crate) fn column_variables(
+    graph: &Graph<'_>,
+    analysis: Analysis,
+    columns: &Columns,
+    column: u32,
+) -> (Option<u32>, Option<u32>)
+    requires column { column < column_count (record { program = graph.now; analysis = analysis; chosen = columns.now }) }
+    requires chosen { IsChosenOf graph.now analysis columns.now }
+    ensures { (x : ℕ) → (marks result.0 x || marks result.1 x)
+        ≡ column_depends (record { program = graph.now; analysis = analysis; chosen = columns.now }) x column }
+{
+    bit_variables(graph, analysis, columns.bit(column))
+}
+
+/// For each variable the words of 64 columns in which some column depends on it: word `w` at place `w % 64`.
 pub(crate) fn dependent_words(
     alloc: Global,
     graph: &Graph<'_>,
     analysis: Analysis,
+    columns: &Columns,
 ) -> Result<BitTable, OutOfMemory>
-    ensures { IfOk result (λ words. AreDependentWords graph.now analysis words.words.items words.width) }
+    requires { IsChosenOf graph.now analysis columns.now }
+    ensures { IfOk result (λ words. AreDependentWords (record { program = graph.now; analysis = analysis; chosen = columns.now })
+        words.words.items words.width) }
 {
     let rows = graph.program().variables();
-    let bits = graph.bits(analysis);
+    let count = columns.count(graph.bits(analysis));
     let mut words = BitTable::blank(alloc, rows, 64)?;
-    for bit in 0..bits {
-        let (first, second) = bit_variables(graph, analysis, bit);
-        mark_bit(&mut words, rows, first, bit / 64 % 64);
-        mark_bit(&mut words, rows, second, bit / 64 % 64);
+    for column in 0..count {
+        let (first, second) = column_variables(graph, analysis, columns, column);
+        mark_bit(&mut words, rows, first, column / 64 % 64);
+        mark_bit(&mut words, rows, second, column / 64 % 64);
     }
     Ok(words)
 }
 
-/// Puts for each variable the bits from one on that depend on it, as many as a row has.
-pub(crate) fn put_dependence(graph: &Graph<'_>, analysis: Analysis, from: u32, table: &mut BitTable)
+/// Puts for each variable the columns from one on that depend on it, as many as a row has.
+pub(crate) fn put_dependence(
+    graph: &Graph<'_>,
+    analysis: Analysis,
+    columns: &Columns,
+    from: u32,
+    table: &mut BitTable,
+)
+    requires chosen { IsChosenOf graph.now analysis columns.now }
     requires rows { length table.old.words.items ≡ length graph.now.variable_names * table.old.width }
     requires narrow { table.old.width ≤ 8 }
     ensures width { table.new.width ≡ table.old.width }
     ensures count { length table.new.words.items ≡ length table.old.words.items }
-    ensures bits { (r b : ℕ) → r < length graph.now.variable_names → b < 64 * table.old.width → from + b < bits graph.now analysis
-        → table_has table.new.words.items table.new.width r b ≡ depends graph.now analysis r (from + b) }
+    ensures columns { (r c : ℕ) → r < length graph.now.variable_names → c < 64 * table.old.width
+        → from + c < column_count (record { program = graph.now; analysis = analysis; chosen = columns.now })
+        → table_has table.new.words.items table.new.width r c
+        ≡ column_depends (record { program = graph.now; analysis = analysis; chosen = columns.now }) r (from + c) }
 {
     let rows = graph.program().variables();
     table.clear();
     let most = 64 * table.width as u32;
-    let count = graph.bits(analysis).saturating_sub(from).min(most);
+    let count = columns.count(graph.bits(analysis));
+    let count = count.saturating_sub(from).min(most);
     for place in 0..count {
-        let (first, second) = bit_variables(graph, analysis, from + place);
+        let (first, second) = column_variables(graph, analysis, columns, from + place);
         mark_bit(table, rows, first, place);
         mark_bit(table, rows, second, place);
     }

@@ -1,9 +1,13 @@
-ghost use Rattle.std.specs.Prelude.{◌≡◌, ◌+◌, ◌*◌, ◌/◌, ◌%◌, ◌^◌, ◌<◌, ◌≤◌, ℕ, false, true, IfOk, IfSome, length, option_map, unwrap_or};
+ghost use Rattle.std.specs.Prelude.{◌≡◌, ◌+◌, ◌*◌, ◌/◌, ◌%◌, ◌^◌, ◌<◌, ◌≤◌, ◌&&◌, ◌||◌, ℕ, false, true, IfOk, IfSome, length, nat_eq, nat_lt, option_map};
+ghost use Rattle.std.specs.Prelude.{unwrap_or};
 ghost use Rattle.bit_rows.specs.Words.{has_bit};
 ghost use Rattle.flow_graph.specs.Analyses.{is_backward, is_must, main_procedure};
 ghost use Rattle.flow_graph.specs.Directions.{goes_backward};
-ghost use Rattle.flow_graph.specs.Problems.{may_shape, IsAffected, IsWordOfTest, may_boundary, may_gens, may_kills};
-ghost use Rattle.gen_kill.specs.code.Effects.{IsDependence, IsEffect, depends};
+ghost use Rattle.flow_graph.specs.Problems.{may_shape, IsWordOfTest};
+ghost use Rattle.gen_kill.specs.Selections.{AreChosen, IsColumnAffected, all_bits, bit_of, column_boundary, column_count, column_gens, column_kills};
+ghost use Rattle.gen_kill.specs.Selections.{some_bits};
+ghost use Rattle.gen_kill.specs.code.Columns.{IsChosenOf};
+ghost use Rattle.gen_kill.specs.code.Effects.{IsColumnEffect, IsDependence, column_depends, marks};
 ghost use Rattle.flow_graph.specs.Limits.{HasFewBits, HasFewPoints};
 ghost use Rattle.flow_graph.specs.WellFormed.{IsWellFormed};
 ghost use Rattle.flow_graph.specs.Points.{end_point, point_count, procedure_at};
@@ -13,9 +17,10 @@ ghost use Rattle.tac_program.specs.declared.limits.Limits.TheVariants.{Large};
 
 use crate::OutOfMemory;
 use crate::bit_table::BitTable;
+use crate::columns::Columns;
 use crate::effect::{Effect, KeptEffect};
-use crate::effects::{bit_variables, dependent_words, effects, put_dependence};
-use crate::words::{generated, generates, is_either, killed, kills, own_word, word_mark};
+use crate::effects::{column_variables, dependent_words, effects, put_dependence};
+use crate::words::{generated, generates, is_either, killed, kills, mark_word, own_word, word_mark};
 use bit_rows::word_below;
 use flow_graph::{Analysis, Direction, Edge, Graph, Join};
 use std::alloc::Global;
@@ -23,27 +28,28 @@ use std::marker::Model;
 use tac_program::Program;
 
 /// The may form of an analysis: the forward problem, in which a path has a bit where some edge has put it in, by which the
-/// analysis is solved. A backward analysis has its edges reversed, and an analysis over every path its sets complemented.
+/// analysis is solved. A backward analysis has its edges reversed, and an analysis over every path its sets complemented. All bits of the
+/// analysis are solved, or chosen ones, side by side: bits are told by their columns.
 pub struct Problem<'g, 'p> {
     graph: &'g Graph<'p>,
     analysis: Analysis,
+    columns: Columns,
     effects: Vec<KeptEffect>,
     dependent_words: BitTable,
 }
 
 impl<'g, 'p> Model for Problem<'g, 'p> {
-    ghost use Rattle.flow_graph.specs.Problems.{MayForm, may_shape};
+    ghost use Rattle.flow_graph.specs.Problems.{may_shape};
     ghost use Rattle.std.specs.Prelude.{◌≡◌};
-    ghost use Rattle.gen_kill.specs.code.Effects.{AreEffects, AreDependentWords};
-    ghost use Rattle.flow_graph.specs.WellFormed.{IsWellFormed};
+    ghost use Rattle.gen_kill.specs.Selections.{Selection};
+    ghost use Rattle.gen_kill.specs.code.Problems.{IsKept, selected};
 
-    ghost Value = { MayForm };
+    ghost Value = { Selection };
 
-    ghost view = { λ problem. record { program = problem.graph.now; analysis = problem.analysis } };
+    ghost view = { λ problem. selected problem.graph.now problem.analysis problem.columns };
 
-    ghost invariant = { λ problem. AreEffects problem.graph.now problem.analysis problem.effects.items
-        × AreDependentWords problem.graph.now problem.analysis problem.dependent_words.words.items problem.dependent_words.width
-        × IsWellFormed (may_shape problem.graph.now problem.analysis) };
+    ghost invariant = { λ problem. IsKept (selected problem.graph.now problem.analysis problem.columns) problem.effects.items
+        problem.dependent_words.words.items problem.dependent_words.width };
 }
 
 impl Drop for Problem<'_, '_> {
@@ -52,27 +58,64 @@ impl Drop for Problem<'_, '_> {
         let Problem {
             graph: _,
             analysis: _,
+            columns: _,
             effects: _,
             dependent_words: _,
         } = self;
     }
 }
 
+// The problem of these columns.
+fn problem_of<'g, 'p>(
+    alloc: Global,
+    graph: &'g Graph<'p>,
+    analysis: Analysis,
+    columns: Columns,
+) -> Result<Problem<'g, 'p>, OutOfMemory>
+    requires { IsChosenOf graph.now analysis columns }
+    ensures { IfOk result (λ problem. problem ≡ record { program = graph.now; analysis = analysis; chosen = columns }) }
+{
+    // Its contract tells that the program is sound.
+    let _ = graph.program().procs();
+    let effects = effects(alloc, graph, analysis, &columns)?;
+    let dependent_words = dependent_words(alloc, graph, analysis, &columns)?;
+    Ok(Problem {
+        graph,
+        analysis,
+        columns,
+        effects,
+        dependent_words,
+    })
+}
+
 impl<'g, 'p> Problem<'g, 'p> {
-    /// The may form of an analysis of a graph's program.
+    /// The may form of an analysis of a graph's program, in which each bit is its own column.
     pub fn of(alloc: Global, graph: &'g Graph<'p>, analysis: Analysis) -> Result<Self, OutOfMemory>
-        ensures { IfOk result (λ problem. problem ≡ record { program = graph.now; analysis = analysis }) }
+        ensures { IfOk result (λ problem. problem ≡ all_bits graph.now analysis) }
     {
-        // Its contract tells that the program is sound.
-        let _ = graph.program().procs();
-        let effects = effects(alloc, graph, analysis)?;
-        let dependent_words = dependent_words(alloc, graph, analysis)?;
-        Ok(Problem {
-            graph,
-            analysis,
-            effects,
-            dependent_words,
-        })
+        problem_of(alloc, graph, analysis, Columns::all(alloc))
+    }
+
+    /// The same of chosen bits alone, which rise: each is the column of its place among them.
+    pub fn of_chosen(
+        alloc: Global,
+        graph: &'g Graph<'p>,
+        analysis: Analysis,
+        chosen: Vec<u32>,
+    ) -> Result<Self, OutOfMemory>
+        requires { AreChosen graph.now analysis chosen.items }
+        ensures { IfOk result (λ problem. problem ≡ some_bits graph.now analysis chosen.items) }
+    {
+        let columns = Columns::chosen(alloc, chosen, graph.bits(analysis))?;
+        problem_of(alloc, graph, analysis, columns)
+    }
+
+    /// The same problem once more. Fails only where memory runs out.
+    pub fn copied(&self, alloc: Global) -> Result<Self, OutOfMemory>
+        ensures { IfOk result (λ problem. problem ≡ self.now) }
+    {
+        let columns = self.columns.copied(alloc)?;
+        problem_of(alloc, self.graph, self.analysis, columns)
     }
 
     /// The graph.
@@ -181,13 +224,23 @@ impl<'g, 'p> Problem<'g, 'p> {
         self.graph.bits(Analysis::Live)
     }
 
-    /// How many bits there are: at most 1,179,648.
+    /// How many columns there are: at most 1,179,648.
     pub fn bits(&self) -> u32
-        ensures count { result ≡ bits_of self.now.program self.now.analysis }
+        ensures count { result ≡ column_count self.now }
         ensures few { HasFewBits Large self.now.program }
         ensures most { result ≤ 1179648 }
+        ensures chosen { IsChosenOf self.now.program self.now.analysis self.now.chosen }
     {
-        self.graph.bits(self.analysis)
+        self.columns.count(self.graph.bits(self.analysis))
+    }
+
+    /// The bit of a column.
+    pub fn bit(&self, column: u32) -> u32
+        requires { column < column_count self.now }
+        ensures bit { result ≡ bit_of self.now column }
+        ensures within { result < bits_of self.now.program self.now.analysis }
+    {
+        self.columns.bit(column)
     }
 
     /// Which way the analysis goes: the edges are reversed where it goes backwards.
@@ -207,24 +260,32 @@ impl<'g, 'p> Problem<'g, 'p> {
         }
     }
 
-    /// Whether the bit depends on the variable, if one is written.
-    fn touches(&self, written: Option<u32>, bit: u32) -> bool
-        requires { bit < bits_of self.now.program self.now.analysis }
-        ensures { result ≡ unwrap_or (option_map (λ x. depends self.now.program self.now.analysis x bit) written) false }
+    // The variables that a column's bit depends on.
+    fn variables_of(&self, column: u32) -> (Option<u32>, Option<u32>)
+        requires { column < column_count self.now }
+        ensures { (x : ℕ) → (marks result.0 x || marks result.1 x) ≡ column_depends self.now x column }
     {
-        let (first, second) = bit_variables(self.graph, self.analysis, bit);
+        column_variables(self.graph, self.analysis, &self.columns, column)
+    }
+
+    /// Whether the column's bit depends on the variable, if one is written.
+    fn touches(&self, written: Option<u32>, column: u32) -> bool
+        requires { column < column_count self.now }
+        ensures { result ≡ unwrap_or (option_map (λ x. column_depends self.now x column) written) false }
+    {
+        let (first, second) = self.variables_of(column);
         match written {
             None => false,
             Some(variable) => is_either(first, second, variable),
         }
     }
 
-    /// The words in which some bit depends on the variable, if one is written: word `w` at place `w % 64`.
+    /// The words in which some column depends on the variable, if one is written: word `w` at place `w % 64`.
     fn touched_words(&self, written: Option<u32>) -> u64
         requires { IfSome written (λ x. x < length self.now.program.variable_names) }
-        ensures { (bit : ℕ) → bit < bits_of self.now.program self.now.analysis
-            → unwrap_or (option_map (λ x. depends self.now.program self.now.analysis x bit) written) false ≡ true
-            → has_bit result (bit / 64 % 64) ≡ true }
+        ensures { (column : ℕ) → column < column_count self.now
+            → unwrap_or (option_map (λ x. column_depends self.now x column) written) false ≡ true
+            → has_bit result (column / 64 % 64) ≡ true }
     {
         match written {
             None => 0,
@@ -235,24 +296,24 @@ impl<'g, 'p> Problem<'g, 'p> {
     // What the statement at a point does.
     fn effect(&self, point: u32) -> Effect
         requires { point < point_count self.now.program }
-        ensures { IsEffect self.now.program self.now.analysis point result }
+        ensures { IsColumnEffect self.now point result }
     {
         self.effects[point as usize].effect()
     }
 
-    /// The words of 64 bits in which the step of the statement at a point may generate or kill a bit: where place `p` is 0, it does so
-    /// for no bit of a word `w` with `w % 64` equal to `p`.
+    /// The words of 64 columns in which the step of the statement at a point may generate or kill a bit: where place `p` is 0, it does so
+    /// for no column of a word `w` with `w % 64` equal to `p`.
     pub fn effect_words(&self, point: u32) -> u64
         requires { point < point_count self.now.program }
-        ensures { (bit : ℕ) → bit < bits_of self.now.program self.now.analysis → IsAffected self.now point bit
-            → has_bit result (bit / 64 % 64) ≡ true }
+        ensures { (column : ℕ) → column < column_count self.now → IsColumnAffected self.now point column
+            → has_bit result (column / 64 % 64) ≡ true }
     {
         let effect = self.effect(point);
         let own = word_mark(effect.first) | word_mark(effect.second);
         own | self.touched_words(effect.written)
     }
 
-    /// A table in which to put, for each variable, the bits of so many words that depend on it.
+    /// A table in which to put, for each variable, the columns of so many words that depend on it.
     pub fn no_dependence(&self, alloc: Global, words: u32) -> Result<BitTable, OutOfMemory>
         requires { words ≤ 8 }
         ensures rows { IfOk result (λ table. length table.words.items ≡ length self.now.program.variable_names * table.width) }
@@ -261,7 +322,7 @@ impl<'g, 'p> Problem<'g, 'p> {
         BitTable::blank(alloc, self.variables(), 64 * words)
     }
 
-    /// Puts into a table for each variable the bits that depend on it, of the words from one on, as many as a row has. It is what
+    /// Puts into a table for each variable the columns that depend on it, of the words from one on, as many as a row has. It is what
     /// [`gen_word`](Problem::gen_word) and [`kill_word`](Problem::kill_word) of these words are made of.
     pub fn put_dependence(&self, first: u32, table: &mut BitTable)
         requires rows { length table.old.words.items ≡ length self.now.program.variable_names * table.old.width }
@@ -269,20 +330,20 @@ impl<'g, 'p> Problem<'g, 'p> {
         requires first { first < 2 ^ 25 }
         ensures first { table.new.first ≡ first }
         ensures width { table.new.width ≡ table.old.width }
-        ensures bits { IsDependence self.now.program self.now.analysis first table.new.words.items table.new.width }
+        ensures columns { IsDependence self.now first table.new.words.items table.new.width }
     {
-        put_dependence(self.graph, self.analysis, 64 * first, table);
+        put_dependence(self.graph, self.analysis, &self.columns, 64 * first, table);
         table.first = first;
     }
 
-    /// The word of the bits that depend on the variable, if one is written. What stands past the last bit is not told.
+    /// The word of the columns that depend on the variable, if one is written. What stands past the last column is not told.
     fn touched_word(&self, written: Option<u32>, word: u32, table: &BitTable) -> u64
         requires written { IfSome written (λ x. x < length self.now.program.variable_names) }
-        requires table { IsDependence self.now.program self.now.analysis table.now.first table.now.words.items table.now.width }
+        requires table { IsDependence self.now table.now.first table.now.words.items table.now.width }
         requires from { table.now.first ≤ word }
         requires until { word < table.now.first + table.now.width }
-        ensures { (k : ℕ) → k < 64 → 64 * word + k < bits_of self.now.program self.now.analysis
-            → has_bit result k ≡ unwrap_or (option_map (λ x. depends self.now.program self.now.analysis x (64 * word + k)) written) false }
+        ensures { (k : ℕ) → k < 64 → 64 * word + k < column_count self.now
+            → has_bit result k ≡ unwrap_or (option_map (λ x. column_depends self.now x (64 * word + k)) written) false }
     {
         match written {
             None => 0,
@@ -290,13 +351,13 @@ impl<'g, 'p> Problem<'g, 'p> {
         }
     }
 
-    /// The bits that the step of the statement at a point generates, by words, by a table that has the word.
+    /// The columns that the step of the statement at a point generates, by words, by a table that has the word.
     pub fn gen_word(&self, point: u32, word: u32, table: &BitTable) -> u64
         requires point { point < point_count self.now.program }
-        requires table { IsDependence self.now.program self.now.analysis table.now.first table.now.words.items table.now.width }
+        requires table { IsDependence self.now table.now.first table.now.words.items table.now.width }
         requires from { table.now.first ≤ word }
         requires until { word < table.now.first + table.now.width }
-        ensures { IsWordOfTest (may_gens self.now point) (bits_of self.now.program self.now.analysis) word result }
+        ensures { IsWordOfTest (column_gens self.now point) (column_count self.now) word result }
     {
         let effect = self.effect(point);
         let own = own_word(effect, word);
@@ -304,13 +365,13 @@ impl<'g, 'p> Problem<'g, 'p> {
         generated(self.analysis, own, touched) & word_below(self.bits(), word)
     }
 
-    /// The bits that the step of the statement at a point kills, by words, by a table that has the word.
+    /// The columns that the step of the statement at a point kills, by words, by a table that has the word.
     pub fn kill_word(&self, point: u32, word: u32, table: &BitTable) -> u64
         requires point { point < point_count self.now.program }
-        requires table { IsDependence self.now.program self.now.analysis table.now.first table.now.words.items table.now.width }
+        requires table { IsDependence self.now table.now.first table.now.words.items table.now.width }
         requires from { table.now.first ≤ word }
         requires until { word < table.now.first + table.now.width }
-        ensures { IsWordOfTest (may_kills self.now point) (bits_of self.now.program self.now.analysis) word result }
+        ensures { IsWordOfTest (column_kills self.now point) (column_count self.now) word result }
     {
         let effect = self.effect(point);
         let own = own_word(effect, word);
@@ -318,54 +379,73 @@ impl<'g, 'p> Problem<'g, 'p> {
         killed(self.analysis, own, touched) & word_below(self.bits(), word)
     }
 
-    /// Whether the step of the statement at a point generates a bit.
-    pub fn gens(&self, point: u32, bit: u32) -> bool
+    /// Whether the step of the statement at a point generates a column's bit.
+    pub fn gens(&self, point: u32, column: u32) -> bool
         requires point { point < point_count self.now.program }
-        requires bit { bit < bits_of self.now.program self.now.analysis }
-        ensures { result ≡ may_gens self.now point bit }
+        requires column { column < column_count self.now }
+        ensures { result ≡ column_gens self.now point column }
     {
         let effect = self.effect(point);
-        let own = is_either(effect.first, effect.second, bit);
-        let touched = self.touches(effect.written, bit);
+        let own = is_either(effect.first, effect.second, column);
+        let touched = self.touches(effect.written, column);
         generates(self.analysis, own, touched)
     }
 
-    /// Whether the step of the statement at a point kills a bit.
-    pub fn kills(&self, point: u32, bit: u32) -> bool
+    /// Whether the step of the statement at a point kills a column's bit.
+    pub fn kills(&self, point: u32, column: u32) -> bool
         requires point { point < point_count self.now.program }
-        requires bit { bit < bits_of self.now.program self.now.analysis }
-        ensures { result ≡ may_kills self.now point bit }
+        requires column { column < column_count self.now }
+        ensures { result ≡ column_kills self.now point column }
     {
         let effect = self.effect(point);
-        let own = is_either(effect.first, effect.second, bit);
-        let touched = self.touches(effect.written, bit);
+        let own = is_either(effect.first, effect.second, column);
+        let touched = self.touches(effect.written, column);
         kills(self.analysis, own, touched)
     }
 
-    /// The bits of the boundary by words. What stands past the last bit is not told.
-    fn boundary_places(&self, word: u32) -> u64
-        ensures { (k : ℕ) → k < 64 → has_bit result k ≡ may_boundary self.now (64 * word + k) }
+    /// Whether a column's bit holds where the problem begins.
+    pub fn in_boundary(&self, column: u32) -> bool
+        requires { column < column_count self.now }
+        ensures { result ≡ column_boundary self.now column }
     {
         match self.analysis {
-            Analysis::Reach => word_below(self.graph.program().variables(), word),
-            Analysis::Live => 0,
-            Analysis::Avail => u64::MAX,
-            Analysis::Busy => u64::MAX,
+            Analysis::Reach => self.bit(column) < self.graph.program().variables(),
+            Analysis::Live => false,
+            Analysis::Avail => true,
+            Analysis::Busy => true,
         }
     }
 
-    /// The bits that hold where the problem begins, by words.
-    pub fn boundary_word(&self, word: u32) -> u64
-        ensures { IsWordOfTest (may_boundary self.now) (bits_of self.now.program self.now.analysis) word result }
+    // The same at a place of a word: false past the last column.
+    fn boundary_bit(&self, word: u32, place: u32) -> bool
+        requires { place < 64 }
+        ensures { result ≡ (nat_lt (64 * word + place) (column_count self.now) && column_boundary self.now (64 * word + place)) }
     {
-        self.boundary_places(word) & word_below(self.bits(), word)
+        let column = 64 * u64::from(word) + u64::from(place);
+        column < u64::from(self.bits()) && self.in_boundary(column as u32)
     }
 
-    /// Whether a bit holds where the problem begins.
-    pub fn in_boundary(&self, bit: u32) -> bool
-        requires { bit < bits_of self.now.program self.now.analysis }
-        ensures { result ≡ may_boundary self.now bit }
+    // The place, where its bit holds.
+    fn boundary_mark(&self, word: u32, place: u32) -> Option<u32>
+        requires { place < 64 }
+        ensures { (k : ℕ) → marks result k
+            ≡ (nat_eq k place && (nat_lt (64 * word + k) (column_count self.now) && column_boundary self.now (64 * word + k))) }
     {
-        (self.boundary_word(bit / 64) >> (bit % 64)) & 1 == 1
+        if self.boundary_bit(word, place) {
+            Some(place)
+        } else {
+            None
+        }
+    }
+
+    /// The columns that hold where the problem begins, by words.
+    pub fn boundary_word(&self, word: u32) -> u64
+        ensures { IsWordOfTest (column_boundary self.now) (column_count self.now) word result }
+    {
+        let mut result = 0;
+        for place in 0..64 {
+            result |= mark_word(self.boundary_mark(word, place), 0);
+        }
+        result
     }
 }

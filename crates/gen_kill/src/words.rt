@@ -8,7 +8,7 @@ use crate::effect::Effect;
 use flow_graph::Analysis;
 
 /// The word of a single bit, or of none.
-fn mark_word(mark: Option<u32>, word: u32) -> u64
+pub(crate) fn mark_word(mark: Option<u32>, word: u32) -> u64
     ensures { (k : ℕ) → k < 64 → has_bit result k ≡ marks mark (64 * word + k) }
 {
     match mark {

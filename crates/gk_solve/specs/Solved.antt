@@ -3,15 +3,15 @@ use Rattle.std.specs.Prelude.{◌≡◌, ◌↔◌, ℕ, ◌≤◌, ◌<◌, ◌
 use Rattle.std.specs.Prelude.{slice_index, slice_index_or}
 use Rattle.bit_rows.specs.Words.{has_bit}
 use Rattle.flow_graph.specs.Analyses.{is_backward}
-use Rattle.flow_graph.specs.Problems.{may_shape, may_transfer, MayForm}
+use Rattle.flow_graph.specs.Problems.{MayForm, may_shape}
+use Rattle.gen_kill.specs.Selections.{Selection, column_count, column_transfer}
 use Rattle.flow_graph.specs.Paths.{HasPath, SomePathHas}
 use Rattle.flow_graph.specs.Points.{point_count}
-use Rattle.flow_graph.specs.Universes.{bits as bits_of}
 use Rattle.flow_links.specs.Shapes.{LinkedProgram}
 use Rattle.summary_equations.specs.Equations.{IsInSolution}
 
 -- the program of a may form, in its direction
-abbrev pub direction_of : MayForm → LinkedProgram
+abbrev pub direction_of : Selection → LinkedProgram
 direction_of form = record { program = form.program; backward = is_backward form.analysis }
 
 -- What a caller sees of the words of a slice: how many points, procedures and variables there are, the slice's bits, which words were solved
@@ -40,12 +40,12 @@ abbrev pub word_at : SliceTable → ℕ → ℕ → ℕ
 word_at slice point word = slice_index (slice_index_or slice.words point []) (word - slice.from)
 
 -- A slice is of a problem's bits, at its points.
-pub record IsSliceOf (form : MayForm) (slice : SliceTable) : Type 0 where
+pub record IsSliceOf (form : Selection) (slice : SliceTable) : Type 0 where
   pub points : slice.points ≡ point_count form.program
   pub procedures : slice.procedures ≡ (may_shape form.program form.analysis).procedures
   pub variables : slice.variables ≡ length form.program.variable_names
   pub ordered : slice.lo ≤ slice.hi
-  pub within : slice.hi ≤ bits_of form.program form.analysis
+  pub within : slice.hi ≤ column_count form
 
 -- The words that were solved tell, at each point, of the slice's bits exactly those of a family, and 0 at all other places.
 abbrev pub TellWords : (ℕ → ℕ → Type 0) → SliceTable → Type 0
@@ -53,12 +53,12 @@ TellWords Bit slice = (point word k : ℕ) → point < slice.points → slice.fr
     → (has_bit (word_at slice point word) k ≡ true) ↔ ((slice.lo ≤ 64 * word + k) × (64 * word + k < slice.hi) × Bit point (64 * word + k))
 
 -- They are words of the least solution,
-abbrev pub AreSolved : MayForm → SliceTable → Type 0
-AreSolved form = TellWords (λ point bit. IsInSolution (may_shape form.program form.analysis) (may_transfer form.program form.analysis bit) point)
+abbrev pub AreSolved : Selection → SliceTable → Type 0
+AreSolved form = TellWords (λ point bit. IsInSolution (may_shape form.program form.analysis) (column_transfer form bit) point)
 
 -- and of the meet over valid paths.
-abbrev pub AreMeetWords : MayForm → SliceTable → Type 0
-AreMeetWords form = TellWords (λ point bit. SomePathHas (may_shape form.program form.analysis) (may_transfer form.program form.analysis bit) point)
+abbrev pub AreMeetWords : Selection → SliceTable → Type 0
+AreMeetWords form = TellWords (λ point bit. SomePathHas (may_shape form.program form.analysis) (column_transfer form bit) point)
 
 -- one flag for each point, set exactly where some valid path leads to it
 pub record HasPathFlags (form : MayForm) (flags : List Bool) : Type 0 where

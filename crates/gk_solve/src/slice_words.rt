@@ -2,7 +2,7 @@
 ghost use Rattle.std.specs.Prelude.{◌≡◌, ◌+◌, ◌-◌, ◌*◌, ◌/◌, ◌%◌, ◌^◌, ◌<◌, ◌≤◌, ℕ, true, IfOk, length, slice_index};
 ghost use Rattle.bit_rows.specs.Words.{has_bit};
 ghost use Rattle.flow_graph.specs.Points.{point_count};
-ghost use Rattle.flow_graph.specs.Universes.{bits as bits_of};
+ghost use Rattle.gen_kill.specs.Selections.{column_count};
 ghost use Rattle.gen_kill.specs.code.Effects.{IsDependence};
 ghost use Rattle.flow_links.specs.Shapes.{directed_shape};
 ghost use Rattle.gk_solve.specs.Solved.{AreSolved, IsSliceOf, direction_of, word_at, words_at_once, words_between};
@@ -86,10 +86,10 @@ fn group_frame<'a, 'g, 'p>(
     requires narrow { width ≤ 8 }
     requires routes { routes.now ≡ direction_of problem.now }
     requires effects { AreEffectWords problem.now effects.now }
-    requires dependence { IsDependence problem.now.program problem.now.analysis word dependence.now.words.items dependence.now.width }
+    requires dependence { IsDependence problem.now word dependence.now.words.items dependence.now.width }
     requires row_first { dependence.now.first ≡ word }
     requires row_words { dependence.now.width ≡ width }
-    requires word { 64 * word < bits_of problem.now.program problem.now.analysis }
+    requires word { 64 * word < column_count problem.now }
     ensures frame { IsGroupFrame width result }
     ensures problem { result.problem.now ≡ problem.now }
     ensures links { result.links.now ≡ routes.now }

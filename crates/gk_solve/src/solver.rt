@@ -1,7 +1,6 @@
 // The solver: a problem, and what is found of it once.
 ghost use Rattle.std.specs.Prelude.{◌≡◌, ◌+◌, ◌*◌, ◌/◌, ◌<◌, ◌≤◌, IfOk};
-ghost use Rattle.flow_graph.specs.Problems.{MayForm};
-ghost use Rattle.flow_graph.specs.Universes.{bits as bits_of};
+ghost use Rattle.gen_kill.specs.Selections.{Selection, column_count, may_form};
 ghost use Rattle.gk_solve.specs.Solved.{AreMeetWords, AreSolved, HasPathFlags, IsSliceOf, direction_of, words_at_once, words_between};
 ghost use Rattle.gk_solve.specs.Tables.Groups.{AreEffectWords};
 
@@ -22,10 +21,10 @@ pub struct Solver<'g, 'p> {
 }
 
 impl<'g, 'p> Model for Solver<'g, 'p> {
-    ghost use Rattle.flow_graph.specs.Problems.{MayForm};
+    ghost use Rattle.gen_kill.specs.Selections.{Selection};
     ghost use Rattle.gk_solve.specs.Tables.Groups.{AreEffectWords};
 
-    ghost Value = { MayForm };
+    ghost Value = { Selection };
 
     ghost view = { λ solver. solver.problem };
 
@@ -68,7 +67,7 @@ impl<'g, 'p> Solver<'g, 'p> {
     /// The path flag of each point: whether some valid path leads to it.
     pub fn flags(&self, alloc: Global, routes: &Routes) -> Result<Vec<bool>, OutOfMemory>
         requires { routes.now ≡ direction_of self.now }
-        ensures { IfOk result (λ flags. HasPathFlags self.now flags.items) }
+        ensures { IfOk result (λ flags. HasPathFlags (may_form self.now) flags.items) }
     {
         // Its contract tells that the problem is well formed.
         let _ = self.problem.root();
@@ -86,7 +85,7 @@ impl<'g, 'p> Solver<'g, 'p> {
     ) -> Result<SliceWords, OutOfMemory>
         requires routes { routes.now ≡ direction_of self.now }
         requires ordered { lo ≤ hi }
-        requires within { hi ≤ bits_of self.now.program self.now.analysis }
+        requires within { hi ≤ column_count self.now }
         ensures slice { IfOk result (λ slice. IsSliceOf self.now slice) }
         ensures range { IfOk result (λ slice. (slice.lo ≡ lo) × (slice.hi ≡ hi)) }
     {

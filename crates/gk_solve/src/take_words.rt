@@ -1,6 +1,6 @@
 // What takes solved words, and the one loop that solves the words of a slice.
 ghost use Rattle.std.specs.Prelude.{◌≡◌, ℕ, ◌+◌, ◌*◌, ◌/◌, ◌<◌, ◌≤◌};
-ghost use Rattle.flow_graph.specs.Problems.{MayForm};
+ghost use Rattle.gen_kill.specs.Selections.{Selection};
 ghost use Rattle.gk_solve.specs.Solved.{AreMeetWords, AreSolved, IsSliceOf, direction_of};
 ghost use Rattle.gk_solve.specs.Tables.Groups.{AreEffectWords};
 
@@ -12,10 +12,10 @@ use gen_kill::Problem;
 /// What takes the words of a slice as they are solved: rows, a board that workers share, a caller's memory.
 pub trait TakeWords {
     // It can take words of the problem's bits from one up to another.
-    ghost is_ready: { Self → MayForm → ℕ → ℕ → Type 0 };
+    ghost is_ready: { Self → Selection → ℕ → ℕ → Type 0 };
 
     // What began as the first and is now the second has the words of these bits that are before one.
-    ghost has: { Self → Self → MayForm → ℕ → ℕ → ℕ → Type 0 };
+    ghost has: { Self → Self → Selection → ℕ → ℕ → ℕ → Type 0 };
 
     /// Takes the words that were solved last, at all points.
     fn take_words(&mut self, problem: &Problem<'_, '_>, slice: &SliceWords)

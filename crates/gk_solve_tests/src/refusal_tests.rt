@@ -1,7 +1,7 @@
 // Each call of links and of the solver that takes memory, as `test_support` has it.
 
 ghost use Rattle.std.specs.Prelude.{◌≡◌, ◌≤◌, IfOk};
-ghost use Rattle.flow_graph.specs.Universes.{bits as bits_of};
+ghost use Rattle.gen_kill.specs.Selections.{column_count};
 ghost use Rattle.gk_solve.specs.Solved.{IsSliceOf, direction_of};
 
 use bit_rows::Rows;
@@ -136,7 +136,7 @@ fn slice_of<'g, 'p>(
     refused: &mut Refused,
 ) -> Result<SliceWords, OutOfMemory>
     requires routes { routes.now ≡ direction_of solver.now }
-    requires bits { bits ≤ bits_of solver.now.program solver.now.analysis }
+    requires bits { bits ≤ column_count solver.now }
     ensures slice { IfOk result (IsSliceOf solver.now) }
     ensures end { IfOk result (λ slice. slice.hi ≡ bits) }
 {

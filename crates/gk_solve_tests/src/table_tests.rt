@@ -1,4 +1,4 @@
-use crate::tables::{Question, check};
+use crate::tables::{Parity, Question, check};
 use flow_graph::Analysis;
 use std::process::Abort;
 use std::test::Fail;
@@ -65,6 +65,56 @@ fn check_table<R: Abort + AllocGlobal>(
 ) -> Result<(), Fail> {
     for width in WIDTHS {
         check(rt, text, Question::Table(analysis, *width), *width, want)?;
+    }
+    Ok(())
+}
+
+/// Programs, and the tables of every other bit: of those above the bits of one parity alone.
+const CHOSEN: &[(&str, Analysis, Parity, &str)] = &[
+    (
+        recursion::TEXT,
+        Analysis::Reach,
+        Parity::Even,
+        "main 0: x@entry\nmain 1: -\nmain 2: x@9\nmain 3: x@9\nf 0: -\nf 1: -\nf 2: x@9\nf 3: x@9\n",
+    ),
+    (
+        recursion::TEXT,
+        Analysis::Reach,
+        Parity::Odd,
+        "main 0: -\nmain 1: x@2\nmain 2: x@2\nmain 3: x@2\nf 0: x@2\nf 1: x@2\nf 2: x@2\nf 3: x@2\n",
+    ),
+    (
+        callee_loops::TEXT,
+        Analysis::Reach,
+        Parity::Odd,
+        "main 0: b@entry\nmain 1 (no path): -\nmain 2 (no path): -\nf 0: b@entry\nf 1 (no path): -\n",
+    ),
+    (
+        callee_loops::TEXT,
+        Analysis::Avail,
+        Parity::Even,
+        callee_loops::AVAIL,
+    ),
+    (
+        callee_loops::TEXT,
+        Analysis::Busy,
+        Parity::Odd,
+        "main 0 (no path): -\nmain 1: -\nmain 2: -\nf 0 (no path): -\nf 1: -\n",
+    ),
+];
+
+#[test]
+fn tables_of_chosen_bits(rt: HostRuntime) -> Result<(), Fail> {
+    for (text, analysis, parity, want) in CHOSEN {
+        for width in WIDTHS {
+            check(
+                &rt,
+                text,
+                Question::EveryOther(*analysis, *width, *parity),
+                *width,
+                want,
+            )?;
+        }
     }
     Ok(())
 }

@@ -1,14 +1,15 @@
 // The table of an analysis as text, put together from slices that are solved apart.
 
-ghost use Rattle.std.specs.Prelude.{◌≡◌, ◌≤◌, ◌<◌};
+ghost use Rattle.std.specs.Prelude.{◌≡◌, ◌≤◌, ◌<◌, IfOk};
 ghost use Rattle.flow_graph.specs.Points.{point_count};
 ghost use Rattle.flow_graph.specs.Universes.{bits as bits_of};
+ghost use Rattle.gen_kill.specs.Selections.{AreChosen, column_count};
 ghost use Rattle.gk_solve.specs.Solved.{direction_of};
 
 use bit_rows::{Cut, Rows, words_for};
 use flow_graph::{Analysis, Expr, Graph, OutOfMemory};
 use flow_rows::{solve, solve_slice};
-use gen_kill::Problem;
+use gen_kill::{Problem, marked_numbers};
 use gk_solve::{Routes, Solver};
 use std::alloc::Global;
 use std::process::Abort;
@@ -23,6 +24,15 @@ pub enum Question {
     Table(Analysis, u32),
     /// The lines of these points in the table of an analysis, solved in slices of this width.
     TableAt(Analysis, u32, &'static [u32]),
+    /// The table of every other bit of an analysis, chosen from the first or the second on, solved in slices of this width.
+    EveryOther(Analysis, u32, Parity),
+}
+
+/// Which bits are chosen.
+#[derive(Clone, Copy)]
+pub enum Parity {
+    Even,
+    Odd,
 }
 
 fn answer_of_graph(
@@ -33,7 +43,12 @@ fn answer_of_graph(
     let mut text = String::new(alloc);
     match question {
         Question::Table(analysis, width) => {
-            write_table(&mut text, alloc, graph, analysis, width)?;
+            let table = solved(alloc, graph, analysis, width)?;
+            write_table(&mut text, alloc, graph, &table)?;
+        }
+        Question::EveryOther(analysis, width, parity) => {
+            let table = solved_chosen(alloc, graph, analysis, width, parity)?;
+            write_table(&mut text, alloc, graph, &table)?;
         }
         Question::TableAt(analysis, width, points) => {
             write_lines(&mut text, alloc, graph, analysis, width, points)?;
@@ -145,7 +160,7 @@ fn words_agree<'a, 'g, 'p>(
 ) -> Result<bool, OutOfMemory>
     requires routes { routes.now ≡ direction_of solver.now }
     requires ordered { rows.now.lo ≤ rows.now.hi }
-    requires within { rows.now.hi ≤ bits_of solver.now.program solver.now.analysis }
+    requires within { rows.now.hi ≤ column_count solver.now }
 {
     let (lo, hi) = (rows.lo(), rows.hi());
     let mut slice = solver.slice(alloc, routes, lo, hi)?;
@@ -175,7 +190,7 @@ fn add_slice<'g, 'p>(
 ) -> Result<bool, OutOfMemory>
     requires routes { routes.now ≡ direction_of solver.now }
     requires ordered { lo ≤ hi }
-    requires within { hi ≤ bits_of solver.now.program solver.now.analysis }
+    requires within { hi ≤ column_count solver.now }
 {
     let rows = solve_slice(alloc, solver, routes, lo, hi)?;
     let agree = words_agree(alloc, solver, routes, &rows)?;
@@ -235,6 +250,48 @@ fn solved(
     let solver = Solver::of(alloc, Problem::of(alloc, graph, analysis)?)?;
     let routes = Routes::of(alloc, solver.problem())?;
     let names = bit_names(alloc, graph, analysis)?;
+    solved_with(alloc, names, &solver, &routes, width)
+}
+
+// Marks every other bit.
+fn mark_every_other(marks: &mut [bool], parity: Parity) {
+    for bit in 0..marks.len() {
+        marks[bit] = match parity {
+            Parity::Even => bit % 2 == 0,
+            Parity::Odd => bit % 2 == 1,
+        };
+    }
+}
+
+/// Every other bit of an analysis.
+fn every_other(
+    alloc: Global,
+    graph: &Graph<'_>,
+    analysis: Analysis,
+    parity: Parity,
+) -> Result<Vec<u32>, OutOfMemory>
+    ensures { IfOk result (λ chosen. AreChosen graph.now analysis chosen.items) }
+{
+    let mut marks = vec![in alloc; false; graph.bits(analysis) as usize]?;
+    mark_every_other(marks.as_mut_slice(), parity);
+    marked_numbers(alloc, marks.as_slice())
+}
+
+fn solved_chosen(
+    alloc: Global,
+    graph: &Graph<'_>,
+    analysis: Analysis,
+    width: u32,
+    parity: Parity,
+) -> Result<Table, OutOfMemory> {
+    let chosen = every_other(alloc, graph, analysis, parity)?;
+    let problem = Problem::of_chosen(alloc, graph, analysis, chosen)?;
+    let mut names = Vec::new(alloc);
+    for column in 0..problem.bits() {
+        names.push(bit_name(alloc, graph, analysis, problem.bit(column))?)?;
+    }
+    let solver = Solver::of(alloc, problem)?;
+    let routes = Routes::of(alloc, solver.problem())?;
     solved_with(alloc, names, &solver, &routes, width)
 }
 
@@ -331,12 +388,10 @@ fn write_table(
     text: &mut String,
     alloc: Global,
     graph: &Graph<'_>,
-    analysis: Analysis,
-    width: u32,
+    table: &Table,
 ) -> Result<(), OutOfMemory> {
-    let table = solved(alloc, graph, analysis, width)?;
     for point in 0..graph.points() {
-        write_point(text, alloc, graph, &table, point)?;
+        write_point(text, alloc, graph, table, point)?;
     }
     Ok(())
 }

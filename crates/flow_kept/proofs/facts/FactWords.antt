@@ -5,6 +5,7 @@ use Rattle.std.proofs.lemmas.Bool.{lt-ltb, ltb-true, le-leb, leb-true, and_parts
 use Rattle.bit_rows.specs.Words.{has_bit}
 use Rattle.flow_graph.specs.Analyses.{IsInTable, is_must}
 use Rattle.flow_graph.specs.Problems.{may_shape, may_transfer, MayForm}
+use Rattle.gen_kill.specs.Selections.{all_bits}
 use Rattle.flow_graph.specs.Paths.{SomePathHas}
 use Rattle.flow_graph.proofs.graphs.MayForms.{may_tables_are_may_forms, must_tables_are_may_forms}
 use Rattle.gk_solve.specs.Solved.{AreMeetWords, IsSliceOf, SliceTable, word_at}
@@ -53,7 +54,7 @@ must_known Table Some lo hi b false inside law is range = (
   (λ has. range.1 (has.0, has.1)),
 )
 
-pub fact_word : (form : MayForm) (slice : SliceTable) (point word told : ℕ) → IsSliceOf form slice → AreMeetWords form slice
+pub fact_word : (form : MayForm) (slice : SliceTable) (point word told : ℕ) → IsSliceOf (all_bits form.program form.analysis) slice → AreMeetWords (all_bits form.program form.analysis) slice
     → point < slice.points → slice.from ≤ word → word < slice.until
     → ((k : ℕ) → k < 64 → has_bit told k
     ≡ table_place (is_must form.analysis) (has_bit (word_at slice point word) k) (is_within slice.lo slice.hi (64 * word + k)))

@@ -3,7 +3,7 @@ use Rattle.std.specs.Prelude.{◌≡◌, ℕ, ◌+◌, ◌-◌, ◌*◌, ◌/◌
 use Rattle.flow_graph.specs.Analyses.{is_must}
 use Rattle.flow_graph.specs.Directions.{is_intersection}
 use Rattle.flow_graph.specs.Points.{point_count}
-use Rattle.flow_graph.specs.Problems.{MayForm}
+use Rattle.gen_kill.specs.Selections.{Selection, all_bits}
 use Rattle.flow_kept.specs.declared.table.Layout.{Layout}
 
 -- Of the words of one point, which stand from a place on and the first of which is number first, those from start up to end are
@@ -21,8 +21,9 @@ pub record AreFilled (tells : ℕ → ℕ → ℕ → Type 0) (points count firs
   pub kept : (point w : ℕ) → w < count → (points ≤ point) ⊎ ((first + w < start) ⊎ (end ≤ first + w))
       → slice_index new (point * count + w) ≡ slice_index old (point * count + w)
 
--- The layout is of the words of the bits lo..hi, at points of the program, in so many words.
-pub record CanFill (form : MayForm) (lo hi : ℕ) (layout : Layout) (size : ℕ) : Type 0 where
+-- The layout is of the words of the bits lo..hi, at points of the program, in so many words. All bits of the analysis are solved.
+pub record CanFill (form : Selection) (lo hi : ℕ) (layout : Layout) (size : ℕ) : Type 0 where
+  pub whole : form ≡ all_bits form.program form.analysis
   pub lo_is : layout.lo ≡ lo
   pub hi_is : layout.hi ≡ hi
   pub join : is_intersection layout.join ≡ is_must form.analysis

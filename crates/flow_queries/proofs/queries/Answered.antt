@@ -11,12 +11,13 @@ use Rattle.flow_graph.specs.Paths.{SomePathHas}
 use Rattle.flow_graph.specs.Universes.{bits}
 use Rattle.flow_graph.specs.declared.analysis.Analysis.TheVariants.{Reach, Live}
 use Rattle.flow_graph.proofs.graphs.MayForms.{flags_are_may_forms, may_tables_are_may_forms, must_tables_are_may_forms}
+use Rattle.gen_kill.specs.Selections.{may_form}
 use Rattle.gk_solve.specs.Solved.{HasPathFlags}
 use Rattle.tac_program.specs.Programs.{Program}
 use Rattle.flow_queries.specs.Queries.{AreAnswers, AreQueriesOf, IsAnswerTo}
-use Rattle.flow_team.specs.Sets.{IsInMaySet}
+use Rattle.flow_team.specs.Sets.{IsInColumns}
 use Rattle.flow_queries.specs.code.Boards.{Queried, IsWanted}
-use Rattle.flow_queries.specs.code.Directions.{form_of}
+use Rattle.flow_queries.specs.code.Directions.{selection_of}
 use Rattle.flow_team.specs.code.Complements.{complemented}
 use Rattle.flow_queries.specs.declared.query.Query.{Query}
 use Rattle.flow_queries.proofs.queries.TableAnswers.{known_by_tables}
@@ -35,15 +36,15 @@ wanted_place queried j k query of there small set solved =
           let want = solved.0 has in
           let both : Some want.query ≡ Some query = sym want.there ∙ ap (slice_get queried.order) at ∙ there in
           let same : want.query ≡ query = cc both in
-          let some : IsInMaySet (form_of queried.program query.analysis) query.point (64 * query.word + k) =
-          subst (λ (n : ℕ). IsInMaySet (form_of queried.program query.analysis) query.point (64 * query.word + n)) place
-          (subst (λ (a : Query). IsInMaySet (form_of queried.program a.analysis) a.point (64 * a.word + (64 * j + k) % 64)) same want.some) in
+          let some : IsInColumns (selection_of queried.program query.analysis) query.point (64 * query.word + k) =
+          subst (λ (n : ℕ). IsInColumns (selection_of queried.program query.analysis) query.point (64 * query.word + n)) place
+          (subst (λ (a : Query). IsInColumns (selection_of queried.program a.analysis) a.point (64 * a.word + (64 * j + k) % 64)) same want.some) in
           (omega arith, some.1, some.2)),
       (λ some. solved.1 (record {
         only = refl;
         query = query;
         there = ap (slice_get queried.order) at ∙ there;
-        some = subst (λ (n : ℕ). IsInMaySet (form_of queried.program query.analysis) query.point (64 * query.word + n)) (sym place)
+        some = subst (λ (n : ℕ). IsInColumns (selection_of queried.program query.analysis) query.point (64 * query.word + n)) (sym place)
             ((of j query there).point, some.1, some.2);
       })),
     )
@@ -70,7 +71,7 @@ word_answers queried j query rows value mask limit must of there solved is musts
 -- words that answer the queries, and the flags of both directions, are the answers
 pub answers_known : (program : Program) (queries : List Query) (words : List ℕ) (forward backward : List Bool) → length words ≡ length queries
     → ((q : ℕ) (query : Query) → slice_get queries q ≡ Some query → IsAnswerTo program query (slice_index words q))
-    → HasPathFlags (form_of program Reach) forward → HasPathFlags (form_of program Live) backward
+    → HasPathFlags (may_form (selection_of program Reach)) forward → HasPathFlags (may_form (selection_of program Live)) backward
     → AreAnswers program (record { queries = queries; words = words; forward = forward; backward = backward })
 answers_known program queries words forward backward size answered ahead back =
     known_by_tables program queries words forward backward size answered (ahead.count, ahead.flag) (

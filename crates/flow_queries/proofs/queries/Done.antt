@@ -3,11 +3,11 @@ use Rattle.std.proofs.Common.{◌≡◌, ◌∙◌, ℕ, ◌+◌, ◌*◌, ◌/�
 use mathlib.Core.Logic.{dite}
 use native.Mathlib.Decide.{ℕ_discrete}
 use Rattle.bit_rows.specs.Words.{has_bit}
-use Rattle.flow_queries.specs.code.Directions.{form_of}
+use Rattle.flow_queries.specs.code.Directions.{selection_of}
 use Rattle.flow_queries.specs.code.Boards.{AreDone, Queried, IsWanted}
 use Rattle.flow_queries.specs.declared.query.Query.{Query}
 use Rattle.flow_graph.specs.Universes.{bits}
-use Rattle.flow_team.specs.Sets.{IsInMaySet}
+use Rattle.flow_team.specs.Sets.{IsInColumns}
 use Rattle.slice_board.specs.Teams.{PostsMore}
 use Rattle.gk_solve.specs.Solved.{SliceTable, TellWords, word_at}
 use Rattle.slice_board.specs.Passes.{PassState, IsLogged}
@@ -15,16 +15,16 @@ use Rattle.slice_board.proofs.words.Sums.{marked_still}
 
 -- what is wanted of a query's number is wanted of the query
 wanted_of : (queried : Queried) (q : ℕ) (query : Query) → slice_get queried.order q ≡ Some query → (bit : ℕ) → IsWanted queried 0 bit → bit / 64 ≡ q
-    → IsInMaySet (form_of queried.program query.analysis) query.point (64 * query.word + bit % 64)
+    → IsInColumns (selection_of queried.program query.analysis) query.point (64 * query.word + bit % 64)
 wanted_of queried q query there bit want at =
     let both : Some want.query ≡ Some query = sym want.there ∙ ap (slice_get queried.order) at ∙ there in
     let same : want.query ≡ query = cc both in
-    subst (λ (a : Query). IsInMaySet (form_of queried.program a.analysis) a.point (64 * a.word + bit % 64)) same want.some
+    subst (λ (a : Query). IsInColumns (selection_of queried.program a.analysis) a.point (64 * a.word + bit % 64)) same want.some
 
 module _ (queried : Queried) (slice : SliceTable) (q : ℕ) (query : Query) (mask : ℕ) (there : slice_get queried.order q ≡ Some query)
     (point : query.point < slice.points) (from : slice.from ≤ query.word) (until : query.word < slice.until)
     (lo : slice.lo ≡ 0) (hi : slice.hi ≡ bits queried.program query.analysis)
-    (tells : TellWords (IsInMaySet (form_of queried.program query.analysis)) slice) (is : mask ≡ word_at slice query.point query.word) where
+    (tells : TellWords (IsInColumns (selection_of queried.program query.analysis)) slice) (is : mask ≡ word_at slice query.point query.word) where
   -- the word of a query has what is wanted of it
   pub query_has : (bit : ℕ) → IsWanted queried 0 bit → bit / 64 ≡ q → has_bit mask (bit % 64) ≡ true
   query_has bit want at =
@@ -42,7 +42,7 @@ module _ (queried : Queried) (slice : SliceTable) (q : ℕ) (query : Query) (mas
         only = refl;
         query = query;
         there = ap (slice_get queried.order) (sym at) ∙ there;
-        some = subst (λ (n : ℕ). IsInMaySet (form_of queried.program query.analysis) query.point (64 * query.word + n)) place solved.2;
+        some = subst (λ (n : ℕ). IsInColumns (selection_of queried.program query.analysis) query.point (64 * query.word + n)) place solved.2;
       }
 
 module _ (queried : Queried) where

@@ -11,9 +11,9 @@ use Rattle.flow_graph.specs.declared.analysis.Analysis.{Analysis}
 use Rattle.flow_graph.specs.declared.analysis.Analysis.TheVariants.{Reach, Live}
 use Rattle.flow_graph.specs.declared.analysis.Direction.{Direction}
 use Rattle.flow_graph.specs.declared.analysis.Direction.TheVariants.{Forward, Backward}
-use Rattle.flow_graph.specs.Problems.{MayForm}
+use Rattle.gen_kill.specs.Selections.{Selection}
 use Rattle.flow_links.specs.Shapes.{LinkedProgram}
-use Rattle.flow_queries.specs.code.Directions.{analyses_of, form_of}
+use Rattle.flow_queries.specs.code.Directions.{analyses_of, selection_of}
 use Rattle.tac_program.specs.Programs.{Program}
 
 -- what is made of each element, and of one more
@@ -40,9 +40,9 @@ first_of Forward = (Reach, refl, refl)
 first_of Backward = (Live, refl, refl)
 
 -- the routes that are made of the first solver of a direction are the direction's
-pub routes_known : (program : Program) (direction : Direction) (analyses : List Analysis) (solvers : List MayForm) (i : ℕ) (problem : MayForm)
+pub routes_known : (program : Program) (direction : Direction) (analyses : List Analysis) (solvers : List Selection) (i : ℕ) (problem : Selection)
     (routes : LinkedProgram) → analyses ≡ analyses_of (goes_backward direction) → length analyses ≤ i
-    → ((k : ℕ) (a : Analysis) → k < i → slice_get analyses k ≡ Some a → slice_get solvers k ≡ Some (form_of program a))
+    → ((k : ℕ) (a : Analysis) → k < i → slice_get analyses k ≡ Some a → slice_get solvers k ≡ Some (selection_of program a))
     → problem ≡ get_or solvers 0 problem
     → routes ≡ record { program = problem.program; backward = is_backward problem.analysis }
     → routes ≡ record { program = program; backward = goes_backward direction }
@@ -50,8 +50,8 @@ routes_known program direction analyses solvers i problem routes are all each re
     let first = first_of direction in
     let listed : slice_get analyses 0 ≡ Some first.0 = ap (λ (list : List Analysis). slice_get list 0) are ∙ first.1 in
     let some : 0 < length analyses = slice_get_within analyses 0 first.0 listed in
-    let solver : problem ≡ form_of program first.0 =
-    read ∙ get_or_from_slice_get solvers 0 (form_of program first.0) problem (each 0 first.0 (omega (arith, some, all)) listed) in
+    let solver : problem ≡ selection_of program first.0 =
+    read ∙ get_or_from_slice_get solvers 0 (selection_of program first.0) problem (each 0 first.0 (omega (arith, some, all)) listed) in
     is
-    ∙ ap (λ (form : MayForm). let linked : LinkedProgram = record { program = form.program; backward = is_backward form.analysis } in linked) solver
+    ∙ ap (λ (selection : Selection). let linked : LinkedProgram = record { program = selection.program; backward = is_backward selection.analysis } in linked) solver
     ∙ ap (λ (b : Bool). let linked : LinkedProgram = record { program = program; backward = b } in linked) first.2

@@ -1,13 +1,12 @@
 -- How queries stand to their board, and how far they are posted.
 use Rattle.std.specs.Prelude.{◌≡◌, ℕ, ◌+◌, ◌*◌, ◌/◌, ◌%◌, ◌^◌, ◌<◌, true, false, List, Some, length, map, slice_get, slice_index, slice_index_or}
-use Rattle.flow_graph.specs.Problems.{MayForm}
-use Rattle.flow_graph.specs.Universes.{bits}
+use Rattle.gen_kill.specs.Selections.{Selection, column_count}
 use Rattle.flow_graph.specs.declared.analysis.Analysis.TheVariants.{Reach}
 use Rattle.flow_links.specs.Shapes.{LinkedProgram}
 use Rattle.flow_queries.specs.Queries.{AreQueriesOf, IsAnswerTo}
-use Rattle.flow_team.specs.Sets.{IsInMaySet}
+use Rattle.flow_team.specs.Sets.{IsInColumns}
 use Rattle.flow_queries.specs.code.Cuts.{AreApart}
-use Rattle.flow_queries.specs.code.Directions.{form_of}
+use Rattle.flow_queries.specs.code.Directions.{selection_of}
 use Rattle.flow_queries.specs.declared.query.Query.{Query}
 use Rattle.gk_solve.specs.Solved.{IsSliceOf, SliceTable, TellWords}
 use Rattle.slice_board.specs.Boards.{BoardState, board_points}
@@ -60,7 +59,7 @@ pub record IsWanted (queried : Queried) (point bit : ℕ) : Type 0 where
   pub only : point ≡ 0
   pub query : Query
   pub there : slice_get queried.order (bit / 64) ≡ Some query
-  pub some : IsInMaySet (form_of queried.program query.analysis) query.point (64 * query.word + bit % 64)
+  pub some : IsInColumns (selection_of queried.program query.analysis) query.point (64 * query.word + bit % 64)
 
 -- The board wants what is asked: it has one point, a word for each query, and slices of queries of one analysis.
 pub record IsQueryBoard (queried : Queried) (board : BoardState Queried) : Type 0 where
@@ -74,11 +73,11 @@ abbrev pub AreDone : Queried → (ℕ → Type 0) → List LoggedWord → Type 0
 AreDone queried done posted = (bit : ℕ) → IsWanted queried 0 bit → done (bit / 64) → IsLogged posted 0 bit
 
 -- Of all bits of a problem, the words from one up to another were solved last: they tell the may form's sets.
-pub record AreWordsOf (form : MayForm) (from until : ℕ) (slice : SliceTable) : Type 0 where
-  pub of : IsSliceOf form slice
+pub record AreWordsOf (selection : Selection) (from until : ℕ) (slice : SliceTable) : Type 0 where
+  pub of : IsSliceOf selection slice
   pub lo : slice.lo ≡ 0
-  pub hi : slice.hi ≡ bits form.program form.analysis
-  pub solved : from < until → (slice.from ≡ from) × (slice.until ≡ until) × TellWords (IsInMaySet form) slice
+  pub hi : slice.hi ≡ column_count selection
+  pub solved : from < until → (slice.from ≡ from) × (slice.until ≡ until) × TellWords (IsInColumns selection) slice
 
 -- The queries that are first in the order have their answers.
 abbrev pub AreAnswered : Queried → ℕ → List ℕ → Type 0

@@ -9,7 +9,8 @@ use Rattle.bit_rows.proofs.sets.SetLaws.{HasRange-with_words, contains-empty_set
 use Rattle.bit_rows.proofs.words.WordBits.{has_bit-zero}
 use Rattle.std.proofs.lemmas.List.{get_or_past}
 use Rattle.bit_rows.proofs.sets.Tables.{IsUniform-replaced, set_at-with_set_same, set_at-with_set_other, set_at-blank_table}
-use Rattle.flow_graph.specs.Problems.{may_shape, may_transfer, MayForm}
+use Rattle.flow_graph.specs.Problems.{may_shape}
+use Rattle.gen_kill.specs.Selections.{Selection, column_transfer}
 use Rattle.flow_graph.specs.WellFormed.{IsWellFormed}
 use Rattle.flow_graph.specs.Points.{point_count}
 use Rattle.flow_links.specs.Shapes.{LinkedProgram, directed_shape}
@@ -117,7 +118,7 @@ masks_are slice point from masks from_is until_is each b = (
 
 -- ---- a slice
 -- put words tell more
-pub tells_more : (form : MayForm) (slice : SliceTable) (old new : RowTable) (limit lo hi : ℕ) → AreSolved form slice
+pub tells_more : (form : Selection) (slice : SliceTable) (old new : RowTable) (limit lo hi : ℕ) → AreSolved form slice
     → slice.points ≡ point_count form.program → slice.lo ≡ lo → slice.hi ≡ hi
     → limit ≡ 64 * slice.from → slice.from ≤ slice.until → IsPut (IsInWords slice) old new → TellsBelow form limit lo hi old
     → TellsBelow form (64 * slice.until) lo hi new
@@ -135,21 +136,21 @@ tells_more form slice old new limit lo hi solved points same_lo same_hi limit_is
   where
     from : (point b : ℕ) → point < point_count form.program → lo ≤ b → b < hi
         → (contains (set_at old point) b ≡ true)
-        ↔ ((b < limit) × IsInSolution (may_shape form.program form.analysis) (may_transfer form.program form.analysis b) point)
+        ↔ ((b < limit) × IsInSolution (may_shape form.program form.analysis) (column_transfer form b) point)
         → (contains (set_at old point) b ≡ true) ⊎ IsInWords slice point b
-        → (b < 64 * slice.until) × IsInSolution (may_shape form.program form.analysis) (may_transfer form.program form.analysis b) point
+        → (b < 64 * slice.until) × IsInSolution (may_shape form.program form.analysis) (column_transfer form b) point
     from point b within low high had (inl before) = let h = had.0 before in (omega (arith, h.0, limit_is, ordered), h.1)
     from point b within low high had (inr new) =
         let same : 64 * (b / 64) + b % 64 ≡ b = omega arith in
         let is = (solved point (b / 64) (b % 64) (omega (arith, within, points)) new.0 new.1 (omega arith)).0 new.2 in (
           omega (arith, new.1),
-          subst (λ n. IsInSolution (may_shape form.program form.analysis) (may_transfer form.program form.analysis n) point) same is.2,
+          subst (λ n. IsInSolution (may_shape form.program form.analysis) (column_transfer form n) point) same is.2,
         )
 
     to : (point b : ℕ) → point < point_count form.program → lo ≤ b → b < hi
         → (contains (set_at old point) b ≡ true)
-        ↔ ((b < limit) × IsInSolution (may_shape form.program form.analysis) (may_transfer form.program form.analysis b) point)
-        → (b < 64 * slice.until) × IsInSolution (may_shape form.program form.analysis) (may_transfer form.program form.analysis b) point
+        ↔ ((b < limit) × IsInSolution (may_shape form.program form.analysis) (column_transfer form b) point)
+        → (b < 64 * slice.until) × IsInSolution (may_shape form.program form.analysis) (column_transfer form b) point
         → (contains (set_at old point) b ≡ true) ⊎ IsInWords slice point b
     to point b within low high had is = elim (cases_lt b limit) [
       | inl earlier ↦ inl (had.1 (earlier, is.1))
@@ -163,13 +164,13 @@ tells_more form slice old new limit lo hi solved points same_lo same_hi limit_is
             (solved point (b / 64) (b % 64) (omega (arith, within, points)) first last (omega arith)).1 (
               omega (arith, low, same_lo, same),
               omega (arith, high, same_hi, same),
-              subst (λ n. IsInSolution (may_shape form.program form.analysis) (may_transfer form.program form.analysis n) point) (sym same) is.1,
+              subst (λ n. IsInSolution (may_shape form.program form.analysis) (column_transfer form n) point) (sym same) is.1,
             ),
           )
     ]
 
 -- blank rows tell the flags, and nothing below their first bit
-pub blank_tells : (form : MayForm) (linked : LinkedProgram) → linked ≡ direction_of form → (limit lo hi : ℕ) (flags : List Bool) (rows : RowTable)
+pub blank_tells : (form : Selection) (linked : LinkedProgram) → linked ≡ direction_of form → (limit lo hi : ℕ) (flags : List Bool) (rows : RowTable)
     → limit ≤ lo
     → ArePathFlags (directed_shape linked) (point_count linked.program) flags → rows ≡ blank_table flags lo hi → TellsBelow form limit lo hi rows
 blank_tells form linked same limit lo hi flags rows first are blank =
@@ -187,7 +188,7 @@ blank_tells form linked same limit lo hi flags rows first are blank =
     })
 
 -- past the last bit all is told
-pub tells_all : (form : MayForm) (limit lo hi : ℕ) (rows : RowTable) → (lo < hi → hi ≤ limit) → TellsBelow form limit lo hi rows
+pub tells_all : (form : Selection) (limit lo hi : ℕ) (rows : RowTable) → (lo < hi → hi ≤ limit) → TellsBelow form limit lo hi rows
     → IsLeastSolution form lo hi rows
 tells_all form limit lo hi rows whole tells = record {
   same_lo = tells.same_lo;
@@ -201,7 +202,7 @@ tells_all form limit lo hi rows whole tells = record {
 }
 
 -- the least solution is the meet over paths
-pub solution_to_meet : (form : MayForm) (lo hi : ℕ) (rows : RowTable) → IsWellFormed (may_shape form.program form.analysis)
+pub solution_to_meet : (form : Selection) (lo hi : ℕ) (rows : RowTable) → IsWellFormed (may_shape form.program form.analysis)
     → IsLeastSolution form lo hi rows → IsMeetOverPaths form lo hi rows
 solution_to_meet form lo hi rows formed solution =
     let shape = may_shape form.program form.analysis in
@@ -211,10 +212,10 @@ solution_to_meet form lo hi rows formed solution =
       count = solution.count;
       flag = λ point within.
           let is = solution.flag point within in
-          let meet = (solution_is_meet shape (may_transfer form.program form.analysis 0) point formed).0 in
+          let meet = (solution_is_meet shape (column_transfer form 0) point formed).0 in
           (λ flag. meet.0 (is.0 flag), λ path. is.1 (meet.1 path));
       bit = λ point b within low high.
           let is = solution.bit point b within low high in
-          let meet = (solution_is_meet shape (may_transfer form.program form.analysis b) point formed).1 in
+          let meet = (solution_is_meet shape (column_transfer form b) point formed).1 in
           (λ has. meet.0 (is.0 has), λ path. is.1 (meet.1 path));
     }

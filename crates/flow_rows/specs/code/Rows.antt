@@ -3,7 +3,8 @@ use Rattle.std.specs.Prelude.{◌≡◌, ◌↔◌, ◌⊎◌, ℕ, ◌+◌, ◌
 use Rattle.bit_rows.specs.RowSet.{contains}
 use Rattle.bit_rows.specs.RowTable.{RowTable, IsUniform, set_at}
 use Rattle.bit_rows.specs.Words.{has_bit}
-use Rattle.flow_graph.specs.Problems.{may_shape, may_transfer, MayForm}
+use Rattle.flow_graph.specs.Problems.{may_shape}
+use Rattle.gen_kill.specs.Selections.{Selection, column_transfer}
 use Rattle.flow_graph.specs.Points.{point_count}
 use Rattle.summary_equations.specs.Equations.{HasFlag, IsInSolution}
 use Rattle.gk_solve.specs.Solved.{SliceTable, word_at}
@@ -29,9 +30,9 @@ AreWithin slice = (point word k : ℕ) → point < slice.points → slice.from �
     → (slice.lo ≤ 64 * word + k) × (64 * word + k < slice.hi)
 
 -- The rows of a slice tell the problem's flags, and its solution at the bits below a limit.
-abbrev pub TellsBelow : MayForm → ℕ → ℕ → ℕ → RowTable → Type 0
+abbrev pub TellsBelow : Selection → ℕ → ℕ → ℕ → RowTable → Type 0
 TellsBelow form limit lo hi rows =
     TellsSlice (point_count form.program) lo hi
     (HasFlag (may_shape form.program form.analysis))
-    (λ point bit. (bit < limit) × IsInSolution (may_shape form.program form.analysis) (may_transfer form.program form.analysis bit) point)
+    (λ point bit. (bit < limit) × IsInSolution (may_shape form.program form.analysis) (column_transfer form bit) point)
     rows

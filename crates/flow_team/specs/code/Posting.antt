@@ -2,8 +2,8 @@
 use Rattle.std.specs.Prelude.{◌≡◌, ◌↔◌, ℕ, ◌+◌, ◌*◌, ◌/◌, ◌<◌, ◌≤◌, true, List}
 use Rattle.bit_rows.specs.Words.{has_bit}
 use Rattle.flow_graph.specs.Points.{point_count}
-use Rattle.flow_graph.specs.Problems.{MayForm}
-use Rattle.flow_team.specs.Sets.{IsInMaySet}
+use Rattle.flow_team.specs.Sets.{IsInColumns}
+use Rattle.gen_kill.specs.Selections.{Selection}
 use Rattle.gk_solve.specs.Solved.{SliceTable, word_at}
 use Rattle.slice_board.specs.Teams.{PostsMore}
 use Rattle.slice_board.specs.Boards.{BoardState, IsOf, board_points}
@@ -20,13 +20,13 @@ abbrev pub TellPoint : (ℕ → ℕ → Type 0) → SliceTable → ℕ → ℕ �
 TellPoint wanted slice point at = (word k : ℕ) → slice.from ≤ word → word < slice.until → k < 64
     → (has_bit (word_at slice at word) k ≡ true) ↔ ((slice.lo ≤ 64 * word + k) × (64 * word + k < slice.hi) × wanted point (64 * word + k))
 
--- What is wanted are the may form's sets at the board's points, which are so many of the program, from the first on. The board has the bits
+-- What is wanted are the selected bits at the board's points, which are so many of the program, from the first on. The board has the bits
 -- before one, and the pass is one of the board's.
-pub record CanPost {T : Type 0} (wanted : ℕ → ℕ → Type 0) (form : MayForm) (first count hi : ℕ) (board : BoardState T) (pass : PassState T)
+pub record CanPost {T : Type 0} (wanted : ℕ → ℕ → Type 0) (selection : Selection) (first count hi : ℕ) (board : BoardState T) (pass : PassState T)
     : Type 0 where
-  pub wants : (point bit : ℕ) → wanted point bit ↔ ((point < count) × IsInMaySet form (first + point) bit)
+  pub wants : (point bit : ℕ) → wanted point bit ↔ ((point < count) × IsInColumns selection (first + point) bit)
   pub points : board_points board ≡ count
-  pub there : first + count ≤ point_count form.program
+  pub there : first + count ≤ point_count selection.program
   pub within : hi ≤ board.cut.bits
   pub of : IsOf board pass
 

@@ -1,21 +1,18 @@
 -- Gen and kill of a may form, from the bits that a statement owns and those that it touches
-use Rattle.std.proofs.Common.{◌≡◌, ℕ, ◌+◌, ◌*◌, ◌/◌, ◌%◌, ◌^◌, ◌<◌, ◌≤◌, ◌⊎◌, Bool, true, false, not, ◌&&◌, Option, Some, None, option_map, slice_get}
-use Rattle.std.proofs.Common.{unwrap_or, eqb, nat_eq, nat_lt, bit_and, inl, inr, refl, sym, ap, ap₂, ◌∙◌, arith}
+use Rattle.std.proofs.Common.{◌≡◌, ℕ, ◌+◌, ◌*◌, ◌<◌, ◌≤◌, ◌⊎◌, Bool, true, false, not, ◌&&◌, Option, Some, None, option_map, slice_get}
+use Rattle.std.proofs.Common.{unwrap_or, nat_eq, nat_lt, bit_and, inl, inr, refl, sym, ap, ap₂, ◌∙◌, arith}
 use Rattle.std.proofs.lemmas.Bool.{cases_lt, and_right}
-use Rattle.std.proofs.lemmas.Nat.Bits.{shr_and_one}
 use Rattle.bit_rows.specs.Words.{has_bit}
 use Rattle.bit_rows.proofs.words.WordBits.{has_bit-and}
 use Rattle.tac_program.specs.Programs.{Program}
-use Rattle.gen_kill.specs.code.Effects.{IsEffect, depends, effect_owns, gen_from, kill_from, owns, touches}
-use Rattle.flow_graph.specs.Problems.{IsWordOfTest, MayForm, may_gens, may_kills}
+use Rattle.gen_kill.specs.code.Effects.{gen_from, kill_from, owns, touches}
+use Rattle.flow_graph.specs.Problems.{IsWordOfTest, may_gens, may_kills}
 use Rattle.flow_graph.specs.Transfers.{has_operand, is_made_at}
 use Rattle.flow_graph.specs.Universes.{Definition, bits, definitions, expression_at, expressions}
 use Rattle.flow_graph.specs.declared.analysis.Analysis.TheVariants.{Reach, Live, Avail, Busy}
 use Rattle.flow_graph.specs.declared.analysis.Analysis.{Analysis}
 use Rattle.flow_graph.specs.declared.expression.Expr.{Expr}
 use Rattle.flow_graph.specs.Universes.{same_expression, target_at}
-use Rattle.gen_kill.specs.declared.effect.Effect.{Effect}
-use Rattle.flow_graph.proofs.bits.WordTests.{words_tell_bits}
 use Rattle.gen_kill.proofs.bits.SetWords.{nat_eq-sym}
 
 -- ---- definitions: what is written and is no own one is killed
@@ -123,41 +120,3 @@ is_word test bits word value full values limit k within =
     by_place (inr past) =
         let is : nat_lt (64 * word + k) bits ≡ false = grind arith in
         and_right (has_bit value k) (nat_lt (64 * word + k) bits) is ∙ ap (λ t. t && test (64 * word + k)) (sym is)
-
--- a bit that is read from its word
-pub bit_of_word : (test : ℕ → Bool) (bits bit value : ℕ) → bit < bits → IsWordOfTest test bits (bit / 64) value
-    → nat_eq (bit_and (value / 2 ^ (bit % 64)) 1) 1 ≡ test bit
-unfolding has_bit
-bit_of_word test bits bit value below is = ap (λ x. eqb x 1) (shr_and_one value (bit % 64)) ∙ words_tell_bits test bits bit value below is
-
--- what a statement's own bits and those that it touches make of its words
-module _ (form : MayForm) (point word : ℕ) (e : Effect) (known : IsEffect form.program form.analysis point e) (own touched value full : ℕ)
-    (owned : (k : ℕ) → k < 64 → has_bit own k ≡ effect_owns e (64 * word + k))
-    (touching : (k : ℕ) → k < 64 → 64 * word + k < bits form.program form.analysis
-    → has_bit touched k ≡ unwrap_or (option_map (λ x. depends form.program form.analysis x (64 * word + k)) e.written) false)
-    (limit : (k : ℕ) → k < 64 → has_bit full k ≡ nat_lt (64 * word + k) (bits form.program form.analysis)) where
-  is_owned : (k : ℕ) → k < 64 → has_bit own k ≡ owns form.program form.analysis point (64 * word + k)
-  is_owned k within = owned k within ∙ known.own (64 * word + k)
-
-  is_touched : (k : ℕ) → k < 64 → 64 * word + k < bits form.program form.analysis
-      → has_bit touched k ≡ touches form.program form.analysis point (64 * word + k)
-  is_touched k within below =
-      touching k within below ∙ ap (λ o. unwrap_or (option_map (λ x. depends form.program form.analysis x (64 * word + k)) o) false) known.written
-
-  pub word_of_gens : ((k : ℕ) → k < 64 → has_bit value k ≡ gen_from form.analysis (has_bit own k) (has_bit touched k))
-      → IsWordOfTest (may_gens form point) (bits form.program form.analysis) word (bit_and value full)
-  word_of_gens made = is_word (may_gens form point) (bits form.program form.analysis) word value full
-      (λ k within below.
-      made k within
-      ∙ ap₂ (gen_from form.analysis) (is_owned k within) (is_touched k within below)
-      ∙ sym (may_gens_are form.program form.analysis point (64 * word + k)))
-      limit
-
-  pub word_of_kills : ((k : ℕ) → k < 64 → has_bit value k ≡ kill_from form.analysis (has_bit own k) (has_bit touched k))
-      → IsWordOfTest (may_kills form point) (bits form.program form.analysis) word (bit_and value full)
-  word_of_kills made = is_word (may_kills form point) (bits form.program form.analysis) word value full
-      (λ k within below.
-      made k within
-      ∙ ap₂ (kill_from form.analysis) (is_owned k within) (is_touched k within below)
-      ∙ sym (may_kills_are form.program form.analysis point (64 * word + k)))
-      limit

@@ -6,9 +6,10 @@ use Rattle.tac_program.specs.Programs.{Program}
 use Rattle.gen_kill.specs.code.BitTables.{table_has}
 use Rattle.flow_graph.specs.Points.{point_count}
 use Rattle.flow_graph.specs.Transfers.{has_operand, reads, evaluates, is_made_at}
-use Rattle.flow_graph.specs.Universes.{target_at, definitions, expressions, bits}
+use Rattle.flow_graph.specs.Universes.{target_at, definitions, expressions}
 use Rattle.flow_graph.specs.declared.analysis.Analysis.TheVariants.{Reach, Live, Avail, Busy}
 use Rattle.flow_graph.specs.declared.analysis.Analysis.{Analysis}
+use Rattle.gen_kill.specs.Selections.{Selection, bit_of, column_count}
 use Rattle.gen_kill.specs.declared.effect.Effect.{Effect}
 
 -- whether a number is the one that is told, if any is
@@ -51,7 +52,7 @@ kill_from Busy own touched = own
 abbrev pub effect_owns : Effect → ℕ → Bool
 effect_owns e bit = marks e.first bit || marks e.second bit
 
--- what is kept of the statement at a point
+-- What a statement does with the bits of an analysis, by bits.
 pub record IsEffect (program : Program) (analysis : Analysis) (point : ℕ) (e : Effect) : Type 0 where
   pub written : e.written ≡ target_at program point
   pub within : IfSome e.written (λ x. x < length program.variable_names)
@@ -73,20 +74,32 @@ pub record IsNumberedEffect (program : Program) (analysis : Analysis) (number po
   pub within : IfSome e.written (λ x. x < length program.variable_names)
   pub own : (bit : ℕ) → effect_owns e bit ≡ owns_numbered program analysis number point bit
 
+-- What is kept of the statement at a point, by columns.
+pub record IsColumnEffect (selection : Selection) (point : ℕ) (e : Effect) : Type 0 where
+  pub written : e.written ≡ target_at selection.program point
+  pub within : IfSome e.written (λ x. x < length selection.program.variable_names)
+  pub own : (column : ℕ) → column < column_count selection
+      → effect_owns e column ≡ owns selection.program selection.analysis point (bit_of selection column)
+
+-- whether a column's bit depends on a variable
+unfoldable pub column_depends : Selection → ℕ → ℕ → Bool
+column_depends selection variable column = depends selection.program selection.analysis variable (bit_of selection column)
+
 -- the effect of each point
-pub record AreEffects (program : Program) (analysis : Analysis) (effects : List Effect) : Type 0 where
-  pub count : length effects ≡ point_count program
-  pub each : (point : ℕ) (d : Effect) → point < point_count program → IsEffect program analysis point (get_or effects point d)
+pub record AreEffects (selection : Selection) (effects : List Effect) : Type 0 where
+  pub count : length effects ≡ point_count selection.program
+  pub each : (point : ℕ) (d : Effect) → point < point_count selection.program → IsColumnEffect selection point (get_or effects point d)
 
--- of the bits of so many words from one on, those that depend on each variable
-pub record IsDependence (program : Program) (analysis : Analysis) (first : ℕ) (words : List ℕ) (width : ℕ) : Type 0 where
-  pub count : length words ≡ length program.variable_names * width
-  pub each : (variable bit : ℕ) → variable < length program.variable_names → bit < 64 * width → 64 * first + bit < bits program analysis
-      → table_has words width variable bit ≡ depends program analysis variable (64 * first + bit)
+-- of the columns of so many words from one on, those that depend on each variable
+pub record IsDependence (selection : Selection) (first : ℕ) (words : List ℕ) (width : ℕ) : Type 0 where
+  pub count : length words ≡ length selection.program.variable_names * width
+  pub each : (variable column : ℕ) → variable < length selection.program.variable_names → column < 64 * width
+      → 64 * first + column < column_count selection
+      → table_has words width variable column ≡ column_depends selection variable (64 * first + column)
 
--- the words of 64 bits in which some bit depends on each variable: word w at place w % 64
-pub record AreDependentWords (program : Program) (analysis : Analysis) (words : List ℕ) (width : ℕ) : Type 0 where
+-- the words of 64 columns in which some column depends on each variable: word w at place w % 64
+pub record AreDependentWords (selection : Selection) (words : List ℕ) (width : ℕ) : Type 0 where
   pub one : width ≡ 1
-  pub count : length words ≡ length program.variable_names * width
-  pub each : (variable bit : ℕ) → variable < length program.variable_names → bit < bits program analysis
-      → depends program analysis variable bit ≡ true → table_has words width variable (bit / 64 % 64) ≡ true
+  pub count : length words ≡ length selection.program.variable_names * width
+  pub each : (variable column : ℕ) → variable < length selection.program.variable_names → column < column_count selection
+      → column_depends selection variable column ≡ true → table_has words width variable (column / 64 % 64) ≡ true

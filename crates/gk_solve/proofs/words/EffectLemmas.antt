@@ -4,48 +4,48 @@ use Rattle.std.proofs.Common.{bit_or, bit_and, get_or}
 use Rattle.std.proofs.lemmas.Bool.{cases_lt, lt-ltb, le-ltb, false≢true, or_left, false_from_ne_true}
 use Rattle.bit_rows.specs.Words.{has_bit}
 use Rattle.bit_rows.proofs.words.WordBits.{has_bit-or, has_bit-and, has_bit-zero}
-use Rattle.flow_graph.specs.Problems.{IsAffected, MayForm, IsWordOfTest, may_gens, may_kills, may_boundary}
-use Rattle.flow_graph.specs.Universes.{bits as bits_of}
+use Rattle.flow_graph.specs.Problems.{IsWordOfTest}
+use Rattle.gen_kill.specs.Selections.{IsColumnAffected, Selection, column_boundary, column_count, column_gens, column_kills}
 use Rattle.flow_graph.specs.Points.{point_count}
 use Rattle.gk_solve.specs.Tables.Groups.{IsGroupFrame, IsIdle}
 use Rattle.gk_solve.specs.declared.group_frame.GroupFrame.{GroupFrame}
 use Rattle.gk_solve.specs.Tables.Words.{place_gens, place_kills, place_boundary}
 
 -- a word of the form tells the places of its number
-pub gens_of_word : (form : MayForm) (point word value k : ℕ) → k < 64
-    → IsWordOfTest (may_gens form point) (bits_of form.program form.analysis) word value
+pub gens_of_word : (form : Selection) (point word value k : ℕ) → k < 64
+    → IsWordOfTest (column_gens form point) (column_count form) word value
     → has_bit value k ≡ place_gens form point (64 * word + k)
 unfolding place_gens
 gens_of_word form point word value k low is = is k low
 
-pub kills_of_word : (form : MayForm) (point word value k : ℕ) → k < 64
-    → IsWordOfTest (may_kills form point) (bits_of form.program form.analysis) word value → has_bit value k ≡ place_kills form point (64 * word + k)
+pub kills_of_word : (form : Selection) (point word value k : ℕ) → k < 64
+    → IsWordOfTest (column_kills form point) (column_count form) word value → has_bit value k ≡ place_kills form point (64 * word + k)
 unfolding place_kills
 kills_of_word form point word value k low is = is k low
 
-pub boundary_of_word : (form : MayForm) (word value k : ℕ) → k < 64 → IsWordOfTest (may_boundary form) (bits_of form.program form.analysis) word value
+pub boundary_of_word : (form : Selection) (word value k : ℕ) → k < 64 → IsWordOfTest (column_boundary form) (column_count form) word value
     → has_bit value k ≡ place_boundary form (64 * word + k)
 unfolding place_boundary
 boundary_of_word form word value k low is = is k low
 
 -- a word of which no affected bit tells is one in which the statement is idle
-pub idle_word : (form : MayForm) (point words word : ℕ)
-    → ((bit : ℕ) → bit < bits_of form.program form.analysis → IsAffected form point bit → has_bit words (bit / 64 % 64) ≡ true)
+pub idle_word : (form : Selection) (point words word : ℕ)
+    → ((bit : ℕ) → bit < column_count form → IsColumnAffected form point bit → has_bit words (bit / 64 % 64) ≡ true)
     → has_bit words (word % 64) ≡ false → IsIdle form point word
 unfolding place_gens place_kills
 idle_word form point words word told clear k low = (
-  never (may_gens form point (64 * word + k)) (λ below gens. told (64 * word + k) below (inl gens)),
-  never (may_kills form point (64 * word + k)) (λ below kills. told (64 * word + k) below (inr kills)),
+  never (column_gens form point (64 * word + k)) (λ below gens. told (64 * word + k) below (inl gens)),
+  never (column_kills form point (64 * word + k)) (λ below kills. told (64 * word + k) below (inr kills)),
 )
   where
     here : (64 * word + k) / 64 % 64 ≡ word % 64
     here = let same : (64 * word + k) / 64 ≡ word = omega (arith, low) in ap (λ n. n % 64) same
 
-    never : (b : Bool) → (64 * word + k < bits_of form.program form.analysis → b ≡ true → has_bit words ((64 * word + k) / 64 % 64) ≡ true)
-        → (nat_lt (64 * word + k) (bits_of form.program form.analysis) && b) ≡ false
-    never b tells = elim (cases_lt (64 * word + k) (bits_of form.program form.analysis)) [
-      | inr past ↦ ap (λ a. a && b) (le-ltb (64 * word + k) (bits_of form.program form.analysis) past)
-      | inl below ↦ ap (λ a. a && b) (lt-ltb (64 * word + k) (bits_of form.program form.analysis) below)
+    never : (b : Bool) → (64 * word + k < column_count form → b ≡ true → has_bit words ((64 * word + k) / 64 % 64) ≡ true)
+        → (nat_lt (64 * word + k) (column_count form) && b) ≡ false
+    never b tells = elim (cases_lt (64 * word + k) (column_count form)) [
+      | inr past ↦ ap (λ a. a && b) (le-ltb (64 * word + k) (column_count form) past)
+      | inl below ↦ ap (λ a. a && b) (lt-ltb (64 * word + k) (column_count form) below)
           ∙ false_from_ne_true b (λ is. false≢true (sym clear ∙ (ap (has_bit words) (sym here) ∙ tells below is)))
     ]
 

@@ -6,7 +6,7 @@ use Rattle.flow_graph.specs.declared.edge.Edge.{Edge}
 use Rattle.flow_graph.specs.declared.edge.Edge.TheVariants.{Step, Call, Ret}
 use Rattle.flow_graph.specs.Analyses.{is_backward}
 use Rattle.flow_graph.specs.Points.{point_count}
-use Rattle.flow_graph.specs.Problems.{MayForm}
+use Rattle.gen_kill.specs.Selections.{Selection}
 use Rattle.gen_kill.specs.code.Effects.{IsDependence}
 use Rattle.summary_equations.specs.Equations.{HasFlag}
 use Rattle.flow_graph.specs.Paths.{Shape, Transfer, IsEdge}
@@ -115,11 +115,11 @@ IsGeneratedAcross group x y before after = (w k : ℕ) → w < group.width → k
     → has_bit (slice_index after w) k ≡ ((group.transfer w k).gen x y || (has_bit (slice_index before w) k && not ((group.transfer w k).kill x y)))
 
 -- The statement at a point does nothing with the bits of a word.
-abbrev pub IsIdle : MayForm → ℕ → ℕ → Type 0
+abbrev pub IsIdle : Selection → ℕ → ℕ → Type 0
 IsIdle form point word = (k : ℕ) → k < 64 → (place_gens form point (64 * word + k) ≡ false) × (place_kills form point (64 * word + k) ≡ false)
 
 -- The places of a point's word tell in which words its statement does something: word w at place w % 64, and in no others.
-pub record AreEffectWords (form : MayForm) (words : List ℕ) : Type 0 where
+pub record AreEffectWords (form : Selection) (words : List ℕ) : Type 0 where
   pub count : length words ≡ point_count form.program
   pub idle : (point word : ℕ) → point < point_count form.program → has_bit (slice_index words point) (word % 64) ≡ false → IsIdle form point word
 
@@ -133,7 +133,7 @@ pub record IsGroupFrame (width : ℕ) (frame : GroupFrame) : Type 0 where
   pub first : frame.first < 2 ^ 31
   pub narrow : width ≤ 8
   pub mask : (w : ℕ) → w < width → has_bit frame.mask ((frame.first + w) % 64) ≡ true
-  pub dependence : IsDependence frame.problem.now.program frame.problem.now.analysis frame.first frame.dependence.now.words.items
+  pub dependence : IsDependence frame.problem.now frame.first frame.dependence.now.words.items
       frame.dependence.now.width
   pub row_first : frame.dependence.now.first ≡ frame.first
   pub row_words : frame.dependence.now.width ≡ width

@@ -4,8 +4,7 @@ use Rattle.bit_rows.specs.Words.{has_bit}
 use Rattle.flow_graph.specs.declared.edge.Edge.{Edge}
 use Rattle.flow_graph.specs.declared.edge.Edge.TheVariants.{Step, Call, Ret}
 use Rattle.flow_graph.specs.Paths.{Shape, Transfer}
-use Rattle.flow_graph.specs.Problems.{MayForm, may_gens, may_kills, may_boundary}
-use Rattle.flow_graph.specs.Universes.{bits as bits_of}
+use Rattle.gen_kill.specs.Selections.{Selection, column_boundary, column_count, column_gens, column_kills}
 use Rattle.summary_equations.specs.Equations.{Preserved, Generated, Brought}
 use Rattle.flow_links.specs.Shapes.{after_site}
 use Rattle.gk_solve.specs.Tables.Flags.{IsFlagged}
@@ -15,19 +14,19 @@ abbrev pub step_statement : Bool → ℕ → ℕ → ℕ
 step_statement backward x y = if backward then y else x
 
 -- the step of the statement at a point generates a bit that is there
-unfoldable pub place_gens : MayForm → ℕ → ℕ → Bool
-place_gens form point bit = nat_lt bit (bits_of form.program form.analysis) && may_gens form point bit
+unfoldable pub place_gens : Selection → ℕ → ℕ → Bool
+place_gens form point bit = nat_lt bit (column_count form) && column_gens form point bit
 
 -- it kills a bit that is there
-unfoldable pub place_kills : MayForm → ℕ → ℕ → Bool
-place_kills form point bit = nat_lt bit (bits_of form.program form.analysis) && may_kills form point bit
+unfoldable pub place_kills : Selection → ℕ → ℕ → Bool
+place_kills form point bit = nat_lt bit (column_count form) && column_kills form point bit
 
 -- the boundary has a bit that is there
-unfoldable pub place_boundary : MayForm → ℕ → Bool
-place_boundary form bit = nat_lt bit (bits_of form.program form.analysis) && may_boundary form bit
+unfoldable pub place_boundary : Selection → ℕ → Bool
+place_boundary form bit = nat_lt bit (column_count form) && column_boundary form bit
 
 -- A place's transfer: that of the bit it stands for, and nothing past the last bit.
-abbrev pub place_transfer : Bool → MayForm → ℕ → Transfer
+abbrev pub place_transfer : Bool → Selection → ℕ → Transfer
 place_transfer backward form bit = record {
   gen = λ x y. place_gens form (step_statement backward x y) bit;
   kill = λ x y. place_kills form (step_statement backward x y) bit;

@@ -1,7 +1,7 @@
 -- When all words are told, so are the facts.
 use Rattle.std.proofs.Common.{◌≡◌, ℕ, ◌+◌, ◌-◌, ◌/◌, List, subst, arith}
 use Rattle.bit_rows.specs.Words.{word_count}
-use Rattle.flow_graph.specs.Problems.{MayForm}
+use Rattle.gen_kill.specs.Selections.{Selection}
 use Rattle.flow_kept.specs.Facts.{IsRowWord}
 use Rattle.flow_kept.specs.code.Filled.{AreFilled}
 use Rattle.flow_kept.specs.code.Flags.{AreNumbers}
@@ -10,7 +10,7 @@ use Rattle.flow_kept.proofs.table.put_solved.Goals as goal
 
 pub returns-clause-facts : goal.returns-clause-facts
 returns-clause-facts c =
-    let form : MayForm = c.args.solver.now in
+    let form : Selection = c.args.solver.now in
     let slice = c.in_ok-slice.slice in
     let from = c.args.points.0 in
     let until = c.args.points.1 in

@@ -6,8 +6,8 @@ use Rattle.gen_kill.proofs.effects.dependent_words.Goals as goal
 
 pub blank-requires-clause-rows : goal.blank-requires-clause-rows
 blank-requires-clause-rows c =
-    let few : length c.args.graph.now.variable_names ≤ 131072 = c.bits-bits.ensures.few Live in
+    let few : length c.args.graph.now.variable_names ≤ 131072 = c.bits.ensures.few Live in
     omega (arith, few, c.variables-rows.ensures, ap (λ (p : Program). length p.variable_names) c.program.ensures)
 
-pub loop-bit-preserved : goal.loop-bit-preserved
-loop-bit-preserved c = grind (arith, common_steps)
+pub loop-column-preserved : goal.loop-column-preserved
+loop-column-preserved c = grind (arith, common_steps)

@@ -1,13 +1,15 @@
 use Rattle.std.proofs.Common.{rules, ◌≡◌, ◌+◌, ◌∷◌, [], ℕ, ◌<◌, ◌≤◌, List, Option, flat_map, length, get_or, ap, ◌∙◌, sym, subst, arith}
 use Rattle.std.proofs.Common.{length-append}
 use Rattle.std.specs.List.{range_with_len}
-use Rattle.gen_kill.specs.code.Effects.{IsEffect}
+use Rattle.gen_kill.specs.Selections.{Selection}
+use Rattle.gen_kill.specs.code.Effects.{IsColumnEffect, IsEffect}
+use Rattle.gen_kill.specs.code.Problems.{selected}
 use Rattle.flow_graph.specs.code.Walks.{WalkAt}
 use Rattle.flow_graph.specs.Points.{point_count}
 use Rattle.flow_graph.specs.Universes.{definition_at}
 use Rattle.flow_graph.specs.declared.analysis.Analysis.TheVariants.{Live}
 use Rattle.gen_kill.specs.declared.effect.Effect.{Effect}
-use Rattle.gen_kill.proofs.bits.EffectSteps.{effect_of_numbered, definitions_more}
+use Rattle.gen_kill.proofs.bits.EffectSteps.{column_effect, effect_of_numbered, definitions_more}
 use Rattle.flow_graph.proofs.bits.Added.{added}
 use Rattle.flow_graph.proofs.lists.Ranges.{pushed_each}
 use Rattle.gen_kill.proofs.effects.effects.Goals as goal
@@ -24,6 +26,7 @@ loop-point-preserved c =
     let program = c.args.graph.now in
     let n : ℕ = c.loop-point.point in
     let effect : Effect = c.effect-effect.result in
+    let s : Selection = selected program c.args.analysis c.args.columns.now in
     let invariant = c.loop-point.invariant in
     let below : n < point_count program = omega (arith, c.points-point-end.ensures.count, c.loop-point-test.true) in
     let is_effect : IsEffect program c.args.analysis n effect =
@@ -48,9 +51,10 @@ loop-point-preserved c =
       so_many = ap length c.in_ok-push.ensures.items ∙ length-append c.loop-point.effects.items (c.of.result ∷ []) ∙ ap (λ m. m + 1) invariant.so_many;
       each = λ k d before.
           subst
-          (λ (items : List Effect). IsEffect program c.args.analysis k (get_or items k d))
+          (λ (items : List Effect). IsColumnEffect s k (get_or items k d))
           (sym c.in_ok-push.ensures.items)
-          (pushed_each (λ k e. IsEffect program c.args.analysis k e)
+          (pushed_each (λ k e. IsColumnEffect s k e)
           c.loop-point.effects.items c.of.result n invariant.so_many invariant.each
-          (subst (λ (e : Effect). IsEffect program c.args.analysis n e) (sym c.of.ensures) is_effect) k d before);
+          (subst (λ (e : Effect). IsColumnEffect s n e) (sym c.of.ensures)
+          (column_effect s n effect c.effect.result is_effect c.effect.ensures.written c.effect.ensures.own)) k d before);
     }

@@ -9,6 +9,7 @@ put_words-requires c =
     record {
       slice = c.requires.slice;
       meets = c.requires.paths;
+      whole = ready.whole;
       lo = ready.lo_is;
       hi = ready.hi_is;
       join = ready.join;

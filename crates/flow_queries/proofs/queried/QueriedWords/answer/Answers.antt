@@ -1,7 +1,7 @@
 use Rattle.std.proofs.Common.{◌≡◌, ◌∙◌, Some, ap, sym, subst}
 use Rattle.std.specs.Prelude.{bit_xor}
 use Rattle.flow_graph.specs.Directions.{is_intersection}
-use Rattle.flow_graph.specs.Problems.{MayForm}
+use Rattle.gen_kill.specs.Selections.{Selection, column_count}
 use Rattle.flow_graph.specs.Universes.{bits}
 use Rattle.flow_queries.specs.Queries.{IsAnswerTo}
 use Rattle.flow_queries.specs.code.Boards.{Queried}
@@ -15,7 +15,7 @@ returns c = λ query there.
     let one = c.query-query.result in
     let both : Some one ≡ Some query = sym c.query-query.ensures.query ∙ there in
     let same : one ≡ query = cc both in
-    let limit = c.bits-bits.ensures.count ∙ ap (λ (form : MayForm). bits form.program form.analysis) (c.problem.ensures ∙ c.solver.ensures)
+    let limit = c.bits-bits.ensures.count ∙ ap (λ (selection : Selection). column_count selection) (c.problem.ensures ∙ c.solver.ensures)
     ∙ ap (λ (a : Queried). bits a.program one.analysis) c.self.view_is in
     subst (λ (a : Query). IsAnswerTo queried.program a (bit_xor c.word.result c.complement_mask.result)) same
     (word_answers queried c.args.j one c.args.posted.now c.word.result c.complement_mask.result c.bits-bits.result (is_intersection c.join.result)

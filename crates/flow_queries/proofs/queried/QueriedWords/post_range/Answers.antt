@@ -2,7 +2,7 @@ use Rattle.std.proofs.Common.{◌≡◌, ◌∙◌, ◌<◌, Some, length, get_o
 use Rattle.std.proofs.lemmas.Option.{slice_get-get_or}
 use Rattle.flow_graph.specs.declared.analysis.Analysis.{Analysis}
 use Rattle.flow_queries.specs.code.Boards.{AreWordsOf, no_query}
-use Rattle.flow_queries.specs.code.Directions.{form_of}
+use Rattle.flow_queries.specs.code.Directions.{selection_of}
 use Rattle.flow_queries.specs.declared.query.Query.{Query}
 use Rattle.flow_team.proofs.posts.Posts.{of_still, posts_more, posts_none}
 use Rattle.flow_queries.proofs.queries.Done.{done_more}
@@ -16,7 +16,7 @@ queries-init c =
       solved = λ first there.
           let both : Some c.query-first.result ≡ Some first = sym c.query-first.ensures.query ∙ there in
           let same : c.query-first.result ≡ first = cc both in
-          subst (λ (query : Query). AreWordsOf (form_of c.args.self.now.program query.analysis) 0 0 c.in_ok-words.words) same c.in_ok-words.ensures;
+          subst (λ (query : Query). AreWordsOf (selection_of c.args.self.now.program query.analysis) 0 0 c.in_ok-words.words) same c.in_ok-words.ensures;
       done = λ bit want at. absurd (omega (arith, at.0, at.1));
     }
 
@@ -24,7 +24,7 @@ pub post_query-solved-requires-clause-solved : goal.post_query-solved-requires-c
 post_query-solved-requires-clause-solved c = λ query there.
     let first = c.query-first.result in
     let alike = c.requires.one c.queries.j (omega (arith, c.queries.auto.j)) (omega (arith, c.queries-test.true)) first query c.query-first.ensures.query there in
-    subst (λ (analysis : Analysis). AreWordsOf (form_of c.args.self.now.program analysis) c.queries.solved.0 c.queries.solved.1 c.queries.words) alike
+    subst (λ (analysis : Analysis). AreWordsOf (selection_of c.args.self.now.program analysis) c.queries.solved.0 c.queries.solved.1 c.queries.words) alike
     (c.queries.invariant.solved first c.query-first.ensures.query)
 
 pub queries-preserved : goal.queries-preserved
@@ -40,7 +40,7 @@ queries-preserved c =
           let here = slice_get-get_or order c.queries.j no_query inside in
           let alike = c.requires.one c.queries.j (omega (arith, c.queries.auto.j)) (omega (arith, c.queries-test.true)) first (get_or order c.queries.j no_query)
           there here in
-          subst (λ (analysis : Analysis). AreWordsOf (form_of c.args.self.now.program analysis) c.post_query-solved.result.0 c.post_query-solved.result.1
+          subst (λ (analysis : Analysis). AreWordsOf (selection_of c.args.self.now.program analysis) c.post_query-solved.result.0 c.post_query-solved.result.1
           c.post_query-solved.new.words) (sym alike) (posts.solved (get_or order c.queries.j no_query) here);
       done = done_more c.args.self.now c.args.from c.queries.j c.queries.pass c.post_query-solved.new.pass posts.more before.done posts.done;
     }

@@ -1,6 +1,7 @@
 use Rattle.std.proofs.Common.{◌≡◌, ◌∙◌, ◌+◌, length, sym, ap, subst}
 use Rattle.flow_graph.specs.Analyses.{is_must}
 use Rattle.flow_graph.specs.Problems.{MayForm}
+use Rattle.gen_kill.specs.Selections.{Selection}
 use Rattle.flow_team.specs.Excerpts.{IsTableAt}
 use Rattle.flow_team.specs.code.Complements.{table_facts, complemented_table}
 use Rattle.flow_team.proofs.facts.ExcerptTables.{complemented_is_excerpt}
@@ -9,8 +10,8 @@ use Rattle.flow_team.proofs.sets.GraphSets.table_from.Goals as goal
 pub returns-clause-table : goal.returns-clause-table
 returns-clause-table c =
     let form = c.args.self.now in
-    let problem_is : c.problem.result.now ≡ form = c.problem.ensures ∙ c.self.view_is in
-    let analysis : c.analysis-analysis.result ≡ form.analysis = c.analysis-analysis.ensures ∙ ap (λ (f : MayForm). f.analysis) problem_is in
+    let analysis : c.analysis-analysis.result ≡ form.analysis = 
+    c.analysis-analysis.ensures ∙ ap (λ (s : Selection). s.analysis) c.problem.ensures ∙ ap (λ (f : MayForm). f.analysis) c.self.view_is in
     let must = c.join.ensures ∙ ap is_must analysis in
     let rows = c.of-words.ensures ∙ ap (λ t. complemented_table t c.args.posted) must in
     subst (IsTableAt form.program c.args.first (c.args.first + length c.args.posted.flags))

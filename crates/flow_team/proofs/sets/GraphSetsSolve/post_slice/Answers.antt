@@ -2,13 +2,15 @@ use Rattle.std.proofs.Common.{◌≡◌, ◌∙◌, ℕ, ◌+◌, sym, ap, subst
 use Rattle.flow_graph.specs.Points.{point_count}
 use Rattle.flow_graph.specs.Problems.{MayForm}
 use Rattle.flow_team.specs.Sets.{IsInMaySet}
+use Rattle.gen_kill.specs.Selections.{Selection}
 use Rattle.flow_team.proofs.sets.GraphSetsSolve.post_slice.Goals as goal
 
 pub post_slice_from-requires-clause-ready : goal.post_slice_from-requires-clause-ready
 post_slice_from-requires-clause-ready c =
     let on = c.requires.on in
     let count : c.points-points.result ≡ point_count c.args.self.now.program =
-    c.points-points.ensures.count ∙ ap (λ (form : MayForm). point_count form.program) (c.problem.ensures ∙ c.self.view_is) in
+    c.points-points.ensures.count ∙ ap (λ (s : Selection). point_count s.program) c.problem.ensures
+    ∙ ap (λ (form : MayForm). point_count form.program) c.self.view_is in
     let first : (point : ℕ) → point ≡ 0 + point = λ point. omega arith in
     let wanted = ap (λ (form : MayForm). point_count form.program) on.wanted in
     record {

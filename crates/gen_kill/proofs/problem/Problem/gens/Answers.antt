@@ -1,17 +1,16 @@
-use Rattle.std.proofs.Common.{false, option_map, unwrap_or, sym, ap, ap₂, ◌∙◌}
-use Rattle.gen_kill.specs.code.Effects.{IsEffect, depends, gen_from}
-use Rattle.flow_graph.specs.Problems.{MayForm}
-use Rattle.gen_kill.specs.declared.effect.Effect.{Effect}
+use Rattle.std.proofs.Common.{sym, ap, ap₂, ◌∙◌}
+use Rattle.gen_kill.specs.Selections.{Selection, bit_of}
+use Rattle.gen_kill.specs.code.Effects.{gen_from}
+use Rattle.gen_kill.proofs.bits.EffectWords.{touched_column}
 use Rattle.gen_kill.proofs.bits.MayWords.{may_gens_are}
 use Rattle.gen_kill.proofs.problem.Problem.gens.Goals as goal
 
 pub returns : goal.returns
 returns c =
-    let form : MayForm = c.args.self.now in
-    let effect : Effect = c.effect-effect.result in
-    let known : IsEffect form.program form.analysis c.args.point effect = c.effect-effect.ensures in
+    let s : Selection = c.args.self.now in
+    let known = c.effect-effect.ensures in
     c.generates.ensures
-    ∙ ap (λ (f : MayForm). gen_from f.analysis c.is_either-own.result c.touches-touched.result) c.self.view_is
-    ∙ ap₂ (gen_from form.analysis) (c.is_either-own.ensures ∙ known.own c.args.bit)
-    (c.touches-touched.ensures ∙ ap (λ o. unwrap_or (option_map (λ x. depends form.program form.analysis x c.args.bit) o) false) known.written)
-    ∙ sym (may_gens_are form.program form.analysis c.args.point c.args.bit)
+    ∙ ap (λ (s : Selection). gen_from s.analysis c.is_either-own.result c.touches-touched.result) c.self.view_is
+    ∙ ap₂ (gen_from s.analysis) (c.is_either-own.ensures ∙ known.own c.args.column c.requires.column)
+    (c.touches-touched.ensures ∙ touched_column s c.args.point c.args.column c.effect-effect.result known)
+    ∙ sym (may_gens_are s.program s.analysis c.args.point (bit_of s c.args.column))

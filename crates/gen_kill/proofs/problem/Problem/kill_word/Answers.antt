@@ -1,18 +1,14 @@
 use Rattle.std.proofs.Common.{◌+◌, ◌*◌, nat_lt, ap, ◌∙◌}
 use Rattle.bit_rows.specs.Words.{has_bit}
-use Rattle.gen_kill.specs.code.Effects.{IsEffect, kill_from}
-use Rattle.flow_graph.specs.Problems.{MayForm}
-use Rattle.gen_kill.specs.declared.effect.Effect.{Effect}
-use Rattle.gen_kill.proofs.bits.MayWords.{word_of_kills}
+use Rattle.gen_kill.specs.Selections.{Selection}
+use Rattle.gen_kill.specs.code.Effects.{kill_from}
+use Rattle.gen_kill.proofs.bits.ColumnWords.{word_of_kills}
 use Rattle.gen_kill.proofs.problem.Problem.kill_word.Goals as goal
 
 pub returns : goal.returns
 returns c =
-    let form : MayForm = c.args.self.now in
-    let effect : Effect = c.effect-effect.result in
-    let known : IsEffect form.program form.analysis c.args.point effect = c.effect-effect.ensures in
-    word_of_kills form c.args.point c.args.word effect known c.own_word-own.result c.touched_word-touched.result c.killed.result c.word_below.result
-    c.own_word-own.ensures c.touched_word-touched.ensures
+    word_of_kills c.args.self.now c.args.point c.args.word c.effect-effect.result c.effect-effect.ensures c.own_word-own.result
+    c.touched_word-touched.result c.killed.result c.word_below.result c.own_word-own.ensures c.touched_word-touched.ensures
     (λ k within. c.word_below.ensures k within ∙ ap (nat_lt (64 * c.args.word + k)) c.bits.ensures.count)
     (λ k within. c.killed.ensures k within
-    ∙ ap (λ (f : MayForm). kill_from f.analysis (has_bit c.own_word-own.result k) (has_bit c.touched_word-touched.result k)) c.self.view_is)
+    ∙ ap (λ (s : Selection). kill_from s.analysis (has_bit c.own_word-own.result k) (has_bit c.touched_word-touched.result k)) c.self.view_is)
