@@ -4,8 +4,9 @@ ghost use Rattle.std.specs.List.{range_with_len};
 ghost use Rattle.bit_rows.specs.RowSet.{contains};
 ghost use Rattle.bit_rows.specs.RowTable.{set_at, blank_table};
 ghost use Rattle.bit_rows.specs.Words.{has_bit};
-ghost use Rattle.slice_board.specs.Boards.{IsOf, IsPlace, InSlice, CountsOnce, fresh_pass, slice_count};
-ghost use Rattle.slice_board.specs.Passes.{IsLogged, logged_word, times, joined};
+ghost use Rattle.slice_board.specs.Boards.{IsOf, IsPlace, InSlice, CountsOnce, fresh_pass, split_pass, slice_count};
+ghost use Rattle.slice_board.specs.Passes.{IsLogged, IsWhole, logged_word, times, halved, joined};
+ghost use Rattle.slice_board.specs.Teams.{IsDrained};
 
 use crate::OutOfMemory;
 use bit_rows::{Cut, Rows};
@@ -77,17 +78,17 @@ impl<T: Wanted> Board<T> {
         Ok((Board { words, blank }, pass))
     }
 
-    /// A new pass of the board, with empty lists. The old one is unchanged.
+    /// A new pass of the board, with empty lists. It has half of the old one's share, and the old one keeps the other half and all else.
     pub fn split(&self, pass: &mut Pass<T>) -> Pass<T>
         requires { IsOf self.now pass.old }
-        ensures new { result ≡ fresh_pass self.now }
-        ensures old { pass.new ≡ pass.old }
+        ensures new { result ≡ split_pass self.now pass.old }
+        ensures old { pass.new ≡ halved pass.old }
     {
         self.words.split(pass)
     }
 
-    /// Two passes as one: the lists of the first, followed by those of the second, and what either
-    /// holds. Refused only where both hold a slice.
+    /// Two passes as one: the lists of the first, followed by those of the second, both shares, and what
+    /// either holds. Refused only where both hold a slice.
     pub fn join(&self, first: Pass<T>, second: Pass<T>) -> Result<Pass<T>, (Pass<T>, Pass<T>)>
         requires first { IsOf self.now first }
         requires second { IsOf self.now second }
@@ -181,6 +182,8 @@ impl<T: Wanted> Board<T> {
         ensures range { IfOk result (λ rows. (rows.lo ≡ 0) × (rows.hi ≡ self.cut.bits)) }
         ensures all_finished { ((s : ℕ) → s < slice_count self.cut → 0 < times s pass.finished)
             → IsOk result }
+        // No other pass can have left a slice unfinished.
+        ensures drained { IsDrained self pass → IsWhole pass → IsOk result }
         ensures holding { IsSome pass.held → IsErr result }
         ensures unfinished { IfErr result (λ r. (r.0.done < r.0.of) × (r.0.of ≡ slice_count self.cut)) }
         ensures counted { IfErr result (λ r.
