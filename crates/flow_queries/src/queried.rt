@@ -161,7 +161,8 @@ impl<'g, 'p> QueriedWords<'g, 'p> {
         requires rows { (point bit : ℕ) → (contains (set_at posted.now point) bit ≡ true) ↔ IsWanted self.now point bit }
         requires count { length words.old ≡ length self.now.queries }
         ensures count { length words.new ≡ length self.now.queries }
-        ensures answered { (q : ℕ) (query : QueryValue) → slice_get self.now.queries q ≡ Some query → IsAnswerTo self.now.program query (slice_index words.new q) }
+        ensures answered { (q : ℕ) (query : QueryValue) → slice_get self.now.queries q ≡ Some query
+            → IsAnswerTo self.now.program query (slice_index words.new q) }
     {
         for j in 0..self.places.len() {
             let word = self.answer(posted, j as u32);

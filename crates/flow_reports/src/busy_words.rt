@@ -100,7 +100,8 @@ impl BusyWords {
         requires queries { QueriesRound tests.now from width before answers.now.queries }
         requires within { 64 * (from + width) < bits graph.now Busy + 64 }
         requires few { before + length tests.now * width < 2 ^ 32 }
-        requires answered { AreBusy graph.now self.old.words.items (slice_index tests.now test) (from + width) (slice_index self.old.firsts.items test) }
+        requires answered { AreBusy graph.now self.old.words.items (slice_index tests.now test) (from + width)
+            (slice_index self.old.firsts.items test) }
         ensures keeps { IfOk result (λ _. Keeps (busy_lists self.old) (busy_lists self.new) test) }
         ensures answered { IfOk result
             (λ _. AreBusy graph.now self.new.words.items (slice_index tests.now test) from (slice_index self.new.firsts.items test)) }

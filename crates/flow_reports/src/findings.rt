@@ -58,7 +58,8 @@ impl Findings<'_> {
     pub(crate) fn answer(&self, number: u32, query: Query) -> u64
         requires found { AreFindings self.now }
         requires queried { slice_get self.now.answers.now.replies.queries number ≡ Some query }
-        ensures { (k : ℕ) → k < 64 → has_bit result k ≡ (facts_in self.now.answers.now.replies query.analysis).contains query.point (64 * query.word + k) }
+        ensures { (k : ℕ) → k < 64
+            → has_bit result k ≡ (facts_in self.now.answers.now.replies query.analysis).contains query.point (64 * query.word + k) }
     {
         // Only the number tells which answer it is; the query says what it answers.
         let _ = query;

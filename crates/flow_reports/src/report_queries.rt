@@ -167,7 +167,8 @@ fn query_point(
     ensures queries { IfOk result (λ _. Queries graph.now queries.old.items queries.new.items 4) }
     ensures tests { IfOk result (λ _. PutsPoint tests.old.items tests.new.items point) }
     ensures queried { IfOk result
-        (λ here. (kind : KindValue) → kind_at graph.now point ≡ Some kind → AreQueriedAt graph.now queries.new.items tests.new.items here point kind) }
+        (λ here. (kind : KindValue) → kind_at graph.now point ≡ Some kind
+        → AreQueriedAt graph.now queries.new.items tests.new.items here point kind) }
 {
     let Some(stmt) = graph.stmt(point) else {
         return Ok(PointQueries {
