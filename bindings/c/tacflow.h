@@ -16,8 +16,8 @@
  * no limits is told before anything else but a null pointer.
  *
  * Calls may be made by several threads at once, each with room of its own. The program's malloc, realloc and free are called.
- * Link with libtacflow.a, which needs the C library alone: bindings/build makes it in bindings/lib, and where it is installed
- * pkg-config --libs tacflow has it. */
+ * Link with libtacflow.a or libtacflow.so, which need the C library alone: bindings/build makes them in bindings/lib, and where they are
+ * installed pkg-config --libs tacflow has them, and CMake's find_package(tacflow) (docs/LIBRARY.md). */
 #ifndef TACFLOW_H
 #define TACFLOW_H
 
@@ -28,6 +28,24 @@
 #ifdef __cplusplus
 extern "C" {
 #endif
+
+/* The version that this header is of: that of bindings/rust/Cargo.toml, against which bindings/check holds it. */
+#define TACFLOW_VERSION_MAJOR 0
+#define TACFLOW_VERSION_MINOR 1
+#define TACFLOW_VERSION_PATCH 0
+
+/* Two numbers of versions compare as the versions do: #if TACFLOW_VERSION_NUMBER >= TACFLOW_VERSION_OF(0, 1, 0). */
+#define TACFLOW_VERSION_OF(major, minor, patch) ((major) * 1000000 + (minor) * 1000 + (patch))
+#define TACFLOW_VERSION_NUMBER TACFLOW_VERSION_OF(TACFLOW_VERSION_MAJOR, TACFLOW_VERSION_MINOR, TACFLOW_VERSION_PATCH)
+
+#define TACFLOW_QUOTED(word) #word
+#define TACFLOW_DOTTED(major, minor, patch) TACFLOW_QUOTED(major) "." TACFLOW_QUOTED(minor) "." TACFLOW_QUOTED(patch)
+#define TACFLOW_VERSION TACFLOW_DOTTED(TACFLOW_VERSION_MAJOR, TACFLOW_VERSION_MINOR, TACFLOW_VERSION_PATCH)
+
+/* The same as text, for who can't read macros. */
+static inline const char *tacflow_header_version(void) {
+    return TACFLOW_VERSION;
+}
 
 /* What a call answers. */
 enum tacflow_status {
