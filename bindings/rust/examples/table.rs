@@ -6,37 +6,7 @@ use std::error::Error;
 use std::io::Write;
 use std::ops::Range;
 use std::{env, fs, io, thread};
-use tacflow::{Analysis, Expression, Limits, Operand, Program, Table};
-
-fn operand(program: &Program, operand: Operand) -> String {
-    match operand {
-        Operand::Variable(variable) => program.variables()[variable as usize].clone(),
-        Operand::Number(number) => number.to_string(),
-    }
-}
-
-fn expression(program: &Program, expression: &Expression) -> String {
-    let right = operand(program, expression.right);
-    match expression.left {
-        None => format!("{}{right}", expression.operator),
-        Some(left) => format!("{} {} {right}", operand(program, left), expression.operator),
-    }
-}
-
-fn bit(program: &Program, analysis: Analysis, bit: u32) -> String {
-    match analysis {
-        Analysis::Live => program.variables()[bit as usize].clone(),
-        Analysis::Avail | Analysis::Busy => expression(program, &program.expressions()[bit as usize]),
-        Analysis::Reach => {
-            let definition = program.definitions()[bit as usize];
-            let name = &program.variables()[definition.variable as usize];
-            match definition.point {
-                None => format!("{name}@entry"),
-                Some(point) => format!("{name}@{}", program.points()[point as usize].line),
-            }
-        }
-    }
-}
+use tacflow::{Analysis, Limits, Program, Table};
 
 // The tables of ranges of the bits at these points, one a thread.
 fn tables(program: &Program, analysis: Analysis, points: &Range<u32>, threads: u32) -> Result<Vec<Table>, tacflow::Error> {
@@ -75,12 +45,15 @@ fn main() -> Result<(), Box<dyn Error>> {
     let mut out = io::BufWriter::new(io::stdout().lock());
     for number in points {
         let point = program.points()[number as usize];
-        let set: Vec<String> =
-            tables.iter().flat_map(|table| table.set(number)).map(|n| bit(&program, analysis, n)).collect();
         let name = &program.procedures()[point.procedure as usize];
         let mark = if tables[0].has_path(number) { "" } else { " (no path)" };
-        let set = if set.is_empty() { "-".into() } else { set.join(", ") };
-        writeln!(out, "{name} {}{mark}: {set}", point.place)?;
+        write!(out, "{name} {}{mark}: ", point.place)?;
+        let mut between = "";
+        for bit in tables.iter().flat_map(|table| table.set(number)) {
+            write!(out, "{between}{}", program.name(analysis, bit))?;
+            between = ", ";
+        }
+        writeln!(out, "{}", if between.is_empty() { "-" } else { "" })?;
     }
     out.flush()?;
     Ok(())

@@ -11,14 +11,21 @@
 //! assert_eq!(names, ["x"]);
 //! # Ok::<(), tacflow::Error>(())
 //! ```
+//!
+//! A [`Program`] is read once and kept by the library. It is `Send` and `Sync`: threads may ask one program at once, and their calls run
+//! at the same time.
 #![deny(unsafe_code)]
 
+mod handles;
 #[allow(unsafe_code)]
 mod raw;
 
+use handles::Handles;
+use raw::Handle;
 pub use raw::Sizes;
 use std::fmt;
 use std::ops::Range;
+use std::sync::Arc;
 
 /// How many bytes the longest name has.
 pub const LONGEST_NAME: usize = 64;
@@ -68,10 +75,30 @@ pub enum Error {
     OutOfMemory,
 }
 
+/// The names of the refusals, from number 1.
+const REFUSALS: [&str; 13] = [
+    "BadByte",
+    "NumberTooLarge",
+    "NameTooLong",
+    "Syntax",
+    "Unclosed",
+    "NoMain",
+    "DuplicateProcedure",
+    "DuplicateLabel",
+    "UnknownLabel",
+    "UnknownProcedure",
+    "TextTooLong",
+    "TooManyProcedures",
+    "DuplicateCallee",
+];
+
 impl fmt::Display for Error {
     fn fmt(&self, f: &mut fmt::Formatter<'_>) -> fmt::Result {
         match self {
-            Error::Refused { number, line, column } => write!(f, "{line}:{column}: refusal {number}"),
+            Error::Refused { number, line, column } => {
+                let name = (*number as usize).checked_sub(1).and_then(|at| REFUSALS.get(at)).unwrap_or(&"unknown");
+                write!(f, "{line}:{column}: refusal {number}: {name}")
+            }
             Error::TooManyPoints => f.write_str("the program has too many points"),
             Error::TooManyBits => f.write_str("an analysis of the program has too many bits"),
             Error::BadRange => f.write_str("the range is none of the analysis's bits, or of the program's points"),
@@ -155,9 +182,34 @@ fn definition(raw: raw::RawDefinition) -> Definition {
     Definition { variable: raw.variable, point: (raw.point != u32::MAX).then_some(raw.point) }
 }
 
-/// A program that was read: its text, its points, and what the bits of its analyses are.
+/// A program that was read: its text, its points, and what the bits of its analyses are. The library keeps it, so nothing is read anew
+/// when it is asked, also by several threads at once. A clone is the same program, and copies nothing.
+///
+/// ```
+/// use std::thread;
+/// use tacflow::{Analysis, Program};
+///
+/// let program = Program::read("proc main\n  read a\n  b = a * a\n  c = a * a\n  print b\nend\n")?;
+/// let (avail, live) = thread::scope(|scope| {
+///     let avail = scope.spawn(|| program.facts(Analysis::Avail));
+///     let live = scope.spawn(|| program.facts(Analysis::Live));
+///     (avail.join().expect("no panic"), live.join().expect("no panic"))
+/// });
+/// let names: Vec<String> = avail?.set(2).map(|bit| program.name(Analysis::Avail, bit).to_string()).collect();
+/// assert_eq!(names, ["a * a"]);
+/// assert!(!live?.contains(3, 2), "c is dead behind line 4");
+///
+/// let refused = Program::read("proc main\n  print a * a\nend\n").unwrap_err();
+/// assert_eq!(refused.to_string(), "2:11: refusal 4: Syntax");
+/// # Ok::<(), tacflow::Error>(())
+/// ```
 #[derive(Clone, Debug)]
 pub struct Program {
+    kept: Arc<Kept>,
+}
+
+#[derive(Debug)]
+struct Kept {
     text: Vec<u8>,
     limits: Limits,
     sizes: Sizes,
@@ -166,6 +218,53 @@ pub struct Program {
     variables: Vec<String>,
     definitions: Vec<Definition>,
     expressions: Vec<Expression>,
+    handles: Handles,
+}
+
+/// What a bit is, as [`Program::name`] tells: it is written as `tacflow --show` writes it.
+#[derive(Clone, Copy, Debug)]
+pub struct Name<'a> {
+    program: &'a Program,
+    analysis: Analysis,
+    bit: usize,
+}
+
+impl Name<'_> {
+    fn write_operand(&self, f: &mut fmt::Formatter<'_>, operand: Operand) -> fmt::Result {
+        match operand {
+            Operand::Variable(variable) => f.write_str(&self.program.variables()[variable as usize]),
+            Operand::Number(number) => write!(f, "{number}"),
+        }
+    }
+
+    fn write_expression(&self, f: &mut fmt::Formatter<'_>, expression: Expression) -> fmt::Result {
+        match expression.left {
+            None => f.write_str(expression.operator)?,
+            Some(left) => {
+                self.write_operand(f, left)?;
+                write!(f, " {} ", expression.operator)?;
+            }
+        }
+        self.write_operand(f, expression.right)
+    }
+}
+
+impl fmt::Display for Name<'_> {
+    fn fmt(&self, f: &mut fmt::Formatter<'_>) -> fmt::Result {
+        let program = self.program;
+        match self.analysis {
+            Analysis::Live => f.write_str(&program.variables()[self.bit]),
+            Analysis::Avail | Analysis::Busy => self.write_expression(f, program.expressions()[self.bit]),
+            Analysis::Reach => {
+                let Definition { variable, point } = program.definitions()[self.bit];
+                let name = &program.variables()[variable as usize];
+                match point {
+                    None => write!(f, "{name}@entry"),
+                    Some(point) => write!(f, "{name}@{}", program.points()[point as usize].line),
+                }
+            }
+        }
+    }
 }
 
 impl Program {
@@ -186,72 +285,86 @@ impl Program {
     /// As those of [`Program::read`].
     pub fn within(text: impl Into<Vec<u8>>, limits: Limits) -> Result<Program, Error> {
         let text = text.into();
-        let sizes = raw::sizes(&text, limits)?;
-        Ok(Program {
+        let mut handle = Handle::open(&text, limits)?;
+        let sizes = handle.sizes()?;
+        let kept = Kept {
             limits,
             sizes,
-            points: raw::points(&text, limits, sizes.points)?,
-            procedures: raw::procedures(&text, limits, sizes.procedures)?,
-            variables: raw::variables(&text, limits, sizes.variables)?,
-            definitions: raw::definitions(&text, limits, sizes.definitions)?.into_iter().map(definition).collect(),
-            expressions: raw::expressions(&text, limits, sizes.expressions)?.into_iter().map(expression).collect(),
+            points: handle.points(sizes.points)?,
+            procedures: handle.procedures(sizes.procedures)?,
+            variables: handle.variables(sizes.variables)?,
+            definitions: handle.definitions(sizes.definitions)?.into_iter().map(definition).collect(),
+            expressions: handle.expressions(sizes.expressions)?.into_iter().map(expression).collect(),
+            handles: Handles::of(handle),
             text,
-        })
+        };
+        Ok(Program { kept: Arc::new(kept) })
     }
 
     /// The text.
     pub fn text(&self) -> &[u8] {
-        &self.text
+        &self.kept.text
     }
 
     /// The limits within which it was read.
     pub fn limits(&self) -> Limits {
-        self.limits
+        self.kept.limits
     }
 
     /// How large it is.
     pub fn sizes(&self) -> Sizes {
-        self.sizes
+        self.kept.sizes
     }
 
     /// The points, procedures in the order of the text and in each the places upwards.
     pub fn points(&self) -> &[Point] {
-        &self.points
+        &self.kept.points
     }
 
     /// The points of a procedure, which stand one after the other; none where there is no such procedure.
     pub fn points_of(&self, procedure: u32) -> Range<u32> {
-        let before = |number| self.points.partition_point(|point| point.procedure < number) as u32;
+        let before = |number| self.kept.points.partition_point(|point| point.procedure < number) as u32;
         before(procedure)..before(procedure.saturating_add(1))
     }
 
     /// The names of the procedures, by number.
     pub fn procedures(&self) -> &[String] {
-        &self.procedures
+        &self.kept.procedures
     }
 
     /// The names of the variables, by number: the bits of live variables.
     pub fn variables(&self) -> &[String] {
-        &self.variables
+        &self.kept.variables
     }
 
     /// The definitions: the bits of reaching definitions.
     pub fn definitions(&self) -> &[Definition] {
-        &self.definitions
+        &self.kept.definitions
     }
 
     /// The expressions: the bits of available and of very busy expressions.
     pub fn expressions(&self) -> &[Expression] {
-        &self.expressions
+        &self.kept.expressions
     }
 
     /// How many bits an analysis has.
     pub fn bits(&self, analysis: Analysis) -> u32 {
         match analysis {
-            Analysis::Reach => self.sizes.definitions,
-            Analysis::Live => self.sizes.variables,
-            Analysis::Avail | Analysis::Busy => self.sizes.expressions,
+            Analysis::Reach => self.kept.sizes.definitions,
+            Analysis::Live => self.kept.sizes.variables,
+            Analysis::Avail | Analysis::Busy => self.kept.sizes.expressions,
         }
+    }
+
+    /// What a bit of an analysis is: written as `tacflow --show` writes it, as `x`, `y + z`, `x@7` for what line 7 sets, or `x@entry` for
+    /// its value at the beginning.
+    ///
+    /// # Panics
+    ///
+    /// Where the analysis has no such bit.
+    pub fn name(&self, analysis: Analysis, bit: u32) -> Name<'_> {
+        assert!(bit < self.bits(analysis), "{analysis:?} has no bit {bit}");
+        Name { program: self, analysis, bit: bit as usize }
     }
 
     /// The program in one layout, as `tacflow --show list` writes it.
@@ -260,16 +373,16 @@ impl Program {
     ///
     /// `OutOfMemory` where memory was refused.
     pub fn listing(&self) -> Result<Vec<u8>, Error> {
-        raw::listing(&self.text, self.limits)
+        self.kept.handles.ask(Handle::listing)
     }
 
-    /// The report, as `tacflow` writes it.
+    /// The report, as `tacflow` writes it. It is made anew each time.
     ///
     /// # Errors
     ///
     /// `OutOfMemory` where memory was refused.
     pub fn report(&self) -> Result<Vec<u8>, Error> {
-        raw::report(&self.text, self.limits)
+        self.kept.handles.ask(Handle::report)
     }
 
     /// The facts of an analysis.
@@ -288,7 +401,7 @@ impl Program {
     ///
     /// `BadRange` where the bits are none of the analysis; `OutOfMemory` where memory was refused.
     pub fn facts_of(&self, analysis: Analysis, bits: Range<u32>) -> Result<Table, Error> {
-        self.facts_at(0..self.sizes.points, analysis, bits)
+        self.facts_at(0..self.kept.sizes.points, analysis, bits)
     }
 
     /// The facts of an analysis at some of the points and on some of its bits. What is found is that of all points, but the table has
@@ -298,7 +411,7 @@ impl Program {
     ///
     /// `BadRange` where the points are none of the program or the bits none of the analysis; `OutOfMemory` where memory was refused.
     pub fn facts_at(&self, points: Range<u32>, analysis: Analysis, bits: Range<u32>) -> Result<Table, Error> {
-        let are_points = points.start <= points.end && points.end <= self.sizes.points;
+        let are_points = points.start <= points.end && points.end <= self.kept.sizes.points;
         if !are_points || bits.end < bits.start || self.bits(analysis) < bits.end {
             return Err(Error::BadRange);
         }
@@ -306,13 +419,13 @@ impl Program {
         let mut table =
             Table { flags: vec![0; points.len()], words: vec![0; points.len() * width], width, points, bits };
         let (at, on) = (table.points.clone(), table.bits.clone());
-        raw::facts(&self.text, self.limits, analysis, at, on, &mut table.flags, &mut table.words)?;
+        self.kept.handles.ask(|handle| handle.facts(analysis, at, on, &mut table.flags, &mut table.words))?;
         Ok(table)
     }
 }
 
 /// Facts: for each of some points whether it has a valid path, and which bits hold there.
-#[derive(Clone, Debug)]
+#[derive(Clone, Debug, PartialEq, Eq)]
 pub struct Table {
     points: Range<u32>,
     bits: Range<u32>,

@@ -1,8 +1,10 @@
-//! The proved calls, and all that is unsafe. Each call is handed slices, which are never null.
+//! The proved calls over handles, and all that is unsafe. Each call is handed slices, which are never null.
 
 use crate::{Analysis, Error, Limits, Point};
+use std::fmt;
 use std::ops::Range;
 use std::os::raw::c_void;
+use std::ptr::null_mut;
 
 #[repr(C)]
 #[derive(Clone, Copy, Default)]
@@ -51,41 +53,32 @@ pub(crate) struct RawExpression {
     pub right: RawOperand,
 }
 
-type NamesCall = unsafe extern "C" fn(*const u8, usize, u32, *mut usize, usize, *mut u8, usize, *mut Place) -> u32;
-type TextCall = unsafe extern "C" fn(*const u8, usize, u32, *mut u8, usize, *mut usize, *mut Place) -> u32;
-type RowsCall = unsafe extern "C" fn(*const u8, usize, u32, *mut c_void, usize, *mut Place) -> u32;
+#[repr(C)]
+struct RawHandle {
+    is_open: bool,
+    at: *mut c_void,
+}
+
+const CLOSED: RawHandle = RawHandle { is_open: false, at: null_mut() };
+
+type NamesCall = unsafe extern "C" fn(*mut RawHandle, *mut usize, usize, *mut u8, usize) -> u32;
+type TextCall = unsafe extern "C" fn(*mut RawHandle, *mut u8, usize, *mut usize) -> u32;
+type RowsCall = unsafe extern "C" fn(*mut RawHandle, *mut c_void, usize) -> u32;
 
 extern "C" {
-    fn tacflow_c_sizes(text: *const u8, length: usize, limits: u32, sizes: *mut Sizes, place: *mut Place) -> u32;
-    fn tacflow_c_points(text: *const u8, length: usize, limits: u32, points: *mut c_void, count: usize, place: *mut Place) -> u32;
-    fn tacflow_c_definitions(text: *const u8, length: usize, limits: u32, definitions: *mut c_void, count: usize, place: *mut Place) -> u32;
-    fn tacflow_c_expressions(text: *const u8, length: usize, limits: u32, expressions: *mut c_void, count: usize, place: *mut Place) -> u32;
-    fn tacflow_c_procedures(
-        text: *const u8,
-        length: usize,
-        limits: u32,
-        ends: *mut usize,
-        count: usize,
-        bytes: *mut u8,
-        room: usize,
-        place: *mut Place,
-    ) -> u32;
-    fn tacflow_c_variables(
-        text: *const u8,
-        length: usize,
-        limits: u32,
-        ends: *mut usize,
-        count: usize,
-        bytes: *mut u8,
-        room: usize,
-        place: *mut Place,
-    ) -> u32;
-    fn tacflow_c_listing(text: *const u8, length: usize, limits: u32, bytes: *mut u8, room: usize, size: *mut usize, place: *mut Place) -> u32;
-    fn tacflow_c_report(text: *const u8, length: usize, limits: u32, bytes: *mut u8, room: usize, size: *mut usize, place: *mut Place) -> u32;
-    fn tacflow_c_facts(
-        text: *const u8,
-        length: usize,
-        limits: u32,
+    fn tacflow_c_open(text: *const u8, length: usize, limits: u32, handle: *mut RawHandle, place: *mut Place) -> u32;
+    fn tacflow_c_share(handle: *mut RawHandle, other: *mut RawHandle) -> u32;
+    fn tacflow_c_close(handle: *mut RawHandle) -> u32;
+    fn tacflow_c_sizes_of(handle: *mut RawHandle, sizes: *mut Sizes) -> u32;
+    fn tacflow_c_points_of(handle: *mut RawHandle, points: *mut c_void, count: usize) -> u32;
+    fn tacflow_c_definitions_of(handle: *mut RawHandle, definitions: *mut c_void, count: usize) -> u32;
+    fn tacflow_c_expressions_of(handle: *mut RawHandle, expressions: *mut c_void, count: usize) -> u32;
+    fn tacflow_c_procedures_of(handle: *mut RawHandle, ends: *mut usize, count: usize, bytes: *mut u8, room: usize) -> u32;
+    fn tacflow_c_variables_of(handle: *mut RawHandle, ends: *mut usize, count: usize, bytes: *mut u8, room: usize) -> u32;
+    fn tacflow_c_listing_of(handle: *mut RawHandle, bytes: *mut u8, room: usize, size: *mut usize) -> u32;
+    fn tacflow_c_report_of(handle: *mut RawHandle, bytes: *mut u8, room: usize, size: *mut usize) -> u32;
+    fn tacflow_c_facts_of(
+        handle: *mut RawHandle,
         analysis: u32,
         first_point: u32,
         end_point: u32,
@@ -95,121 +88,156 @@ extern "C" {
         flag_count: usize,
         words: *mut u64,
         word_count: usize,
-        place: *mut Place,
     ) -> u32;
-}
-
-fn answered(status: u32, place: Place) -> Result<(), Error> {
-    match status {
-        0 => Ok(()),
-        1 => Err(Error::Refused { number: place.number, line: place.line, column: place.column }),
-        2 => Err(Error::OutOfMemory),
-        4 => Err(Error::BadRange),
-        21 => Err(Error::TooManyPoints),
-        22 => Err(Error::TooManyBits),
-        other => unreachable!("status {other} answers room or a number that this crate does not hand over"),
-    }
-}
-
-pub(crate) fn sizes(text: &[u8], limits: Limits) -> Result<Sizes, Error> {
-    let (mut sizes, mut place) = (Sizes::default(), Place::default());
-    // SAFETY: the pointers are of a slice and of two values, all of which outlive the call.
-    let status = unsafe { tacflow_c_sizes(text.as_ptr(), text.len(), limits as u32, &mut sizes, &mut place) };
-    answered(status, place).map(|()| sizes)
-}
-
-fn rows<T: Clone + Default>(call: RowsCall, text: &[u8], limits: Limits, count: u32) -> Result<Vec<T>, Error> {
-    let (mut rows, mut place) = (vec![T::default(); count as usize], Place::default());
-    // SAFETY: `call` writes `count` values of `T`, of which `rows` has room for so many.
-    let status = unsafe { call(text.as_ptr(), text.len(), limits as u32, rows.as_mut_ptr().cast(), rows.len(), &mut place) };
-    answered(status, place).map(|()| rows)
-}
-
-pub(crate) fn points(text: &[u8], limits: Limits, count: u32) -> Result<Vec<Point>, Error> {
-    rows(tacflow_c_points, text, limits, count)
-}
-
-pub(crate) fn definitions(text: &[u8], limits: Limits, count: u32) -> Result<Vec<RawDefinition>, Error> {
-    rows(tacflow_c_definitions, text, limits, count)
-}
-
-pub(crate) fn expressions(text: &[u8], limits: Limits, count: u32) -> Result<Vec<RawExpression>, Error> {
-    rows(tacflow_c_expressions, text, limits, count)
-}
-
-fn names(call: NamesCall, text: &[u8], limits: Limits, count: u32) -> Result<Vec<String>, Error> {
-    let (mut ends, mut place) = (vec![0; count as usize], Place::default());
-    let mut bytes = vec![0; count as usize * crate::LONGEST_NAME];
-    // SAFETY: the pointers and lengths are of slices that outlive the call.
-    let status = unsafe {
-        call(text.as_ptr(), text.len(), limits as u32, ends.as_mut_ptr(), ends.len(), bytes.as_mut_ptr(), bytes.len(), &mut place)
-    };
-    answered(status, place)?;
-    let starts = std::iter::once(0).chain(ends.iter().copied());
-    Ok(starts.zip(&ends).map(|(start, &end)| String::from_utf8_lossy(&bytes[start..end]).into_owned()).collect())
-}
-
-pub(crate) fn procedures(text: &[u8], limits: Limits, count: u32) -> Result<Vec<String>, Error> {
-    names(tacflow_c_procedures, text, limits, count)
-}
-
-pub(crate) fn variables(text: &[u8], limits: Limits, count: u32) -> Result<Vec<String>, Error> {
-    names(tacflow_c_variables, text, limits, count)
-}
-
-pub(crate) fn facts(
-    text: &[u8],
-    limits: Limits,
-    analysis: Analysis,
-    points: Range<u32>,
-    bits: Range<u32>,
-    flags: &mut [u8],
-    words: &mut [u64],
-) -> Result<(), Error> {
-    let mut place = Place::default();
-    // SAFETY: the pointers and lengths are of slices that outlive the call.
-    let status = unsafe {
-        tacflow_c_facts(
-            text.as_ptr(),
-            text.len(),
-            limits as u32,
-            analysis as u32,
-            points.start,
-            points.end,
-            bits.start,
-            bits.end,
-            flags.as_mut_ptr(),
-            flags.len(),
-            words.as_mut_ptr(),
-            words.len(),
-            &mut place,
-        )
-    };
-    answered(status, place)
 }
 
 /// The status that tells how much room a text needs.
 const BAD_ROOM: u32 = 5;
 
-// A text that is made whole: the first call tells how long it is.
-fn made(call: TextCall, text: &[u8], limits: Limits) -> Result<Vec<u8>, Error> {
-    let (mut bytes, mut size) = (Vec::new(), 0);
-    loop {
-        let mut place = Place::default();
-        // SAFETY: the pointers and lengths are of slices and values that outlive the call.
-        let status =
-            unsafe { call(text.as_ptr(), text.len(), limits as u32, bytes.as_mut_ptr(), bytes.len(), &mut size, &mut place) };
-        if status != BAD_ROOM {
-            return answered(status, place).map(|()| bytes);
-        }
-        bytes = vec![0; size];
+/// How much room a text has at first.
+const ROOM: usize = 65_536;
+
+fn answered(status: u32) -> Result<(), Error> {
+    match status {
+        0 => Ok(()),
+        2 => Err(Error::OutOfMemory),
+        4 => Err(Error::BadRange),
+        21 => Err(Error::TooManyPoints),
+        22 => Err(Error::TooManyBits),
+        other => unreachable!("status {other} answers room, a number or a handle that this crate does not hand over"),
     }
 }
 
-pub(crate) fn listing(text: &[u8], limits: Limits) -> Result<Vec<u8>, Error> {
-    made(tacflow_c_listing, text, limits)
+/// A program that the library keeps: an open handle, which is closed when it is dropped. Each call borrows it alone, so it is in one call
+/// at a time.
+pub(crate) struct Handle {
+    raw: RawHandle,
 }
 
-pub(crate) fn report(text: &[u8], limits: Limits) -> Result<Vec<u8>, Error> {
-    made(tacflow_c_report, text, limits)
+// SAFETY: an open handle may be used by another thread, one call at a time (tacflow.h, rules 3 and 4 of handles).
+unsafe impl Send for Handle {}
+
+impl fmt::Debug for Handle {
+    fn fmt(&self, f: &mut fmt::Formatter<'_>) -> fmt::Result {
+        f.debug_struct("Handle").finish_non_exhaustive()
+    }
+}
+
+impl Drop for Handle {
+    fn drop(&mut self) {
+        // SAFETY: the handle is open, as each value of this type is, and nothing uses it behind this call.
+        unsafe { tacflow_c_close(&mut self.raw) };
+    }
+}
+
+impl Handle {
+    pub fn open(text: &[u8], limits: Limits) -> Result<Handle, Error> {
+        let (mut raw, mut place) = (CLOSED, Place::default());
+        // SAFETY: the pointers are of a slice and of two values, all of which outlive the call; the handle is closed.
+        let status = unsafe { tacflow_c_open(text.as_ptr(), text.len(), limits as u32, &mut raw, &mut place) };
+        if status == 1 {
+            return Err(Error::Refused { number: place.number, line: place.line, column: place.column });
+        }
+        answered(status).map(|()| Handle { raw })
+    }
+
+    /// A further handle of what this one keeps, which is not copied.
+    pub fn share(&mut self) -> Result<Handle, Error> {
+        let mut raw = CLOSED;
+        // SAFETY: the first handle is open and the other one closed, and both outlive the call.
+        let status = unsafe { tacflow_c_share(&mut self.raw, &mut raw) };
+        answered(status).map(|()| Handle { raw })
+    }
+
+    pub fn sizes(&mut self) -> Result<Sizes, Error> {
+        let mut sizes = Sizes::default();
+        // SAFETY: the pointers are of two values that outlive the call.
+        let status = unsafe { tacflow_c_sizes_of(&mut self.raw, &mut sizes) };
+        answered(status).map(|()| sizes)
+    }
+
+    fn rows<T: Clone + Default>(&mut self, call: RowsCall, count: u32) -> Result<Vec<T>, Error> {
+        let mut rows = vec![T::default(); count as usize];
+        // SAFETY: `call` writes `count` values of `T`, of which `rows` has room for so many.
+        let status = unsafe { call(&mut self.raw, rows.as_mut_ptr().cast(), rows.len()) };
+        answered(status).map(|()| rows)
+    }
+
+    pub fn points(&mut self, count: u32) -> Result<Vec<Point>, Error> {
+        self.rows(tacflow_c_points_of, count)
+    }
+
+    pub fn definitions(&mut self, count: u32) -> Result<Vec<RawDefinition>, Error> {
+        self.rows(tacflow_c_definitions_of, count)
+    }
+
+    pub fn expressions(&mut self, count: u32) -> Result<Vec<RawExpression>, Error> {
+        self.rows(tacflow_c_expressions_of, count)
+    }
+
+    fn names(&mut self, call: NamesCall, count: u32) -> Result<Vec<String>, Error> {
+        let mut ends = vec![0; count as usize];
+        let mut bytes = vec![0; count as usize * crate::LONGEST_NAME];
+        // SAFETY: the pointers and lengths are of slices that outlive the call.
+        let status = unsafe { call(&mut self.raw, ends.as_mut_ptr(), ends.len(), bytes.as_mut_ptr(), bytes.len()) };
+        answered(status)?;
+        let starts = std::iter::once(0).chain(ends.iter().copied());
+        Ok(starts.zip(&ends).map(|(start, &end)| String::from_utf8_lossy(&bytes[start..end]).into_owned()).collect())
+    }
+
+    pub fn procedures(&mut self, count: u32) -> Result<Vec<String>, Error> {
+        self.names(tacflow_c_procedures_of, count)
+    }
+
+    pub fn variables(&mut self, count: u32) -> Result<Vec<String>, Error> {
+        self.names(tacflow_c_variables_of, count)
+    }
+
+    pub fn facts(
+        &mut self,
+        analysis: Analysis,
+        points: Range<u32>,
+        bits: Range<u32>,
+        flags: &mut [u8],
+        words: &mut [u64],
+    ) -> Result<(), Error> {
+        // SAFETY: the pointers and lengths are of slices that outlive the call.
+        let status = unsafe {
+            tacflow_c_facts_of(
+                &mut self.raw,
+                analysis as u32,
+                points.start,
+                points.end,
+                bits.start,
+                bits.end,
+                flags.as_mut_ptr(),
+                flags.len(),
+                words.as_mut_ptr(),
+                words.len(),
+            )
+        };
+        answered(status)
+    }
+
+    // A text that is made whole: where there is too little room the call tells how long it is.
+    fn made(&mut self, call: TextCall) -> Result<Vec<u8>, Error> {
+        let mut size = ROOM;
+        loop {
+            let mut bytes = vec![0; size];
+            // SAFETY: the pointers and lengths are of slices and values that outlive the call.
+            let status = unsafe { call(&mut self.raw, bytes.as_mut_ptr(), bytes.len(), &mut size) };
+            if status != BAD_ROOM {
+                bytes.truncate(size);
+                return answered(status).map(|()| bytes);
+            }
+        }
+    }
+
+    pub fn listing(&mut self) -> Result<Vec<u8>, Error> {
+        self.made(tacflow_c_listing_of)
+    }
+
+    pub fn report(&mut self) -> Result<Vec<u8>, Error> {
+        self.made(tacflow_c_report_of)
+    }
 }

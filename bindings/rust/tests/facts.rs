@@ -1,7 +1,10 @@
 //! A small program, with values by hand.
 
 use std::fmt::Write;
-use tacflow::{Analysis, Definition, Error, Expression, Limits, Operand, Program};
+use std::thread;
+use tacflow::{Analysis, Definition, Error, Expression, Limits, Operand, Program, Table};
+
+const ANALYSES: [Analysis; 4] = [Analysis::Reach, Analysis::Live, Analysis::Avail, Analysis::Busy];
 
 const TEXT: &str = "proc main\n  x = y + 1\n  print x\nend\n";
 
@@ -76,7 +79,7 @@ fn within_the_large_limits() {
     assert_eq!(refused, Some(Error::Refused { number: 12, line: 26_058, column: 6 }), "the 257th procedure");
     let program = Program::within(large_text(), Limits::Large).expect("a program");
     assert_eq!(program.sizes().points, 301 + 300 * 100);
-    for analysis in [Analysis::Reach, Analysis::Live, Analysis::Avail, Analysis::Busy] {
+    for analysis in ANALYSES {
         let all = program.facts(analysis).expect("all facts");
         for procedure in [0, 150, 300] {
             let points = program.points_of(procedure);
@@ -99,4 +102,55 @@ fn what_is_refused_and_written() {
     assert_eq!(program.listing().expect("a listing"), TEXT.as_bytes());
     let report = "points 3, variables 2, definitions 3, expressions 1\n2: y may be used before it is set\n";
     assert_eq!(program.report().expect("a report"), report.as_bytes());
+}
+
+#[test]
+fn what_bits_are_called() {
+    let program = Program::read(TEXT).expect("a program");
+    let names = |analysis| (0..program.bits(analysis)).map(|bit| program.name(analysis, bit).to_string()).collect::<Vec<_>>();
+    assert_eq!(names(Analysis::Reach), ["x@entry", "y@entry", "x@2"]);
+    assert_eq!(names(Analysis::Live), ["x", "y"]);
+    assert_eq!(names(Analysis::Busy), ["y + 1"]);
+    let unary = Program::read("proc main\n  x = ~y\nend\n").expect("a program");
+    assert_eq!(unary.name(Analysis::Avail, 0).to_string(), "~y");
+}
+
+#[test]
+#[should_panic(expected = "Live has no bit 2")]
+fn no_such_bit() {
+    let _ = Program::read(TEXT).expect("a program").name(Analysis::Live, 2);
+}
+
+#[test]
+fn errors_are_errors() {
+    let told = |text: &str| -> Box<dyn std::error::Error + Send + Sync> { Program::read(text).expect_err("a refusal").into() };
+    assert_eq!(told("proc main\n  x = = 1\nend\n").to_string(), "2:7: refusal 4: Syntax");
+    assert_eq!(told("").to_string(), "1:1: refusal 6: NoMain");
+    let points = "proc main\n".to_owned() + &"skip\n".repeat(16_384) + "end\n";
+    assert_eq!(Program::read(points).err(), Some(Error::TooManyPoints));
+    let bits = (0..2_049).fold("proc main\n".to_owned(), |text, n| text + &format!("read v{n}\n")) + "end\n";
+    assert_eq!(told(&bits).to_string(), "an analysis of the program has too many bits");
+}
+
+// All that a program tells.
+fn all(program: &Program) -> (Vec<Table>, Vec<u8>, Vec<u8>) {
+    let tables = ANALYSES.map(|analysis| program.facts(analysis).expect("facts"));
+    (tables.into(), program.report().expect("a report"), program.listing().expect("a listing"))
+}
+
+#[test]
+fn threads_ask_one_program() {
+    fn is_for_threads<T: Send + Sync + 'static>(_: &T) {}
+    let program = Program::within(large_text(), Limits::Large).expect("a program");
+    is_for_threads(&program);
+    let wanted = all(&program);
+    thread::scope(|scope| {
+        for _ in 0..8 {
+            scope.spawn(|| assert!(all(&program) == wanted));
+        }
+    });
+    let clone = program.clone();
+    drop(program);
+    let told = thread::spawn(move || all(&clone)).join().expect("a thread");
+    assert!(told == wanted);
 }
