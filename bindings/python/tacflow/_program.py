@@ -1,0 +1,423 @@
+"""Programs that are kept open, to be asked."""
+
+from __future__ import annotations
+
+import bisect
+import ctypes
+import threading
+import weakref
+from collections.abc import Callable
+from types import TracebackType
+from typing import Any, NamedTuple, TypeVar
+
+from tacflow import _library as library
+from tacflow._arrays import Rows, flat, grid, room
+from tacflow._errors import (
+    BadAnalysis,
+    BadLimits,
+    BadRange,
+    ClosedProgram,
+    OutOfMemory,
+    Refused,
+    TooManyBits,
+    TooManyPoints,
+)
+from tacflow._facts import Facts, within
+from tacflow._words import Analysis, Limits, member_of, words_of
+
+SIGNS = "+ - * / % & | ^ << >> < <= > >= == != ~ !".split()
+# How much room a text has at first.
+ROOM = 65536
+
+Made = TypeVar("Made")
+
+
+class Sizes(NamedTuple):
+    """How large a program is."""
+
+    procedures: int
+    points: int
+    variables: int
+    """The bits of `live`."""
+    definitions: int
+    """The bits of `reach`: first one for each variable's value at the beginning, then one for each
+    statement that sets a variable."""
+    expressions: int
+    """The bits of `avail` and of `busy`."""
+
+
+class Point(NamedTuple):
+    """A point: one stands before each statement of a procedure, and one at its end."""
+
+    procedure: int
+    place: int
+    """How many of the procedure's statements stand before."""
+    line: int
+    """The line of the statement at the point, from 1; 0 at a procedure's end."""
+    start: int
+    end: int
+
+    @property
+    def span(self) -> slice:
+        """Where the text, as bytes, has the statement; nowhere at a procedure's end."""
+        return slice(self.start, self.end)
+
+
+class Definition(NamedTuple):
+    """A definition: its variable, and the point of its statement, or None for the value at the
+    beginning."""
+
+    variable: int
+    point: int | None
+
+
+class Operand(NamedTuple):
+    """What an operator works on: a variable, or a number; the other one is None."""
+
+    variable: int | None
+    number: int | None
+
+
+class Expression(NamedTuple):
+    """An expression: its operator, as it is written, and what stands left and right of it. A unary
+    one has nothing on its left."""
+
+    operator: str
+    left: Operand | None
+    right: Operand
+
+
+def point_of(raw: Any) -> Point:
+    return Point(raw.procedure, raw.place, raw.line, raw.start, raw.end)
+
+
+def definition_of(raw: Any) -> Definition:
+    return Definition(raw.variable, None if raw.point == library.NO_POINT else raw.point)
+
+
+def operand_of(raw: Any) -> Operand:
+    if raw.kind == library.VARIABLE:
+        return Operand(raw.variable, None)
+    return Operand(None, raw.number)
+
+
+def expression_of(raw: Any) -> Expression:
+    left = None if raw.left.kind == library.NOTHING else operand_of(raw.left)
+    return Expression(SIGNS[raw.operator], left, operand_of(raw.right))
+
+
+def close_handle(handle: library.RawHandle) -> None:
+    """Closes a handle that nothing else knows of any more."""
+    library.CLOSE(handle)
+
+
+class Program:
+    """A program that is kept open, as `tacflow.open` makes it.
+
+    It may be asked by several threads: one call runs at a time, and the others wait. `share` makes
+    another one for a thread that is not to wait. It is closed by `close`, by `with`, or when
+    nothing knows of it any more.
+    """
+
+    def __init__(self, handle: library.RawHandle, limits: Limits, known: dict[str, Any]) -> None:
+        self._handle = handle
+        self._limits = limits
+        # what was asked for and stays as it is: several programs of one text have it together
+        self._known = known
+        self._lock = threading.Lock()
+        # At the end of Python another thread may still be in a call.
+        weakref.finalize(self, close_handle, handle).atexit = False
+
+    def __enter__(self) -> Program:
+        return self
+
+    def __exit__(
+        self,
+        kind: type[BaseException] | None,
+        error: BaseException | None,
+        trace: TracebackType | None,
+    ) -> None:
+        if not self.closed:
+            self.close()
+
+    def __repr__(self) -> str:
+        state = "closed" if self.closed else ", ".join(f"{it} {n}" for it, n in self._told())
+        return f"<tacflow.Program {state}>"
+
+    def _told(self) -> list[tuple[str, int]]:
+        return list(self.sizes._asdict().items())
+
+    @property
+    def closed(self) -> bool:
+        """Whether it is closed."""
+        return not self._handle.is_open
+
+    @property
+    def limits(self) -> Limits:
+        """The limits within which it was opened."""
+        return self._limits
+
+    def close(self) -> None:
+        """Closes it and frees what it keeps, where no other shares it. What was asked before stays.
+
+        Raises:
+            ClosedProgram: it is closed.
+        """
+        self._ask(library.CLOSE)
+
+    def share(self) -> Program:
+        """Another one of the same text, which is not read again: for another thread.
+
+        Raises:
+            ClosedProgram: this one is closed.
+            OutOfMemory: memory was refused.
+        """
+        handle = library.RawHandle()
+        self._ask(library.SHARE, handle)
+        return Program(handle, self._limits, self._known)
+
+    def _ask(self, call: Any, *words: Any) -> bool:
+        """Makes a call over the handle, and tells whether there was room for the answer."""
+        with self._lock:
+            status: int = call(self._handle, *words)
+        if status == library.BAD_HANDLE:
+            raise ClosedProgram("the program is closed")
+        if status == library.OUT_OF_MEMORY:
+            raise OutOfMemory("out of memory")
+        assert status in (library.OK, library.BAD_ROOM), f"status {status}"
+        return status == library.OK
+
+    def _once(self, name: str, ask: Callable[[], Made]) -> Made:
+        """What was asked for before, or now."""
+        if name not in self._known:
+            self._known[name] = ask()
+        found: Made = self._known[name]
+        return found
+
+    @property
+    def sizes(self) -> Sizes:
+        """How large it is."""
+        return self._once("sizes", self._ask_sizes)
+
+    def _ask_sizes(self) -> Sizes:
+        raw = library.RawSizes()
+        self._ask(library.SIZES, raw)
+        return Sizes(*(getattr(raw, name) for name in Sizes._fields))
+
+    def _ask_rows(
+        self, call: Any, kind: Any, count: int, make: Callable[[Any], Made]
+    ) -> Rows[Made]:
+        raw = room(kind, count)
+        self._ask(call, raw, count)
+        return Rows(raw, count, make)
+
+    @property
+    def points(self) -> Rows[Point]:
+        """The points, by number: procedures in the order of the text, and in each the places."""
+        count = self.sizes.points
+        return self._once(
+            "points", lambda: self._ask_rows(library.POINTS, library.RawPoint, count, point_of)
+        )
+
+    @property
+    def definitions(self) -> Rows[Definition]:
+        """The definitions, by bit of `reach`."""
+        count, raw = self.sizes.definitions, library.RawDefinition
+        return self._once(
+            "definitions", lambda: self._ask_rows(library.DEFINITIONS, raw, count, definition_of)
+        )
+
+    @property
+    def expressions(self) -> Rows[Expression]:
+        """The expressions, by bit of `avail` and of `busy`."""
+        count, raw = self.sizes.expressions, library.RawExpression
+        return self._once(
+            "expressions", lambda: self._ask_rows(library.EXPRESSIONS, raw, count, expression_of)
+        )
+
+    def _ask_names(self, call: Any, count: int) -> tuple[str, ...]:
+        ends, length = room(ctypes.c_size_t, count), count * library.LONGEST_NAME
+        names = room(ctypes.c_uint8, length)
+        self._ask(call, ends, count, names, length)
+        text = bytes(memoryview(names)[: ends[count - 1] if count else 0]).decode("ascii")
+        return tuple(text[ends[n - 1] if n else 0 : ends[n]] for n in range(count))
+
+    @property
+    def procedures(self) -> tuple[str, ...]:
+        """The names of the procedures, by number."""
+        count = self.sizes.procedures
+        return self._once("procedures", lambda: self._ask_names(library.PROCEDURES, count))
+
+    @property
+    def variables(self) -> tuple[str, ...]:
+        """The names of the variables, by bit of `live`."""
+        count = self.sizes.variables
+        return self._once("variables", lambda: self._ask_names(library.VARIABLES, count))
+
+    def points_of(self, procedure: str | int) -> range:
+        """The points of a procedure, by its name or number.
+
+        Raises:
+            BadRange: there is no such procedure.
+        """
+        number: object = procedure
+        if isinstance(procedure, str):
+            number = self._once("numbers", self._number_procedures).get(procedure)
+        if not isinstance(number, int) or number not in range(self.sizes.procedures):
+            raise BadRange(f"the program has no procedure {procedure!r}")
+        rows = self.points
+        start = bisect.bisect_left(rows, number, key=lambda point: point.procedure)
+        return range(start, bisect.bisect_right(rows, number, start, key=lambda it: it.procedure))
+
+    def _number_procedures(self) -> dict[str, int]:
+        return {name: number for number, name in enumerate(self.procedures)}
+
+    def bit_count(self, analysis: Analysis | str | int) -> int:
+        """How many bits an analysis has.
+
+        Raises:
+            BadAnalysis: there is no such analysis.
+        """
+        which = analysis_of(analysis)
+        if which is Analysis.REACH:
+            return self.sizes.definitions
+        return self.sizes.variables if which is Analysis.LIVE else self.sizes.expressions
+
+    def names(self, analysis: Analysis | str | int) -> tuple[str, ...]:
+        """What the bits of an analysis are, as `tacflow --show` writes them: `x`, `y + z`, `x@7`
+        for what line 7 sets, or `x@entry` for its value at the beginning.
+
+        Raises:
+            BadAnalysis: there is no such analysis.
+        """
+        which = analysis_of(analysis)
+        if which is Analysis.LIVE:
+            return self.variables
+        if which is Analysis.REACH:
+            return self._once("names of definitions", self._name_definitions)
+        return self._once("names of expressions", self._name_expressions)
+
+    def _name_definitions(self) -> tuple[str, ...]:
+        variables, points = self.variables, self.points
+        return tuple(
+            f"{variables[variable]}@{'entry' if point is None else points[point].line}"
+            for variable, point in self.definitions
+        )
+
+    def _name_expressions(self) -> tuple[str, ...]:
+        variables = self.variables
+
+        def shown(operand: Operand) -> str:
+            at = operand.variable
+            return str(operand.number) if at is None else variables[at]
+
+        return tuple(
+            operator + shown(right) if left is None else f"{shown(left)} {operator} {shown(right)}"
+            for operator, left, right in self.expressions
+        )
+
+    def facts(
+        self,
+        analysis: Analysis | str | int,
+        points: range | slice | None = None,
+        bits: range | slice | None = None,
+    ) -> Facts:
+        """The facts of an analysis: `reach`, `live`, `avail` or `busy`.
+
+        Args:
+            analysis: the analysis, or its word.
+            points: at which points; all by itself. A slice is cut to the program's points.
+            bits: on which bits; all by itself. A slice is cut to the analysis's bits.
+
+        Returns:
+            Facts of `len(points)` points, each with a flag and the words of its set.
+
+        Raises:
+            BadAnalysis: there is no such analysis.
+            BadRange: the points are none of the program, or the bits none of the analysis.
+            ClosedProgram: the program is closed.
+            OutOfMemory: memory was refused.
+        """
+        which = analysis_of(analysis)
+        at = within(points, self.sizes.points, "points")
+        on = within(bits, self.bit_count(which), "bits")
+        width = (on.stop + 63) // 64 - on.start // 64
+        flags = room(ctypes.c_uint8, len(at))
+        words = room(ctypes.c_uint64, len(at) * width)
+        where = (int(which), at.start, at.stop, on.start, on.stop)
+        self._ask(library.FACTS, *where, flags, len(at), words, len(at) * width)
+        tables = flat(flags, ctypes.c_bool, "?", len(at)), grid(words, len(at), width)
+        return Facts(which, at, on, tables, self.names)
+
+    def _ask_text(self, call: Any) -> str:
+        size = ctypes.c_size_t(ROOM)
+        while True:
+            length = size.value
+            made = room(ctypes.c_uint8, length)
+            if self._ask(call, made, length, size):
+                return bytes(memoryview(made)[: size.value]).decode("ascii")
+
+    def listing(self) -> str:
+        """The program in one layout, as `tacflow --show list` writes it."""
+        return self._ask_text(library.LISTING)
+
+    def report(self) -> str:
+        """The report, as `tacflow` writes it. It is made anew each time."""
+        return self._ask_text(library.REPORT)
+
+
+def analysis_of(wanted: Analysis | str | int) -> Analysis:
+    """The analysis of this word or number."""
+    found = member_of(Analysis, wanted)
+    if found is None:
+        raise BadAnalysis(f"{wanted!r} is no analysis; there are {words_of(Analysis)}")
+    return found
+
+
+def limits_of(wanted: Limits | str | int) -> Limits:
+    """The limits of this word or number."""
+    found = member_of(Limits, wanted)
+    if found is None:
+        raise BadLimits(f"{wanted!r} are no limits; there are {words_of(Limits)}")
+    return found
+
+
+def bytes_of(text: str | bytes | bytearray | memoryview) -> bytes:
+    """A text as bytes. Of what Python read with `surrogateescape` these are the bytes it read."""
+    if isinstance(text, str):
+        return text.encode("utf-8", "surrogateescape")
+    if isinstance(text, (bytes, bytearray, memoryview)):
+        return bytes(text)
+    raise TypeError(f"a text is str or bytes, not {type(text).__name__}")
+
+
+def open(
+    text: str | bytes | bytearray | memoryview, limits: Limits | str | int = "standard"
+) -> Program:
+    """Reads a text within limits, and keeps its program open.
+
+    Args:
+        text: the program, in the language of `docs/LANGUAGE.md`; a str is taken as UTF-8.
+        limits: `standard` or `large`.
+
+    Raises:
+        Refused: the text is no program.
+        TooManyPoints: it is one with more points than the limits allow.
+        TooManyBits: some analysis of it has more bits than the limits allow.
+        BadLimits: there are no such limits.
+        OutOfMemory: memory was refused.
+    """
+    size = limits_of(limits)
+    taken = bytes_of(text)
+    handle, place = library.RawHandle(), library.RawPlace()
+    status: int = library.OPEN(taken, len(taken), int(size), handle, place)
+    if status == library.REFUSED:
+        raise Refused(place.number, place.line, place.column, size)
+    if status == library.TOO_MANY_POINTS:
+        raise TooManyPoints("the program has more points than the limits allow")
+    if status == library.TOO_MANY_BITS:
+        raise TooManyBits("an analysis of the program has more bits than the limits allow")
+    if status == library.OUT_OF_MEMORY:
+        raise OutOfMemory("out of memory")
+    assert status == library.OK, f"status {status}"
+    return Program(handle, size, {})

@@ -1,0 +1,47 @@
+"""The analyses and the limits, by their words."""
+
+from __future__ import annotations
+
+import enum
+from typing import TypeVar
+
+
+class Analysis(enum.IntEnum):
+    """The four analyses. Each has a word too, which is taken in its place."""
+
+    REACH = 0
+    """Reaching definitions: those that some valid path brings to the point."""
+    LIVE = 1
+    """Live variables: those that some valid path from the point reads before writing them."""
+    AVAIL = 2
+    """Available expressions: those that every valid path to the point evaluates, with no operand
+    written since."""
+    BUSY = 3
+    """Very busy expressions: those that every valid path from the point evaluates before an operand
+    is written."""
+
+
+class Limits(enum.IntEnum):
+    """How large a text and its program may be. Each has a word too, which is taken in its place."""
+
+    STANDARD = 0
+    """1 MiB of text, 256 procedures, 16,384 points, 4,096 bits in each analysis."""
+    LARGE = 1
+    """64 MiB of text, 16,384 procedures, 1,048,576 points, 131,072 variables and as many
+    expressions."""
+
+
+Word = TypeVar("Word", Analysis, Limits)
+
+
+def member_of(kind: type[Word], wanted: object) -> Word | None:
+    """The analysis or the limits of this word or number; None where there are none."""
+    if isinstance(wanted, str):
+        return next((it for it in kind if it.name.lower() == wanted), None)
+    is_number = isinstance(wanted, int) and not isinstance(wanted, bool)
+    return next((it for it in kind if is_number and it == wanted), None)
+
+
+def words_of(kind: type[Word]) -> str:
+    """All words, for who asked for another one."""
+    return ", ".join(it.name.lower() for it in kind)

@@ -1,0 +1,208 @@
+"""A small program, with values by hand; with arrays of numpy, where numpy is there, and without."""
+
+from __future__ import annotations
+
+import gc
+import unittest
+from pathlib import Path
+from typing import Any
+from unittest import mock
+
+import tacflow
+from tacflow import Definition, Expression, Operand, Point, _arrays, _errors, _library
+
+TEXT = "proc main\n  x = y + 1\n  print x\nend\n"
+LANGUAGE = Path(__file__).resolve().parents[3] / "docs/LANGUAGE.md"
+
+
+def wide_text() -> str:
+    """A program of 130 variables, each set once and printed at the end."""
+    sets = "".join(f"  v{n} = {n}\n" for n in range(130))
+    return "proc main\n" + sets + "".join(f"  print v{n}\n" for n in range(130)) + "end\n"
+
+
+class WhatAProgramIs(unittest.TestCase):
+    def setUp(self) -> None:
+        self.program = tacflow.open(TEXT)
+
+    def test_sizes(self) -> None:
+        self.assertEqual(self.program.sizes, (1, 3, 2, 3, 1))
+        self.assertEqual(self.program.sizes.definitions, 3)
+        counts = [self.program.bit_count(it) for it in tacflow.Analysis]
+        self.assertEqual(counts, [3, 2, 1, 1])
+
+    def test_parts(self) -> None:
+        program = self.program
+        self.assertEqual((program.procedures, program.variables), (("main",), ("x", "y")))
+        self.assertEqual(program.points[0], Point(0, 0, 2, 12, 21))
+        self.assertEqual([point.line for point in program.points], [2, 3, 0])
+        self.assertEqual(TEXT.encode()[program.points[1].span], b"print x")
+        self.assertEqual(TEXT.encode()[program.points[-1].span], b"")
+        self.assertEqual(program.definitions[1], Definition(1, None))
+        self.assertEqual(program.definitions[1:], [Definition(1, None), Definition(0, 0)])
+        added = Expression("+", Operand(1, None), Operand(None, 1))
+        self.assertEqual(list(program.expressions), [added])
+        self.assertEqual(program.points_of("main"), range(3))
+        self.assertEqual(program.points_of(0), range(3))
+
+    def test_names(self) -> None:
+        self.assertEqual(self.program.names("reach"), ("x@entry", "y@entry", "x@2"))
+        self.assertEqual(self.program.names("live"), ("x", "y"))
+        self.assertEqual(self.program.names("busy"), ("y + 1",))
+        with tacflow.open("proc main\n  x = -y\nend\n") as unary:
+            self.assertEqual(unary.names("avail"), ("-y",))
+
+    def test_texts(self) -> None:
+        self.assertEqual(self.program.listing(), TEXT)
+        report = "points 3, variables 2, definitions 3, expressions 1\n"
+        told = "2: y may be used before it is set\n"
+        self.assertEqual(self.program.report(), report + told)
+
+    def test_a_long_listing(self) -> None:
+        text = "proc main\n" + "  print x\n" * 9000 + "end\n"
+        with tacflow.open(text) as long:
+            self.assertEqual(long.listing(), text)
+
+    def test_kinds_of_text(self) -> None:
+        for text in (TEXT.encode(), bytearray(TEXT.encode()), memoryview(TEXT.encode())):
+            with tacflow.open(text, tacflow.Limits.LARGE) as program:
+                self.assertEqual((program.sizes, program.limits), (self.program.sizes, 1))
+        with tacflow.open("proc main # \u00fc \udcff\nend\n") as program:
+            self.assertEqual(program.sizes.points, 1)
+
+    def test_points_of_procedures(self) -> None:
+        names = [f"p{n}" for n in range(200)]
+        text = "".join(f"proc {name}\nprint {name}\nend\n" for name in [*names, "main"])
+        with tacflow.open(text) as program:
+            for number, name in enumerate(names):
+                self.assertEqual(program.points_of(name), range(2 * number, 2 * number + 2))
+
+    def test_shown(self) -> None:
+        told = "procedures 1, points 3, variables 2, definitions 3, expressions 1"
+        self.assertEqual(repr(self.program), f"<tacflow.Program {told}>")
+        self.program.close()
+        self.assertEqual(repr(self.program), "<tacflow.Program closed>")
+        version = tuple(map(int, tacflow.__version__.split(".")))
+        self.assertEqual(len(version), 3)
+
+
+class WhatHolds(unittest.TestCase):
+    def sets(self, facts: tacflow.Facts) -> list[list[int]]:
+        return [facts.bits_at(point) for point in facts.points]
+
+    def test_all_analyses(self) -> None:
+        by_hand: dict[str, Any] = {
+            "reach": [[0, 1], [1, 2], [1, 2]],
+            "live": [[1], [0], []],
+            "avail": [[], [0], [0]],
+            "busy": [[0], [], []],
+        }
+        with tacflow.open(TEXT) as program:
+            for word, wanted in by_hand.items():
+                facts = program.facts(word)
+                self.assertEqual(self.sets(facts), wanted)
+                self.assertEqual(list(facts.counts()), [len(it) for it in wanted])
+                self.assertEqual([facts.has_path(it) for it in facts.points], [True] * 3)
+                self.assertEqual(self.sets(program.facts(facts.analysis)), wanted)
+                self.assertEqual(self.sets(program.facts(int(facts.analysis))), wanted)
+
+    def test_some_points_and_bits(self) -> None:
+        with tacflow.open(wide_text()) as program:
+            every = program.facts("live")
+            self.assertEqual(every.bits_at(130), list(range(130)))
+            asked = [
+                program.facts("live", points=range(120, 140), bits=range(60, 130)),
+                program.facts("live", points=slice(-9, None), bits=slice(64)),
+                program.facts("live", slice(129, 131), range(64, 128)),
+            ]
+            for some in asked:
+                for point in some.points:
+                    wanted = [bit for bit in every.bits_at(point) if bit in some.bits]
+                    self.assertEqual(some.bits_at(point), wanted)
+                    for bit in some.bits:
+                        self.assertEqual(some.contains(point, bit), every.contains(point, bit))
+            self.assertEqual(program.facts("live", slice(5, 2)).points, range(5, 5))
+
+    def test_nothing(self) -> None:
+        with tacflow.open("proc main\nend\n") as program:
+            for word in ("reach", "live", "avail", "busy"):
+                facts = program.facts(word)
+                self.assertEqual((self.sets(facts), list(facts.counts())), ([[]], [0]))
+            self.assertEqual((len(program.definitions), program.variables), (0, ()))
+            self.assertEqual(len(program.definitions.array), 0)
+            none = program.facts("live", range(0), range(0))
+            self.assertEqual((self.sets(none), list(none.counts())), ([], []))
+
+    def test_no_path(self) -> None:
+        with tacflow.open("proc main\nreturn\nx = a + b\nend\n") as program:
+            facts = program.facts("avail")
+            self.assertEqual([facts.has_path(it) for it in range(3)], [True, False, True])
+            self.assertEqual(facts.names_at(1), ["a + b"])
+
+    def test_facts_outlive_their_program(self) -> None:
+        with tacflow.open(TEXT) as program:
+            facts = program.facts("live")
+            self.assertEqual(facts.names_at(0), ["y"])
+        self.assertEqual(facts.names_at(1), ["x"])
+        self.assertEqual(repr(facts), "<tacflow.Facts live, points range(0, 3), bits range(0, 2)>")
+
+
+class WithoutNumpy(WhatHolds):
+    def setUp(self) -> None:
+        without = mock.patch.object(_arrays, "numpy", None)
+        without.start()
+        self.addCleanup(without.stop)
+
+    def test_arrays(self) -> None:
+        with tacflow.open(wide_text()) as program:
+            facts = program.facts("live", range(130, 132))
+            self.assertIsInstance(facts.words, memoryview)
+            self.assertEqual((facts.words.shape, facts.words.format), ((2, 3), "Q"))
+            self.assertEqual(facts.words[0, 2], 3)
+            self.assertEqual((facts.flags.tolist(), facts.flags.readonly), ([True, True], True))
+            self.assertEqual(program.points.array[3].line, 5)
+
+
+@unittest.skipIf(_arrays.numpy is None, "no numpy")
+class WithNumpy(unittest.TestCase):
+    def test_arrays(self) -> None:
+        with tacflow.open(wide_text()) as program:
+            facts = program.facts("live", range(130, 132))
+            self.assertEqual((facts.words.shape, str(facts.words.dtype)), ((2, 3), "uint64"))
+            self.assertEqual((facts.flags.shape, str(facts.flags.dtype)), ((2,), "bool"))
+            full = 2**64 - 1
+            self.assertEqual(facts.words.tolist(), [[full, full, 3], [full - 1, full, 3]])
+            self.assertEqual(facts.counts().tolist(), [130, 129])
+            with self.assertRaises(ValueError):
+                facts.words[0, 0] = 0
+            self.assertEqual(program.points.array["line"][:3].tolist(), [2, 3, 4])
+            self.assertEqual(program.definitions.array["variable"].tolist()[:130], list(range(130)))
+            del program
+        gc.collect()
+        self.assertEqual(facts.words[0, 2], 3)
+
+
+class TheTableOfRefusals(unittest.TestCase):
+    def test_it_is_that_of_the_language(self) -> None:
+        rows = [line.split(" | ") for line in LANGUAGE.read_text().splitlines()]
+        rows = [row for row in rows if len(row) == 4 and row[0].removeprefix("| ").isdigit()]
+        told = {int(row[0].removeprefix("| ")): (row[1], row[2]) for row in rows}
+        self.assertEqual(told, _errors.REFUSALS)
+
+
+class TheLibrary(unittest.TestCase):
+    def test_a_program_that_is_gone_is_closed(self) -> None:
+        program = tacflow.open(TEXT)
+        handle = program._handle
+        self.assertTrue(handle.is_open)
+        del program
+        gc.collect()
+        self.assertFalse(handle.is_open)
+
+    def test_calls_let_go_of_the_interpreter(self) -> None:
+        held = 4  # FUNCFLAG_PYTHONAPI of ctypes
+        self.assertEqual(_library.FACTS._flags_ & held, 0)
+
+
+if __name__ == "__main__":
+    unittest.main()
