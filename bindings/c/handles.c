@@ -1,5 +1,5 @@
 /* Handles: a thousand at once, each call over one against the same call over its text, closed and double closed ones, each request for
- * memory refused, and two threads that share one program. Nothing is left in memory at the end. Prints one line for each that goes wrong.
+ * memory refused, and eight threads that share one program. Nothing is left in memory at the end. Prints one line for each that goes wrong.
  * Compile with -Wl,--wrap=malloc,--wrap=realloc,--wrap=free and -pthread. */
 #include "tacflow.h"
 
@@ -233,7 +233,7 @@ static void refused(void) {
 
 static void *asks(void *word) {
     tacflow_handle *mine = word;
-    for (int round = 0; round < 200; round++) {
+    for (int round = 0; round < 50; round++) {
         tacflow_handle further = TACFLOW_CLOSED;
         if (!is_told(mine) || tacflow_share(mine, &further) != TACFLOW_OK || !is_told(&further) || tacflow_close(&further) != TACFLOW_OK)
             return "a thread was told other than of the text";
@@ -241,16 +241,18 @@ static void *asks(void *word) {
     return tacflow_close(mine) == TACFLOW_OK ? NULL : "a thread's handle was not closed";
 }
 
-/* Two threads, each with a handle of its own over one program; that of the main thread is closed while they ask. */
+enum { THREADS = 8 };
+
+/* Eight threads, each with a handle of its own over one program; that of the main thread is closed while they ask. */
 static void threads(void) {
-    tacflow_handle first = TACFLOW_CLOSED, handles[2] = {TACFLOW_CLOSED, TACFLOW_CLOSED};
-    pthread_t thread[2];
+    static tacflow_handle first, handles[THREADS]; /* zeros are TACFLOW_CLOSED */
+    pthread_t thread[THREADS];
     void *said;
     expect_opened("opened for threads", &first);
-    for (int i = 0; i < 2; i++) expect("shared with a thread", TACFLOW_OK, tacflow_share(&first, &handles[i]));
-    for (int i = 0; i < 2; i++) expect("a thread is made", 0, pthread_create(&thread[i], NULL, asks, &handles[i]));
+    for (int i = 0; i < THREADS; i++) expect("shared with a thread", TACFLOW_OK, tacflow_share(&first, &handles[i]));
+    for (int i = 0; i < THREADS; i++) expect("a thread is made", 0, pthread_create(&thread[i], NULL, asks, &handles[i]));
     expect("closed while threads ask", TACFLOW_OK, tacflow_close(&first));
-    for (int i = 0; i < 2; i++) {
+    for (int i = 0; i < THREADS; i++) {
         expect("a thread ends", 0, pthread_join(thread[i], &said));
         if (said) wrong = puts(said) || 1;
     }
