@@ -46,11 +46,11 @@ PATH_ENDINGS = re.compile(r"\.(rt|antt|rs|c|h|py|md|tac|edit|svg|txt|report|a)$"
 # source of the repository has them.
 OUTSIDE = set(
     "rustc perf valgrind memset errno atexit qsort signal fopencookie libtacflow.a program.tac"
-    " unop binop relop".split()
+    " libtacflow.so unop binop relop".split()
 )
 # What is made and not kept here: what a build leaves, and what stands below the folder of an
 # installation.
-MADE = re.compile(r"(^|/)out(/|$)|^(bin|lib|libexec|include|share)/")
+MADE = re.compile(r"(^|/)out(/|$)|^bindings/lib(/|$)|^(bin|lib|libexec|include|share)/")
 PLACEHOLDER = re.compile(r"\b(NAME|CRATE|FILE|F|M|X|PREFIX|DATE|MACHINE)\b")
 # A time or a size of memory, and the text of a span that says where it comes from: a command, or a
 # run that is kept.
