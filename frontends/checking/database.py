@@ -1,10 +1,14 @@
 """Compilation databases: compile_commands.json as CMake, Meson, bear and others write it."""
 
+from __future__ import annotations
+
 import json
 import os
 import shlex
+from typing import Any
 
 from .compiling import OTHERS_WITH_WORD, BadWords, Input, following, take_option
+from .responses import expanded
 
 
 def inputs_of(path: str, wanted: list[str]) -> list[Input]:
@@ -31,13 +35,14 @@ def inputs_of(path: str, wanted: list[str]) -> list[Input]:
     return list(found)
 
 
-def input_of(entry: dict) -> Input | None:
+def input_of(entry: dict[str, Any]) -> Input | None:
     """The C file of an entry.
 
     None where it is of another language or its words have gcc write no code.
     """
-    words = entry["arguments"] if "arguments" in entry else shlex.split(entry["command"])
     file, directory = entry["file"], os.path.realpath(entry["directory"])
+    words = entry["arguments"] if "arguments" in entry else shlex.split(entry["command"])
+    words = list(expanded(words, directory, is_there=False))
     if not file.endswith(".c"):
         return None
     whole = os.path.join(directory, file)

@@ -5,6 +5,7 @@ from collections.abc import Iterator
 
 from .compiling import PASSED_OVER, BadWords, following, take_option
 from .remark import KINDS
+from .responses import expanded
 
 HELP = """usage: check-c [OPTION ..] [GCC OPTION ..] FILE.c ..
        check-c [OPTION ..] -p compile_commands.json [FILE.c ..]
@@ -34,6 +35,8 @@ output, as a compiler writes warnings. Each file is a program by itself, unless 
   --verbose          tell too which words of a database were left out, since gcc does not know them
   --version          tells the version
   --help, -h         tells this, and ends
+
+A word @FILE stands for the words in FILE, which may be in quotes.
 
 Options of gcc's go to gcc, but for those that ask for files, for optimisation or for checks of a
 run. A comment `tacflow: ignore dead` silences remarks of a kind on its line, or on the next one
@@ -66,7 +69,7 @@ class Words:
         self.values = dict.fromkeys(VALUES)
         self.files = []
         self.options = []
-        rest = iter(words)
+        rest = expanded(words)
         for word in rest:
             self.take(word, rest)
         self.kinds = self.chosen_kinds()
