@@ -5,7 +5,6 @@ beyond tacview's limits.
 from __future__ import annotations
 
 import contextlib
-import functools
 import gc
 import os
 import re
@@ -13,24 +12,26 @@ import signal
 import subprocess
 import tempfile
 from collections import Counter
-from collections.abc import Callable
+from collections.abc import Callable, Iterator
 from dataclasses import dataclass, field
-from typing import TYPE_CHECKING
+from typing import TYPE_CHECKING, Any
 
-from gimple import emit, inputs, program
+from gimple import emit, program
+from gimple.dump import Place
 from gimple.faults import Refusal
 from gimple.world import World
 
-from .compiling import BadWords, Input, run_gcc, unknown
+from .compiling import BadWords
 from .findings import Claim, Findings
 from .remark import KINDS
-from .sources import Sources
+from .sources import Lines, Sources
 
 if TYPE_CHECKING:
     from multiprocessing.pool import Pool
 
-    from gimple.dump import Function, Place
+    from gimple.dump import Function
     from gimple.emit import TooLarge, Written
+    from gimple.inputs import Code
     from gimple.world import File
 
     from .remark import Remark
@@ -50,65 +51,70 @@ ENDINGS = {
     "dead": " is dead",
     "unset": " may be used before it is set",
 }
+# The kinds that are looked for only where they are told.
+ON_REQUEST = ("computed", "busy")
 HERE = os.path.dirname(os.path.realpath(__file__))
+ROOT = os.path.join(HERE, "..", "..")
 
 
 @dataclass(frozen=True)
 class Task:
-    """A program to be analysed.
+    """How a program is to be analysed.
 
-    is_alone: there are no other programs, so that nothing of it has copies there. repeated: those
-    of its own files that are compiled for another program too. kinds: what is told.
+    own: the files of which this program is the judge, should others take them in; None where there
+    are no other programs. kinds: what is told.
     """
 
-    inputs: tuple[Input, ...]
+    own: frozenset[str] | None = None
     is_whole: bool = False
     shows_all: bool = False
     keep: str | None = None
-    is_alone: bool = True
-    repeated: frozenset[str] = frozenset()
     processes: int = 1
     kinds: frozenset[str] = frozenset(KINDS)
 
 
 @dataclass
 class Outcome:
-    """What came of a task.
+    """What came of a program.
 
-    remarks: by key. seen: what could have one at places that other programs may have too, as in
-    headers. own: the files of which this program alone is the judge, should others take them in.
-    notes, faults: what is to be said, and what was refused. left_out: the words that gcc does not
-    know.
+    remarks: by key. lines: those that they stand on. seen: what could have one at places that other
+    programs may have too, as in headers. own: the files of which this program is the judge. copies:
+    how many of its files took in each file. notes, faults: what is to be said, and what was
+    refused.
     """
 
     remarks: dict[Claim, Remark] = field(default_factory=dict)
+    lines: Lines = field(default_factory=Lines)
     seen: set[Claim] = field(default_factory=set)
     own: set[str] = field(default_factory=set)
+    copies: Counter[str] = field(default_factory=Counter)
     notes: list[str] = field(default_factory=list)
     faults: list[str] = field(default_factory=list)
-    left_out: list[str] = field(default_factory=list)
 
     def join(self, parts: list[Outcome]) -> None:
         """Takes in what came of the parts of a program."""
         self.remarks.update(agreed(parts))
         for part in parts:
+            self.lines.known.update(part.lines.known)
             self.seen |= part.seen
             self.notes += part.notes
             self.faults += part.faults
 
 
-def agreed(outcomes: list[Outcome]) -> dict[tuple[Place | tuple[str, int, int], str, str], Remark]:
+def agreed(outcomes: list[Outcome]) -> dict[Claim, Remark]:
     """The remarks of several programs by key: each once, and only what holds in all copies of its
     place.
     """
-    remarks, by_claim, by_file = {}, {}, {}
+    remarks: dict[Claim, Remark] = {}
+    by_claim: dict[Claim, list[Claim]] = {}
+    by_file: dict[str, list[Claim]] = {}
     for outcome in outcomes:
         for key, remark in outcome.remarks.items():
             if key not in remarks:
                 remarks[key] = remark
                 by_claim.setdefault(claim_of(key), []).append(key)
                 by_file.setdefault(remark.file, []).append(key)
-    denied = set()
+    denied: set[Claim] = set()
     for outcome in outcomes:
         there = [by_claim[claim] for claim in by_claim.keys() & outcome.seen] + [
             by_file[file] for file in by_file.keys() & outcome.own
@@ -120,9 +126,7 @@ def agreed(outcomes: list[Outcome]) -> dict[tuple[Place | tuple[str, int, int], 
     }
 
 
-def claim_of(
-    key: tuple[Place | tuple[str, int, int], str, str]
-) -> tuple[Place | tuple[str, int, int], str, str]:
+def claim_of(key: Claim) -> Claim:
     """What a program has seen where it could have a remark of this key: of tests not for each
     expression.
     """
@@ -131,7 +135,7 @@ def claim_of(
 
 
 # What the processes of one analysis share: the analysis, its parts, their weights.
-shared = []
+shared: list[Any] = []
 
 
 def processes(count: int, begin: Callable[..., None], *parts: object) -> Pool:
@@ -163,80 +167,59 @@ def do_part(number: int) -> list[Outcome]:
     return analysis.parts
 
 
-def analyse(task: Task) -> Outcome:
-    """Does a task. What fails of it is told in the outcome."""
+def analyse(task: Task, codes: list[Code], sources: Sources) -> Outcome:
+    """Analyses a program by the code of its files, which is taken out of the list. What fails of it
+    is told in the outcome.
+    """
     outcome = Outcome()
+    with told_in(outcome.faults, codes[0].name):
+        codes.reverse()
+        files = [codes.pop().file() for _ in range(len(codes))]
+        Analysis(task, files, sources, outcome).run()
+    return outcome
+
+
+@contextlib.contextmanager
+def told_in(faults: list[str], name: str) -> Iterator[None]:
+    """Has what fails of a file, or of the program that begins with it, told among faults."""
     try:
-        files = compile_all(task, outcome)
-        if files:
-            Analysis(task, files, outcome).run()
+        yield
     except Refusal as refusal:
-        outcome.faults.append(str(refusal))
+        faults.append(str(refusal))
     except OSError as fault:
-        outcome.faults.append(f"{fault.filename or task.inputs[0].file}: {fault.strerror}")
+        faults.append(f"{fault.filename or name}: {fault.strerror}")
     except BadWords:
         raise
     except Exception as fault:
         # one file on which this front end itself fails does not lose the others
-        told = f"a fault of check-c itself: {type(fault).__name__}: {fault}"
-        outcome.faults.append(f"{task.inputs[0].file}: {told}")
-    if not task.is_alone:
-        gc.collect()  # nothing of this program is in use for the next one
-    return outcome
-
-
-def compile_all(task: Task, outcome: Outcome) -> list[File]:
-    """The files of a task; those that gcc refuses are left out."""
-    files = []
-    with tempfile.TemporaryDirectory() as folder, contextlib.ExitStack() as stack:
-        runs = [
-            functools.partial(run_gcc, given, os.path.join(folder, str(number)))
-            for number, given in enumerate(task.inputs)
-        ]
-        if task.processes > 1 and len(runs) > 1:
-            from concurrent.futures import (  # it takes a while, and one file needs none
-                ThreadPoolExecutor,
-            )
-
-            threads = stack.enter_context(ThreadPoolExecutor(task.processes))
-            runs = [threads.submit(run).result for run in runs]
-        for given, run in zip(task.inputs, runs):
-            try:
-                path = run()
-                files += (
-                    [inputs.read_file(path, given.shown(given.file), given.shown)] if path else []
-                )
-            except Refusal as refusal:
-                outcome.faults.append(str(refusal))
-    outcome.left_out += unknown
-    return files
+        faults.append(f"{name}: a fault of check-c itself: {type(fault).__name__}: {fault}")
 
 
 class Analysis:
     """The analysis of one program."""
 
-    def __init__(self, task: Task, files: list[File], outcome: Outcome) -> None:
+    def __init__(
+        self, task: Task, files: list[File], sources: Sources, outcome: Outcome
+    ) -> None:
         self.task = task
         self.files = files
+        self.sources = sources
         self.outcome = outcome
-        self.is_whole = task.is_whole and not outcome.faults
-        if task.is_whole and outcome.faults:
-            outcome.notes.append("files are missing, so the rest is not taken as the whole program")
-        self.sources = Sources()
-        self.parts = []
-        self.shared = frozenset()
+        self.parts: list[Outcome] = []
+        self.shared: frozenset[Place] = frozenset()
         self.workers = min(task.processes, 64)
 
     def run(self) -> None:
         """Analyses the program, and joins what came of its parts."""
         self.analyse()
         self.outcome.join(self.parts)
-        if not self.task.is_alone:
-            self.outcome.own |= self.own_files()
+        self.outcome.own |= self.task.own or set()
+        for file in self.files:
+            self.outcome.copies.update(file.symbols.sources)
 
     def analyse(self) -> None:
         """Analyses the program, in parts where it is too large."""
-        if self.is_whole and not any(function.name == "main" for function in self.functions()):
+        if self.task.is_whole and not any(function.name == "main" for function in self.functions()):
             raise BadWords("--whole needs the file that has main")
         sizes = {function: function.size() for function in self.functions()}
         total = sum(sizes.values())
@@ -276,22 +259,18 @@ class Analysis:
             for done in pool.imap(do_part, range(len(parts)), chunksize=1):
                 self.parts += done
 
-    def shared_places(self) -> frozenset[Place | tuple[str, int, int]]:
+    def shared_places(self) -> frozenset[Place]:
         """The places that several functions have, as those of headers and macros, which may come
         into several parts.
         """
-        counts = Counter()
+        counts: Counter[Place] = Counter()
         for file in self.files:
             defined = [file.symbols.definitions.get(function.name) for function in file.functions]
-            counts.update((*definition, 0) for definition in defined if definition)
+            counts.update(Place(*definition, 0) for definition in defined if definition)
             told = Counter(text for function in file.functions for text in function.places())
             for text, count in told.items():
                 counts[file.functions[0].known.new(*text.rsplit(":", 2))] += count
         return frozenset(place for place, count in counts.items() if count > 1)
-
-    def own_files(self) -> set[str]:
-        """The files of this program that no other one compiles."""
-        return {given.shown(given.file) for given in self.task.inputs} - self.task.repeated
 
     def functions(self) -> list[Function]:
         """All functions of all files."""
@@ -320,7 +299,7 @@ class Analysis:
 
     def analyse_part(self, outside: frozenset[Function]) -> None:
         """Analyses all functions but those outside."""
-        world = World(self.files, self.is_whole, outside)
+        world = World(self.files, self.task.is_whole, outside)
         built = program.build(world, self.task.shows_all)
         written = emit.Writer().write(built.procedures)
         told, said = run_tacview(written.pieces, self.workers)
@@ -342,26 +321,27 @@ class Analysis:
             f"{procedure.refusal}; '{procedure.source}' is taken as unknown code"
             for procedure in built.refused
         ]
-        self.parts.append(Outcome(found.remarks, self.seen_in(found), notes=said))
+        part = Outcome(found.remarks, seen=self.seen_in(found), notes=said)
+        part.lines.take(self.sources, part.remarks.values())
+        self.parts.append(part)
 
-    def seen_in(self, found: Findings) -> set[tuple[Place | tuple[str, int, int], str, str]]:
+    def seen_in(self, found: Findings) -> set[Claim]:
         """What could be told at places that other programs, or other parts of this one, may have
         too.
         """
-        own = self.own_files()
+        own, shared = self.task.own, self.shared
         return found.seen_at(
-            lambda place: place in self.shared or not self.task.is_alone and place[0] not in own
+            lambda place: own is not None and place.file not in own or place in shared
         )
 
 
-def cut(
-    functions: list[Function | int], weights: dict[Function | int, int], count: int
-) -> list[list[Function | int]]:
+def cut(functions: list[Any], weights: dict[Any, int], count: int) -> list[list[Any]]:
     """Functions in so many stretches of about the same weight: at least two, where there are two
     functions.
     """
     total = sum(weights.get(function, 1) for function in functions)
-    parts, at = [[]], 0
+    parts: list[list[Any]] = [[]]
+    at = 0
     for function in functions:
         weight = weights.get(function, 1)
         if (2 * at + weight) * count >= 2 * total * len(parts) and parts[-1]:
@@ -371,19 +351,23 @@ def cut(
     return parts
 
 
+def tacview() -> str:
+    """The program that finds the facts."""
+    return os.environ.get("TACVIEW", os.path.join(ROOT, "tacview"))
+
+
 def run_tacview(pieces: list[str], workers: int) -> tuple[str, list[str]]:
     """The report of tacview on a program, by so many workers, and what it says on standard error,
     as that it runs unproved.
     """
-    tacview = os.environ.get("TACVIEW", os.path.join(HERE, "..", "..", "tacview"))
     try:
         words = ["--format", "report", "--limits", "large", "--workers", str(workers)]
         with tempfile.TemporaryFile("w+", encoding="ascii") as text:
             text.writelines(pieces)
             text.seek(0)
-            done = subprocess.run([tacview, *words], stdin=text, capture_output=True, check=False)
+            done = subprocess.run([tacview(), *words], stdin=text, capture_output=True, check=False)
     except OSError as fault:
-        raise Refusal(f"{tacview}: {fault.strerror}") from None
+        raise Refusal(f"{tacview()}: {fault.strerror}") from None
     said = done.stderr.decode("utf-8", "replace").strip().splitlines()
     if done.returncode:
         raise Refusal(
@@ -400,7 +384,7 @@ def read_facts(
     Of expressions only those that are of these kinds. unset: the lines of which it is asked whether
     they read what is not set; all where it is None.
     """
-    left_out = [kind for kind in ("computed", "busy") if kind not in kinds]
+    left_out = [kind for kind in ON_REQUEST if kind not in kinds]
     facts: dict[int, list[tuple[str, str]]] = {}
     known: dict[str, tuple[str, str]] = {}
     for found in REMARK.finditer(told):

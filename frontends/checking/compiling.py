@@ -49,6 +49,10 @@ PASSED_OVER = re.compile(r".*\.(?:o|a|so(?:\.\d+)*|lo|s|S|ld|map)$")
 # Words for the preprocessor that ask for a file, with the file behind some of them.
 DEPENDENCIES = frozenset(["-MD", "-MMD", "-MF", "-MT", "-MQ", "-MP", "-MG", "-M", "-MM"])
 DEPENDENCIES_ALONE = frozenset(["-MP", "-MG", "-M", "-MM"])
+# As gcc itself, check-c tells nothing of these.
+SYSTEM_HEADERS = ("/usr/include/", "/usr/lib/", "/usr/local/include/")
+# What `-H` has gcc say of each header that it reads.
+HEADER = re.compile(r"^(?:\.+|[x!]) (.*)\n?", re.MULTILINE)
 # What gcc says of a word that it does not know.
 UNKNOWN = re.compile(
     r"(?:unrecognized command-line option|unrecognized argument in option"
@@ -72,6 +76,11 @@ class Input:
     words: tuple[str, ...] = ()
     left_out: tuple[str, ...] = ()
 
+    @property
+    def name(self) -> str:
+        """What the file is called in messages."""
+        return self.shown(self.file)
+
     def shown(self, name: str) -> str:
         """What a file of gcc's is called in messages.
 
@@ -86,6 +95,14 @@ class Input:
 
 class BadWords(Exception):
     """Words that the command doesn't take."""
+
+
+class Unusable(Exception):
+    """Files of facts that can't be used, with what is to be said of each."""
+
+    def __init__(self, faults: list[str]) -> None:
+        super().__init__("; ".join(faults))
+        self.faults = faults
 
 
 def take_option(word: str, rest: Iterator[str], options: list[str]) -> bool:
@@ -146,8 +163,8 @@ def following(word: str, rest: Iterator[str]) -> str:
     return found
 
 
-# The words of databases that gcc did not know, in the order in which it said so.
-unknown: dict[str, None] = {}
+# The words of databases that gcc did not know.
+unknown: set[str] = set()
 
 
 def run_gcc(given: Input, folder: str) -> str | None:
@@ -156,7 +173,6 @@ def run_gcc(given: Input, folder: str) -> str | None:
     Answers the path of the dump, or None where there is no function.
     """
     os.mkdir(folder)
-    unknown.update(dict.fromkeys(given.left_out))
     dump_into(given, folder, "-ftoplevel-reorder")
     for table in dumps_in(folder, ".cgraph"):
         if symbols.loses_section(inputs.read_text(table)):
@@ -167,37 +183,73 @@ def run_gcc(given: Input, folder: str) -> str | None:
     return next(iter(dumps_in(folder, ".lower")), None)
 
 
+def left_out(given: Input) -> list[str]:
+    """The words of a database that were left out for a file, as gcc does not know them."""
+    return [*given.left_out, *(word for word in given.options if word in unknown)]
+
+
+def files_read(given: Input, folder: str) -> list[str]:
+    """The files that gcc read for its dumps in a folder, those of the system too, as they are
+    called in messages.
+    """
+    found = [given.name]
+    for sources in dumps_in(folder, ".sources"):
+        known = symbols.Symbols()
+        symbols.read_sources(inputs.read_text(sources), known, given.shown)
+        found += known.sources
+    for headers in dumps_in(folder, ".headers"):
+        found += map(given.shown, inputs.read_text(headers).splitlines())
+    return list(dict.fromkeys(found))
+
+
 def dump_into(given: Input, folder: str, order: str) -> None:
-    """Runs gcc for a file's dumps in a folder, without the words of a database that it refuses."""
+    """Runs gcc for a file's dumps in a folder, without the words of a database that it refuses.
+
+    The headers that it read stand in a file there too.
+    """
     written = ["-o", os.path.join(folder, "out.s"), "-dumpdir", folder + "/", "-dumpbase", "c"]
     written += ["-aux-info", os.path.join(folder, "c.aux")]
-    written += ["-MMD", "-MF", os.path.join(folder, "c.sources")]
+    written += ["-H", "-MMD", "-MF", os.path.join(folder, "c.sources")]
     while True:
         options = [word for word in given.options if word not in unknown]
         asked = ["-S", "-w", *options, *given.words, *ASKED, *ENDING_EARLY, order, *written]
         done = run([*asked, given.file], given.directory)
         if not done.returncode:
+            headers = "".join(f"{name}\n" for name in HEADER.findall(done.stderr))
+            with open(os.path.join(folder, "c.headers"), "wb") as file:
+                file.write(headers.encode("utf-8", "surrogateescape"))
             return
-        if ENDING_EARLY and NO_EARLY_END in done.stderr:
+        said = HEADER.sub("", done.stderr)
+        if ENDING_EARLY and NO_EARLY_END in said:
             ENDING_EARLY.clear()
             continue
-        refused = {word for word in options if is_refused(word, done.stderr)}
+        refused = {word for word in options if is_refused(word, said)}
         if not refused:
-            told = done.stderr.strip().splitlines()
+            told = said.strip().splitlines()
             status = f"status {done.returncode}"
             first = next((line for line in told if "error" in line), told[0] if told else status)
             raise Refusal(f"gcc failed: {first}", given.shown(given.file))
-        unknown.update(dict.fromkeys(word for word in options if word in refused))
+        unknown.update(refused)
 
 
-def run(words: list[str], directory: str) -> subprocess.CompletedProcess:
+def gcc() -> str:
+    """The compiler that is run."""
+    return os.environ.get("GCC", "gcc")
+
+
+def run(words: list[str], directory: str) -> subprocess.CompletedProcess[str]:
     """Runs gcc in a folder."""
-    gcc = os.environ.get("GCC", "gcc")
-    how = {"capture_output": True, "text": True, "errors": "surrogateescape", "check": False}
     try:
-        return subprocess.run([gcc, *words], cwd=directory, **how)
+        return subprocess.run(
+            [gcc(), *words],
+            cwd=directory,
+            capture_output=True,
+            encoding="utf-8",
+            errors="surrogateescape",
+            check=False,
+        )
     except OSError as fault:
-        raise Refusal(f"{fault.filename or gcc}: {fault.strerror}") from None
+        raise Refusal(f"{fault.filename or gcc()}: {fault.strerror}") from None
 
 
 def is_refused(word: str, said: str) -> bool:

@@ -180,7 +180,7 @@ class Findings:
         self.tried.add(key)
         return not known
 
-    def put(self, key: tuple[Place | tuple[str, int, int], str, str], remark: Remark) -> None:
+    def put(self, key: Claim, remark: Remark) -> None:
         """Keeps a remark unless a comment silences it."""
         text = remark.file, remark.line, remark.column, remark.text
         if (
@@ -590,7 +590,7 @@ class Findings:
                 remark = Remark(
                     *place, "never", f"'{procedure.source}' is never called", procedure.source
                 )
-                self.put(((*place[:2], 0), "never", procedure.source), remark)
+                self.put((Place(*place[:2], 0), "never", procedure.source), remark)
 
     # Places
 
@@ -622,9 +622,7 @@ class Findings:
         place = line[1].origin.place
         return Remark(place.file, place.line, place.column, kind, text, line[2].source, notes)
 
-    def seen_at(
-        self, is_shared: Callable[[tuple], bool]
-    ) -> set[tuple[Place | tuple[str, int, int], str, str]]:
+    def seen_at(self, is_shared: Callable[[Place], bool]) -> set[Claim]:
         """The keys of all that could be told at places that are shared."""
         found = set(
             self.gather(
@@ -635,8 +633,8 @@ class Findings:
         )
         for procedure in self.program.procedures:
             place = self.definition_of(procedure) if procedure.function else None
-            if place and is_shared((*place[:2], 0)):
-                found.add(((*place[:2], 0), "never", procedure.source))
+            if place and is_shared(Place(*place[:2], 0)):
+                found.add((Place(*place[:2], 0), "never", procedure.source))
         return found
 
 

@@ -6,15 +6,13 @@ import json
 import os
 from collections import Counter
 from collections.abc import Iterator
-from typing import TextIO
-from typing import TYPE_CHECKING
+from typing import TYPE_CHECKING, Any, TextIO
 
 from .baseline import print_of
-from .remark import KINDS, Kind, Remark
-from .sources import Sources
+from .remark import KINDS, Kind, Note, Remark
 
 if TYPE_CHECKING:
-    from .remark import Note
+    from .sources import Lines
 
 COLOURS = {"place": "\033[1m", "warning": "\033[1;35m", "note": "\033[1;36m", "caret": "\033[1;32m"}
 PLAIN = "\033[0m"
@@ -34,8 +32,8 @@ def has_colours(stream: TextIO) -> bool:
 class TextForm:
     """Remarks as a compiler writes warnings, with the source's line and a caret."""
 
-    def __init__(self, sources: Sources, with_colours: bool) -> None:
-        self.sources = sources
+    def __init__(self, lines: Lines, with_colours: bool) -> None:
+        self.known = lines
         self.with_colours = with_colours
 
     def painted(self, what: str, text: str) -> str:
@@ -53,12 +51,10 @@ class TextForm:
         """The lines of a remark or a note."""
         place = self.painted("place", f"{at.file}:{at.line}:{at.column}:")
         yield f"{place} {self.painted(level, level + ':')} {text}"
-        source = self.sources.get(at.file)
-        line = source.line(at.line)
+        line = self.known.line(at)
         if not line:
             return
-        before = line[: len(line) - len(source.behind(at.line, at.column))]
-        blank = "".join("\t" if sign == "\t" else " " for sign in before)
+        blank = "".join("\t" if sign == "\t" else " " for sign in self.known.before(at))
         yield f"{at.line:5} | {line}"
         yield f"      | {blank}{self.painted('caret', '^')}"
 
@@ -66,24 +62,36 @@ class TextForm:
 def json_lines(remarks: list[Remark]) -> Iterator[str]:
     """The remarks as objects of JSON, one a line."""
     for remark in remarks:
-        notes = [
-            {"file": note.file, "line": note.line, "column": note.column, "message": note.text}
-            for note in remark.notes
-        ]
-        yield json.dumps(
-            {
-                "file": remark.file,
-                "line": remark.line,
-                "column": remark.column,
-                "kind": remark.kind,
-                "function": remark.function,
-                "message": remark.text,
-                "notes": notes,
-            }
-        )
+        yield json.dumps(as_object(remark))
 
 
-def sarif_lines(remarks: list[Remark], sources: Sources, version: str) -> Iterator[str]:
+def as_object(remark: Remark) -> dict[str, Any]:
+    """A remark as an object of JSON."""
+    notes = [
+        {"file": note.file, "line": note.line, "column": note.column, "message": note.text}
+        for note in remark.notes
+    ]
+    return {
+        "file": remark.file,
+        "line": remark.line,
+        "column": remark.column,
+        "kind": remark.kind,
+        "function": remark.function,
+        "message": remark.text,
+        "notes": notes,
+    }
+
+
+def from_object(told: dict[str, Any]) -> Remark:
+    """The remark that was written as an object of JSON."""
+    notes = tuple(
+        Note(note["file"], note["line"], note["column"], note["message"]) for note in told["notes"]
+    )
+    place = told["file"], told["line"], told["column"]
+    return Remark(*place, told["kind"], told["message"], told["function"], notes)
+
+
+def sarif_lines(remarks: list[Remark], lines: Lines, version: str) -> Iterator[str]:
     """The remarks as one object of SARIF 2.1.0."""
     import hashlib  # it takes a while, and the other formats need none
 
@@ -100,10 +108,10 @@ def sarif_lines(remarks: list[Remark], sources: Sources, version: str) -> Iterat
                 "ruleIndex": numbers[remark.kind],
                 "level": level_of(remark.kind),
                 "message": {"text": remark.text},
-                "locations": [location(remark, sources)],
+                "locations": [location(remark, lines)],
                 "partialFingerprints": {"tacflow/v1": mark.hexdigest()},
                 "relatedLocations": [
-                    {**location(note, sources), "message": {"text": note.text}}
+                    {**location(note, lines), "message": {"text": note.text}}
                     for note in remark.notes
                 ],
             }
@@ -125,7 +133,7 @@ def sarif_lines(remarks: list[Remark], sources: Sources, version: str) -> Iterat
     yield json.dumps({"$schema": SCHEMA, "version": "2.1.0", "runs": [run]}, indent=1)
 
 
-def rules() -> list[dict]:
+def rules() -> list[dict[str, Any]]:
     """SARIF's rule of each kind."""
     found = []
     for name, kind in KINDS.items():
@@ -144,7 +152,7 @@ def rules() -> list[dict]:
     return found
 
 
-def taxonomy() -> dict:
+def taxonomy() -> dict[str, Any]:
     """The entries of the list CWE that rules name."""
     numbers = sorted({kind.weakness for kind in KINDS.values() if kind.weakness})
     return {
@@ -169,11 +177,9 @@ def level_of(kind: str) -> str:
     return "warning" if kind in WARNINGS else "note"
 
 
-def location(at: Note | Remark, sources: Sources) -> dict[str, dict[str, dict[str, int | str]]]:
+def location(at: Note | Remark, lines: Lines) -> dict[str, Any]:
     """SARIF's location of a place."""
-    source = sources.get(at.file)
-    line = source.line(at.line)
-    column = len(line) - len(source.behind(at.line, at.column)) + 1 if line else at.column
+    column = len(lines.before(at)) + 1 if lines.line(at) else at.column
     artifact = {"uri": uri_of(at.file)}
     if not os.path.isabs(at.file):
         artifact["uriBaseId"] = BASE

@@ -2,11 +2,18 @@
 remarks a comment silences.
 """
 
+from __future__ import annotations
+
 import re
+from collections.abc import Iterable
+from typing import TYPE_CHECKING
 
 from .expressions import BEFORE, NO_VALUE, Operand, canonical, written_at
 from .macros import NAME, Macros, enumerators_in, macros_in
 from .silencing import is_silenced
+
+if TYPE_CHECKING:
+    from .remark import Note, Remark
 
 UNUSED = (
     r"__attribute__\s*\(\([^;]*\b(?:__)?unused(?:__)?\b|\[\[[^;]*\bunused\]\]"
@@ -14,18 +21,28 @@ UNUSED = (
 )
 
 
-class Source:
-    """One source file's lines; none where it can't be read."""
+def text_of(path: str) -> str | None:
+    """The text of a file, None where it can't be read."""
+    try:
+        with open(path, encoding="utf-8", errors="surrogateescape") as file:
+            return file.read()
+    except OSError:
+        return None
 
-    def __init__(self, path: str) -> None:
-        self.lines = []
-        self.defined = None
-        self.enumerated = None
-        try:
-            with open(path, encoding="utf-8", errors="surrogateescape") as file:
-                self.lines = file.read().split("\n")
-        except OSError:
-            pass
+
+def behind(line: str, column: int) -> str:
+    """What a line has from a column on, which counts bytes."""
+    text = line.encode("utf-8", "surrogateescape")
+    return text[column - 1 :].decode("utf-8", "replace")
+
+
+class Source:
+    """One source file's lines; none where there is no text of it."""
+
+    def __init__(self, text: str | None) -> None:
+        self.lines = [] if text is None else text.split("\n")
+        self.defined: dict[str, str] | None = None
+        self.enumerated: dict[str, int | None] | None = None
 
     def line(self, number: int) -> str:
         """The text of a line, '' where there is none."""
@@ -33,8 +50,7 @@ class Source:
 
     def behind(self, line: int, column: int) -> str:
         """What a line has from a column on, which counts bytes."""
-        text = self.line(line).encode("utf-8", "surrogateescape")
-        return text[column - 1 :].decode("utf-8", "replace")
+        return behind(self.line(line), column)
 
     def is_silenced(self, kind: str, line: int) -> bool:
         """Whether a comment on a line, or on one of its own before it, silences remarks of a kind
@@ -107,13 +123,42 @@ class Source:
 
 
 class Sources:
-    """All source files that are asked for."""
+    """All source files that are asked for.
 
-    def __init__(self) -> None:
-        self.known = {}
+    texts: the texts that there are, by the files' names; None where they are to be read.
+    """
+
+    def __init__(self, texts: dict[str, str | None] | None = None) -> None:
+        self.texts = texts
+        self.known: dict[str, Source] = {}
 
     def get(self, file: str) -> Source:
         """A source file by its name."""
         if file not in self.known:
-            self.known[file] = Source(file)
+            text = text_of(file) if self.texts is None else self.texts.get(file)
+            self.known[file] = Source(text)
         return self.known[file]
+
+
+class Lines:
+    """The lines of sources that remarks stand on, by file and number."""
+
+    def __init__(self) -> None:
+        self.known: dict[tuple[str, int], str] = {}
+
+    def take(self, sources: Sources, remarks: Iterable[Remark]) -> None:
+        """Takes in the lines of remarks and of their notes."""
+        for remark in remarks:
+            places: list[Remark | Note] = [remark, *remark.notes]
+            for at in places:
+                if (at.file, at.line) not in self.known:
+                    self.known[at.file, at.line] = sources.get(at.file).line(at.line)
+
+    def line(self, at: Remark | Note) -> str:
+        """The line that a remark or a note stands on, '' where there is none."""
+        return self.known.get((at.file, at.line), "")
+
+    def before(self, at: Remark | Note) -> str:
+        """What its line has before its place."""
+        line = self.line(at)
+        return line[: len(line) - len(behind(line, at.column))]

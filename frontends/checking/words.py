@@ -1,5 +1,7 @@
 """The words of the command check-c."""
 
+from __future__ import annotations
+
 import os
 from collections.abc import Iterator
 
@@ -9,6 +11,8 @@ from .responses import expanded
 
 HELP = """usage: check-c [OPTION ..] [GCC OPTION ..] FILE.c ..
        check-c [OPTION ..] -p compile_commands.json [FILE.c ..]
+       check-c [OPTION ..] [GCC OPTION ..] --emit FILE.facts FILE.c
+       check-c [OPTION ..] --merge FILE.facts ..
 
 Runs gcc on C files, makes programs of them, and writes tacflow's remarks on these to standard
 output, as a compiler writes warnings. Each file is a program by itself, unless --together or
@@ -28,6 +32,13 @@ output, as a compiler writes warnings. Each file is a program by itself, unless 
                      write what is told to FILE, for a later --baseline
   --since REV        tell only of lines that `git diff REV` says changed
   --error            status 1 where there are remarks
+  --emit FILE        write the facts of one C file to FILE, and tell nothing
+  -MD FILE           with --emit: write to FILE for make and ninja which files were read
+  --merge            the files named are those that --emit wrote: tell what one run over all their
+                     C files tells, with the words of that run but for gcc's; with -p, see that each
+                     C file of the database is there
+  --cache FOLDER     keep there what came of each C file, and take it from there while all that was
+                     read for it is as it was
   --all              also remarks on what has no name in the source (gcc's temporaries, address
                      arithmetic), on arguments, and on jumps
   --keep FOLDER      leave the program, its map and tacview's answer there; of several programs the
@@ -47,8 +58,33 @@ GCC=/path/to/gcc another compiler.
 Status: 0 where the remarks were written, 1 where there are some under --error, 2 for bad words, 3
 where a file could not be analysed or the remarks not be written; standard error says why.
 """
-FLAGS = ("--all", "--error", "--verbose", "--whole", "--together")
-VALUES = ("--keep", "--kinds", "--format", "--baseline", "--write-baseline", "--since", "-p", "-j")
+FLAGS = ("--all", "--error", "--verbose", "--whole", "--together", "--merge")
+VALUES = (
+    "--keep",
+    "--kinds",
+    "--format",
+    "--baseline",
+    "--write-baseline",
+    "--since",
+    "--emit",
+    "--cache",
+    "-p",
+    "-j",
+)
+# Words that have no use beside others: --emit tells nothing, and nothing is left where nothing is
+# analysed.
+TOGETHER = {
+    "--emit": (
+        "--merge",
+        "--error",
+        "--verbose",
+        "--format",
+        "--baseline",
+        "--write-baseline",
+        "--since",
+    ),
+    "--cache": ("--merge", "--keep"),
+}
 FORMATS = ("text", "json", "sarif")
 
 
@@ -66,20 +102,48 @@ class Words:
 
     def __init__(self, words: list[str]) -> None:
         self.flags = dict.fromkeys(FLAGS, False)
-        self.values = dict.fromkeys(VALUES)
-        self.files = []
-        self.options = []
-        rest = expanded(words)
+        self.values: dict[str, str | None] = dict.fromkeys(VALUES)
+        self.files: list[str] = []
+        self.options: list[str] = []
+        words = list(expanded(words))
+        self.flags["--merge"] = "--merge" in words  # it says what the other words are
+        if any(word.partition("=")[0] == "--emit" for word in words):
+            self.values["-MD"] = None  # else it is gcc's, without a word behind it
+        rest = iter(words)
         for word in rest:
             self.take(word, rest)
         self.kinds = self.chosen_kinds()
         self.processes = self.number()
+        self.refuse_what_is_not_together()
+
+    def refuse_what_is_not_together(self) -> None:
+        """Refuses words that do not go together."""
         if self.values["--format"] not in (None, *FORMATS):
             raise BadWords(f"--format is one of {', '.join(FORMATS)}")
-        if not self.files and not self.values["-p"]:
-            raise BadWords("no C file is named")
         if self.flags["--whole"] and self.flags["--together"]:
             raise BadWords("--whole says more than --together: give one of them")
+        for word, others in TOGETHER.items():
+            for other in others:
+                if self.has(word) and self.has(other):
+                    raise BadWords(f"{other} is of no use with {word}")
+        if self.flags["--merge"] and not self.is_linked and self.has("--keep"):
+            raise BadWords("--keep is of no use with --merge, but where sources are one program")
+        if (self.values.get("-MD") or "").startswith("-"):
+            raise BadWords("-MD takes the name of a file behind it, where there is --emit")
+        if self.flags["--merge"] and self.options:
+            raise BadWords(f"{self.options[0]} is for gcc: give it to --emit")
+        if not self.files and (self.flags["--merge"] or not self.values["-p"]):
+            what = "file of facts" if self.flags["--merge"] else "C file"
+            raise BadWords(f"no {what} is named")
+
+    def has(self, word: str) -> bool:
+        """Whether a word of the command's own was given."""
+        return self.flags.get(word, False) or self.values.get(word) is not None
+
+    @property
+    def is_linked(self) -> bool:
+        """Whether the files are one program."""
+        return self.flags["--whole"] or self.flags["--together"]
 
     def take(self, word: str, rest: Iterator[str]) -> None:
         """Takes in a word, and the one behind it where that belongs to it."""
@@ -96,6 +160,8 @@ class Words:
             pass
         elif word.startswith("-"):
             raise BadWords(f"{word} is no option")
+        elif self.flags["--merge"]:
+            self.files.append(word)
         elif word.endswith((".c", ".i")):
             self.take_file(word)
         elif not PASSED_OVER.match(word):
@@ -112,16 +178,16 @@ class Words:
             raise BadWords(f"{word} is a folder")
         self.files.append(word)
 
-    def chosen_kinds(self) -> set[str] | None:
+    def chosen_kinds(self) -> frozenset[str]:
         """The kinds that are told."""
         told = self.values["--kinds"]
         if told is None:
-            return {name for name, kind in KINDS.items() if kind.is_told}
+            return frozenset(name for name, kind in KINDS.items() if kind.is_told)
         names = [name.strip() for name in told.split(",")]
         wrong = [name for name in names if name not in KINDS and name != "all"]
         if wrong:
             raise BadWords(f"{wrong[0] or 'nothing'} is no kind: {', '.join(KINDS)} or all")
-        return set(KINDS) if "all" in names else set(names)
+        return frozenset(KINDS if "all" in names else names)
 
     def number(self) -> int:
         """How many processes there may be."""

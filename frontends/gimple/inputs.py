@@ -3,12 +3,42 @@
 import glob
 import re
 from collections.abc import Callable
+from dataclasses import dataclass
 
-from . import dump, symbols
+from . import dump, operands, symbols
 from .faults import Refusal
 from .world import File
 
 LOWER = re.compile(r"(?P<stem>.*)\.\d+t\.lower$")
+
+
+@dataclass(frozen=True)
+class Code:
+    """A C file's three-address code as gcc writes it, and what is known beside.
+
+    name: what messages call the file. shown: what they call a file that the code names.
+    """
+
+    name: str
+    text: str
+    symbols: symbols.Symbols
+    shown: Callable[[str], str] = str
+
+    def file(self) -> File:
+        """The file with its functions."""
+        try:
+            return File(self.name, dump.read(self.text, self.name, self.shown), self.symbols)
+        except (ValueError, IndexError):
+            raise Refusal("a dump that is not written as expected", self.name) from None
+
+    def names(self) -> list[str]:
+        """The files that the code names, as gcc calls them."""
+        names = dict.fromkeys(found[1] for found in operands.PLACE.finditer(self.text))
+        return [name for name in names if not name.startswith("<")]
+
+    def functions(self) -> list[str]:
+        """The names of its functions."""
+        return [found["name"] for found in dump.HEADER.finditer(self.text)]
 
 
 def read_text(path: str) -> str:
@@ -28,8 +58,13 @@ def beside(path: str, stem: str, ending: str, option: str) -> str:
     return found[-1]
 
 
-def read_file(path: str, name: str | None = None, shown: Callable[[str], str] = str) -> File:
-    """A C file by the dump of this path and those that stand beside it.
+def read_file(path: str, name: str | None = None) -> File:
+    """A C file by the dump of this path and those that stand beside it."""
+    return read_code(path, name).file()
+
+
+def read_code(path: str, name: str | None = None, shown: Callable[[str], str] = str) -> Code:
+    """A C file's code by the dump of this path and those that stand beside it.
 
     name: what messages call it. shown: what they call a file that the dumps name.
     """
@@ -51,8 +86,4 @@ def read_file(path: str, name: str | None = None, shown: Callable[[str], str] = 
         symbols.read_casts(read_text(other), known)
     for other in glob.glob(glob.escape(stem) + "*.sources"):
         symbols.read_sources(read_text(other), known, shown)
-    name = name or stem
-    try:
-        return File(name, dump.read(text, name, shown), known)
-    except (ValueError, IndexError):
-        raise Refusal("a dump that is not written as expected", name) from None
+    return Code(name or stem, text, known, shown)

@@ -19,11 +19,12 @@ from typing import TYPE_CHECKING, Any
 HERE = os.path.dirname(os.path.realpath(__file__))
 sys.path.insert(0, os.path.join(HERE, ".."))
 
-from checking import analysis
+from checking import analysis, shares
 from checking.compiling import Input
+from checking.remark import KINDS
 
 if TYPE_CHECKING:
-    from checking.analysis import Outcome, Task
+    from checking.analysis import Outcome
 
 CHECK = os.path.join(HERE, "..", "check-c")
 ONE_REMARK = (
@@ -116,7 +117,7 @@ SHOWN = """one.c:4:6: warning: assignment to 'gone' is dead [tacflow-dead]
 """
 
 
-def run(words: str, folder: str, **parts: Any) -> subprocess.CompletedProcess:
+def run(words: str, folder: str, **parts: Any) -> subprocess.CompletedProcess[str]:
     """Runs check-c in a folder."""
     parts = {"stdout": subprocess.PIPE, "stderr": subprocess.PIPE} | parts
     return subprocess.run(
@@ -147,7 +148,7 @@ def wrong_forms(folder: str) -> Iterator[str]:
     ]
     if [
         (row["file"], row["line"], row["column"], row["kind"], row["function"]) for row in rows
-    ] != [("one.c", 4, 6, "dead", "main"), ("library.c", 3, 9, "dead", "f")]:
+    ] != [("library.c", 3, 9, "dead", "f"), ("one.c", 4, 6, "dead", "main")]:
         yield f"json: {rows}"
 
 
@@ -313,9 +314,9 @@ def wrong_parts(folder: str) -> Iterator[str]:
         halves = analysis.cut(list(range(len(weights))), dict(enumerate(weights)), 2)
         if len(halves) != 2 or sum(halves, []) != list(range(len(weights))):
             yield f"halves of {weights}: {halves}"
-    files = tuple(Input(os.path.join(folder, name)) for name in ("first.c", "second.c"))
+    files = [os.path.join(folder, name) for name in ("first.c", "second.c")]
     for processes in (1, 2):
-        outcome = in_parts(analysis.Task(files, processes=processes), MANY_STATEMENTS=100, PART=300)
+        outcome = in_parts(files, processes, MANY_STATEMENTS=100, PART=300)
         places = Counter(
             (os.path.basename(remark.file), remark.text)
             for remark in outcome.remarks.values()
@@ -335,11 +336,13 @@ def wrong_parts(folder: str) -> Iterator[str]:
             yield f"parts by {processes}: {places} {outcome.notes} {outcome.faults}"
 
 
-def in_parts(task: Task, **sizes: int) -> Outcome:
-    """What comes of a task where less is taken to be a large program."""
+def in_parts(files: list[str], processes: int = 1, **sizes: int) -> Outcome:
+    """What comes of files as one program where less is taken to be a large one."""
     usual = {name: getattr(analysis, name) for name in sizes}
+    making = shares.Making(True, False, frozenset(KINDS))
+    given = shares.all_made(making, [Input(file) for file in files], 1)
     vars(analysis).update(sizes)
-    outcome = analysis.analyse(task)
+    outcome = shares.linked(given, False, making, processes)
     vars(analysis).update(usual)
     return outcome
 
@@ -358,7 +361,7 @@ def wrong_large(folder: str) -> Iterator[str]:
             + "    kept += 1;\n" * 100
             + "    return kept;\n}\n"
         )
-    outcome = in_parts(analysis.Task((Input(path),)), MANY_STATEMENTS=100, HOPELESS=200)
+    outcome = in_parts([path], MANY_STATEMENTS=100, HOPELESS=200)
     told = sorted(
         (remark.line, remark.text) for remark in outcome.remarks.values() if remark.kind == "dead"
     )

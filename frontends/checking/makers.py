@@ -1,0 +1,100 @@
+"""What facts are made by: this front end, gcc, tacview."""
+
+from __future__ import annotations
+
+import functools
+import hashlib
+import os
+import re
+import shutil
+import subprocess
+from collections.abc import Iterable
+
+from gimple.symbols import Symbols, read_sources
+
+from .analysis import HERE, ROOT, tacview
+from .compiling import gcc
+
+# What a launcher of tacview starts, from the folder that it stands in.
+STARTED = (
+    "../libexec/tacflow/tacview",
+    "crates/tacview/out/tacview",
+    "crates/tacview/out/unproved/tacview",
+)
+# What `gcc -v` says of itself.
+TOLD = re.compile(r"^Target: .*|^.* version .*", re.MULTILINE)
+# The variables by which gcc finds other headers or other parts of itself.
+ENVIRONMENT = ("CPATH", "C_INCLUDE_PATH", "GCC_EXEC_PREFIX", "COMPILER_PATH", "SOURCE_DATE_EPOCH")
+
+
+def version() -> str:
+    """The version of tacflow: in the repository, or where it is installed."""
+    paths = [
+        os.path.join(ROOT, *parts, "Cargo.toml") for parts in (("bindings", "rust"), ("rust",))
+    ]
+    with open(next(filter(os.path.exists, paths), paths[0]), encoding="utf-8") as file:
+        return next(line.split('"')[1] for line in file if line.startswith("version ="))
+
+
+def sum_of_files(paths: Iterable[str]) -> str:
+    """One sum of what files have, with their names."""
+    found = hashlib.sha256()
+    for path in paths:
+        with open(path, "rb") as file:
+            data = file.read()
+        found.update(f"{os.path.basename(path)} {len(data)}\n".encode("utf-8", "surrogateescape"))
+        found.update(data)
+    return found.hexdigest()
+
+
+@functools.cache
+def build() -> str:
+    """The sum of this front end's own sources."""
+    found = []
+    for folder in ("checking", "gimple"):
+        for name in sorted(os.listdir(os.path.join(HERE, "..", folder))):
+            if name.endswith(".py"):
+                found.append(os.path.join(HERE, "..", folder, name))
+    return sum_of_files(found)[:16]
+
+
+@functools.cache
+def compiler() -> str:
+    """What gcc says of its version and its machine."""
+    return "; ".join(line.strip() for line in TOLD.findall(asked_of_gcc("-v").stderr))
+
+
+@functools.cache
+def read_always() -> list[str]:
+    """The files that gcc reads for each C file, though nothing names them there."""
+    known = Symbols()
+    read_sources(asked_of_gcc("-M", "-x", "c", os.devnull).stdout, known, str)
+    return [name for name in known.sources if name != os.devnull]
+
+
+def asked_of_gcc(*words: str) -> subprocess.CompletedProcess[str]:
+    """What gcc answers."""
+    return subprocess.run(
+        [gcc(), *words],
+        stdin=subprocess.DEVNULL,
+        capture_output=True,
+        encoding="utf-8",
+        errors="surrogateescape",
+        env=dict(os.environ, LC_ALL="C"),
+        check=False,
+    )
+
+
+def viewer() -> str:
+    """The sum of tacview, and of the programs that it starts where it is a launcher."""
+    found = shutil.which(tacview())
+    if found is None:
+        return ""
+    path = os.path.realpath(found)
+    beside = [os.path.join(os.path.dirname(path), name) for name in STARTED]
+    return sum_of_files([path, *filter(os.path.isfile, beside)])
+
+
+def surroundings() -> list[str]:
+    """What else in the environment makes gcc read other files."""
+    return [f"{name}={os.environ[name]}" for name in ENVIRONMENT if name in os.environ]
