@@ -128,8 +128,6 @@ class Words:
                     raise BadWords(f"{other} is of no use with {word}")
         if self.flags["--merge"] and not self.is_linked and self.has("--keep"):
             raise BadWords("--keep is of no use with --merge, but where sources are one program")
-        if (self.values.get("-MD") or "").startswith("-"):
-            raise BadWords("-MD takes the name of a file behind it, where there is --emit")
         if self.flags["--merge"] and self.options:
             raise BadWords(f"{self.options[0]} is for gcc: give it to --emit")
         if not self.files and (self.flags["--merge"] or not self.values["-p"]):
@@ -153,7 +151,10 @@ class Words:
         elif word in self.values or name in self.values and name.startswith("--") and equals:
             if self.values[name] is not None:
                 raise BadWords(f"{name} is given twice")
-            self.values[name] = value if equals else following(word, rest)
+            value = value if equals else following(word, rest)
+            if name == "-MD" and value.startswith("-"):
+                raise BadWords("-MD takes the name of a file behind it, where there is --emit")
+            self.values[name] = value
         elif word.startswith("-j"):
             self.values["-j"] = word[2:]
         elif take_option(word, rest, self.options):
