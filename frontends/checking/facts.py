@@ -126,8 +126,8 @@ def unpacked(text: str) -> str:
 def decoded(data: bytes, path: str) -> Facts:
     """The share that a file's bytes have."""
     first, _, body = data.partition(b"\n")
-    refuse_other(head_of(first), body, path)
     try:
+        refuse_other(head_of(first), body, path)
         lines = map(json.loads, body.splitlines())
         return facts_of(next(lines), lines, path)
     except (ValueError, LookupError, TypeError, AttributeError, StopIteration, zlib.error):
@@ -138,7 +138,7 @@ def head_of(line: bytes) -> Line | None:
     """What a first line says, None where it is none of ours."""
     try:
         head = json.loads(line)
-    except ValueError:
+    except (ValueError, RecursionError):
         return None
     return head if isinstance(head, dict) and head.get("is") == KIND else None
 
@@ -157,8 +157,8 @@ def refuse_other(head: Line | None, body: bytes, path: str) -> None:
         )
     if head.get("build") != build():
         raise Refusal(f"{path} was written by a check-c {version()} with other sources than this")
-    if len(body) < int(head.get("bytes", 0)):
-        raise Refusal(f"{path} is cut short: {len(body)} bytes of {head.get('bytes')} are there")
+    if len(body) < head["bytes"]:
+        raise Refusal(f"{path} is cut short: {len(body)} bytes of {head['bytes']} are there")
     if head.get("sha256") != hashlib.sha256(body).hexdigest():
         raise Refusal(f"{path} is damaged: its sum is another one than it says")
 
