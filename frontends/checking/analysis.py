@@ -330,9 +330,21 @@ class Analysis:
         too.
         """
         own, shared = self.task.own, self.shared
+        if not shared and (own is None or self.files_placed() <= own):
+            return set()
         return found.seen_at(
             lambda place: own is not None and place.file not in own or place in shared
         )
+
+    def files_placed(self) -> set[str]:
+        """The files in which something of the program stands."""
+        found: set[str] = set()
+        for file in self.files:
+            for function in file.functions:
+                found.update(file.symbols.definitions.get(function.name, ())[:1])
+            for function in file.functions[:1]:
+                found |= function.known.files  # those of the whole dump
+        return found
 
 
 def cut(functions: list[Any], weights: dict[Any, int], count: int) -> list[list[Any]]:

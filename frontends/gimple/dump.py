@@ -363,12 +363,13 @@ class Reader:
 class KnownPlaces:
     """The places of a dump, each read once.
 
-    shown: what a file of the dump's is called in places.
+    shown: what a file of the dump's is called in places. files: those of the places.
     """
 
     def __init__(self, shown: Callable[[str], str]) -> None:
         self.shown = functools.cache(shown)
         self.known: dict[str, Place | None] = {}
+        self.files: set[str] = set()
 
     def place(self, text: str) -> Place | None:
         """The place of a text as `file:line:column`, None where gcc made the statement."""
@@ -380,7 +381,9 @@ class KnownPlaces:
 
     def new(self, file: str, line: str, column: str) -> Place:
         """A place by its parts as the dump has them."""
-        return Place(self.shown(file), int(line), int(column))
+        name = self.shown(file)
+        self.files.add(name)
+        return Place(name, int(line), int(column))
 
 
 @functools.lru_cache(maxsize=1 << 16)
