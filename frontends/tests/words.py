@@ -385,9 +385,9 @@ def wrong_ends(folder: str) -> Iterator[str]:
     os.close(writer)
     if done.returncode != 3 or done.stderr != "check-c: standard output: Broken pipe\n":
         yield f"a closed pipe: status {done.returncode}: {done.stderr}"
-    slow = os.path.join(folder, "slow")
+    slow, begun = os.path.join(folder, "slow"), os.path.join(folder, "begun")
     with open(slow, "w", encoding="utf-8") as file:
-        file.write("#!/bin/sh\nexec sleep 20\n")
+        file.write(f"#!/bin/sh\n: >'{begun}'\nexec sleep 20\n")
     os.chmod(slow, 0o755)
     for words in ("one.c", "-j2 one.c library.c"):
         started = subprocess.Popen(
@@ -399,9 +399,11 @@ def wrong_ends(folder: str) -> Iterator[str]:
             start_new_session=True,
             preexec_fn=lambda: signal.signal(signal.SIGINT, signal.SIG_DFL),
         )  # a shell may have it ignored
-        time.sleep(1.5)
+        while started.poll() is None and not os.path.exists(begun):
+            time.sleep(0.1)
         os.killpg(started.pid, signal.SIGINT)
         told = started.communicate()[1]
+        os.remove(begun)
         if started.returncode != 130 or told != "check-c: interrupted\n":
             yield f"an interrupt of {words}: status {started.returncode}: {told}"
 
