@@ -1,4 +1,4 @@
-ghost use Rattle.std.specs.Prelude.{◌≡◌, ◌^◌, ◌<◌, IfOk, IfSome, All};
+ghost use Rattle.std.specs.Prelude.{◌^◌, ◌<◌, IfOk, IfSome, All};
 ghost use Rattle.slice_board.specs.Boards.{IsOf};
 
 use bit_rows::{Cut, CutFault, Rows};
@@ -235,7 +235,7 @@ fn split_off(
     count: usize,
 ) -> Result<Vec<Pass<Nothing>>, OutOfMemory>
     requires { IsOf board.now pass.old }
-    ensures old { pass.new ≡ pass.old }
+    ensures old { IsOf board.now pass.new }
     ensures new { IfOk result (λ passes. All (IsOf board.now) passes.items) }
 {
     let mut passes = Vec::with_capacity(alloc, count)?;
