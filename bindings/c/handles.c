@@ -72,6 +72,7 @@ struct told {
     char names[2][16];
     uint8_t flags[4][8];
     uint64_t words[4][8];
+    uint64_t asked[32];
     char shown[2][512];
     size_t size[2];
 };
@@ -80,7 +81,23 @@ static uint32_t bits(int analysis) {
     return analysis == TACFLOW_REACH ? 4 : 2;
 }
 
-enum { CALLS = 12 };
+/* Each word of the four tables, the last point and analysis first. */
+static int ask_words(tacflow_handle *handle, uint64_t *words) {
+    tacflow_query queries[32];
+    for (uint32_t i = 0; i < 32; i++) queries[i] = (tacflow_query){(31 - i) % 4, (31 - i) / 4, 0};
+    if (handle) return tacflow_ask(handle, queries, 32, words);
+    int status = TACFLOW_OK;
+    for (int i = 0; i < 32 && status == TACFLOW_OK; i++) {
+        int analysis = (int)queries[i].analysis;
+        uint32_t point = queries[i].point;
+        uint8_t flag;
+        tacflow_place place;
+        status = tacflow_facts_within(TACFLOW_STANDARD, text, length, analysis, point, point + 1, 0, bits(analysis), &flag, 1, &words[i], 1, &place);
+    }
+    return status;
+}
+
+enum { CALLS = 13 };
 
 /* One call over the text where there is no handle. */
 static int call(int number, tacflow_handle *handle, struct told *told) {
@@ -102,8 +119,9 @@ static int call(int number, tacflow_handle *handle, struct told *told) {
     case 7:
         return handle ? tacflow_report_of(handle, told->shown[1], 512, &told->size[1])
                       : tacflow_report(text, length, told->shown[1], 512, &told->size[1], &place);
+    case 8: return ask_words(handle, told->asked);
     default:
-        number -= 8;
+        number -= 9;
         return handle ? tacflow_facts_of(handle, number, 0, TACFLOW_ALL_POINTS, 0, bits(number), told->flags[number], 8, told->words[number], 8)
                       : tacflow_facts(text, length, number, 0, bits(number), told->flags[number], 8, told->words[number], 8, &place);
     }
@@ -145,6 +163,36 @@ static void many(void) {
     expect("a closed one is shared", TACFLOW_BAD_HANDLE, tacflow_share(&handles[0], &handles[1]));
     if (memcmp(&told, &before, sizeof told) || handles[1].is_open) wrong = puts("a closed one: something was written") || 1;
     expect("blocks after a thousand", 0, (int)blocks);
+}
+
+/* Words by hand: what may reach `call p` is the definition of a before it and b's value at the beginning. */
+static void by_hand(void) {
+    static const tacflow_query queries[5] = {
+        {TACFLOW_LIVE, 2, 0}, {TACFLOW_REACH, 1, 0}, {TACFLOW_LIVE, 0, 0}, {TACFLOW_BUSY, 0, 0}, {TACFLOW_AVAIL, 1, 0},
+    };
+    static const uint64_t answers[5] = {1, 6, 2, 1, 1};
+    static const tacflow_query bad[3] = {{4, 0, 0}, {TACFLOW_REACH, 8, 0}, {TACFLOW_AVAIL, 0, 1}};
+    static const int statuses[3] = {TACFLOW_BAD_ANALYSIS, TACFLOW_BAD_RANGE, TACFLOW_BAD_RANGE};
+    tacflow_handle handle = TACFLOW_CLOSED;
+    tacflow_query pair[2] = {queries[0], queries[1]};
+    uint64_t words[6] = {7, 7, 7, 7, 7, 7};
+    expect_opened("one is opened to be asked", &handle);
+    for (int i = 0; i < 3; i++) {
+        pair[1] = bad[i];
+        expect("a bad query behind a good one", statuses[i], tacflow_ask(&handle, pair, 2, words));
+    }
+    expect("another count of words than of queries", TACFLOW_BAD_ROOM, (int)tacflow_c_ask(&handle, queries, 5, words, 6));
+    expect("no queries where there are some", TACFLOW_BAD_POINTER, tacflow_ask(&handle, NULL, 1, words));
+    expect("no words for queries", TACFLOW_BAD_POINTER, tacflow_ask(&handle, queries, 1, NULL));
+    expect("no handle is asked", TACFLOW_BAD_POINTER, tacflow_ask(NULL, queries, 1, words));
+    expect("nothing is asked", TACFLOW_OK, tacflow_ask(&handle, NULL, 0, NULL));
+    for (int i = 0; i < 6; i++)
+        if (words[i] != 7) wrong = puts("bad queries: something was written") || 1;
+    expect("five words are asked for", TACFLOW_OK, tacflow_ask(&handle, queries, 5, words));
+    for (int i = 0; i < 5; i++)
+        if (words[i] != answers[i]) wrong = printf("query %d: %llu\n", i, (unsigned long long)words[i]);
+    if (words[5] != 7) wrong = puts("behind the words something was written") || 1;
+    expect("one that was asked is closed", TACFLOW_OK, tacflow_close(&handle));
 }
 
 /* Bad input: the handle is as it was. */
@@ -263,6 +311,7 @@ int main(void) {
     for (int number = 0; number < CALLS; number++) expect("a call over the text", TACFLOW_OK, call(number, NULL, &wanted));
     expect("blocks after calls over the text", 0, (int)blocks);
     many();
+    by_hand();
     faults();
     refused();
     threads();

@@ -135,6 +135,13 @@ typedef struct {
     tacflow_operand right;
 } tacflow_expression;
 
+/* A word that is asked for: of the set of an analysis at a point. The bits 64 * word to 64 * word + 63 are in it. */
+typedef struct {
+    uint32_t analysis;
+    uint32_t point;
+    uint32_t word;
+} tacflow_query;
+
 /* The longest name has so many bytes. */
 #define TACFLOW_LONGEST_NAME 64
 
@@ -339,6 +346,7 @@ uint32_t tacflow_c_procedures_of(tacflow_handle *handle, size_t *ends, size_t co
 uint32_t tacflow_c_variables_of(tacflow_handle *handle, size_t *ends, size_t count, uint8_t *bytes, size_t room);
 uint32_t tacflow_c_facts_of(tacflow_handle *handle, uint32_t analysis, uint32_t first_point, uint32_t end_point, uint32_t lo, uint32_t hi,
                             uint8_t *flags, size_t flag_count, uint64_t *words, size_t word_count);
+uint32_t tacflow_c_ask(tacflow_handle *handle, const tacflow_query *queries, size_t count, uint64_t *words, size_t word_count);
 uint32_t tacflow_c_listing_of(tacflow_handle *handle, uint8_t *bytes, size_t room, size_t *size);
 uint32_t tacflow_c_report_of(tacflow_handle *handle, uint8_t *bytes, size_t room, size_t *size);
 
@@ -416,6 +424,18 @@ static inline int tacflow_facts_of(tacflow_handle *handle, int analysis, uint32_
     words = (uint64_t *)tacflow_some(words, word_count, &nothing);
     if (!handle || !flags || !words) return TACFLOW_BAD_POINTER;
     return (int)tacflow_c_facts_of(handle, (uint32_t)analysis, first_point, end_point, lo, hi, flags, flag_count, words, word_count);
+}
+
+/* The words that are asked for, in any order and of all analyses: words[i] is the answer to queries[i]. Bit b of an analysis is in the word
+ * b / 64, where it is number b % 64; bits that the analysis has not are 0. Words that several queries ask for are found once. Time goes with
+ * the words of an analysis from the lowest to the highest that is asked for, and with the program. TACFLOW_BAD_ANALYSIS and
+ * TACFLOW_BAD_RANGE: some query's analysis, point or word is not there. TACFLOW_BAD_ROOM: there are 2^32 queries or more. */
+static inline int tacflow_ask(tacflow_handle *handle, const tacflow_query *queries, size_t count, uint64_t *words) {
+    uint64_t nothing = 0;
+    const tacflow_query *from = (const tacflow_query *)tacflow_some(queries, count, &nothing);
+    words = (uint64_t *)tacflow_some(words, count, &nothing);
+    if (!handle || !from || !words) return TACFLOW_BAD_POINTER;
+    return (int)tacflow_c_ask(handle, from, count, words, count);
 }
 
 static inline int tacflow_listing_of(tacflow_handle *handle, char *bytes, size_t room, size_t *size) {

@@ -77,6 +77,16 @@ class RawExpression(ctypes.Structure):
     _fields_ = [("operator", ctypes.c_uint32), ("left", RawOperand), ("right", RawOperand)]
 
 
+class RawQuery(ctypes.Structure):
+    """tacflow_query."""
+
+    _fields_ = [
+        ("analysis", ctypes.c_uint32),
+        ("point", ctypes.c_uint32),
+        ("word", ctypes.c_uint32),
+    ]
+
+
 class RawHandle(ctypes.Structure):
     """tacflow_handle, closed as it is made."""
 
@@ -150,5 +160,6 @@ PROCEDURES = call_of("procedures_of", *NAMES)
 VARIABLES = call_of("variables_of", *NAMES)
 # analysis, first point, end of the points, lo, hi
 FACTS = call_of("facts_of", NUMBER, NUMBER, NUMBER, NUMBER, NUMBER, *TABLE)
+ASK = call_of("ask", ctypes.POINTER(RawQuery), COUNT, ctypes.POINTER(ctypes.c_uint64), COUNT)
 LISTING = call_of("listing_of", *TEXT)
 REPORT = call_of("report_of", *TEXT)

@@ -6,12 +6,12 @@ import bisect
 import ctypes
 import threading
 import weakref
-from collections.abc import Callable
+from collections.abc import Callable, Iterable
 from types import TracebackType
 from typing import Any, NamedTuple, TypeVar
 
 from tacflow import _library as library
-from tacflow._arrays import Rows, flat, grid, room
+from tacflow._arrays import Array, Rows, flat, grid, room
 from tacflow._errors import (
     BadAnalysis,
     BadLimits,
@@ -348,6 +348,39 @@ class Program:
         self._ask(library.FACTS, *where, flags, len(at), words, len(at) * width)
         tables = flat(flags, ctypes.c_bool, "?", len(at)), grid(words, len(at), width)
         return Facts(which, at, on, tables, self.names)
+
+    def ask(self, queries: Iterable[tuple[Analysis | str | int, int, int]]) -> Array:
+        """Words of the sets, in any order and of all analyses. The words that are asked of an
+        analysis are found once, with those between them.
+
+        Args:
+            queries: for each word its analysis, its point, and which word of the set there it is:
+                the word w has the bits from 64 * w on.
+
+        Returns:
+            As many words as queries, as uint64. Bits that the analysis has not are 0.
+
+        Raises:
+            BadAnalysis: a query is of no analysis.
+            BadRange: a query's point or word is not there.
+            ClosedProgram: the program is closed.
+            OutOfMemory: memory was refused.
+        """
+        asked = [self._query_of(*query) for query in queries]
+        raw = room(library.RawQuery, len(asked))
+        for number, query in enumerate(asked):
+            raw[number] = query
+        words = room(ctypes.c_uint64, len(asked))
+        self._ask(library.ASK, raw, len(asked), words, len(asked))
+        return flat(words, ctypes.c_uint64, "Q", len(asked))
+
+    def _query_of(self, analysis: Analysis | str | int, point: int, word: int) -> library.RawQuery:
+        which = analysis_of(analysis)
+        if point not in range(self.sizes.points):
+            raise BadRange(f"the program has no point {point!r}")
+        if word not in range((self.bit_count(which) + 63) // 64):
+            raise BadRange(f"the analysis {which.name.lower()} has no word {word!r}")
+        return library.RawQuery(int(which), point, word)
 
     def _ask_text(self, call: Any) -> str:
         size = ctypes.c_size_t(ROOM)

@@ -123,6 +123,21 @@ class WhatHolds(unittest.TestCase):
                         self.assertEqual(some.contains(point, bit), every.contains(point, bit))
             self.assertEqual(program.facts("live", slice(5, 2)).points, range(5, 5))
 
+    def test_words_that_are_asked_for(self) -> None:
+        # before `x = y + 1` y is live; behind it the new x and y's first value have come
+        live = tacflow.Analysis.LIVE
+        queries = [("reach", 1, 0), ("live", 0, 0), ("avail", 1, 0), (live.name.lower(), 1, 0)]
+        with tacflow.open(TEXT) as program:
+            self.assertEqual(program.ask(queries).tolist(), [6, 2, 1, 1])
+            self.assertEqual(program.ask([(live, 1, 0), (int(live), 0, 0)]).tolist(), [1, 2])
+            self.assertEqual(len(program.ask([])), 0)
+            for wrong in (("live", 3, 0), ("live", 0, 1), ("live", -1, 0)):
+                self.assertRaises(tacflow.BadRange, program.ask, [("live", 0, 0), wrong])
+            self.assertRaises(tacflow.BadAnalysis, program.ask, [("alive", 0, 0)])
+        with tacflow.open(wide_text()) as program:
+            # at the end of the sets all that is printed is live: of word 2 the first two bits
+            self.assertEqual(program.ask([("live", 130, 2), ("live", 131, 0)]).tolist(), [3, 2**64 - 2])
+
     def test_nothing(self) -> None:
         with tacflow.open("proc main\nend\n") as program:
             for word in ("reach", "live", "avail", "busy"):

@@ -31,6 +31,7 @@ use std::sync::Arc;
 pub const LONGEST_NAME: usize = 64;
 
 /// The four analyses (Aho, Lam, Sethi, Ullman, 2nd edition, 9.2 and 9.5).
+#[repr(u32)]
 #[derive(Clone, Copy, Debug, PartialEq, Eq, Hash)]
 pub enum Analysis {
     /// Reaching definitions: which some valid path brings to the point.
@@ -422,6 +423,28 @@ impl Program {
         self.kept.handles.ask(|handle| handle.facts(analysis, at, on, &mut table.flags, &mut table.words))?;
         Ok(table)
     }
+
+    /// Words of the sets, in any order and of all analyses: one for each query. The words that are asked of an analysis are found
+    /// once, with those between them. Bits that the analysis has not are 0.
+    ///
+    /// # Errors
+    ///
+    /// `BadRange` where a query's point or word is not there; `OutOfMemory` where memory was refused.
+    pub fn ask(&self, queries: &[Query]) -> Result<Vec<u64>, Error> {
+        self.kept.handles.ask(|handle| handle.words(queries))
+    }
+}
+
+/// A word that is asked for.
+#[repr(C)]
+#[derive(Clone, Copy, Debug, PartialEq, Eq, Hash)]
+pub struct Query {
+    /// The analysis.
+    pub analysis: Analysis,
+    /// The point whose set it is of.
+    pub point: u32,
+    /// Which word of the set it is: the word w has the bits from 64 w on.
+    pub word: u32,
 }
 
 /// Facts: for each of some points whether it has a valid path, and which bits hold there.

@@ -1,6 +1,6 @@
 //! The proved calls over handles, and all that is unsafe. Each call is handed slices, which are never null.
 
-use crate::{Analysis, Error, Limits, Point};
+use crate::{Analysis, Error, Limits, Point, Query};
 use std::fmt;
 use std::ops::Range;
 use std::os::raw::c_void;
@@ -75,6 +75,7 @@ extern "C" {
     fn tacflow_c_expressions_of(handle: *mut RawHandle, expressions: *mut c_void, count: usize) -> u32;
     fn tacflow_c_procedures_of(handle: *mut RawHandle, ends: *mut usize, count: usize, bytes: *mut u8, room: usize) -> u32;
     fn tacflow_c_variables_of(handle: *mut RawHandle, ends: *mut usize, count: usize, bytes: *mut u8, room: usize) -> u32;
+    fn tacflow_c_ask(handle: *mut RawHandle, queries: *const Query, count: usize, words: *mut u64, word_count: usize) -> u32;
     fn tacflow_c_listing_of(handle: *mut RawHandle, bytes: *mut u8, room: usize, size: *mut usize) -> u32;
     fn tacflow_c_report_of(handle: *mut RawHandle, bytes: *mut u8, room: usize, size: *mut usize) -> u32;
     fn tacflow_c_facts_of(
@@ -217,6 +218,14 @@ impl Handle {
             )
         };
         answered(status)
+    }
+
+    pub fn words(&mut self, queries: &[Query]) -> Result<Vec<u64>, Error> {
+        let mut words = vec![0; queries.len()];
+        // SAFETY: the pointers and lengths are of slices that outlive the call.
+        let status =
+            unsafe { tacflow_c_ask(&mut self.raw, queries.as_ptr(), queries.len(), words.as_mut_ptr(), words.len()) };
+        answered(status).map(|()| words)
     }
 
     // A text that is made whole: where there is too little room the call tells how long it is.

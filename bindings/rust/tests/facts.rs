@@ -2,7 +2,7 @@
 
 use std::fmt::Write;
 use std::thread;
-use tacflow::{Analysis, Definition, Error, Expression, Limits, Operand, Program, Table};
+use tacflow::{Analysis, Definition, Error, Expression, Limits, Operand, Program, Query, Table};
 
 const ANALYSES: [Analysis; 4] = [Analysis::Reach, Analysis::Live, Analysis::Avail, Analysis::Busy];
 
@@ -130,6 +130,18 @@ fn errors_are_errors() {
     assert_eq!(Program::read(points).err(), Some(Error::TooManyPoints));
     let bits = (0..2_049).fold("proc main\n".to_owned(), |text, n| text + &format!("read v{n}\n")) + "end\n";
     assert_eq!(told(&bits).to_string(), "an analysis of the program has too many bits");
+}
+
+#[test]
+fn words_that_are_asked_for() {
+    let program = Program::read(TEXT).expect("a program");
+    let query = |analysis, point, word| Query { analysis, point, word };
+    // before `x = y + 1` y is live; behind it y's value at the beginning and the new x have come, and y + 1 is available
+    let queries = [query(Analysis::Reach, 1, 0), query(Analysis::Live, 0, 0), query(Analysis::Avail, 1, 0), query(Analysis::Live, 1, 0)];
+    assert_eq!(program.ask(&queries), Ok(vec![6, 2, 1, 1]));
+    assert_eq!(program.ask(&[]), Ok(vec![]));
+    assert_eq!(program.ask(&[queries[0], query(Analysis::Live, 3, 0)]), Err(Error::BadRange));
+    assert_eq!(program.ask(&[query(Analysis::Busy, 0, 1)]), Err(Error::BadRange));
 }
 
 // All that a program tells.

@@ -1,3 +1,4 @@
 pub mod Facts
 pub mod Kept
+pub mod Words
 pub mod code

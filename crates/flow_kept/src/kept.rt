@@ -1,18 +1,22 @@
 // A program that is kept with its edges and paths.
 
-ghost use Rattle.std.specs.Prelude.{◌≡◌, true, false, length, None, IfOk, IfErr, OnOk, OnErr, IsErrOf};
+ghost use Rattle.std.specs.Prelude.{◌≡◌, ◌^◌, ◌<◌, true, false, length, None, IfOk, IfErr, OnOk, OnErr, IsErrOf};
 ghost use Rattle.flow_graph.specs.Analyses.{is_backward};
 ghost use Rattle.flow_graph.specs.Limits.{HasFewBits, HasFewPoints, HasManyBits, HasManyPoints};
 ghost use Rattle.flow_graph.specs.declared.fault.GraphFault.TheVariants.{TooManyBits, TooManyPoints};
 ghost use Rattle.flow_kept.specs.Facts.{AreFactsOf, AreInRange, HasRoom};
 ghost use Rattle.flow_kept.specs.Kept.{IsUnkept};
+ghost use Rattle.flow_kept.specs.Words.{AreWordsAsked};
+ghost use Rattle.flow_queries.specs.Queries.{AreQueriesOf};
 ghost use Rattle.tac_reader.specs.Faults.{refusal_within};
 ghost use Rattle.tac_reader.specs.Parses.{program_of};
 
 use crate::OutOfMemory;
+use crate::asking::{ask_run, run_at};
 use crate::fault::KeepFault;
 use crate::table::put_facts;
 use flow_graph::{Analysis, Direction, Graph, GraphFault};
+use flow_queries::{Query, arranged_places};
 use gen_kill::Problem;
 use gk_solve::Routes;
 use std::alloc::Global;
@@ -172,6 +176,45 @@ impl Kept {
             Direction::Forward => &self.forward,
             Direction::Backward => &self.backward,
         }
+    }
+
+    /// Puts the answers to queries, in their order, into words: of each that word of the analysis's set at its point. The words that are asked
+    /// are solved once for all queries of an analysis, and no others but those between. The conditions: the graph is of the program, each query
+    /// is of it, they have numbers of 32 bits, and there is a word for each. Fails only where memory runs out, and has written nothing then.
+    pub fn ask(
+        &self,
+        alloc: Global,
+        graph: &Graph<'_>,
+        queries: &[Query],
+        words: &mut [u64],
+    ) -> Result<(), OutOfMemory>
+        requires graph { graph.now ≡ self.now.program }
+        requires queries { AreQueriesOf self.now.program queries.now }
+        requires few { length queries.now < 2 ^ 32 }
+        requires room { length words.old ≡ length queries.now }
+        ensures answers { OnOk result (AreWordsAsked self.now.program queries.now words.new) }
+        ensures kept { OnErr result (words.new ≡ words.old) }
+    {
+        let places = arranged_places(alloc, queries)?;
+        let mut answers = vec![in alloc; 0u64; queries.len()]?;
+        let mut done = 0;
+        'runs: while (done as usize) < places.len() {
+            let run = run_at(queries, places.as_slice(), done);
+            let routes = self.routes(run.analysis);
+            ask_run(
+                alloc,
+                graph,
+                routes,
+                queries,
+                places.as_slice(),
+                done,
+                run,
+                answers.as_mut_slice(),
+            )?;
+            done = run.until;
+        }
+        words.copy_from_slice(answers.as_slice());
+        Ok(())
     }
 
     /// Puts the facts of an analysis at the points `points.0..points.1` and on the bits `bits.0..bits.1` into flags and words: for each of

@@ -5,6 +5,7 @@
 //! own together.
 #![tactic(auto)]
 
+mod asking;
 mod fault;
 mod kept;
 mod shared;

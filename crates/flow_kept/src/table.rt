@@ -18,7 +18,7 @@ use gk_solve::{Routes, SliceWords, Solver, TakeWords};
 use std::alloc::Global;
 
 // What a word of the may form tells: itself, or where the join is the intersection which bits of `lo..hi` are not in it.
-fn table_word(bits: u64, lo: u32, hi: u32, word: u32, join: Join) -> u64
+pub(crate) fn table_word(bits: u64, lo: u32, hi: u32, word: u32, join: Join) -> u64
     ensures { (k : ℕ) → k < 64 → has_bit result k
         ≡ (if is_intersection join then not (has_bit bits k) && (nat_le lo (64 * word + k) && nat_lt (64 * word + k) hi) else has_bit bits k) }
 {

@@ -3,5 +3,6 @@ pub mod Handles
 pub mod Held
 pub mod Names
 pub mod Parts
+pub mod Queries
 pub mod Statuses
 pub mod Texts

@@ -1,5 +1,5 @@
 -- What a call answers: a status, and where there is a fault what it is.
-use Rattle.std.specs.Prelude.{◌≡◌, ℕ, ◌-◌, ◌≤◌, ◌*◌, ◌==◌, if◌then◌else◌, List, Option, Some, None, Result, Ok, Err}
+use Rattle.std.specs.Prelude.{◌≡◌, ℕ, ◌==◌, if◌then◌else◌, List, Option, Some, None, Result, Ok, Err}
 use Rattle.flow_kept.specs.Facts.{AreInRange, HasRoom}
 use Rattle.flow_graph.specs.Limits.{HasFewBits, HasFewPoints, HasManyBits, HasManyPoints}
 use Rattle.tac_program.specs.declared.limits.Limits.{Limits}

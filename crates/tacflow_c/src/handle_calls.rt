@@ -9,6 +9,7 @@ ghost use Rattle.tac_reader.specs.Parses.{program_of};
 ghost use Rattle.tacflow_c.specs.Handles.{AreFactsOfNumber, IsAsked, IsMemoryFault, IsNamesRoomFault, IsNumberFault, IsOpenFault, IsPartsFault, IsTextFault};
 ghost use Rattle.tacflow_c.specs.Names.{AreNames};
 ghost use Rattle.tacflow_c.specs.Parts.{AreParts, ArePartsOf, definition_part, expression_part, point_part, sizes_of};
+ghost use Rattle.tacflow_c.specs.Queries.{AreAnswersTo, IsQueriesFault};
 ghost use Rattle.tacflow_c.specs.Statuses.{HasGraph, IsAnswered};
 ghost use Rattle.tacflow_c.specs.Texts.{HoldsText, IsTextKept};
 ghost use Rattle.tacflow_c.specs.declared.names.Named.TheVariants.{Procedures, Variables};
@@ -21,6 +22,7 @@ use crate::kept_calls::{
 };
 use crate::names::{Named, fill_names};
 use crate::parts::{Definition, Expression, Point, Sizes};
+use crate::queries::{NumberedQuery, ask_kept};
 use crate::text::find_limits;
 use crate::texts::put_listing;
 use std::alloc::Global;
@@ -250,6 +252,30 @@ pub extern "C" fn tacflow_c_facts_of(
         flags,
         words,
     );
+    handle.put(shared);
+    asked_status(answer)
+}
+
+/// Words of the sets of a handle's program: a word for each that is asked for, in their order. There are fewer than 2^32 and room for as many.
+/// Bits at and beyond the last of the analysis are 0. The words that are asked of an analysis are solved once, and those between them.
+#[unsafe(no_mangle)]
+#[tactic(auto, using(crate::proofs::answers::Asked::closed, crate::proofs::answers::Asked::asked))]
+pub extern "C" fn tacflow_c_ask(
+    alloc: Global,
+    handle: &mut Handle,
+    asks: &[NumberedQuery],
+    words: &mut [u64],
+) -> u32
+    ensures { IsAsked result handle.old.held.value handle.new.held.value
+        (λ program. AreAnswersTo program asks.now words.new)
+        (λ _. words.new ≡ words.old)
+        (IsQueriesFault asks.now (length words.old)) }
+{
+    if !handle.is_open {
+        return 8;
+    }
+    let shared = handle.take(alloc);
+    let answer = ask_kept(alloc, shared.kept(), asks, words);
     handle.put(shared);
     asked_status(answer)
 }

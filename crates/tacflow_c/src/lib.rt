@@ -16,6 +16,7 @@ mod held;
 mod kept_calls;
 mod names;
 mod parts;
+mod queries;
 mod text;
 mod texts;
 
@@ -41,6 +42,7 @@ pub use handle::Handle;
 pub use held::{Held, Opaque};
 use names::Named;
 pub use parts::{Definition, Expression, Part, Point, Sizes};
+pub use queries::NumberedQuery;
 use std::alloc::Global;
 use text::find_limits;
 use texts::{listing_of_text, report_of_text};
