@@ -98,7 +98,11 @@ impl Columns {
     pub(crate) fn count(&self, bits: u32) -> u32
         ensures { result ≡ unwrap_or (option_map length self.now) bits }
     {
-        if self.is_all { bits } else { self.bits.len() as u32 }
+        if self.is_all {
+            bits
+        } else {
+            self.bits.len() as u32
+        }
     }
 
     /// The bit of a column.
@@ -106,7 +110,11 @@ impl Columns {
         requires { HasColumn self.now column }
         ensures { result ≡ bit_in self.now column }
     {
-        if self.is_all { column } else { self.bits[column as usize] }
+        if self.is_all {
+            column
+        } else {
+            self.bits[column as usize]
+        }
     }
 
     // The column of a bit, if it has one.

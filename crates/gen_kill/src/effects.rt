@@ -60,11 +60,7 @@ fn operand_variables(expression: Expr) -> (Option<u32>, Option<u32>)
 }
 
 /// The variables that a bit depends on.
-fn bit_variables(
-    graph: &Graph<'_>,
-    analysis: Analysis,
-    bit: u32,
-) -> (Option<u32>, Option<u32>)
+fn bit_variables(graph: &Graph<'_>, analysis: Analysis, bit: u32) -> (Option<u32>, Option<u32>)
     requires { bit < bits graph.now analysis }
     ensures { (x : ℕ) → (marks result.0 x || marks result.1 x) ≡ depends graph.now analysis x bit }
 {

@@ -20,7 +20,9 @@ use crate::bit_table::BitTable;
 use crate::columns::Columns;
 use crate::effect::{Effect, KeptEffect};
 use crate::effects::{column_variables, dependent_words, effects, put_dependence};
-use crate::words::{generated, generates, is_either, killed, kills, mark_word, own_word, word_mark};
+use crate::words::{
+    generated, generates, is_either, killed, kills, mark_word, own_word, word_mark,
+};
 use bit_rows::word_below;
 use flow_graph::{Analysis, Direction, Edge, Graph, Join};
 use std::alloc::Global;

@@ -74,4 +74,4 @@ queries-preserved c =
     }
 
 pub returns : goal.returns
-returns c = record { answered = λ j query below. c.queries.invariant.answered j query (omega (arith, below, c.queries-test.false)); }
+returns c = record { answered = λ j query below. c.queries.invariant.answered j query (omega (arith, below, c.queries-test.false)) }

@@ -15,7 +15,7 @@ true_of true is = λ i. true
 true_of false is = absurd (cc is)
 
 larger : (a b most : ℕ) → most ≡ max a b → (most ≡ a) ⊎ (most ≡ b)
-larger a b most is = elim (cases_lt a b) [ | inl less ↦ inr (omega (arith, is)) | inr more ↦ inl (omega (arith, is)) ]
+larger a b most is = elim (cases_lt a b) [ inl less ↦ inr (omega (arith, is)) | inr more ↦ inl (omega (arith, is)) ]
 
 pub loop-j-preserved : goal.loop-j-preserved
 loop-j-preserved c =
@@ -36,7 +36,7 @@ loop-j-preserved c =
     record {
       until = λ i. j + 1;
       in_run = run_more queries places c.args.from (record { analysis = run.analysis; until = j; first = run.first; last = run.last }) query
-      c.min.result c.max.result here (omega (arith, c.loop-j-test.true)) there same
-      (omega (arith, c.min.ensures)) (omega (arith, c.min.ensures)) (omega (arith, c.max.ensures)) (omega (arith, c.max.ensures))
-      (larger run.last query.word c.max.result c.max.ensures);
+          c.min.result c.max.result here (omega (arith, c.loop-j-test.true)) there same
+          (omega (arith, c.min.ensures)) (omega (arith, c.min.ensures)) (omega (arith, c.max.ensures)) (omega (arith, c.max.ensures))
+          (larger run.last query.word c.max.result c.max.ensures);
     }

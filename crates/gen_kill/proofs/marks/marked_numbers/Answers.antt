@@ -21,5 +21,5 @@ loop-number-preserved c =
       | else-marks-number w ↦
           let is : get_or marks n false ≡ false = search rules in
           subst (λ (xs : List ℕ). AreMarked marks (n + 1) xs) (sym (ap (λ (v : Vec ℕ Global). v.items) w.numbers-is))
-              (unmarked_more old n marks c.loop-number.invariant is)
+          (unmarked_more old n marks c.loop-number.invariant is)
     ]

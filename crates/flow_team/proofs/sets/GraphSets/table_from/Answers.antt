@@ -10,7 +10,7 @@ use Rattle.flow_team.proofs.sets.GraphSets.table_from.Goals as goal
 pub returns-clause-table : goal.returns-clause-table
 returns-clause-table c =
     let form = c.args.self.now in
-    let analysis : c.analysis-analysis.result ≡ form.analysis = 
+    let analysis : c.analysis-analysis.result ≡ form.analysis =
     c.analysis-analysis.ensures ∙ ap (λ (s : Selection). s.analysis) c.problem.ensures ∙ ap (λ (f : MayForm). f.analysis) c.self.view_is in
     let must = c.join.ensures ∙ ap is_must analysis in
     let rows = c.of-words.ensures ∙ ap (λ t. complemented_table t c.args.posted) must in

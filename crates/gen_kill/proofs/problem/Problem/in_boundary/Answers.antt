@@ -19,16 +19,16 @@ pub returns-in-Live : goal.returns-in-Live
 returns-in-Live c =
     let s : Selection = c.args.self.now in
     ap (λ a. may_boundary (record { program = s.program; analysis = a }) (bit_of s c.args.column))
-        (sym c.in-Live.is ∙ ap (λ (s : Selection). s.analysis) c.self.view_is)
+    (sym c.in-Live.is ∙ ap (λ (s : Selection). s.analysis) c.self.view_is)
 
 pub returns-in-Avail : goal.returns-in-Avail
 returns-in-Avail c =
     let s : Selection = c.args.self.now in
     ap (λ a. may_boundary (record { program = s.program; analysis = a }) (bit_of s c.args.column))
-        (sym c.in-Avail.is ∙ ap (λ (s : Selection). s.analysis) c.self.view_is)
+    (sym c.in-Avail.is ∙ ap (λ (s : Selection). s.analysis) c.self.view_is)
 
 pub returns-in-Busy : goal.returns-in-Busy
 returns-in-Busy c =
     let s : Selection = c.args.self.now in
     ap (λ a. may_boundary (record { program = s.program; analysis = a }) (bit_of s c.args.column))
-        (sym c.in-Busy.is ∙ ap (λ (s : Selection). s.analysis) c.self.view_is)
+    (sym c.in-Busy.is ∙ ap (λ (s : Selection). s.analysis) c.self.view_is)
