@@ -427,9 +427,9 @@ static inline int tacflow_facts_of(tacflow_handle *handle, int analysis, uint32_
 }
 
 /* The words that are asked for, in any order and of all analyses: words[i] is the answer to queries[i]. Bit b of an analysis is in the word
- * b / 64, where it is number b % 64; bits that the analysis has not are 0. Words that several queries ask for are found once. Time goes with
- * the words of an analysis from the lowest to the highest that is asked for, and with the program. TACFLOW_BAD_ANALYSIS and
- * TACFLOW_BAD_RANGE: some query's analysis, point or word is not there. TACFLOW_BAD_ROOM: there are 2^32 queries or more. */
+ * b / 64, where it is number b % 64; bits that the analysis has not are 0. Words are found four or eight of an analysis at a time,
+ * each once, however many queries ask for it. TACFLOW_BAD_ANALYSIS and TACFLOW_BAD_RANGE: some query's analysis, point or word is not
+ * there. TACFLOW_BAD_ROOM: there are 2^32 queries or more. */
 static inline int tacflow_ask(tacflow_handle *handle, const tacflow_query *queries, size_t count, uint64_t *words) {
     uint64_t nothing = 0;
     const tacflow_query *from = (const tacflow_query *)tacflow_some(queries, count, &nothing);

@@ -350,8 +350,8 @@ class Program:
         return Facts(which, at, on, tables, self.names)
 
     def ask(self, queries: Iterable[tuple[Analysis | str | int, int, int]]) -> Array:
-        """Words of the sets, in any order and of all analyses. The words that are asked of an
-        analysis are found once, with those between them.
+        """Words of the sets, in any order and of all analyses. Words are found four or eight
+        of an analysis at a time, each once.
 
         Args:
             queries: for each word its analysis, its point, and which word of the set there it is:

@@ -424,8 +424,8 @@ impl Program {
         Ok(table)
     }
 
-    /// Words of the sets, in any order and of all analyses: one for each query. The words that are asked of an analysis are found
-    /// once, with those between them. Bits that the analysis has not are 0.
+    /// Words of the sets, in any order and of all analyses: one for each query. They are found four or eight of an analysis at a
+    /// time, each once. Bits that the analysis has not are 0.
     ///
     /// # Errors
     ///

@@ -178,8 +178,8 @@ impl Kept {
         }
     }
 
-    /// Puts the answers to queries, in their order, into words: of each that word of the analysis's set at its point. The words that are asked
-    /// are solved once for all queries of an analysis, and no others but those between. The conditions: the graph is of the program, each query
+    /// Puts the answers to queries, in their order, into words: of each that word of the analysis's set at its point. Words are solved
+    /// four or eight of an analysis at a time, each once for all queries. The conditions: the graph is of the program, each query
     /// is of it, they have numbers of 32 bits, and there is a word for each. Fails only where memory runs out, and has written nothing then.
     pub fn ask(
         &self,

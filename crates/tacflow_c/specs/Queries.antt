@@ -30,7 +30,8 @@ IsNumberedFault program ask _ = ⊥
 -- The queries are those of the asked numbers, in their order.
 pub record AreNumbered (program : Program) (asks : List NumberedQuery) (queries : List Query) : Type 0 where
   pub count : length queries ≡ length asks
-  pub each : (q : ℕ) (ask : NumberedQuery) (query : Query) → slice_get asks q ≡ Some ask → slice_get queries q ≡ Some query → IsNumberedQuery program ask query
+  pub each : (q : ℕ) (ask : NumberedQuery) (query : Query) → slice_get asks q ≡ Some ask → slice_get queries q ≡ Some query
+      → IsNumberedQuery program ask query
 
 -- A word for each ask, in their order: the answer to its query, which the program has.
 pub record AreAnswersTo (program : Program) (asks : List NumberedQuery) (words : List ℕ) : Type 0 where
@@ -40,8 +41,10 @@ pub record AreAnswersTo (program : Program) (asks : List NumberedQuery) (words :
 
 -- why some ask has no answer: its numbers stand for no query, or memory lacks
 abbrev pub IsQueryFault : List NumberedQuery → Program → Fault → Type 0
-IsQueryFault asks program fault.BadAnalysis = (q : ℕ) × (ask : NumberedQuery) × (slice_get asks q ≡ Some ask) × IsNumberedFault program ask fault.BadAnalysis
-IsQueryFault asks program fault.BadRange = (q : ℕ) × (ask : NumberedQuery) × (slice_get asks q ≡ Some ask) × IsNumberedFault program ask fault.BadRange
+IsQueryFault asks program fault.BadAnalysis =
+    (q : ℕ) × (ask : NumberedQuery) × (slice_get asks q ≡ Some ask) × IsNumberedFault program ask fault.BadAnalysis
+IsQueryFault asks program fault.BadRange =
+    (q : ℕ) × (ask : NumberedQuery) × (slice_get asks q ≡ Some ask) × IsNumberedFault program ask fault.BadRange
 IsQueryFault asks program fault = IsMemoryFault fault
 
 -- why there are no answers in room for so many words

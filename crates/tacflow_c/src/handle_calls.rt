@@ -257,7 +257,7 @@ pub extern "C" fn tacflow_c_facts_of(
 }
 
 /// Words of the sets of a handle's program: a word for each that is asked for, in their order. There are fewer than 2^32 and room for as many.
-/// Bits at and beyond the last of the analysis are 0. The words that are asked of an analysis are solved once, and those between them.
+/// Bits at and beyond the last of the analysis are 0. Words are solved four or eight of an analysis at a time, each once.
 #[unsafe(no_mangle)]
 #[tactic(auto, using(crate::proofs::answers::Asked::closed, crate::proofs::answers::Asked::asked))]
 pub extern "C" fn tacflow_c_ask(
