@@ -38,6 +38,10 @@ bit_in chosen column = unwrap_or (option_map (λ list. slice_index list column) 
 abbrev pub bit_of : Selection → ℕ → ℕ
 bit_of selection column = bit_in selection.chosen column
 
+-- The column is the bit's.
+abbrev pub IsColumnOf : Selection → ℕ → ℕ → Type 0
+IsColumnOf selection bit column = (column < column_count selection) × (bit_of selection column ≡ bit)
+
 -- The transfer of a column is that of its bit; and so are gen and kill of statements, and the boundary.
 abbrev pub column_transfer : Selection → ℕ → Transfer
 column_transfer selection column = may_transfer selection.program selection.analysis (bit_of selection column)

@@ -1,5 +1,5 @@
 // Which bits of an analysis are solved, and in which columns.
-ghost use Rattle.std.specs.Prelude.{◌≡◌, ◌^◌, ◌<◌, ◌↔◌, ℕ, None, Some, length, nat_eq, option_map, slice_index, unwrap_or, IfOk, IsTrue};
+ghost use Rattle.std.specs.Prelude.{◌≡◌, ◌^◌, ◌<◌, ◌↔◌, ℕ, true, None, Some, length, nat_eq, option_map, slice_index, unwrap_or, IfOk, IfSome, IsTrue};
 ghost use Rattle.gen_kill.specs.Selections.{bit_in};
 ghost use Rattle.gen_kill.specs.code.Columns.{HasColumn};
 ghost use Rattle.gen_kill.specs.code.Effects.{effect_owns, marks};
@@ -94,6 +94,13 @@ impl Columns {
         })
     }
 
+    /// Whether they are all bits.
+    pub(crate) fn are_all(&self) -> bool
+        ensures { result ≡ true → self.now ≡ None }
+    {
+        self.is_all
+    }
+
     /// How many columns there are, where the analysis has so many bits.
     pub(crate) fn count(&self, bits: u32) -> u32
         ensures { result ≡ unwrap_or (option_map length self.now) bits }
@@ -117,9 +124,10 @@ impl Columns {
         }
     }
 
-    // The column of a bit, if it has one.
-    fn column(&self, bit: u32) -> Option<u32>
-        ensures { (column : ℕ) → HasColumn self.now column → marks result column ≡ nat_eq (bit_in self.now column) bit }
+    /// The column of a bit, if it has one.
+    pub(crate) fn column(&self, bit: u32) -> Option<u32>
+        ensures marked { (column : ℕ) → HasColumn self.now column → marks result column ≡ nat_eq (bit_in self.now column) bit }
+        ensures there { IfSome result (λ column. HasColumn self.now column × (bit_in self.now column ≡ bit)) }
     {
         if self.is_all {
             return Some(bit);

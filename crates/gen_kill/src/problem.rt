@@ -1,10 +1,10 @@
 ghost use Rattle.std.specs.Prelude.{◌≡◌, ◌+◌, ◌*◌, ◌/◌, ◌%◌, ◌^◌, ◌<◌, ◌≤◌, ◌&&◌, ◌||◌, ℕ, false, true, IfOk, IfSome, length, nat_eq, nat_lt, option_map};
-ghost use Rattle.std.specs.Prelude.{unwrap_or};
+ghost use Rattle.std.specs.Prelude.{None, unwrap_or};
 ghost use Rattle.bit_rows.specs.Words.{has_bit};
 ghost use Rattle.flow_graph.specs.Analyses.{is_backward, is_must, main_procedure};
 ghost use Rattle.flow_graph.specs.Directions.{goes_backward};
 ghost use Rattle.flow_graph.specs.Problems.{may_shape, IsWordOfTest};
-ghost use Rattle.gen_kill.specs.Selections.{AreChosen, IsColumnAffected, all_bits, bit_of, column_boundary, column_count, column_gens, column_kills};
+ghost use Rattle.gen_kill.specs.Selections.{AreChosen, IsColumnAffected, IsColumnOf, all_bits, bit_of, column_boundary, column_count, column_gens, column_kills};
 ghost use Rattle.gen_kill.specs.Selections.{some_bits};
 ghost use Rattle.gen_kill.specs.code.Columns.{IsChosenOf};
 ghost use Rattle.gen_kill.specs.code.Effects.{IsColumnEffect, IsDependence, column_depends, marks};
@@ -243,6 +243,24 @@ impl<'g, 'p> Problem<'g, 'p> {
         ensures within { result < bits_of self.now.program self.now.analysis }
     {
         self.columns.bit(column)
+    }
+
+    /// The column of a bit; None where the bit is not solved.
+    pub fn column(&self, bit: u32) -> Option<u32>
+        ensures found { IfSome result (λ column. IsColumnOf self.now bit column) }
+        ensures none { result ≡ None → (column : ℕ) → ¬ (IsColumnOf self.now bit column) }
+    {
+        if bit >= self.graph.bits(self.analysis) {
+            return None;
+        }
+        self.columns.column(bit)
+    }
+
+    /// Whether all bits are solved, each its own column.
+    pub fn is_whole(&self) -> bool
+        ensures { result ≡ true → self.now ≡ all_bits self.now.program self.now.analysis }
+    {
+        self.columns.are_all()
     }
 
     /// Which way the analysis goes: the edges are reversed where it goes backwards.

@@ -4,8 +4,8 @@ use Rattle.gen_kill.specs.code.Columns.{HasColumn, chosen_if}
 use Rattle.gen_kill.proofs.bits.Chosen.{column_found, column_missing}
 use Rattle.gen_kill.proofs.columns.Columns.column.Goals as goal
 
-pub returns-then-is_number_at : goal.returns-then-is_number_at
-returns-then-is_number_at c column there =
+pub returns-then-is_number_at-clause-marked : goal.returns-then-is_number_at-clause-marked
+returns-then-is_number_at-clause-marked c column there =
     let list : List ℕ = c.self.inside.bits.items in
     let seen : chosen_if false list ≡ c.args.self.now = ap (λ b. chosen_if b list) (sym c.if-self.false) ∙ c.self.view_is in
     let at = subst (λ (xs : List ℕ). c.args.bit < length xs → c.number_at-column.result ≡ get_or xs c.args.bit 0) c.as_slice.ensures.value
@@ -15,8 +15,8 @@ returns-then-is_number_at c column there =
     subst (λ (o : Option (List ℕ)). HasColumn o column → nat_eq column c.number_at-column.result ≡ nat_eq (bit_in o column) c.args.bit) seen
     (λ below. column_found list c.self.inside.columns.items c.self.invariant c.number_at-column.result c.args.bit at column below is) there
 
-pub returns-else-is_number_at : goal.returns-else-is_number_at
-returns-else-is_number_at c column there =
+pub returns-else-is_number_at-clause-marked : goal.returns-else-is_number_at-clause-marked
+returns-else-is_number_at-clause-marked c column there =
     let list : List ℕ = c.self.inside.bits.items in
     let seen : chosen_if false list ≡ c.args.self.now = ap (λ b. chosen_if b list) (sym c.if-self.false) ∙ c.self.view_is in
     let at = subst (λ (xs : List ℕ). c.args.bit < length xs → c.number_at-column.result ≡ get_or xs c.args.bit 0) c.as_slice.ensures.value
