@@ -3,7 +3,7 @@
 ghost use Rattle.std.specs.Prelude.{◌≡◌, [], ◌∷◌, ◌++◌, codes, None};
 ghost use Rattle.checked_examples.specs.ReaderExamples.{refused, procedures_before, word_from, numbered_example};
 ghost use Rattle.tac_reader.specs.Faults.{refusal_of, refusal_within};
-ghost use Rattle.tac_program.specs.Listings.{listing_of};
+ghost use Rattle.tac_listing.specs.Listings.{listing_of};
 ghost use Rattle.tac_reader.specs.Parses.{program_of};
 ghost use Rattle.tac_program.specs.Sound.{IsSound, IsSoundStatement};
 ghost use Rattle.tac_lines.specs.Tokens.{row_from, name, number, fixed};

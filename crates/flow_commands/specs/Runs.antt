@@ -1,7 +1,7 @@
 -- What is shown of a program, and for which kinds its graph is needed. What a run makes of it is told in `flow_runs`.
 use Rattle.std.specs.Prelude.{◌≡◌, ℕ, List, Bool, true, false}
 use Rattle.flow_graph.specs.declared.analysis.Analysis.TheVariants.{Reach, Live, Avail, Busy}
-use Rattle.tac_program.specs.Listings.{listing_of}
+use Rattle.tac_listing.specs.Listings.{listing_of}
 use Rattle.tac_program.specs.Programs.{Program}
 use Rattle.flow_reports.specs.Reports.{IsReport, ListsSafely}
 use Rattle.flow_texts.specs.Tables.{IsTableText}

@@ -18,7 +18,8 @@ use flow_team::{OpenGate, Table, Team, table_of};
 use flow_texts::TableText;
 use std::alloc::Global;
 use std::thread::Threads;
-use tac_program::{Limits, Program, listing};
+use tac_listing::listing;
+use tac_program::{Limits, Program};
 use text_pieces::{Bytes, Sink};
 
 // Who works: the options' team, of which nobody is told.

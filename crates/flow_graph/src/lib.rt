@@ -1,23 +1,17 @@
-//! Points, edges and paths of a program's flow graph, and the laws of their definitions.
-//!
-//! What is proved of the definitions stands in `examples` and `laws` (of paths and runs) and in `program_examples` and
-//! `program_laws` (of programs): there is nothing in these to run.
+//! Points, edges and paths of a program's flow graph: their definitions, and the graph that answers for points, edges and bits.
 #![tactic(auto)]
 
 mod analysis;
 mod directed_edges;
 mod edge;
 mod edge_list;
-pub mod examples;
 mod expression;
 mod fault;
 mod graph;
-pub mod laws;
 mod leads;
 mod number_lists;
 mod place;
 mod points;
-pub mod program_laws;
 mod sites;
 mod succ;
 mod universes;

@@ -8,7 +8,8 @@ use Rattle.flow_graph.specs.declared.analysis.Analysis.{Analysis}
 use Rattle.flow_graph.specs.declared.analysis.Analysis.TheVariants.{Reach, Live, Avail, Busy}
 use Rattle.flow_graph.specs.declared.expression.Expr.{Expr}
 use Rattle.flow_graph.specs.declared.expression.Expr.TheVariants.{Unary, Binary}
-use Rattle.tac_program.specs.Listings.{name_at, names_of, unary_text, binary_text}
+use Rattle.tac_program.specs.Names.{name_at}
+use Rattle.tac_listing.specs.Listings.{names_of, unary_text, binary_text}
 use Rattle.tac_program.specs.Programs.{Program}
 
 abbrev pub variable_text : Program → ℕ → List ℕ

@@ -11,7 +11,7 @@ use crate::OutOfMemory;
 use flow_graph::{Analysis, Expr, Graph};
 use itoa::Buffer;
 use std::alloc::Global;
-use tac_program::{write_binary_expression, write_unary_expression};
+use tac_listing::{write_binary_expression, write_unary_expression};
 use text_pieces::{Pieces, Separator, Sink, TextBlock};
 
 /// Writes a number in decimal.

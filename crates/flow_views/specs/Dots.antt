@@ -9,7 +9,7 @@ use Rattle.flow_graph.specs.declared.edge.Edge.{Edge}
 use Rattle.flow_graph.specs.declared.edge.Edge.TheVariants.{Step, Call, Ret}
 use Rattle.flow_reports.specs.Reports.{IsKnowledge, Knowledge, dead_at, remark_text, remarks_at, unset_at}
 use Rattle.flow_texts.specs.Tables.{bit_text, bits_at, line_at, listed}
-use Rattle.tac_program.specs.Listings.{statement_text}
+use Rattle.tac_listing.specs.Listings.{statement_text}
 use Rattle.tac_program.specs.Programs.{Program}
 use Rattle.tac_program.specs.declared.program.StmtKind.{StmtKind}
 use Rattle.tac_program.specs.declared.program.StmtKind.TheVariants as kind

@@ -12,7 +12,7 @@ use Rattle.flow_reports.specs.Reports.{IsKnowledge, Knowledge, remarks_at}
 use Rattle.flow_texts.specs.Tables.{bit_text, bits_at, variable_text}
 use Rattle.flow_reports.specs.declared.remark.Remark.{Remark}
 use Rattle.flow_reports.specs.declared.remark.Remark.TheVariants.{NeverReached, Unset, Computed, VeryBusy, Dead}
-use Rattle.tac_program.specs.Listings.{statement_text}
+use Rattle.tac_listing.specs.Listings.{statement_text}
 use Rattle.tac_program.specs.Programs.{Program}
 use Rattle.text_pieces.specs.Strings.{quoted}
 use Rattle.flow_views.specs.Views.{analysis_name, chosen_analyses, names_at, procedure_name, shown_points, known_facts}

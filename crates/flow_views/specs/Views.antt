@@ -1,5 +1,5 @@
 -- What is shown of a program, in both texts: which procedures and points, which analyses, and what a statement is called.
-use Rattle.std.specs.Prelude.{ℕ, suc, Bool, List, [], ◌∷◌, flat_map, length, Some, None, option_map, slice_get, unwrap_or, if◌then◌else◌, codes}
+use Rattle.std.specs.Prelude.{ℕ, suc, Bool, List, [], ◌∷◌, flat_map, length, Some, None, if◌then◌else◌, codes}
 use Rattle.std.specs.List.{filter, range_with_len}
 use Rattle.flow_graph.specs.declared.analysis.TheConstants.Analysis as all
 use Rattle.flow_graph.specs.Points.{end_place, entry_point, procedure_at}
@@ -7,9 +7,9 @@ use Rattle.flow_graph.specs.declared.analysis.Analysis.{Analysis}
 use Rattle.flow_graph.specs.declared.analysis.Analysis.TheVariants.{Reach, Live, Avail, Busy}
 use Rattle.flow_team.specs.Tables.{Facts}
 use Rattle.flow_reports.specs.Reports.{Knowledge}
-use Rattle.tac_program.specs.Listings.{name_at}
+use Rattle.tac_listing.specs.Listings.{names_in}
 use Rattle.tac_program.specs.Programs.{Program}
-use Rattle.tac_program.specs.Names.{Names}
+use Rattle.tac_program.specs.Names.{Names, name_at}
 use Rattle.flow_views.specs.declared.view.Chosen.{Chosen}
 use Rattle.flow_views.specs.declared.view.View.{View}
 
@@ -57,14 +57,6 @@ known_facts known Busy = known.busy
 
 abbrev pub procedure_name : Program → ℕ → List ℕ
 procedure_name program procedure = name_at program.procedure_names procedure
-
--- the names that a statement of a procedure uses
-abbrev pub names_in : Program → ℕ → Names
-names_in program procedure = record {
-  procedures = program.procedure_names;
-  variables = program.variable_names;
-  labels = unwrap_or (option_map (λ p. p.label_names) (slice_get program.procedures procedure)) [];
-}
 
 abbrev pub names_at : Program → ℕ → Names
 names_at program point = names_in program (procedure_at program point)

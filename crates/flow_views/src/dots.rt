@@ -8,7 +8,7 @@ ghost use Rattle.text_pieces.specs.Pieces.{CanWrite, Writes};
 ghost use Rattle.flow_reports.specs.Reports.{dead_at, remark_text, unset_at};
 ghost use Rattle.flow_reports.specs.code.Reported.{TellReport};
 ghost use Rattle.flow_texts.specs.Tables.{line_at};
-ghost use Rattle.tac_program.specs.Listings.{statement_text};
+ghost use Rattle.tac_listing.specs.Listings.{statement_text};
 ghost use Rattle.flow_views.specs.ViewTables.{AreViewTables};
 ghost use Rattle.flow_views.specs.code.ViewProgram.{AreShown, AreShownProcedures, IsShownPoint, IsShownProcedure, IsSiteIn, TellSame};
 ghost use Rattle.flow_views.specs.code.ViewProgram.{known_of, numbers_of};
@@ -21,7 +21,6 @@ ghost use Rattle.flow_views.specs.Views.{analysis_if, chosen_analyses, names_at,
 use crate::OutOfMemory;
 use crate::names::NameForm;
 use crate::point_form::PointForm;
-use crate::scope::write_escaped_number;
 use crate::view::View;
 use crate::view_program::{Numbers, ViewProgram, name_of};
 use crate::view_tables::ViewTables;
@@ -33,6 +32,7 @@ use flow_team::Table;
 use flow_texts::{line, write_number, write_set};
 use std::alloc::Global;
 use std::marker::Model;
+use tac_listing::write_escaped_number;
 use tac_program::{Stmt, StmtKind};
 use text_pieces::{Pieces, Sink, Text, write_escaped, write_if, write_quoted};
 

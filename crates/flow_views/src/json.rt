@@ -8,7 +8,7 @@ ghost use Rattle.flow_reports.specs.code.Findings.{AreFindings, IsRemarkIn};
 ghost use Rattle.text_pieces.specs.code.Lists.{text_at};
 ghost use Rattle.text_pieces.specs.Pieces.{CanWrite, Writes};
 ghost use Rattle.flow_reports.specs.code.Reported.{TellReport};
-ghost use Rattle.tac_program.specs.Listings.{statement_text};
+ghost use Rattle.tac_listing.specs.Listings.{statement_text};
 ghost use Rattle.flow_views.specs.ViewTables.{AreViewTables};
 ghost use Rattle.flow_views.specs.code.ViewProgram.{AreShown, IsShownPoint, TellSame, known_of};
 ghost use Rattle.flow_views.specs.declared.names.NameForm.TheVariants.{Quoted};

@@ -5,7 +5,6 @@ mod dots;
 mod json;
 mod names;
 mod point_form;
-mod scope;
 mod view;
 mod view_program;
 mod view_tables;

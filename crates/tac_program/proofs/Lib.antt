@@ -1,4 +1,3 @@
 pub mod known_names
-pub mod layouts
 pub mod lists
 pub mod programs

@@ -1,5 +1,4 @@
 pub mod Limits
-pub mod Listings
 pub mod Names
 pub mod Programs
 pub mod Sound

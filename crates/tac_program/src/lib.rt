@@ -1,17 +1,15 @@
-//! What a program is: its types, what holds of every program, and its listing.
+//! What a program is: its types, and what holds of every program.
 //!
 //! A program is made by `read` of `tac_reader`; whatever works on programs needs this crate alone. `specs/` has the definitions.
 #![tactic(auto)]
 
 mod limits;
-mod listings;
 mod name_hashers;
 mod name_keys;
 mod names;
 mod program;
 
 pub use limits::Limits;
-pub use listings::{listing, write_binary_expression, write_unary_expression};
 pub use name_hashers::NameSeeds;
 pub use names::NameTable;
 pub use program::{Callees, Label, Op, Operand, Proc, Program, Span, Stmt, StmtKind};

@@ -2,8 +2,7 @@
 
 ghost use Rattle.std.specs.Prelude.{◌≡◌, ◌≢◌, ◌+◌, ◌<◌, ◌≤◌, ◌^◌, ◌↔◌, [], length, slice_get, Some, None, OnOk, IfOk, IfSome, not};
 ghost use Rattle.std.specs.Prelude.{position, bytes_eq};
-ghost use Rattle.tac_program.specs.Names.{is_one_of, noted};
-ghost use Rattle.tac_program.specs.Listings.{name_at};
+ghost use Rattle.tac_program.specs.Names.{is_one_of, noted, name_at};
 
 use crate::OutOfMemory;
 use crate::name_hashers::{NameHashers, NameSeeds};

@@ -8,7 +8,7 @@ use Rattle.tac_program.specs.Spelling.{sign_of}
 use Rattle.tac_program.specs.Names.{Names}
 use Rattle.tac_reader.specs.Faults.{refusal_within}
 use Rattle.tac_program.specs.Limits.{longest_text, most_procedures}
-use Rattle.tac_program.specs.Listings.{listing_of, statement_text}
+use Rattle.tac_listing.specs.Listings.{listing_of, statement_text}
 use Rattle.tac_program.specs.Sound.{IsSound}
 use Rattle.tac_program.specs.declared.limits.Limits.{Limits}
 use Rattle.tac_program.specs.declared.limits.Limits.TheVariants.{Standard, Large}

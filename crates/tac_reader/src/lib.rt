@@ -15,7 +15,5 @@ mod section;
 
 pub use reader::{read, read_within};
 pub use tac_lines::{OutOfMemory, ReadFault, Refusal, RefusalKind};
-pub use tac_program::{
-    Callees, Label, Limits, Op, Operand, Proc, Program, Span, Stmt, StmtKind, listing,
-    write_binary_expression, write_unary_expression,
-};
+pub use tac_listing::{listing, write_binary_expression, write_unary_expression};
+pub use tac_program::{Callees, Label, Limits, Op, Operand, Proc, Program, Span, Stmt, StmtKind};

@@ -2,7 +2,7 @@
 use Rattle.std.specs.Prelude.{◌≡◌, ℕ, ◌<◌, None, List, ◌++◌, length, drop}
 use Rattle.flow_reports.specs.Reports.{ListsSafely}
 use Rattle.tac_reader.specs.Faults.{refusal_within}
-use Rattle.tac_program.specs.Listings.{listing_of}
+use Rattle.tac_listing.specs.Listings.{listing_of}
 use Rattle.tac_program.specs.declared.limits.Limits.{Limits}
 use Rattle.tac_reader.specs.Parses.{program_of}
 use Rattle.tacflow_c.specs.Statuses.{HasGraph, IsFaultOf, IsUnread}

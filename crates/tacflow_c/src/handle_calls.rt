@@ -4,7 +4,7 @@ ghost use Rattle.std.specs.Prelude.{◌≡◌, ◌<◌, ◌⊎◌, None, Some, I
 ghost use Rattle.flow_graph.specs.Points.{point_count};
 ghost use Rattle.flow_graph.specs.Universes.{definitions as definitions_in, expressions as expressions_in};
 ghost use Rattle.flow_reports.specs.Reports.{ListsSafely};
-ghost use Rattle.tac_program.specs.Listings.{listing_of};
+ghost use Rattle.tac_listing.specs.Listings.{listing_of};
 ghost use Rattle.tac_reader.specs.Parses.{program_of};
 ghost use Rattle.tacflow_c.specs.Handles.{AreFactsOfNumber, IsAsked, IsMemoryFault, IsNamesRoomFault, IsNumberFault, IsOpenFault, IsPartsFault, IsTextFault};
 ghost use Rattle.tacflow_c.specs.Names.{AreNames};

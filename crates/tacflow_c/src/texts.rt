@@ -2,7 +2,7 @@
 
 ghost use Rattle.std.specs.Prelude.{◌≡◌, ◌<◌, ◌≤◌, ◌++◌, drop, length, IfErr, OnOk, MatchBool};
 ghost use Rattle.flow_reports.specs.Reports.{ListsSafely};
-ghost use Rattle.tac_program.specs.Listings.{listing_of};
+ghost use Rattle.tac_listing.specs.Listings.{listing_of};
 ghost use Rattle.tacflow_c.specs.Handles.{IsTextFault};
 ghost use Rattle.tacflow_c.specs.Texts.{HoldsText, IsListingFault, IsListingOf, IsReportFault, IsReportOf, IsTextKept};
 
@@ -11,7 +11,8 @@ use crate::text::{graph_of, program_of};
 use flow_graph::Graph;
 use flow_reports::report_here;
 use std::alloc::Global;
-use tac_program::{Limits, Program, listing};
+use tac_listing::listing;
+use tac_program::{Limits, Program};
 
 // Puts a text where there is room for it, and tells how long it is.
 fn put_text(text: &[u8], bytes: &mut [u8], size: &mut usize) -> bool

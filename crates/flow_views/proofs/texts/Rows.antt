@@ -4,14 +4,14 @@ use Rattle.std.proofs.Common.{refl, sym, ap, ◌∙◌, append_assoc, append-nil
 use Rattle.std.proofs.lemmas.Grind.{flat_map-append}
 use Rattle.std.proofs.lemmas.List.{map-append, take_more}
 use Rattle.std.proofs.Math.Seq.{take-length}
-use Rattle.tac_program.specs.Listings.{name_at}
+use Rattle.tac_program.specs.Names.{name_at}
 use Rattle.flow_texts.specs.Tables.{listed}
 use Rattle.text_pieces.specs.code.Lists.{after, some_stand}
 use Rattle.flow_texts.proofs.sets.ListTexts.{some_stand-map}
 use Rattle.flow_views.specs.Json.{joined}
 use Rattle.text_pieces.specs.Strings.{escaped}
 use Rattle.text_pieces.proofs.sinks.Escapes.{escaped-append}
-use Rattle.flow_views.proofs.facts.Statements.{stand_before}
+use Rattle.tac_listing.proofs.layouts.StatementNames.{stand_before}
 
 pub after-joined : (between : List ℕ) (texts : List (List ℕ)) → after between false texts ≡ joined between texts
 after-joined between [] = refl

@@ -8,12 +8,11 @@ use Rattle.std.specs.List.{AllByRecursion as Each, position_or_len}
 use Rattle.std.proofs.Math.Bool.{or-false, or-true, or_assoc}
 use Rattle.std.proofs.lemmas.List.{get_or_default}
 use Rattle.tac_lines.specs.Tokens.{Token, spelling_of}
-use Rattle.tac_program.specs.Names.{is_one_of, noted}
+use Rattle.tac_program.specs.Names.{is_one_of, noted, name_at}
 use Rattle.tac_program.specs.Programs.{number_of}
 use Rattle.tac_reader.specs.Parses.{names_in}
 use Rattle.tac_reader.specs.Faults.{repeated}
 use Rattle.tac_lines.specs.LineFaults.{at}
-use Rattle.tac_program.specs.Listings.{name_at}
 use Rattle.tac_lines.specs.declared.fault.Fault.{Fault}
 use Rattle.tac_lines.specs.declared.refusal.RefusalKind.{RefusalKind}
 use Rattle.tac_program.proofs.lists.Elements.{each-append, each-weaker, no_left, no_right, Differ}

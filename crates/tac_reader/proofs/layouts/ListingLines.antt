@@ -10,11 +10,11 @@ use Rattle.tac_lines.specs.Tokens.{Word, name, number, fixed, Token, Row, rows_f
 use Rattle.tac_lines.specs.Forms.{labels_of, behind_labels, is_name_word}
 use Rattle.tac_reader.specs.Sections.{Section, titles, statements_of}
 use Rattle.tac_reader.specs.Parses.{names_in, names_for, statement_of, label_places, labels_from, procedures_from}
-use Rattle.tac_program.specs.Names.{Names}
-use Rattle.tac_program.specs.Listings.{name_at, statement_text, labels_text, places_text, procedure_text}
+use Rattle.tac_program.specs.Names.{Names, name_at}
+use Rattle.tac_listing.specs.Listings.{statement_text, labels_text, places_text, procedure_text}
 use Rattle.tac_program.specs.declared.program.Label.{Label}
 use Rattle.tac_program.specs.declared.program.Stmt.{Stmt}
-use Rattle.tac_program.proofs.layouts.ListingTexts.{nothing_at}
+use Rattle.tac_listing.proofs.layouts.ListingTexts.{nothing_at}
 use Rattle.tac_reader.proofs.tokens.Bare.{words_of}
 use Rattle.tac_reader.proofs.sections.Cores.{kind_in}
 use Rattle.tac_reader.proofs.tokens.ReadWords.{spelled, ReadsLine, line_word, line_blank, line_more, line_label}

@@ -10,7 +10,7 @@ use Rattle.tac_reader.specs.Faults.{name_faults, head_of, refusal_within, refusa
 use Rattle.tac_lines.specs.LineFaults.{line_faults, first_by_place}
 use Rattle.tac_program.specs.Limits.{longest_text}
 use Rattle.tac_program.specs.declared.limits.Limits.{Limits}
-use Rattle.tac_program.specs.Listings.{listing_of}
+use Rattle.tac_listing.specs.Listings.{listing_of}
 use Rattle.tac_reader.specs.Laws.{SameButSpans, ListingsReadBack}
 use Rattle.tac_program.proofs.lists.Elements.{each-append}
 use Rattle.tac_reader.proofs.tokens.Bare.{bare, all_erased, words_of, erased_words}

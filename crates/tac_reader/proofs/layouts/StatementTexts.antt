@@ -10,8 +10,8 @@ use Rattle.tac_lines.specs.Forms.{plain_statements, further_callees, paired, in_
 use Rattle.tac_program.specs.Programs.{number_of}
 use Rattle.tac_reader.specs.Parses.{variable_of, label_of, operand_of, operator_of, kind_of}
 use Rattle.tac_program.specs.Spelling.{sign_of}
-use Rattle.tac_program.specs.Names.{Names}
-use Rattle.tac_program.specs.Listings.{name_at, operand_text, binary_text, goto_text, callees_text, statement_text}
+use Rattle.tac_program.specs.Names.{Names, name_at}
+use Rattle.tac_listing.specs.Listings.{operand_text, binary_text, goto_text, callees_text, statement_text}
 use Rattle.tac_lines.specs.declared.form.Form.{Form}
 use Rattle.tac_lines.specs.declared.form.Form.TheVariants as form
 use Rattle.tac_program.proofs.lists.Elements.{each-append}

@@ -15,7 +15,7 @@ use Rattle.tac_reader.specs.Sections.{only_name}
 use Rattle.tac_program.specs.Programs.{number_of}
 use Rattle.tac_reader.specs.Parses.{operator_of, kind_of}
 use Rattle.tac_program.specs.Spelling.{operators}
-use Rattle.tac_program.specs.Listings.{statement_text}
+use Rattle.tac_listing.specs.Listings.{statement_text}
 use Rattle.tac_lines.specs.declared.form.Form.{Form}
 use Rattle.tac_lines.proofs.forms.RowLengths.{found_row}
 use Rattle.tac_program.specs.declared.program.Op.{Op}

@@ -1,7 +1,7 @@
 use Rattle.std.proofs.Common.{[], ◌++◌, ◌∙◌, codes, decimal, unwrap_or, ◌≡◌, ◌<◌, length, sym, ap, subst, arith}
 use Rattle.flow_graph.specs.Points.{procedure_at}
 use Rattle.flow_graph.proofs.places.PointLemmas.{points_have_places}
-use Rattle.tac_program.specs.Listings.{name_at}
+use Rattle.tac_program.specs.Names.{name_at}
 use Rattle.text_pieces.proofs.sinks.Taking.{takes_as, takes_then}
 use Rattle.flow_texts.proofs.table_texts.write_place.Goals as goal
 

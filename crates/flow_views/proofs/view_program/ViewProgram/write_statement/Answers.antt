@@ -1,11 +1,10 @@
 use Rattle.std.proofs.Common.{ℕ, length, option_map, sym, ap, subst, ◌∙◌}
 use Rattle.text_pieces.proofs.sinks.Taking.{takes_as}
-use Rattle.tac_program.specs.Listings.{statement_text}
+use Rattle.tac_listing.specs.Listings.{statement_text, names_in}
 use Rattle.tac_program.specs.Programs.{Program}
 use Rattle.tac_program.specs.Sound.{IsSoundStatement}
 use Rattle.tac_program.specs.declared.program.Stmt.{Stmt}
 use Rattle.text_pieces.specs.Strings.{escaped}
-use Rattle.flow_views.specs.Views.{names_in}
 use Rattle.flow_views.proofs.facts.Statements.{sound_here}
 use Rattle.flow_views.proofs.view_program.ViewProgram.write_statement.Goals as goal
 

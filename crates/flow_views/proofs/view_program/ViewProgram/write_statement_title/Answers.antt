@@ -1,5 +1,5 @@
 use Rattle.std.proofs.Common.{◌++◌, codes, decimal}
-use Rattle.tac_program.specs.Listings.{statement_text}
+use Rattle.tac_listing.specs.Listings.{statement_text}
 use Rattle.flow_views.specs.Views.{names_at}
 use Rattle.text_pieces.proofs.sinks.Escapes.{shows_then}
 use Rattle.flow_views.proofs.view_program.ViewProgram.write_statement_title.Goals as goal

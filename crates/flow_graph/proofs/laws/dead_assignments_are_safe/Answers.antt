@@ -1,5 +1,0 @@
-use Rattle.flow_graph.proofs.paths.RunLemmas.{dead_is_safe}
-use Rattle.flow_graph.proofs.laws.dead_assignments_are_safe.Goals as goal
-
-pub returns : goal.returns
-returns c = dead_is_safe

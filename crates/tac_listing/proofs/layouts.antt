@@ -1,0 +1,2 @@
+pub mod ListingTexts
+pub mod StatementNames
