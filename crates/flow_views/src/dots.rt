@@ -21,8 +21,8 @@ ghost use Rattle.flow_views.specs.Views.{analysis_if, chosen_analyses, names_at,
 use crate::OutOfMemory;
 use crate::names::NameForm;
 use crate::point_form::PointForm;
-use crate::view::View;
-use crate::view_program::{Numbers, ViewProgram, name_of};
+use crate::view::{View, analysis_name};
+use crate::view_program::{Numbers, ViewProgram};
 use crate::view_tables::ViewTables;
 use flow_graph::{Analysis, Edge, Graph};
 use flow_reports::{
@@ -166,7 +166,7 @@ impl ViewProgram<'_> {
         requires there { point < length table.now.paths }
         ensures { Writes K.Sink out.old out.new (label_line (fact_line self.now.found.graph.now (known_of self.now) point analysis)) }
     {
-        write_escaped(out, name_of(analysis));
+        write_escaped(out, analysis_name(analysis));
         out.write(b": ");
         let bits = self.found.graph.bits(analysis);
         write_set(out, self.names(analysis), table, point, bits);

@@ -20,8 +20,8 @@ ghost use Rattle.flow_views.specs.Views.{analysis_if, chosen_analyses, names_at,
 use crate::OutOfMemory;
 use crate::names::NameForm;
 use crate::point_form::PointForm;
-use crate::view::View;
-use crate::view_program::{ViewProgram, name_of};
+use crate::view::{View, analysis_name};
+use crate::view_program::ViewProgram;
 use crate::view_tables::ViewTables;
 use flow_graph::{Analysis, Edge, Graph};
 use flow_reports::{Findings, Remark, RemarkForm, ReportAnswers};
@@ -289,7 +289,7 @@ impl ViewProgram<'_> {
     {
         let bits = self.found.graph.bits(analysis);
         out.write(b",\"");
-        out.write(name_of(analysis));
+        out.write(analysis_name(analysis));
         out.write(b"\":{\"path\":");
         write_boolean(out, table.has_path(point));
         out.write(b",\"bits\":");

@@ -12,5 +12,5 @@ mod view_tables;
 pub use dots::DotText;
 pub use json::JsonText;
 pub use std::alloc::AllocError as OutOfMemory;
-pub use view::{Chosen, View};
+pub use view::{Chosen, View, analysis_name};
 pub use view_tables::ViewTables;

@@ -1,7 +1,19 @@
 ghost use Rattle.std.specs.Prelude.{◌≡◌};
-ghost use Rattle.flow_views.specs.Views.{is_chosen};
+ghost use Rattle.flow_views.specs.Views.{analysis_name, is_chosen};
 
 use flow_graph::Analysis;
+
+/// What an analysis is called, in texts and in words: `reach`, `live`, `avail` or `busy`.
+pub fn analysis_name(analysis: Analysis) -> &'static [u8]
+    ensures { result.now ≡ analysis_name analysis }
+{
+    match analysis {
+        Analysis::Reach => b"reach",
+        Analysis::Live => b"live",
+        Analysis::Avail => b"avail",
+        Analysis::Busy => b"busy",
+    }
+}
 
 /// Which analyses' facts are shown.
 #[derive(Debug, Clone, Copy, PartialEq, Eq)]

@@ -14,7 +14,7 @@ ghost use Rattle.flow_views.specs.code.Names.{AreNamesOf};
 ghost use Rattle.flow_views.specs.code.ViewProgram.{AreShown, AreShownProcedures, IsShownPoint, IsShownProcedure, TellSame, contents};
 ghost use Rattle.flow_views.specs.code.ViewProgram.{known_of, numbers_of};
 ghost use Rattle.text_pieces.specs.Strings.{escaped};
-ghost use Rattle.flow_views.specs.Views.{analysis_name, names_at, points_in, procedure_name as name_of_procedure, shown_points, is_chosen};
+ghost use Rattle.flow_views.specs.Views.{names_at, points_in, procedure_name as name_of_procedure, shown_points, is_chosen};
 ghost use Rattle.flow_views.specs.Views.{shown_procedures, known_facts};
 
 use crate::OutOfMemory;
@@ -86,18 +86,6 @@ fn successors(
         lists.push(graph.succ(alloc, point)?)?;
     }
     Ok(lists)
-}
-
-/// What an analysis is called.
-pub(crate) fn name_of(analysis: Analysis) -> &'static [u8]
-    ensures { result.now ≡ analysis_name analysis }
-{
-    match analysis {
-        Analysis::Reach => b"reach",
-        Analysis::Live => b"live",
-        Analysis::Avail => b"avail",
-        Analysis::Busy => b"busy",
-    }
 }
 
 impl<'a> ViewProgram<'a> {

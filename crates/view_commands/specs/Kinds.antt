@@ -2,6 +2,8 @@
 use Rattle.std.specs.Prelude.{◌==◌, ℕ, Bool, true, false, List, [], ◌∷◌, Option, None, Some, bytes_eq, codes, if◌then◌else◌}
 use Rattle.std.specs.List.{list_all, list_any, slice_split}
 use Rattle.flow_runs.specs.Words.{kind_named}
+use Rattle.flow_graph.specs.declared.analysis.TheConstants.Analysis as all
+use Rattle.flow_views.specs.Views.{analysis_name}
 use Rattle.flow_views.specs.declared.view.Chosen.{Chosen}
 use Rattle.tac_program.specs.declared.limits.Limits.{Limits}
 use Rattle.tac_program.specs.declared.limits.Limits.TheVariants.{Standard, Large}
@@ -30,9 +32,9 @@ no_facts = record { reach = false; live = false; avail = false; busy = false }
 abbrev pub all_facts : Chosen
 all_facts = record { reach = true; live = true; avail = true; busy = true }
 
--- The word of each analysis.
+-- Whether a word is what an analysis is called.
 abbrev pub is_fact : List ℕ → Bool
-is_fact word = list_any (λ known. bytes_eq known word) (codes "reach" ∷ codes "live" ∷ codes "avail" ∷ codes "busy" ∷ [])
+is_fact word = list_any (λ analysis. bytes_eq (analysis_name analysis) word) all.ALL
 
 -- The words between the commas of a list.
 abbrev pub words_in : List ℕ → List (List ℕ)

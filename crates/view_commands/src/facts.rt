@@ -5,7 +5,8 @@ ghost use Rattle.std.specs.List.{list_all};
 ghost use Rattle.view_commands.specs.Kinds.{chosen_in, facts_by_format, facts_named, has_word, is_fact, words_in};
 
 use crate::options::Format;
-use flow_views::Chosen;
+use flow_graph::Analysis;
+use flow_views::{Chosen, analysis_name};
 
 /// No analysis's facts.
 const NONE: Chosen = Chosen {
@@ -15,7 +16,7 @@ const NONE: Chosen = Chosen {
     busy: false,
 };
 
-/// Those of all four.
+/// Those of all.
 const ALL: Chosen = Chosen {
     reach: true,
     live: true,
@@ -27,10 +28,9 @@ const ALL: Chosen = Chosen {
 fn is_fact(word: &str) -> bool
     ensures { result ≡ is_fact word.now }
 {
-    match word {
-        "reach" | "live" | "avail" | "busy" => true,
-        _ => false,
-    }
+    Analysis::ALL
+        .iter()
+        .any(|analysis| analysis_name(*analysis) == word.as_bytes())
 }
 
 fn has_facts_alone(list: &str) -> bool

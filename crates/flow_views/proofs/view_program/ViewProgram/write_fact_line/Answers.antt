@@ -36,7 +36,7 @@ returns g c =
     let held : AreNamesOf Escaped program analysis names = subst (λ f. AreNamesOf f program analysis names) c.requires.form c.names.ensures in
     takes_then _ _ _ _ _
     (shows_then (analysis_name analysis ++ codes ": ") set _ _ _
-    (shows_then (analysis_name analysis) (codes ": ") _ _ _ (takes_as _ _ _ _ c.write_escaped.ensures (ap escaped c.name_of.ensures))
+    (shows_then (analysis_name analysis) (codes ": ") _ _ _ (takes_as _ _ _ _ c.write_escaped.ensures (ap escaped c.analysis_name.ensures))
     c.write.ensures)
     (takes_as _ _ _ _ c.write_set.ensures
     (ap listed

@@ -47,7 +47,7 @@ returns g c =
     (takes_then _ _ _ _ _ (takes_then _ _ _ _ _ (takes_then _ _ _ _ _ c.write.ensures c.write-2.ensures)
     c.write-3.ensures) c.write_boolean.ensures) c.write-4.ensures) c.write_array.ensures)
     c.write-5.ensures) c.write_array-2.ensures) c.write-6.ensures)
-    (facts_text c.name_of.ensures (c.has_path.ensures ∙ c.requires.facts.path)
+    (facts_text c.analysis_name.ensures (c.has_path.ensures ∙ c.requires.facts.path)
     (set_texts program analysis c.args.table.now facts c.bits-bits.result c.args.point (text_at numbers.texts) decimal
     c.bits-bits.ensures.count c.requires.facts.set (λ n below. numbered_all.texts.each n (omega (arith, below, has_number program analysis))))
     (set_texts program analysis c.args.table.now facts c.bits-bits.result c.args.point (text_at names.texts)
