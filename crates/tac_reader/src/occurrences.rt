@@ -15,6 +15,13 @@ pub struct Occurrence {
     pub number: u32,
 }
 
+/// The variables of a text by number, and where each of them stands.
+#[derive(Drop)]
+pub struct NotedVariables {
+    pub table: NameTable,
+    pub occurrences: Vec<Occurrence>,
+}
+
 /// The variables of a text by number, and places where some of them stand.
 #[derive(Clone, Copy)]
 pub struct Variables<'a> {

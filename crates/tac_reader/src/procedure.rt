@@ -15,7 +15,7 @@ ghost use Rattle.tac_lines.specs.code.Views.{tokens_view};
 use crate::OutOfMemory;
 use crate::build::{Names, Progress, kind};
 use crate::cursor::LineCursor;
-use crate::occurrences::{Occurrence, Variables};
+use crate::occurrences::{NotedVariables, Occurrence, Variables};
 use crate::section::Section;
 use std::alloc::Global;
 use tac_lines::{
@@ -174,55 +174,57 @@ fn procedures(
 }
 
 /// The program of the sections, each with its labels in `labels`, over these procedures and
-/// variables, which stand in the text at `occurrences`. Fails where memory does.
+/// variables of the text. Fails where memory does.
 pub fn program(
     alloc: Global,
     text: &[u8],
     sections: &[Section<'_>],
     procedures: NameTable,
     labels: Vec<NameTable>,
-    variables: NameTable,
-    occurrences: Vec<Occurrence>,
+    variables: NotedVariables,
 ) -> Result<Program, OutOfMemory>
     requires short { length text.now + 1 < 2 ^ 32 }
     requires labels { labels.items ≡ map (λ s. names_in (labels_in s)) (sections_view text.now sections.now) }
-    requires numbered { All (IsNumberedIn text.now variables) occurrences.items }
+    requires numbered { All (IsNumberedIn text.now variables.table) variables.occurrences.items }
     requires sound { IsSound (record {
-      procedures = procedures_from text.now procedures variables 0 (sections_view text.now sections.now);
+      procedures = procedures_from text.now procedures variables.table 0 (sections_view text.now sections.now);
       procedure_names = procedures;
-      variable_names = variables;
+      variable_names = variables.table;
     }) }
     ensures { IfOk result (λ p. p ≡ record {
-      procedures = procedures_from text.now procedures variables 0 (sections_view text.now sections.now);
+      procedures = procedures_from text.now procedures variables.table 0 (sections_view text.now sections.now);
       procedure_names = procedures;
-      variable_names = variables;
+      variable_names = variables.table;
     }) }
 {
+    let NotedVariables { table, occurrences } = variables;
     let tables = Tables {
         procedures: &procedures,
-        variables: Variables::of(text, &variables, &occurrences),
+        variables: Variables::of(text, &table, &occurrences),
     };
     let procs = self::procedures(alloc, tables, sections, labels)?;
-    Ok(Program::new(procs, procedures, variables))
+    Ok(Program::new(procs, procedures, table))
 }
 
 /// Adds the names among the tokens, and where each stands.
 fn note_names(
     alloc: Global,
     seeds: &mut NameSeeds<'_>,
-    table: &mut NameTable,
-    occurrences: &mut Vec<Occurrence>,
+    variables: &mut NotedVariables,
     text: &[u8],
     tokens: &[Token],
 ) -> Result<(), OutOfMemory>
-    requires { All (IsNumberedIn text.now table.old) occurrences.old.items }
-    ensures noted { OnOk result (table.new ≡ fold noted table.old (names_in (flat_map only_name (tokens_view text.now tokens.now)))) }
-    ensures numbered { OnOk result (All (IsNumberedIn text.now table.new) occurrences.new.items) }
+    requires { All (IsNumberedIn text.now variables.old.table) variables.old.occurrences.items }
+    ensures noted { OnOk result
+        (variables.new.table ≡ fold noted variables.old.table (names_in (flat_map only_name (tokens_view text.now tokens.now)))) }
+    ensures numbered { OnOk result (All (IsNumberedIn text.now variables.new.table) variables.new.occurrences.items) }
 {
     for token in tokens {
         if token.kind == TokenKind::Name {
-            let (number, _) = table.insert_full(alloc, seeds, token.bytes(text))?;
-            occurrences.push(Occurrence {
+            let (number, _) = variables
+                .table
+                .insert_full(alloc, seeds, token.bytes(text))?;
+            variables.occurrences.push(Occurrence {
                 start: token.start,
                 stop: token.stop,
                 number,
@@ -236,25 +238,25 @@ fn note_names(
 fn note_statement(
     alloc: Global,
     seeds: &mut NameSeeds<'_>,
-    table: &mut NameTable,
-    occurrences: &mut Vec<Occurrence>,
+    variables: &mut NotedVariables,
     text: &[u8],
     statement: Statement<'_>,
     found: &mut Vec<Token>,
 ) -> Result<(), OutOfMemory>
-    requires { All (IsNumberedIn text.now table.old) occurrences.old.items }
-    ensures noted { OnOk result (table.new ≡ fold noted table.old (names_in (variables_of (tokens_view text.now statement.entry.tokens.now)))) }
-    ensures numbered { OnOk result (All (IsNumberedIn text.now table.new) occurrences.new.items) }
+    requires { All (IsNumberedIn text.now variables.old.table) variables.old.occurrences.items }
+    ensures noted { OnOk result
+        (variables.new.table ≡ fold noted variables.old.table (names_in (variables_of (tokens_view text.now statement.entry.tokens.now)))) }
+    ensures numbered { OnOk result (All (IsNumberedIn text.now variables.new.table) variables.new.occurrences.items) }
 {
     match statement.form() {
         // Most statements: there is no need to go along their form.
         Some(form) if has_only_variables(form) => {
-            note_names(alloc, seeds, table, occurrences, text, statement.tokens)
+            note_names(alloc, seeds, variables, text, statement.tokens)
         }
         _ => {
             found.clear();
             cells(found, Role::Variable, statement)?;
-            note_names(alloc, seeds, table, occurrences, text, found)
+            note_names(alloc, seeds, variables, text, found)
         }
     }
 }
@@ -263,21 +265,21 @@ fn note_statement(
 fn note_lines(
     alloc: Global,
     seeds: &mut NameSeeds<'_>,
-    table: &mut NameTable,
-    occurrences: &mut Vec<Occurrence>,
+    variables: &mut NotedVariables,
     text: &[u8],
     lines: Lines<'_>,
     found: &mut Vec<Token>,
 ) -> Result<(), OutOfMemory>
-    requires { All (IsNumberedIn text.now table.old) occurrences.old.items }
+    requires { All (IsNumberedIn text.now variables.old.table) variables.old.occurrences.items }
     ensures noted { OnOk result
-        (table.new ≡ fold noted table.old (names_in (flat_map variables_of (statements_of (lines_view text.now lines.entry))))) }
-    ensures numbered { OnOk result (All (IsNumberedIn text.now table.new) occurrences.new.items) }
+        (variables.new.table
+        ≡ fold noted variables.old.table (names_in (flat_map variables_of (statements_of (lines_view text.now lines.entry))))) }
+    ensures numbered { OnOk result (All (IsNumberedIn text.now variables.new.table) variables.new.occurrences.items) }
 {
     for at in 0..lines.len() {
         if lines.plays(at, Role::Variable) {
             let statement = lines.line(at).statement();
-            note_statement(alloc, seeds, table, occurrences, text, statement, found)?;
+            note_statement(alloc, seeds, variables, text, statement, found)?;
         }
     }
     Ok(())
@@ -290,24 +292,25 @@ pub fn variables(
     seeds: &mut NameSeeds<'_>,
     text: &[u8],
     sections: &[Section<'_>],
-) -> Result<(NameTable, Vec<Occurrence>), OutOfMemory>
-    ensures table { IfOk result (λ found. found.0 ≡ variables_in (sections_view text.now sections.now)) }
-    ensures numbered { IfOk result (λ found. All (IsNumberedIn text.now found.0) (found.1).items) }
+) -> Result<NotedVariables, OutOfMemory>
+    ensures table { IfOk result (λ variables. variables.table ≡ variables_in (sections_view text.now sections.now)) }
+    ensures numbered { IfOk result (λ variables. All (IsNumberedIn text.now variables.table) variables.occurrences.items) }
 {
-    let mut table = NameTable::new(alloc);
-    // Room for what most texts have, as for their tokens.
-    let mut occurrences = Vec::with_capacity(alloc, text.len() / 8)?;
+    let mut variables = NotedVariables {
+        table: NameTable::new(alloc),
+        // Room for what most texts have, as for their tokens.
+        occurrences: Vec::with_capacity(alloc, text.len() / 8)?,
+    };
     let mut found = Vec::new(alloc);
     for section in sections {
         note_lines(
             alloc,
             seeds,
-            &mut table,
-            &mut occurrences,
+            &mut variables,
             text,
             section.lines,
             &mut found,
         )?;
     }
-    Ok((table, occurrences))
+    Ok(variables)
 }

@@ -100,16 +100,8 @@ fn read_checked(alloc: Global, text: &[u8], limits: Limits) -> Result<Program, S
     let mut seeds = NameSeeds::of(text);
     let sections = sections(alloc, Lines::of(&lexed))?;
     let (procedures, labels) = check_names(alloc, &mut seeds, text, &sections, limits)?;
-    let (variables, occurrences) = variables(alloc, &mut seeds, text, &sections)?;
-    Ok(program(
-        alloc,
-        text,
-        &sections,
-        procedures,
-        labels,
-        variables,
-        occurrences,
-    )?)
+    let variables = variables(alloc, &mut seeds, text, &sections)?;
+    Ok(program(alloc, text, &sections, procedures, labels, variables)?)
 }
 
 /// Reads a program: three-address code with procedures, in the language of `docs/LANGUAGE.md`.

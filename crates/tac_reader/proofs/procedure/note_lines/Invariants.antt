@@ -10,8 +10,8 @@ use Rattle.tac_reader.proofs.procedure.note_lines.Given as goal
 -- The names of the other lines are still to be noted; where those so far stand is known.
 abbrev pub invariant-loop-at : goal.invariant-loop-at
 invariant-loop-at l = record {
-  rest : fold noted l.table
+  rest : fold noted l.variables.table
       (names_in (flat_map variables_of (statements_of (map (range_view l.text l.lines.tokens.now) (drop l.at l.lines.ranges.now)))))
-      ≡ fold noted l.fn.table (names_in (flat_map variables_of (statements_of (lines_view l.text l.lines))));
-  numbered : All (IsNumberedIn l.text l.table) l.occurrences.items;
+      ≡ fold noted l.fn.variables.table (names_in (flat_map variables_of (statements_of (lines_view l.text l.lines))));
+  numbered : All (IsNumberedIn l.text l.variables.table) l.variables.occurrences.items;
 }

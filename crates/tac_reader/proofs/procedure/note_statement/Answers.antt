@@ -14,4 +14,4 @@ returns-in-Some-clause-noted c =
     let names : flat_map only_name words ≡ variables_of words = variables_are c.in-Some.form (length tokens) words
     (c.form.ensures c.args.text.now ∙ ap (option_map (λ (form : Form). (form, form_slots form (length tokens)))) c.in-Some.is)
     (sym c.has_only_variables.ensures ∙ c.if-has_only_variables.true) in
-    subst (λ ts. OnOk c.note_names.result (c.note_names.new.table ≡ fold noted c.args.table.now (names_in ts))) names c.note_names.ensures.noted
+    subst (λ ts. OnOk c.note_names.result (c.note_names.new.variables.table ≡ fold noted c.args.variables.now.table (names_in ts))) names c.note_names.ensures.noted

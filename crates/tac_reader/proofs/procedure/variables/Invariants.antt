@@ -9,8 +9,8 @@ use Rattle.tac_reader.proofs.procedure.variables.Given as goal
 -- The names of the other sections are still to be noted; where those so far stand is known.
 abbrev pub invariant-loop-section : goal.invariant-loop-section
 invariant-loop-section l = record {
-  rest : fold noted l.table
+  rest : fold noted l.variables.table
       (names_in (flat_map (λ s. flat_map variables_of (statements_of s.body)) (sections_view l.text (drop l.section-index l.sections))))
       ≡ variables_in (sections_view l.text l.sections);
-  numbered : All (IsNumberedIn l.text l.table) l.occurrences.items;
+  numbered : All (IsNumberedIn l.text l.variables.table) l.variables.occurrences.items;
 }
