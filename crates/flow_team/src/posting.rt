@@ -50,19 +50,17 @@ fn post_point<W: Wanted>(
     slice: &SliceWords,
     point: u32,
     at: u32,
-    from: u32,
-    until: u32,
 )
     requires of { IsOf board.now pass.old }
     requires words { TellPoint (W.wants board.now.wanted) slice.now point at }
     requires point { point < board_points board.now }
     requires at { at < slice.now.points }
-    requires range { (slice.now.from ≡ from) × (slice.now.until ≡ until) }
-    requires within { 64 * until < board.now.cut.bits + 64 }
+    requires within { 64 * slice.now.until < board.now.cut.bits + 64 }
     ensures more { PostsMore pass.old pass.new }
     ensures posted { IsPosted (W.wants board.now.wanted) slice.now.lo slice.now.hi
-        (λ p word. (p ≡ point) × (from ≤ word) × (word < until)) pass.new.posted }
+        (λ p word. (p ≡ point) × (slice.now.from ≤ word) × (word < slice.now.until)) pass.new.posted }
 {
+    let (from, until) = slice.solved();
     for word in from..until {
         post_word(board, pass, slice, point, at, word);
     }
@@ -75,23 +73,20 @@ fn post_words<W: Wanted>(
     slice: &SliceWords,
     first: u32,
     count: u32,
-    from: u32,
-    until: u32,
 )
     requires of { IsOf board.now pass.old }
     requires words { (point : ℕ) → point < count → TellPoint (W.wants board.now.wanted) slice.now point (first + point) }
     requires points { board_points board.now ≡ count }
     requires there { first + count ≤ slice.now.points }
-    requires range { (slice.now.from ≡ from) × (slice.now.until ≡ until) }
-    requires within { 64 * until < board.now.cut.bits + 64 }
+    requires within { 64 * slice.now.until < board.now.cut.bits + 64 }
     ensures more { PostsMore pass.old pass.new }
     ensures posted { IsPosted (W.wants board.now.wanted) slice.now.lo slice.now.hi
-        (λ p word. (p < count) × (from ≤ word) × (word < until)) pass.new.posted }
+        (λ p word. (p < count) × (slice.now.from ≤ word) × (word < slice.now.until)) pass.new.posted }
 {
     // Its contract tells that the points have numbers.
     let _ = slice.points();
     for point in 0..count {
-        post_point(board, pass, slice, point, first + point, from, until);
+        post_point(board, pass, slice, point, first + point);
     }
 }
 
@@ -105,8 +100,7 @@ impl<W: Wanted> TakeWords for Posting<'_, W> {
 
     fn take_words(&mut self, _problem: &Problem<'_, '_>, slice: &SliceWords) {
         let (first, count) = (self.first, self.count);
-        let (from, until) = slice.solved();
-        post_words(self.board, self.pass, slice, first, count, from, until);
+        post_words(self.board, self.pass, slice, first, count);
     }
 }
 

@@ -8,6 +8,6 @@ abbrev pub invariant-loop-word : goal.invariant-loop-word
 invariant-loop-word g l = record {
   of : IsOf l.board l.pass;
   more : PostsMore l.fn.pass l.pass;
-  posted : IsPosted (g.W.Wanted.wants l.board.wanted) l.slice.lo l.slice.hi (λ p word. (p ≡ l.point) × (l.fn.from ≤ word) × (word < l.word))
+  posted : IsPosted (g.W.Wanted.wants l.board.wanted) l.slice.lo l.slice.hi (λ p word. (p ≡ l.point) × (l.slice.from ≤ word) × (word < l.word))
       l.pass.posted;
 }

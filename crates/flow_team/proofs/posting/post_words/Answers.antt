@@ -8,6 +8,6 @@ loop-point-preserved g c =
       of = of_still c.args.board.now c.loop-point.pass c.post_point.new.pass c.post_point.ensures.more before.of;
       more = posts_more c.args.pass.now c.loop-point.pass c.post_point.new.pass before.more c.post_point.ensures.more;
       posted = points_more (g.W.Wanted.wants c.args.board.now.wanted)
-          _ _ c.args.from c.loop-point.pass c.post_point.new.pass c.post_point.ensures.more c.args.until c.loop-point.point
+          _ _ c.args.slice.now.from c.loop-point.pass c.post_point.new.pass c.post_point.ensures.more c.args.slice.now.until c.loop-point.point
           before.posted c.post_point.ensures.posted;
     }

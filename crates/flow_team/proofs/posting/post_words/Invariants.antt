@@ -8,6 +8,6 @@ abbrev pub invariant-loop-point : goal.invariant-loop-point
 invariant-loop-point g l = record {
   of : IsOf l.board l.pass;
   more : PostsMore l.fn.pass l.pass;
-  posted : IsPosted (g.W.Wanted.wants l.board.wanted) l.slice.lo l.slice.hi (λ p word. (p < l.point) × (l.from ≤ word) × (word < l.until))
+  posted : IsPosted (g.W.Wanted.wants l.board.wanted) l.slice.lo l.slice.hi (λ p word. (p < l.point) × (l.slice.from ≤ word) × (word < l.slice.until))
       l.pass.posted;
 }

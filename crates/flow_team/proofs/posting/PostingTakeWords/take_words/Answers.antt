@@ -8,7 +8,6 @@ use Rattle.flow_team.proofs.posting.PostingTakeWords.take_words.Goals as goal
 pub post_words-requires : goal.post_words-requires
 post_words-requires g c =
     let ready = c.requires.ready in
-    let solved = c.solved-from.ensures in
     let most : c.args.self.now.first + c.args.self.now.count ≤ c.args.slice.now.points =
     omega (arith, ready.there, c.requires.slice.points) in
     record {
@@ -19,8 +18,7 @@ post_words-requires g c =
           (words_tell_sets c.args._problem.now c.args.slice.now c.requires.slice c.requires.paths);
       points = ready.points;
       there = most;
-      range = (sym solved.0, sym solved.1);
-      within = omega (arith, solved.1, c.requires.last, ready.within);
+      within = omega (arith, c.requires.last, ready.within);
     }
 
 pub returns-clause-ready : goal.returns-clause-ready
@@ -40,7 +38,6 @@ returns-clause-has g c = λ start before.
     let old = c.args.self.now.pass.now in
     let new = c.post_words.new.pass in
     let posts = c.post_words.ensures in
-    let solved = c.solved-from.ensures in
     let board = c.args.self.now.board.now in
     let ready = c.requires.ready in
     let has : HasPosted (g.W.Wanted.wants board.wanted) slice.lo slice.hi slice.from start.pass.now old =
@@ -49,8 +46,7 @@ returns-clause-has g c = λ start before.
       more = posts_more start.pass.now old new has.more posts.more;
       posted = groups_more (g.W.Wanted.wants board.wanted) slice.lo slice.hi slice.from old new posts.more c.args.self.now.count slice.until
           (λ p bit want. ((ready.wants p bit).0 want).0) has.posted
-          (λ p bit want low high at. posts.posted p bit want low high
-          (at.0, omega (arith, at.1, solved.0), omega (arith, at.2, solved.1)));
+          posts.posted;
     } in (
       before.0,
       (
