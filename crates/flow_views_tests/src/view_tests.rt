@@ -1,9 +1,5 @@
 // Both texts of small programs, by hand.
 
-ghost use Rattle.std.specs.Prelude.{◌<◌, length, IfSome};
-ghost use Rattle.flow_reports.specs.code.Reported.{TellReport};
-ghost use Rattle.flow_views.specs.ViewTables.{AreViewTables};
-
 use flow_graph::Graph;
 use flow_reports::ReportAnswers;
 use flow_team::{OpenGate, Team};
@@ -24,39 +20,13 @@ enum Format {
     Json,
 }
 
-// Writes a text of a graph with its tables; the answer says whether all of it was taken.
-fn write_view(
-    alloc: Global,
-    graph: &Graph<'_>,
-    tables: &ViewTables,
-    answers: &ReportAnswers,
-    format: Format,
-    view: View,
-    page: &mut Page,
-) -> Result<bool, Fail>
-    requires tables { AreViewTables graph.now view tables.now }
-    requires answers { TellReport graph.now answers.now }
-    requires procedure { IfSome view.procedure (λ procedure. procedure < length graph.now.procedure_names) }
-{
-    match format {
-        Format::Dot => {
-            let text = DotText::of(alloc, graph, tables, answers, view)?;
-            Ok(deliver(alloc, &text, &mut ToWrite::new(page)).is_ok())
-        },
-        Format::Json => {
-            let text = JsonText::of(alloc, graph, tables, answers, view)?;
-            Ok(deliver(alloc, &text, &mut ToWrite::new(page)).is_ok())
-        },
-    }
-}
-
+// Writes a text of a graph, of all procedures where there is none with that number; the answer says whether all of it was taken.
 fn write_graph<R: Threads + Sync>(
     rt: &R,
     alloc: Global,
     graph: &Graph<'_>,
     format: Format,
-    facts: Chosen,
-    procedure: u32,
+    view: View,
     page: &mut Page,
 ) -> Result<bool, Fail> {
     let team = Team {
@@ -68,15 +38,24 @@ fn write_graph<R: Threads + Sync>(
     let answers = ReportAnswers::of(&team, alloc, graph)?;
     let count = graph.program().procs().len();
     let view = View {
-        facts,
-        procedure: if (procedure as usize) < count {
-            Some(procedure)
-        } else {
-            None
+        facts: view.facts,
+        procedure: match view.procedure {
+            Some(procedure) if (procedure as usize) < count => Some(procedure),
+            _ => None,
         },
     };
     let tables = ViewTables::of(&team, alloc, graph, view)?;
-    write_view(alloc, graph, &tables, &answers, format, view, page)
+    let mut sink = ToWrite::new(page);
+    match format {
+        Format::Dot => {
+            let text = DotText::of(alloc, graph, &tables, &answers, view)?;
+            Ok(deliver(alloc, &text, &mut sink).is_ok())
+        },
+        Format::Json => {
+            let text = JsonText::of(alloc, graph, &tables, &answers, view)?;
+            Ok(deliver(alloc, &text, &mut sink).is_ok())
+        },
+    }
 }
 
 fn write_program<R: Threads + Sync>(
@@ -84,45 +63,44 @@ fn write_program<R: Threads + Sync>(
     alloc: Global,
     program: &Program,
     format: Format,
-    facts: Chosen,
-    procedure: u32,
+    view: View,
     page: &mut Page,
 ) -> Result<bool, Fail> {
     let graph = Graph::build(alloc, program)?;
-    write_graph(rt, alloc, &graph, format, facts, procedure, page)
+    write_graph(rt, alloc, &graph, format, view, page)
 }
 
-// The text of a program, of the procedure with that number where there is one and else of all.
+// The text of a program.
 fn text_of<R: Threads + Sync + AllocGlobal>(
     rt: &R,
     text: &str,
     format: Format,
-    facts: Chosen,
-    procedure: u32,
+    view: View,
 ) -> Result<Vec<u8>, Fail> {
     let alloc = rt.alloc();
     let mut page = blank_page(alloc);
     let program = read(alloc, text.as_bytes())?;
-    if write_program(rt, alloc, &program, format, facts, procedure, &mut page)? {
+    if write_program(rt, alloc, &program, format, view, &mut page)? {
         Ok(page.taken)
     } else {
         Err(Fail::from("a fault of the page"))
     }
 }
 
-const NO_FACTS: Chosen = Chosen {
-    reach: false,
-    live: false,
-    avail: false,
-    busy: false,
+const NO_FACTS: View = View {
+    facts: Chosen {
+        reach: false,
+        live: false,
+        avail: false,
+        busy: false,
+    },
+    procedure: None,
 };
-
-const ALL_PROCEDURES: u32 = 256;
 
 // A picture of a program with each kind of remark.
 #[test]
 fn picture_of_remarks(rt: HostRuntime) -> Result<(), Fail> {
-    let got = text_of(&rt, remarks::TEXT, Format::Dot, NO_FACTS, ALL_PROCEDURES)?;
+    let got = text_of(&rt, remarks::TEXT, Format::Dot, NO_FACTS)?;
     let wanted: &[u8] = b"digraph \"tacflow\" {\n  graph [fontname=\"monospace\", labeljust=l];\n  \
         node [shape=box, fontname=\"monospace\", fontsize=11];\n  \
         edge [fontname=\"monospace\", fontsize=10];\n  subgraph \"cluster_0\" {\n    \
@@ -145,7 +123,7 @@ fn picture_of_remarks(rt: HostRuntime) -> Result<(), Fail> {
 // The first line and the remarks of that program.
 #[test]
 fn lines_of_remarks(rt: HostRuntime) -> Result<(), Fail> {
-    let got = text_of(&rt, remarks::TEXT, Format::Json, NO_FACTS, ALL_PROCEDURES)?;
+    let got = text_of(&rt, remarks::TEXT, Format::Json, NO_FACTS)?;
     let first: &[u8] =
         b"{\"type\":\"program\",\"points\":14,\"procedures\":[\"main\"],\"variables\":[\"a\",\"b\",\"x\",\"y\",\"z\",\"count\"],\"definitions\":13,\
         \"expressions\":2}\n";
@@ -163,13 +141,16 @@ fn lines_of_remarks(rt: HostRuntime) -> Result<(), Fail> {
 // A procedure that calls itself, alone, with two analyses.
 #[test]
 fn lines_of_recursion(rt: HostRuntime) -> Result<(), Fail> {
-    let facts = Chosen {
-        reach: true,
-        live: true,
-        avail: false,
-        busy: false,
+    let view = View {
+        facts: Chosen {
+            reach: true,
+            live: true,
+            avail: false,
+            busy: false,
+        },
+        procedure: Some(1),
     };
-    let got = text_of(&rt, factorial::TEXT, Format::Json, facts, 1)?;
+    let got = text_of(&rt, factorial::TEXT, Format::Json, view)?;
     let wanted: &[u8] =
         b"{\"type\":\"program\",\"points\":10,\"procedures\":[\"main\",\"factorial\"],\"variables\":[\"n\",\"result\"],\"definitions\":6,\
         \"expressions\":2}\n\

@@ -141,40 +141,41 @@ fn view_of_graph<R: Threads + Sync, K: Sink>(
     }
 }
 
+/// What options ask for, and the gate that is told of the slices of the work.
+#[derive(Drop)]
+pub(crate) struct GatedOptions<'a> {
+    pub(crate) options: &'a Options,
+    pub(crate) gate: &'a Progress,
+}
+
 // Writes what the options ask for of this program, but for the procedure, which is found.
 fn write_view<R: Threads + Sync, K: Sink>(
     rt: &R,
     alloc: Global,
     program: &Program,
     view: View,
-    options: &Options,
-    gate: &Progress,
+    gated: &GatedOptions<'_>,
     sink: &mut K,
 ) -> Result<(), Fault>
     requires threads { IsSync R.row }
     requires below { K.faults sink.old < 2 ^ 32 - 1 }
     requires there { IfSome view.procedure (λ number. number < length program.now.procedure_names) }
-    ensures delivers { Delivers (λ out. HasFewPoints options.now.limits program.now × HasFewBits options.now.limits program.now
-        × IsText options.now.format program.now view out) (K.contents sink.old) (K.contents sink.new) result }
+    ensures delivers { Delivers (λ out. HasFewPoints gated.now.options.now.limits program.now
+        × HasFewBits gated.now.options.now.limits program.now × IsText gated.now.options.now.format program.now view out)
+        (K.contents sink.old) (K.contents sink.new) result }
     ensures flushed { OnOk result (K.flushed sink.new ≡ true) }
-    ensures fault { IfErr result (OfProgram (IsOverLimit options.now.limits program.now) ⊥) }
+    ensures fault { IfErr result (OfProgram (IsOverLimit gated.now.options.now.limits program.now) ⊥) }
     ensures faults { K.faults sink.new ≡ K.faults sink.old + write_faults_in result }
 {
+    let options = gated.options;
     let graph = graph_of(alloc, program, options.limits)?;
     let team = Team {
         rt,
-        gate,
+        gate: gated.gate,
         workers: options.workers,
         cut: options.cut,
     };
     view_of_graph(&team, alloc, &graph, view, options, sink)
-}
-
-/// What options ask for, and the gate that is told of the slices of the work.
-#[derive(Drop)]
-pub(crate) struct GatedOptions<'a> {
-    pub(crate) options: &'a Options,
-    pub(crate) gate: &'a Progress,
 }
 
 impl Output for GatedOptions<'_> {
@@ -198,6 +199,6 @@ impl Output for GatedOptions<'_> {
         sink: &mut K,
     ) -> Result<(), Fault> {
         let view = view_of(program, self.options)?;
-        write_view(rt, alloc, program, view, self.options, self.gate, sink)
+        write_view(rt, alloc, program, view, self, sink)
     }
 }

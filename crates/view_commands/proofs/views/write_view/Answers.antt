@@ -9,9 +9,9 @@ pub returns-clause-delivers : goal.returns-clause-delivers
 returns-clause-delivers g c =
     let made = c.in_ok-graph.ensures in
     delivers_as _ _ _ _ c.view_of_graph.result
-    (λ out is. (made.few_points, made.few_bits, subst (λ (p : Program). IsText c.args.options.now.format p c.args.view out) made.graph is))
+    (λ out is. (made.few_points, made.few_bits, subst (λ (p : Program). IsText c.args.gated.now.options.now.format p c.args.view out) made.graph is))
     c.view_of_graph.ensures.delivers
 
 pub returns-clause-fault : goal.returns-clause-fault
 returns-clause-fault g c =
-    no_graph_fault (IsOverLimit c.args.options.now.limits c.args.program.now) ⊥ c.view_of_graph.result c.view_of_graph.ensures.fault
+    no_graph_fault (IsOverLimit c.args.gated.now.options.now.limits c.args.program.now) ⊥ c.view_of_graph.result c.view_of_graph.ensures.fault
