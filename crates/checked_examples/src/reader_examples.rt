@@ -139,7 +139,10 @@ pub fn listings()
     ensures straight_line { listing_of (program_of (codes "proc main # start\nL:M: x=007\nend\n")) ≡ codes "proc main\nL:\nM:\n  x = 7\nend\n" }
     ensures labels_of_the_end { listing_of (program_of (codes "proc main\nx = 1\nL:\n\n M: # c\nend\n\nproc q\nskip\ncall q|main\nend"))
         ≡ codes "proc main\n  x = 1\nL:\nM:\nend\nproc q\n  skip\n  call q | main\nend\n" }
-    ensures each_statement { listing_of (program_of (codes "proc main\na=b\na=~b\na=b<<2\ngoto L\nif a goto L\nifFalse 0 goto L\nL: call main\nreturn\nread a\nprint 00\nend\n")) ≡ codes "proc main\n  a = b\n  a = ~b\n  a = b << 2\n  goto L\n  if a goto L\n  ifFalse 0 goto L\nL:\n  call main\n  return\n  read a\n  print 0\nend\n" }
+    ensures each_statement { listing_of (program_of (codes "proc main\na=b\na=~b\na=b<<2\ngoto L\nif a goto L\nifFalse 0 goto L\n"
+        ++ codes "L: call main\nreturn\nread a\nprint 00\nend\n"))
+        ≡ codes "proc main\n  a = b\n  a = ~b\n  a = b << 2\n  goto L\n  if a goto L\n  ifFalse 0 goto L\nL:\n  call main\n  return\n"
+        ++ codes "  read a\n  print 0\nend\n" }
 {}
 
 /// Names are numbered by first occurrence, labels in their procedure, and a label stands for the next statement.

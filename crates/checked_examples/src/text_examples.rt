@@ -1,6 +1,6 @@
 //! Texts of tables and reports over facts that are written out by hand, checked by computing them.
 
-ghost use Rattle.std.specs.Prelude.{◌≡◌, false, codes};
+ghost use Rattle.std.specs.Prelude.{◌≡◌, ◌++◌, false, codes};
 ghost use Rattle.checked_examples.specs.ProgramExamples.{calls_twice, adds_to_itself, calls_endless, may_loop};
 ghost use Rattle.flow_graph.specs.declared.analysis.Analysis.TheVariants.{Reach, Avail, Busy};
 ghost use Rattle.tac_reader.specs.Parses.{program_of};
@@ -20,7 +20,8 @@ pub fn table_examples()
 /// Reports: unset and dead variables, a statement that is never reached, a doubtful point, a very busy expression.
 pub fn report_examples()
     ensures unset_and_dead { report_of adds_to_itself known_of_sum
-        ≡ codes "points 2, variables 2, definitions 3, expressions 1\n2: x may be used before it is set\n2: y may be used before it is set\n2: assignment to x is dead\n" }
+        ≡ codes "points 2, variables 2, definitions 3, expressions 1\n2: x may be used before it is set\n"
+        ++ codes "2: y may be used before it is set\n2: assignment to x is dead\n" }
     ensures never_reached { report_of calls_endless known_of_endless_callee
         ≡ codes "points 5, variables 3, definitions 4, expressions 1\n3: never reached\n" }
     ensures doubtful { report_of may_loop known_of_loop

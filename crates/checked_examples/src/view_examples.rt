@@ -1,6 +1,6 @@
 //! Both texts over facts that are written out by hand, checked by computing them.
 
-ghost use Rattle.std.specs.Prelude.{◌≡◌, [], flat_map, codes};
+ghost use Rattle.std.specs.Prelude.{◌≡◌, ◌++◌, [], flat_map, codes};
 ghost use Rattle.checked_examples.specs.ProgramExamples.{adds_to_itself, calls_endless, calls_itself};
 ghost use Rattle.checked_examples.specs.WorkedTexts.{known_of_endless_callee, known_of_sum};
 ghost use Rattle.flow_views.specs.Dots.{dot_of, edge_lines};
@@ -20,21 +20,61 @@ pub fn string_examples()
 /// Pictures: remarks, facts and marks; points that are doubtful or never reached; a procedure that calls itself, alone.
 pub fn dot_examples()
     ensures marks { dot_of adds_to_itself known_of_sum reach_and_live
-        ≡ codes "digraph \"tacflow\" {\n  graph [fontname=\"monospace\", labeljust=l];\n  node [shape=box, fontname=\"monospace\", fontsize=11];\n  edge [fontname=\"monospace\", fontsize=10];\n  subgraph \"cluster_0\" {\n    label=\"main\";\n    0 [label=\"2: x = x + y\\lx may be used before it is set\\ly may be used before it is set\\lassignment to x is dead\\lreach: x@entry, y@entry\\llive: x, y\\l\", color=red, fontcolor=red, style=filled, fillcolor=khaki];\n    1 [label=\"end of main\\lreach: y@entry, x@2\\llive: -\\l\"];\n  }\n  0 -> 1;\n}\n" }
+        ≡ codes "digraph \"tacflow\" {\n  graph [fontname=\"monospace\", labeljust=l];\n"
+        ++ codes "  node [shape=box, fontname=\"monospace\", fontsize=11];\n  edge [fontname=\"monospace\", fontsize=10];\n"
+        ++ codes "  subgraph \"cluster_0\" {\n    label=\"main\";\n"
+        ++ codes "    0 [label=\"2: x = x + y\\lx may be used before it is set\\ly may be used before it is set\\lassignment to x is "
+        ++ codes "dead\\lreach: x@entry, y@entry\\llive: x, y\\l\", color=red, fontcolor=red, style=filled, fillcolor=khaki];\n"
+        ++ codes "    1 [label=\"end of main\\lreach: y@entry, x@2\\llive: -\\l\"];\n  }\n  0 -> 1;\n}\n" }
     ensures endless { dot_of calls_endless known_of_endless_callee plain
-        ≡ codes "digraph \"tacflow\" {\n  graph [fontname=\"monospace\", labeljust=l];\n  node [shape=box, fontname=\"monospace\", fontsize=11];\n  edge [fontname=\"monospace\", fontsize=10];\n  subgraph \"cluster_0\" {\n    label=\"main\";\n    0 [label=\"2: call f\\l\", peripheries=2];\n    1 [label=\"3: a = b + c\\lnever reached\\l\", style=filled, fillcolor=grey80];\n    2 [label=\"end of main\\l\", style=filled, fillcolor=grey80];\n  }\n  subgraph \"cluster_1\" {\n    label=\"f\";\n    3 [label=\"6: goto L\\l\", peripheries=2];\n    4 [label=\"end of f\\l\", style=filled, fillcolor=grey80];\n  }\n  0 -> 3 [style=dashed, label=\"call 2\"];\n  1 -> 2;\n  3 -> 3;\n  4 -> 1 [style=dashed, label=\"return 2\"];\n}\n" }
+        ≡ codes "digraph \"tacflow\" {\n  graph [fontname=\"monospace\", labeljust=l];\n"
+        ++ codes "  node [shape=box, fontname=\"monospace\", fontsize=11];\n  edge [fontname=\"monospace\", fontsize=10];\n"
+        ++ codes "  subgraph \"cluster_0\" {\n    label=\"main\";\n    0 [label=\"2: call f\\l\", peripheries=2];\n"
+        ++ codes "    1 [label=\"3: a = b + c\\lnever reached\\l\", style=filled, fillcolor=grey80];\n"
+        ++ codes "    2 [label=\"end of main\\l\", style=filled, fillcolor=grey80];\n  }\n  subgraph \"cluster_1\" {\n    label=\"f\";\n"
+        ++ codes "    3 [label=\"6: goto L\\l\", peripheries=2];\n    4 [label=\"end of f\\l\", style=filled, fillcolor=grey80];\n  }\n"
+        ++ codes "  0 -> 3 [style=dashed, label=\"call 2\"];\n  1 -> 2;\n  3 -> 3;\n  4 -> 1 [style=dashed, label=\"return 2\"];\n}\n" }
     ensures first { dot_of calls_endless known_of_endless_callee first_alone
-        ≡ codes "digraph \"tacflow\" {\n  graph [fontname=\"monospace\", labeljust=l];\n  node [shape=box, fontname=\"monospace\", fontsize=11];\n  edge [fontname=\"monospace\", fontsize=10];\n  subgraph \"cluster_0\" {\n    label=\"main\";\n    0 [label=\"2: call f\\l\", peripheries=2];\n    1 [label=\"3: a = b + c\\lnever reached\\l\", style=filled, fillcolor=grey80];\n    2 [label=\"end of main\\l\", style=filled, fillcolor=grey80];\n  }\n  0 -> 1 [style=dashed, label=\"call\"];\n  1 -> 2;\n}\n" }
+        ≡ codes "digraph \"tacflow\" {\n  graph [fontname=\"monospace\", labeljust=l];\n"
+        ++ codes "  node [shape=box, fontname=\"monospace\", fontsize=11];\n  edge [fontname=\"monospace\", fontsize=10];\n"
+        ++ codes "  subgraph \"cluster_0\" {\n    label=\"main\";\n    0 [label=\"2: call f\\l\", peripheries=2];\n"
+        ++ codes "    1 [label=\"3: a = b + c\\lnever reached\\l\", style=filled, fillcolor=grey80];\n"
+        ++ codes "    2 [label=\"end of main\\l\", style=filled, fillcolor=grey80];\n  }\n  0 -> 1 [style=dashed, label=\"call\"];\n"
+        ++ codes "  1 -> 2;\n}\n" }
     ensures recursive { flat_map (edge_lines calls_itself second_alone) (shown_points calls_itself second_alone)
-        ≡ codes "  4 -> 5;\n  4 -> 7;\n  5 -> 4 [style=dashed, label=\"call 8\"];\n  5 -> 6 [style=dashed, label=\"call\"];\n  6 -> 7;\n  7 -> 6 [style=dashed, label=\"return 8\"];\n" }
+        ≡ codes "  4 -> 5;\n  4 -> 7;\n  5 -> 4 [style=dashed, label=\"call 8\"];\n  5 -> 6 [style=dashed, label=\"call\"];\n  6 -> 7;\n"
+        ++ codes "  7 -> 6 [style=dashed, label=\"return 8\"];\n" }
 {}
 
 /// Lines of JSON: sets and remarks; one procedure of two, and the other.
 pub fn json_examples()
     ensures sets { json_of adds_to_itself known_of_sum reach_and_live
-        ≡ codes "{\"type\":\"program\",\"points\":2,\"procedures\":[\"main\"],\"variables\":[\"x\",\"y\"],\"definitions\":3,\"expressions\":1}\n{\"type\":\"point\",\"point\":0,\"procedure\":\"main\",\"place\":0,\"line\":2,\"first\":11,\"last\":19,\"statement\":\"x = x + y\",\"edges\":[{\"kind\":\"step\",\"to\":1}],\"reach\":{\"path\":true,\"bits\":[0,1],\"names\":[\"x@entry\",\"y@entry\"]},\"live\":{\"path\":true,\"bits\":[0,1],\"names\":[\"x\",\"y\"]}}\n{\"type\":\"point\",\"point\":1,\"procedure\":\"main\",\"place\":1,\"line\":null,\"first\":null,\"last\":null,\"statement\":null,\"edges\":[],\"reach\":{\"path\":true,\"bits\":[1,2],\"names\":[\"y@entry\",\"x@2\"]},\"live\":{\"path\":true,\"bits\":[],\"names\":[]}}\n{\"type\":\"remark\",\"point\":0,\"line\":2,\"first\":11,\"last\":19,\"kind\":\"unset\",\"variable\":\"x\"}\n{\"type\":\"remark\",\"point\":0,\"line\":2,\"first\":11,\"last\":19,\"kind\":\"unset\",\"variable\":\"y\"}\n{\"type\":\"remark\",\"point\":0,\"line\":2,\"first\":11,\"last\":19,\"kind\":\"dead\",\"variable\":\"x\"}\n" }
+        ≡ codes "{\"type\":\"program\",\"points\":2,\"procedures\":[\"main\"],\"variables\":[\"x\",\"y\"],\"definitions\":3,"
+        ++ codes "\"expressions\":1}\n"
+        ++ codes "{\"type\":\"point\",\"point\":0,\"procedure\":\"main\",\"place\":0,\"line\":2,\"first\":11,\"last\":19,"
+        ++ codes "\"statement\":\"x = x + y\",\"edges\":[{\"kind\":\"step\",\"to\":1}],\"reach\":{\"path\":true,\"bits\":[0,1],"
+        ++ codes "\"names\":[\"x@entry\",\"y@entry\"]},\"live\":{\"path\":true,\"bits\":[0,1],\"names\":[\"x\",\"y\"]}}\n"
+        ++ codes "{\"type\":\"point\",\"point\":1,\"procedure\":\"main\",\"place\":1,\"line\":null,\"first\":null,\"last\":null,"
+        ++ codes "\"statement\":null,\"edges\":[],\"reach\":{\"path\":true,\"bits\":[1,2],\"names\":[\"y@entry\",\"x@2\"]},"
+        ++ codes "\"live\":{\"path\":true,\"bits\":[],\"names\":[]}}\n"
+        ++ codes "{\"type\":\"remark\",\"point\":0,\"line\":2,\"first\":11,\"last\":19,\"kind\":\"unset\",\"variable\":\"x\"}\n"
+        ++ codes "{\"type\":\"remark\",\"point\":0,\"line\":2,\"first\":11,\"last\":19,\"kind\":\"unset\",\"variable\":\"y\"}\n"
+        ++ codes "{\"type\":\"remark\",\"point\":0,\"line\":2,\"first\":11,\"last\":19,\"kind\":\"dead\",\"variable\":\"x\"}\n" }
     ensures first { json_of calls_endless known_of_endless_callee first_alone
-        ≡ codes "{\"type\":\"program\",\"points\":5,\"procedures\":[\"main\",\"f\"],\"variables\":[\"a\",\"b\",\"c\"],\"definitions\":4,\"expressions\":1}\n{\"type\":\"point\",\"point\":0,\"procedure\":\"main\",\"place\":0,\"line\":2,\"first\":11,\"last\":16,\"statement\":\"call f\",\"edges\":[{\"kind\":\"call\",\"site\":0,\"to\":3}]}\n{\"type\":\"point\",\"point\":1,\"procedure\":\"main\",\"place\":1,\"line\":3,\"first\":18,\"last\":26,\"statement\":\"a = b + c\",\"edges\":[{\"kind\":\"step\",\"to\":2}]}\n{\"type\":\"point\",\"point\":2,\"procedure\":\"main\",\"place\":2,\"line\":null,\"first\":null,\"last\":null,\"statement\":null,\"edges\":[]}\n{\"type\":\"remark\",\"point\":1,\"line\":3,\"first\":18,\"last\":26,\"kind\":\"never_reached\"}\n" }
+        ≡ codes "{\"type\":\"program\",\"points\":5,\"procedures\":[\"main\",\"f\"],\"variables\":[\"a\",\"b\",\"c\"],\"definitions\":4,"
+        ++ codes "\"expressions\":1}\n"
+        ++ codes "{\"type\":\"point\",\"point\":0,\"procedure\":\"main\",\"place\":0,\"line\":2,\"first\":11,\"last\":16,"
+        ++ codes "\"statement\":\"call f\",\"edges\":[{\"kind\":\"call\",\"site\":0,\"to\":3}]}\n"
+        ++ codes "{\"type\":\"point\",\"point\":1,\"procedure\":\"main\",\"place\":1,\"line\":3,\"first\":18,\"last\":26,"
+        ++ codes "\"statement\":\"a = b + c\",\"edges\":[{\"kind\":\"step\",\"to\":2}]}\n"
+        ++ codes "{\"type\":\"point\",\"point\":2,\"procedure\":\"main\",\"place\":2,\"line\":null,\"first\":null,\"last\":null,"
+        ++ codes "\"statement\":null,\"edges\":[]}\n"
+        ++ codes "{\"type\":\"remark\",\"point\":1,\"line\":3,\"first\":18,\"last\":26,\"kind\":\"never_reached\"}\n" }
     ensures second { json_of calls_endless known_of_endless_callee second_alone
-        ≡ codes "{\"type\":\"program\",\"points\":5,\"procedures\":[\"main\",\"f\"],\"variables\":[\"a\",\"b\",\"c\"],\"definitions\":4,\"expressions\":1}\n{\"type\":\"point\",\"point\":3,\"procedure\":\"f\",\"place\":0,\"line\":6,\"first\":42,\"last\":47,\"statement\":\"goto L\",\"edges\":[{\"kind\":\"step\",\"to\":3}]}\n{\"type\":\"point\",\"point\":4,\"procedure\":\"f\",\"place\":1,\"line\":null,\"first\":null,\"last\":null,\"statement\":null,\"edges\":[{\"kind\":\"return\",\"site\":0,\"to\":1}]}\n" }
+        ≡ codes "{\"type\":\"program\",\"points\":5,\"procedures\":[\"main\",\"f\"],\"variables\":[\"a\",\"b\",\"c\"],\"definitions\":4,"
+        ++ codes "\"expressions\":1}\n"
+        ++ codes "{\"type\":\"point\",\"point\":3,\"procedure\":\"f\",\"place\":0,\"line\":6,\"first\":42,\"last\":47,"
+        ++ codes "\"statement\":\"goto L\",\"edges\":[{\"kind\":\"step\",\"to\":3}]}\n"
+        ++ codes "{\"type\":\"point\",\"point\":4,\"procedure\":\"f\",\"place\":1,\"line\":null,\"first\":null,\"last\":null,"
+        ++ codes "\"statement\":null,\"edges\":[{\"kind\":\"return\",\"site\":0,\"to\":1}]}\n" }
 {}

@@ -10,7 +10,8 @@ ghost use Rattle.flow_links.specs.Shapes.{directed_shape};
 ghost use Rattle.flow_links.specs.LinkLists.{IsCallLink};
 ghost use Rattle.gk_solve.specs.Tables.Flags.{IsFlagged};
 ghost use Rattle.gk_solve.specs.Tables.Groups.{AreCompleteSummaries, AreJoined, AreOf, AreSameBut, AreSoundSummaries, IsCallerSettled, IsGroupFrame};
-ghost use Rattle.gk_solve.specs.Tables.Groups.{IsSummaryCallSettled, IsSummarySettled, SummarySpreads, WaitsFor, group_of, preserved_word, generated_word};
+ghost use Rattle.gk_solve.specs.Tables.Groups.{IsSummaryCallSettled, IsSummarySettled, SummarySpreads, WaitsFor};
+ghost use Rattle.gk_solve.specs.Tables.Groups.{group_of, preserved_word, generated_word};
 ghost use Rattle.gk_solve.specs.Tables.Groups.{room_of_summary};
 ghost use Rattle.gk_solve.specs.Tables.Words.{HasBit, IsPreserved, IsGenerated, step_statement};
 

@@ -112,7 +112,8 @@ fn group_frame<'a, 'g, 'p>(
 
 // The marks of points, and those of procedures.
 fn worklist(alloc: Global, links: &Links) -> Result<(Worklist, Worklist), OutOfMemory>
-    ensures { IfOk result (λ worklist. (length worklist.0 ≡ point_count links.now.program) × (length worklist.1 ≡ (directed_shape links.now).procedures)) }
+    ensures { IfOk result (λ worklist. (length worklist.0 ≡ point_count links.now.program)
+        × (length worklist.1 ≡ (directed_shape links.now).procedures)) }
 {
     let points = Worklist::none(alloc, links.order())?;
     let procedures = Worklist::none(alloc, links.call_order())?;

@@ -38,7 +38,8 @@ fn solution_at<const W: usize>(
 ) -> Summary<W>
     requires frame { IsGroupFrame W frame.now }
     requires inside { point < point_count frame.now.links.now.program }
-    ensures { IsSolutionAt (group_of frame.now W) frame.now.paths.now point here.entry.preserved here.entry.generated brought.entry within.entry result.generated }
+    ensures { IsSolutionAt (group_of frame.now W) frame.now.paths.now point
+        here.entry.preserved here.entry.generated brought.entry within.entry result.generated }
 {
     let preserved = here.preserved;
     if !frame.paths[point as usize] {

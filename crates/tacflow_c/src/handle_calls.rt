@@ -6,7 +6,8 @@ ghost use Rattle.flow_graph.specs.Universes.{definitions as definitions_in, expr
 ghost use Rattle.flow_reports.specs.Reports.{ListsSafely};
 ghost use Rattle.tac_listing.specs.Listings.{listing_of};
 ghost use Rattle.tac_reader.specs.Parses.{program_of};
-ghost use Rattle.tacflow_c.specs.Handles.{AreFactsOfNumber, IsAsked, IsMemoryFault, IsNamesRoomFault, IsNumberFault, IsOpenFault, IsPartsFault, IsTextFault};
+ghost use Rattle.tacflow_c.specs.Handles.{AreFactsOfNumber, IsAsked, IsMemoryFault, IsNamesRoomFault, IsNumberFault, IsOpenFault};
+ghost use Rattle.tacflow_c.specs.Handles.{IsPartsFault, IsTextFault};
 ghost use Rattle.tacflow_c.specs.Names.{AreNames};
 ghost use Rattle.tacflow_c.specs.Parts.{AreParts, ArePartsOf, definition_part, expression_part, point_part, sizes_of};
 ghost use Rattle.tacflow_c.specs.Queries.{AreAnswersTo, IsQueriesFault};
