@@ -7,7 +7,7 @@ use std::marker::PhantomData;
 pub(crate) struct Draw;
 
 impl<T> Play<(), View<T>> for Draw {
-    ghost use Rattle.slice_board.specs.code.Told.{DrawTells};
+    ghost use Rattle.slice_board.specs.code.Plays.{DrawTells};
 
     ghost then = { DrawTells };
 }
@@ -15,7 +15,7 @@ impl<T> Play<(), View<T>> for Draw {
 pub(crate) struct Finish;
 
 impl<T> Play<(), View<T>> for Finish {
-    ghost use Rattle.slice_board.specs.code.Told.{FinishTells};
+    ghost use Rattle.slice_board.specs.code.Plays.{FinishTells};
 
     ghost then = { FinishTells };
 }
@@ -23,7 +23,7 @@ impl<T> Play<(), View<T>> for Finish {
 pub(crate) struct Post;
 
 impl<T> Play<(), View<T>> for Post {
-    ghost use Rattle.slice_board.specs.code.Told.{PostTells};
+    ghost use Rattle.slice_board.specs.code.Plays.{PostTells};
 
     ghost then = { PostTells };
 }
@@ -33,7 +33,7 @@ pub(crate) struct Look<T> {
 }
 
 impl<T: Wanted> Play<(), View<T>> for Look<T> {
-    ghost use Rattle.slice_board.specs.code.Told.{LookTells};
+    ghost use Rattle.slice_board.specs.code.Plays.{LookTells};
 
     ghost then = { LookTells T.wants };
 }
@@ -41,7 +41,7 @@ impl<T: Wanted> Play<(), View<T>> for Look<T> {
 pub(crate) struct Tally;
 
 impl<T> Play<(), View<T>> for Tally {
-    ghost use Rattle.slice_board.specs.code.Told.{CountTells};
+    ghost use Rattle.slice_board.specs.code.Plays.{CountTells};
 
     ghost then = { CountTells };
 }
@@ -49,7 +49,7 @@ impl<T> Play<(), View<T>> for Tally {
 pub(crate) struct Check;
 
 impl<T> Play<(), View<T>> for Check {
-    ghost use Rattle.slice_board.specs.code.Told.{CheckTells};
+    ghost use Rattle.slice_board.specs.code.Plays.{CheckTells};
 
     ghost then = { CheckTells };
 }

@@ -55,7 +55,7 @@ fn first_marked(words: &[u64], from: usize, to: usize) -> Option<usize>
     ensures { IfSome result (λ rank. is_marked_in words.now rank ≡ true) }
 {
     let mut mask = u64::MAX << (from % 64);
-    for at in from / 64..words.len().min(to.div_ceil(64)) {
+    for at in from / 64..words.len().min(to / 64 + 1) {
         let word = words[at] & mask;
         if word != 0 {
             let rank = 64 * at + word.trailing_zeros() as usize;

@@ -10,7 +10,7 @@ use Rattle.std.proofs.lemmas.Nat.Bits.{bit_at-lt, bit_at-zero}
 use Rattle.slice_board.specs.Passes.{PassState, IsWhole, times, loads_from}
 use Rattle.slice_board.specs.Boards.{shown_below, words_for}
 use Rattle.slice_board.specs.Lawful.{shows_at}
-use Rattle.slice_board.specs.code.Told.{load_of, ShowsOwn}
+use Rattle.slice_board.specs.code.Plays.{load_of, ShowsOwn}
 use Rattle.slice_board.specs.code.Closing.{ones_below, shown_in, Counted, CountedTo}
 use Rattle.slice_board.specs.declared.view.Count.{Count}
 

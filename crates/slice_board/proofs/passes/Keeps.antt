@@ -18,7 +18,7 @@ use Rattle.slice_board.specs.Lawful.{shows_at, total, claims_of, halvings_of, Is
 use Rattle.slice_board.specs.Steps.{after_claim, after_finding, after_post, after_finish, after_look, after_count, fresh_view}
 use Rattle.slice_board.specs.Steps.{halved_view, split_view, joined_view, spent_view}
 use Rattle.slice_board.specs.code.Words.{tally_words, done_place, row_place, board_words, LawfulTable}
-use Rattle.slice_board.specs.code.Told.{Sat, load_of, DrawTells, FinishTells, PostTells, LookTells, ShowsOwn, FoundOwn, CountTells, CheckTells}
+use Rattle.slice_board.specs.code.Plays.{Sat, load_of, DrawTells, FinishTells, PostTells, LookTells, ShowsOwn, FoundOwn, CountTells, CheckTells}
 use Rattle.slice_board.specs.declared.view.About.{About}
 use Rattle.slice_board.specs.declared.view.View.{View}
 use Rattle.slice_board.proofs.words.Sums.{total-append, total-set, term_le, times-same, times-other, ored, ored_here, ored_else, Grows, ored_grows}

@@ -20,7 +20,7 @@ use Rattle.slice_board.specs.Boards.{BoardState, slice_count, words_for, about_b
 use Rattle.slice_board.specs.Steps.{after_claim, after_finding}
 use Rattle.slice_board.specs.code.Words.{about_key}
 use Rattle.slice_board.specs.code.Fields.{pass_state, IsKept, IsLaid}
-use Rattle.slice_board.specs.code.Told.{Sat, DrawTells}
+use Rattle.slice_board.specs.code.Plays.{Sat, DrawTells}
 use Rattle.slice_board.specs.declared.view.About.{About}
 use Rattle.slice_board.specs.declared.view.View.{View}
 use Rattle.slice_board.specs.declared.view.LoggedWord.{LoggedWord}

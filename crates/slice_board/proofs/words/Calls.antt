@@ -12,7 +12,7 @@ use Rattle.slice_board.specs.Passes.{PassState, times, logged_at, IsLogged}
 use Rattle.slice_board.specs.Boards.{BoardState, slice_count, words_for, about_board, IsOf, IsPlace, InSlice}
 use Rattle.slice_board.specs.code.Words.{about_key, tally_words, row_place}
 use Rattle.slice_board.specs.code.Fields.{pass_state, IsKept, IsLaid}
-use Rattle.slice_board.specs.code.Told.{Sat, ShowsOwn, FoundOwn}
+use Rattle.slice_board.specs.code.Plays.{Sat, ShowsOwn, FoundOwn}
 use Rattle.slice_board.specs.declared.view.About.{About}
 use Rattle.slice_board.specs.declared.view.View.{View}
 use Rattle.slice_board.specs.declared.view.LoggedWord.{LoggedWord}

@@ -12,7 +12,7 @@ use Rattle.std.proofs.lemmas.Nat.Bits.{bit_at_or, bit_at-lt, bit_at-pow_same, bi
 use Rattle.std.proofs.Math.Bool.{and-false}
 use Rattle.slice_board.specs.Passes.{times, logged_at, logged_word, IsLogged}
 use Rattle.slice_board.specs.Lawful.{total, shows_at}
-use Rattle.slice_board.specs.code.Told.{load_of}
+use Rattle.slice_board.specs.code.Plays.{load_of}
 use Rattle.slice_board.specs.declared.view.LoggedWord.{LoggedWord}
 use Rattle.slice_board.specs.declared.view.Count.{Count}
 

@@ -5,7 +5,7 @@ ghost use Rattle.bit_rows.specs.RowTable.{set_at};
 ghost use Rattle.slice_board.specs.Boards.{IsOf, CountsOnce, slice_count, words_for};
 ghost use Rattle.slice_board.specs.Passes.{times, IsWhole};
 ghost use Rattle.slice_board.specs.Teams.{IsDrained};
-ghost use Rattle.slice_board.specs.code.Told.{load_of, ShowsOwn};
+ghost use Rattle.slice_board.specs.code.Plays.{load_of, ShowsOwn};
 ghost use Rattle.slice_board.specs.code.Closing.{Counted, ones_below};
 
 use super::WordBoard;
@@ -84,14 +84,14 @@ impl<T: Wanted> WordBoard<T> {
         let mut done = 0;
         'words: for word in 0..words_for(slices) {
             let value = self.load_done(pass, word);
-            done += low_ones(value, (slices - 64 * word).min(64));
+            done += ones_below(value, (slices - 64 * word).min(64));
         }
         done
     }
 }
 
 // How many of the lowest places of a word are 1.
-fn low_ones(word: u64, places: u32) -> u32
+fn ones_below(word: u64, places: u32) -> u32
     requires { places ≤ 64 }
     ensures value { result ≡ ones_below places word }
     ensures most { result ≤ places }

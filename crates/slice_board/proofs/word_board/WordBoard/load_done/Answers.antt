@@ -2,7 +2,7 @@ use Rattle.std.proofs.Common.{[], ◌∷◌, ◌++◌, ap, ◌∙◌, arith}
 use Rattle.slice_board.specs.Passes.{PassState}
 use Rattle.slice_board.specs.code.Words.{about_key}
 use Rattle.slice_board.specs.code.Fields.{pass_state}
-use Rattle.slice_board.specs.code.Told.{load_of}
+use Rattle.slice_board.specs.code.Plays.{load_of}
 use Rattle.slice_board.proofs.passes.Keeps.{tells_at}
 use Rattle.slice_board.proofs.passes.Passing.{sits, knows, kept_marks}
 use Rattle.slice_board.proofs.words.Calls.{tally_is, tally_below, shows_own, finds_own, state_after, kept_after}
