@@ -5,9 +5,11 @@ that such a function's contract refuses a wrong body, only an edit of its own sh
     checks/edits --self-test  plants a fault of each kind, and sees that each is told
 
 A call is known by its name, in the crate or in one above it: `Type::name`, `.name(` or `name`.
+Where several types have a method of that name, it is one only in a file that names the type.
 """
 import argparse
 import re
+from collections import Counter
 from collections.abc import Iterator
 from pathlib import Path
 from typing import NamedTuple
@@ -17,8 +19,10 @@ SUPPORT = {"test_support", "team_probes", "checked_examples"}
 EXCEPTIONS: dict[str, str] = {  # what needs neither a caller nor an edit, each with the reason
     "bit_rows: Row::and": "its proof names each step; row_and_is_minus turns what it calls",
     "bit_rows: Row::minus": "its proof names each step; row_minus_is_and turns what it calls",
+    "bit_rows: Row::hi": "a field, which its clause names",
     "bit_rows: Row::lo": "a field, which its clause names",
     "bit_rows: Rows::lo": "a field, which its clause names",
+    "flow_kept: Kept::program": "tacflow_c calls it, of what a handle keeps",
     "flow_rows: Board::claim": "hands on WordBoard::claim; claim_takes_taken turns it",
     "flow_rows: Board::cut": "hands on WordBoard::cut, a field, which its clause names",
     "flow_rows: Board::finish": "hands on WordBoard::finish; finish_other_slice turns it",
@@ -26,6 +30,8 @@ EXCEPTIONS: dict[str, str] = {  # what needs neither a caller nor an edit, each 
     "flow_rows: Board::look": "hands on WordBoard::look; look_hides turns it",
     "flow_rows: Board::post": "hands on WordBoard::post; post_nothing turns it",
     "flow_rows: Board::split": "hands on WordBoard::split; split_holds_the_same_slice turns it",
+    "gk_solve: SliceWords::visits": "a counter, of which no contract speaks",
+    "tac_lines: Line::labels": "tac_reader calls it, of what Lines::line gives",
 }
 NOTHING_RUNS = re.compile(r"[/_](laws|examples)\.rt$")
 NOT_CALLS = re.compile(r"//.*|\buse [^;]*;")  # comments, and what is brought in
@@ -50,6 +56,13 @@ class Function(NamedTuple):
     last: int
     name: str
     call: re.Pattern[str]
+
+    def type(self) -> str:
+        """The type that has it, or nothing."""
+        return self.name.rpartition("::")[0]
+
+    def word(self) -> str:
+        return self.name.rpartition("::")[2]
 
 
 def text_of(path: str) -> str:
@@ -104,24 +117,33 @@ def functions(sources: dict[str, list[str]]) -> Iterator[Function]:
             yield Function(path, first, last, name, re.compile(call))
 
 
-def is_bare(made: Product, crate: str, function: Function) -> bool:
+def is_called(function: Function, code: str, shared: set[str]) -> bool:
+    """Whether it may be called there; `shared` has the words that are methods of several types."""
+    named = function.word() not in shared or re.search(rf"\b{function.type()}\b", code)
+    return bool(named and function.call.search(code))
+
+
+def is_bare(made: Product, crate: str, function: Function, shared: set[str]) -> bool:
     """Whether it has neither a caller nor an edit."""
     own = made.sources[crate][function.path]
     body = "\n".join(own[function.first : function.last])
     others = own[: function.first] + own[function.last :]
     for user in (user for user, below in made.below.items() if crate in below):
         for path, lines in made.sources[user].items():
-            if function.call.search("\n".join(others if path == function.path else lines)):
+            code = "\n".join(others if path == function.path else lines)
+            if is_called(function, code, shared):
                 return False
     return not any(path == function.path and old in body for path, old in made.edits)
 
 
 def faults_of(made: Product, exceptions: dict[str, str]) -> list[str]:
+    listed = [(name, one) for name in made.libraries for one in functions(made.sources[name])]
+    words = Counter(one.word() for _, one in listed if one.type())
+    shared = {word for word, types in words.items() if types > 1}
     bare = {
         f"{crate}: {one.name}": f"{one.path}:{one.first + 1}"
-        for crate in made.libraries
-        for one in functions(made.sources[crate])
-        if is_bare(made, crate, one)
+        for crate, one in listed
+        if is_bare(made, crate, one, shared)
     }
     faults = [f"{bare[one]}: {one} has no caller and no edit" for one in bare.keys() - exceptions]
     old = [f"checks/edits.py: {one} is no exception any more" for one in exceptions.keys() - bare]
@@ -130,7 +152,10 @@ def faults_of(made: Product, exceptions: dict[str, str]) -> list[str]:
 
 def self_test(made: Product) -> int:
     lone = {**made.sources, "bit_rows": {"lone.rt": ["pub fn lone() -> u32 {", "    7", "}"]}}
+    method = ["impl Lone {", "    pub fn split(&self) -> u32 {", "        7", "    }", "}"]
+    other = {**made.sources, "bit_rows": {"lone.rt": method}}
     told = {
+        "Lone::split has no caller": faults_of(made._replace(sources=other), EXCEPTIONS),
         "lone has no caller": faults_of(made._replace(sources=lone), EXCEPTIONS),
         "Rows::or_row has no caller": faults_of(made._replace(edits=[]), EXCEPTIONS),
         "gone is no exception": faults_of(made, {**EXCEPTIONS, "bit_rows: gone": "planted"}),
