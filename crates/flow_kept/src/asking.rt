@@ -89,7 +89,7 @@ fn solve_to<'a, 'g, 'p>(
     (word, until)
 }
 
-// The word that is asked, of a slice that has it.
+// The bits that are asked, of a slice that has their word.
 fn asked_word(
     problem: &Problem<'_, '_>,
     slice: &SliceWords,
@@ -103,7 +103,7 @@ fn asked_word(
     ensures { IsAnswerTo problem.now.program query result }
 {
     let bits = slice.word(query.point, query.word);
-    table_word(bits, range.0, range.1, query.word, query.analysis.join())
+    table_word(bits, range.0, range.1, query.word, query.analysis.join()) & query.bits
 }
 
 /// Puts the answers to a run of queries at their places. Fails only where memory runs out.

@@ -5,3 +5,6 @@ pub mod TableAnswers
 pub mod Answered
 pub mod Truncated
 pub mod Listed
+pub mod Packed
+pub mod Told
+pub mod Gathered

@@ -19,9 +19,15 @@ abbrev pub AreQueriesOf : Program → List Query → Type 0
 AreQueriesOf program queries = (q : ℕ) (query : Query) → slice_get queries q ≡ Some query → IsQueryOf program query
 
 -- The word has exactly the bits of the query's word that are in the analysis's set at its point: the meet over all valid paths there.
+abbrev pub IsWordAt : Program → Query → ℕ → Type 0
+IsWordAt program query word = (k : ℕ) → k < 64
+    → (has_bit word k ≡ true) ↔ ((64 * query.word + k < bits program query.analysis) × IsInTable program query.analysis query.point (64 * query.word + k))
+
+-- It has those of them that are asked.
 abbrev pub IsAnswerTo : Program → Query → ℕ → Type 0
 IsAnswerTo program query word = (k : ℕ) → k < 64
-    → (has_bit word k ≡ true) ↔ ((64 * query.word + k < bits program query.analysis) × IsInTable program query.analysis query.point (64 * query.word + k))
+    → (has_bit word k ≡ true) ↔ ((has_bit query.bits k ≡ true) × (64 * query.word + k < bits program query.analysis)
+    × IsInTable program query.analysis query.point (64 * query.word + k))
 
 -- queries with a word each, and for each point whether a valid path leads to it, and from it
 pub record Replies : Type 0 where

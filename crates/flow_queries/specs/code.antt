@@ -1,3 +1,5 @@
 pub mod Boards
 pub mod Cuts
 pub mod Directions
+pub mod Packing
+pub mod Solving

@@ -7,10 +7,12 @@ mod arrange;
 mod calls;
 mod direction;
 mod halves;
+mod packing;
 mod plan;
 mod queried;
 mod queried_job;
 mod query;
+mod solved_words;
 mod solvers;
 
 pub use answers::Answers;

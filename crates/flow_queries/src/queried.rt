@@ -2,27 +2,29 @@
 ghost use Rattle.std.specs.Prelude.{◌≡◌, ℕ, ◌*◌, ◌^◌, ◌<◌, ◌≤◌, ◌↔◌, true, false, Some, length, slice_get, slice_index, IfOk, IfErr};
 ghost use Rattle.bit_rows.specs.RowSet.{contains};
 ghost use Rattle.bit_rows.specs.RowTable.{set_at};
-ghost use Rattle.flow_graph.specs.Universes.{bits as bits_of};
-ghost use Rattle.gen_kill.specs.Selections.{column_count, may_form};
-ghost use Rattle.gk_solve.specs.Solved.{HasPathFlags, TellWords, direction_of};
+ghost use Rattle.gen_kill.specs.Selections.{may_form};
+ghost use Rattle.gk_solve.specs.Solved.{HasPathFlags};
 ghost use Rattle.slice_board.specs.Boards.{IsOf};
 ghost use Rattle.flow_queries.specs.Queries.{AreQueriesOf, IsAnswerTo};
-ghost use Rattle.flow_team.specs.Sets.{IsInColumns};
 ghost use Rattle.slice_board.specs.Teams.{PostsMore};
-ghost use Rattle.flow_queries.specs.code.Boards.{AreDone, AreWordsOf, Arranges, IsArranged, IsQueryBoard, IsWanted};
-ghost use Rattle.flow_queries.specs.code.Boards.{ordered};
+ghost use Rattle.flow_queries.specs.code.Boards.{AreDone, Arranges, IsQueryBoard, IsWanted, ordered};
 ghost use Rattle.flow_queries.specs.code.Cuts.{AreAlike};
 ghost use Rattle.flow_queries.specs.code.Directions.{selection_of};
+ghost use Rattle.flow_queries.specs.code.Packing.{ArePacked, HasAsked, HasColumns};
+ghost use Rattle.flow_queries.specs.code.Solving.{IsAskedWord};
 ghost use Rattle.flow_queries.specs.declared.query.Query.{Query as QueryValue};
 
 use crate::OutOfMemory;
+use crate::packing::solver_among;
 use crate::plan::SlicePlan;
 use crate::query::Query;
+use crate::solved_words::SolvedWords;
 use crate::solvers::GraphSolvers;
 use bit_rows::words_for;
 use flow_graph::Analysis;
 use flow_team::complement_mask;
-use gk_solve::{Routes, SliceWords, Solver, words_at_once};
+use gen_kill::Problem;
+use gk_solve::Solver;
 use slice_board::{Pass, PostedWords, Solve, Wanted, WordBoard};
 use std::alloc::Global;
 use std::marker::Model;
@@ -30,18 +32,21 @@ use std::marker::Model;
 /// What is asked of a graph, and the solvers of its analyses.
 pub(crate) struct QueriedWords<'g, 'p> {
     solvers: GraphSolvers<'g, 'p>,
+    // By the analyses' numbers: of the bits that are asked alone, where these are solved side by side.
+    packed: Vec<Option<Solver<'g, 'p>>>,
     queries: Vec<Query>,
     places: Vec<u32>,
 }
 
 impl<'g, 'p> Model for QueriedWords<'g, 'p> {
     ghost use Rattle.flow_queries.specs.code.Boards.{Queried, IsArranged, queried_in};
+    ghost use Rattle.flow_queries.specs.code.Packing.{ArePacked};
 
     ghost Value = { Queried };
 
     ghost view = { λ s. queried_in s.solvers s.queries.items s.places.items };
 
-    ghost invariant = { λ s. IsArranged (queried_in s.solvers s.queries.items s.places.items) };
+    ghost invariant = { λ s. IsArranged (queried_in s.solvers s.queries.items s.places.items) × ArePacked s.solvers s.queries.items s.packed.items };
 }
 
 impl Drop for QueriedWords<'_, '_> {
@@ -49,6 +54,7 @@ impl Drop for QueriedWords<'_, '_> {
     fn drop(self) {
         let QueriedWords {
             solvers: _,
+            packed: _,
             queries: _,
             places: _,
         } = self;
@@ -59,36 +65,26 @@ impl<'g, 'p> Wanted for QueriedWords<'g, 'p> {
     ghost wants = { IsWanted };
 }
 
-// Sees to it that a word is among those that were solved last: of the words from one up to another this is known. Words are solved in whole
-// groups, counted from the first.
-fn solve_to<'a, 'g, 'p>(
-    solver: &'a Solver<'g, 'p>,
-    routes: &'a Routes,
-    words: &mut SliceWords,
-    solved: (u32, u32),
-    word: u32,
-) -> (u32, u32)
-    requires routes { routes.now ≡ direction_of solver.now }
-    requires solved { AreWordsOf solver.now solved.0 solved.1 words.old }
-    requires word { 64 * word < column_count solver.now }
-    ensures solved { AreWordsOf solver.now result.0 result.1 words.new }
-    ensures here { (result.0 ≤ word) × (word < result.1) }
-{
-    if solved.0 <= word && word < solved.1 {
-        return solved;
-    }
-    let bits = solver.problem().bits();
-    let at_once = words_at_once(words.points(), words_for(bits));
-    let from = word / at_once * at_once;
-    let until = solver.solve_from(routes, words, from);
-    (from, until)
+/// The word of a problem in which the first bit stands that a query asks for. It bears on the order in which queries are solved alone.
+pub(crate) fn first_word(problem: &Problem<'_, '_>, query: Query) -> u32 {
+    let bit = query
+        .word
+        .saturating_mul(64)
+        .saturating_add(query.bits.trailing_zeros());
+    problem.column(bit).unwrap_or(0) / 64
 }
 
 impl<'g, 'p> QueriedWords<'g, 'p> {
-    /// What is asked of a graph, with the order in which the queries are solved.
-    pub(crate) fn of(solvers: GraphSolvers<'g, 'p>, queries: Vec<Query>, places: Vec<u32>) -> Self
+    /// What is asked of a graph, with the solvers of the bits that are asked alone, and the order in which the queries are solved.
+    pub(crate) fn of(
+        solvers: GraphSolvers<'g, 'p>,
+        packed: Vec<Option<Solver<'g, 'p>>>,
+        queries: Vec<Query>,
+        places: Vec<u32>,
+    ) -> Self
         requires queries { AreQueriesOf solvers queries.items }
         requires few { 64 * length queries.items < 2 ^ 32 }
+        requires packed { ArePacked solvers queries.items packed.items }
         requires arranged { Arranges queries.items (ordered queries.items places.items) places.items }
         ensures program { result.program ≡ solvers.entry }
         ensures queries { result.queries ≡ queries.items }
@@ -96,6 +92,7 @@ impl<'g, 'p> QueriedWords<'g, 'p> {
     {
         QueriedWords {
             solvers,
+            packed,
             queries,
             places,
         }
@@ -119,6 +116,14 @@ impl<'g, 'p> QueriedWords<'g, 'p> {
         self.places.len() as u32
     }
 
+    // The solver of the bits of an analysis that are asked.
+    fn solver(&self, analysis: Analysis) -> &Solver<'g, 'p>
+        ensures program { result.now.program ≡ self.now.program }
+        ensures asked { HasAsked self.now.order analysis result.now }
+    {
+        solver_among(&self.solvers, self.packed.as_slice(), analysis)
+    }
+
     /// Whether a slice of this plan ends between two queries that follow one another: where the analysis or the slice's words change.
     pub(crate) fn ends_between(&self, plan: SlicePlan, before: Query, here: Query) -> bool
         ensures { result ≡ false → before.analysis ≡ here.analysis }
@@ -126,24 +131,13 @@ impl<'g, 'p> QueriedWords<'g, 'p> {
         if before.analysis != here.analysis {
             return true;
         }
-        if before.word == here.word {
-            return false;
-        }
-        let bits = self.solvers.solver(here.analysis).problem().bits();
-        let width = plan.slice_words(bits);
-        before.word / width != here.word / width
+        let problem = self.solver(here.analysis).problem();
+        let width = plan.slice_words(problem.bits());
+        first_word(problem, before) / width != first_word(problem, here) / width
     }
 
-    // All memory in which an analysis is solved.
-    fn memory(&self, alloc: Global, analysis: Analysis) -> Result<SliceWords, OutOfMemory>
-        ensures { IfOk result (AreWordsOf (selection_of self.now.program analysis) 0 0) }
-    {
-        let solver = self.solvers.solver(analysis);
-        let routes = self.solvers.routes(analysis);
-        solver.slice(alloc, routes, 0, solver.problem().bits())
-    }
-
-    // The answer to the query of a number in that order, of what was posted of it: complemented where the analysis is over every path.
+    // The answer to the query of a number in that order, of what was posted of it: where the analysis is over every path, of the bits that are
+    // asked those that were not posted.
     fn answer(&self, posted: &PostedWords, j: u32) -> u64
         requires there { j < length self.now.order }
         requires one { length posted.now.flags ≡ 1 }
@@ -152,7 +146,7 @@ impl<'g, 'p> QueriedWords<'g, 'p> {
     {
         let query = self.query(j);
         let bits = self.solvers.solver(query.analysis).problem().bits();
-        posted.word(0, j) ^ complement_mask(bits, query.analysis.join(), query.word)
+        posted.word(0, j) ^ (complement_mask(bits, query.analysis.join(), query.word) & query.bits)
     }
 
     /// Puts the answers to their queries' numbers, of what was posted.
@@ -191,64 +185,55 @@ impl<'g, 'p> QueriedWords<'g, 'p> {
     {
         let QueriedWords {
             solvers,
+            packed: _,
             queries,
             places: _,
         } = self;
         (queries, solvers)
     }
 
-    // Posts the word of a query, which is among those that were solved last, unless it has no bit.
+    // Posts what is wanted of a query, unless it is nothing.
     fn post_word(
         &self,
         board: &WordBoard<QueriedWords<'g, 'p>>,
         pass: &mut Pass<QueriedWords<'g, 'p>>,
-        words: &SliceWords,
         j: u32,
-        query: Query,
+        _query: Query,
+        word: u64,
     )
         requires on { IsQueryBoard self.now board.now }
         requires of { IsOf board.now pass.old }
-        requires there { slice_get self.now.order j ≡ Some query }
-        requires point { query.point < words.now.points }
-        requires from { words.now.from ≤ query.word }
-        requires until { query.word < words.now.until }
-        requires range { (words.now.lo ≡ 0) × (words.now.hi ≡ bits_of self.now.program query.analysis) }
-        requires tells { TellWords (IsInColumns (selection_of self.now.program query.analysis)) words.now }
+        requires there { slice_get self.now.order j ≡ Some _query }
+        requires tells { IsAskedWord self.now.program _query word }
         ensures more { PostsMore pass.old pass.new }
         ensures done { AreDone self.now (λ w. w ≡ j) pass.new.posted }
     {
-        let mask = words.word(query.point, query.word);
-        if mask == 0 {
+        if word == 0 {
             return;
         }
-        board.post(pass, 0, j, mask);
+        board.post(pass, 0, j, word);
     }
 
-    // Posts the word of a query, which is solved first where it was not solved last.
+    // Posts what is wanted of the query of a number in the order, of whose analysis the words are.
     fn post_query(
         &self,
         board: &WordBoard<QueriedWords<'g, 'p>>,
         pass: &mut Pass<QueriedWords<'g, 'p>>,
-        words: &mut SliceWords,
-        solved: (u32, u32),
+        words: &mut SolvedWords<'_, 'g, 'p>,
         j: u32,
-    ) -> (u32, u32)
+    )
         requires on { IsQueryBoard self.now board.now }
         requires of { IsOf board.now pass.old }
         requires there { j < length self.now.order }
-        requires solved { (query : QueryValue) → slice_get self.now.order j ≡ Some query
-            → AreWordsOf (selection_of self.now.program query.analysis) solved.0 solved.1 words.old }
+        requires program { words.old.program ≡ self.now.program }
+        requires asked { (query : QueryValue) → slice_get self.now.order j ≡ Some query → HasColumns words.old query }
+        ensures same { words.new ≡ words.old }
         ensures more { PostsMore pass.old pass.new }
-        ensures solved { (query : QueryValue) → slice_get self.now.order j ≡ Some query
-            → AreWordsOf (selection_of self.now.program query.analysis) result.0 result.1 words.new }
         ensures done { AreDone self.now (λ q. q ≡ j) pass.new.posted }
     {
         let query = self.query(j);
-        let solver = self.solvers.solver(query.analysis);
-        let routes = self.solvers.routes(query.analysis);
-        let solved = solve_to(solver, routes, words, solved, query.word);
-        self.post_word(board, pass, &*words, j, query);
-        solved
+        let word = words.asked(query);
+        self.post_word(board, pass, j, query, word);
     }
 
     // Solves what is asked from one query up to another, all of one analysis, and posts it. All memory is taken first.
@@ -270,10 +255,11 @@ impl<'g, 'p> QueriedWords<'g, 'p> {
         ensures refused { IfErr result (λ _. pass.new ≡ pass.old) }
     {
         let first = self.query(from);
-        let mut words = self.memory(alloc, first.analysis)?;
-        let mut solved = (0, 0);
+        let solver = self.solver(first.analysis);
+        let routes = self.solvers.routes(first.analysis);
+        let mut words = SolvedWords::of(alloc, solver, routes)?;
         'queries: for j in from..until {
-            solved = self.post_query(board, pass, &mut words, solved, j);
+            self.post_query(board, pass, &mut words, j);
         }
         Ok(())
     }

@@ -4,16 +4,19 @@ ghost use Rattle.slice_board.specs.Boards.{fresh_pass};
 ghost use Rattle.slice_board.specs.Passes.{IsWhole};
 ghost use Rattle.slice_board.specs.Teams.{IsDrained};
 ghost use Rattle.flow_queries.specs.Queries.{AreAnswers, AreQueriesOf};
+ghost use Rattle.flow_queries.specs.code.Boards.{Arranges, ordered};
 ghost use Rattle.flow_queries.specs.code.Cuts.{AreApart, EndTo};
 
 use crate::OutOfMemory;
 use crate::answers::Answers;
-use crate::arrange::arranged_places;
+use crate::arrange::places_by;
+use crate::packing::{packed_solvers, solver_among};
 use crate::plan::SlicePlan;
-use crate::queried::QueriedWords;
+use crate::queried::{QueriedWords, first_word};
 use crate::query::Query;
 use crate::solvers::GraphSolvers;
 use bit_rows::{Cut, CutFault};
+use gk_solve::Solver;
 use slice_board::{Pass, SliceJob, WordBoard};
 use std::alloc::Global;
 
@@ -77,6 +80,39 @@ fn on_board<'g, 'p>(
     Ok((SliceJob::on_board(board, queried), pass))
 }
 
+// The word in which each query is solved.
+fn solved_in<'g, 'p>(
+    alloc: Global,
+    solvers: &GraphSolvers<'g, 'p>,
+    packed: &[Option<Solver<'g, 'p>>],
+    queries: &[Query],
+) -> Result<Vec<u32>, OutOfMemory>
+    requires { length packed.now ≡ 4 }
+    ensures { IfOk result (λ words. length words.items ≡ length queries.now) }
+{
+    let mut words = Vec::with_capacity(alloc, queries.len())?;
+    for query in queries {
+        let solver = solver_among(&*solvers, &*packed, query.analysis);
+        words.push(first_word(solver.problem(), *query))?;
+    }
+    Ok(words)
+}
+
+// The numbers of queries in the order in which they are solved.
+fn places_of<'g, 'p>(
+    alloc: Global,
+    solvers: &GraphSolvers<'g, 'p>,
+    packed: &[Option<Solver<'g, 'p>>],
+    queries: &[Query],
+) -> Result<Vec<u32>, OutOfMemory>
+    requires packed { length packed.now ≡ 4 }
+    requires few { length queries.now < 2 ^ 32 }
+    ensures { IfOk result (λ places. Arranges queries.now (ordered queries.now places.items) places.items) }
+{
+    let words = solved_in(alloc, &*solvers, &*packed, &*queries)?;
+    places_by(alloc, queries, words.as_slice())
+}
+
 /// The job of these queries of a graph, in any order, in slices of so many bits, as [`SlicePlan`] rounds them, and a pass of it with empty lists.
 pub(crate) fn queried_job<'g, 'p>(
     alloc: Global,
@@ -90,9 +126,10 @@ pub(crate) fn queried_job<'g, 'p>(
     ensures queries { IfOk result (λ r. r.0.wanted.queries ≡ queries.items) }
     ensures pass { IfOk result (λ r. r.1 ≡ fresh_pass r.0) }
 {
-    let places = arranged_places(alloc, queries.as_slice())?;
+    let packed = packed_solvers(alloc, solvers.graph(), queries.as_slice())?;
+    let places = places_of(alloc, &solvers, packed.as_slice(), queries.as_slice())?;
     let plan = SlicePlan::of(solvers.points(), cut);
-    let queried = QueriedWords::of(solvers, queries, places);
+    let queried = QueriedWords::of(solvers, packed, queries, places);
     let cut = cut_of(alloc, &queried, plan)?;
     on_board(alloc, queried, cut)
 }

@@ -1,6 +1,6 @@
 use flow_graph::Analysis;
 
-/// A word of an analysis's set at a point: bit `64 * word + k` of the analysis at place `k`.
+/// Bits of a word of an analysis's set at a point: bit `64 * word + k` of the analysis at place `k`.
 #[derive(Clone, Copy, Debug, PartialEq, Eq)]
 pub struct Query {
     /// The analysis.
@@ -9,4 +9,6 @@ pub struct Query {
     pub point: u32,
     /// The number of the word: its first bit is `64 * word`.
     pub word: u32,
+    /// The bits that are asked, by their places in the word; all of them where it is [`u64::MAX`].
+    pub bits: u64,
 }

@@ -107,7 +107,14 @@ impl<'g, 'p> GraphSolvers<'g, 'p> {
         }
     }
 
-    /// The solver of an analysis.
+    /// The graph.
+    pub(crate) fn graph(&self) -> &'g Graph<'p>
+        ensures { result.now ≡ self.now }
+    {
+        self.solver(Analysis::Reach).problem().graph()
+    }
+
+    /// The solver of all bits of an analysis.
     pub(crate) fn solver(&self, analysis: Analysis) -> &Solver<'g, 'p>
         ensures { result.now ≡ selection_of self.now analysis }
     {

@@ -71,6 +71,7 @@ fn query_round(
             analysis: Analysis::Busy,
             point,
             word: from + number % width,
+            bits: u64::MAX,
         })?;
     }
     Ok(())

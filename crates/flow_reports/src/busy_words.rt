@@ -3,7 +3,7 @@
 ghost use Rattle.std.specs.Prelude.{◌≡◌, ℕ, suc, ◌+◌, ◌*◌, ◌^◌, ◌<◌, ◌≤◌, Some, length, slice_get, slice_index, IfOk, MatchOption};
 ghost use Rattle.flow_graph.specs.Universes.{bits};
 ghost use Rattle.flow_graph.specs.declared.analysis.Analysis.TheVariants.{Busy};
-ghost use Rattle.flow_queries.specs.Queries.{AreAnswers, IsAnswerTo};
+ghost use Rattle.flow_queries.specs.Queries.{AreAnswers, IsWordAt};
 ghost use Rattle.flow_reports.specs.code.Busy.{AreBusy, QueriesRound, Keeps, TellBusy, busy_query, busy_lists};
 ghost use Rattle.tac_program.specs.Programs.{Program};
 
@@ -61,7 +61,7 @@ impl BusyWords {
     fn put(&mut self, test: u32, query: Query, mask: u64) -> Result<(), OutOfMemory>
         requires { test < length self.old.firsts.items }
         ensures keeps { IfOk result (λ _. Keeps (busy_lists self.old) (busy_lists self.new) test) }
-        ensures answered { IfOk result (λ _. (program : Program) (point word : ℕ) → query ≡ busy_query point word → IsAnswerTo program query mask
+        ensures answered { IfOk result (λ _. (program : Program) (point word : ℕ) → query ≡ busy_query point word → IsWordAt program query mask
             → 64 * word < bits program Busy
             → AreBusy program self.old.words.items point (suc word) (slice_index self.old.firsts.items test)
             → AreBusy program self.new.words.items point word (slice_index self.new.firsts.items test)) }

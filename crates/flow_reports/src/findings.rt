@@ -54,29 +54,14 @@ impl<'a> Findings<'a> {
 }
 
 impl Findings<'_> {
-    // The answer to the query of a number.
-    pub(crate) fn answer(&self, number: u32, query: Query) -> u64
-        requires found { AreFindings self.now }
-        requires queried { slice_get self.now.answers.now.replies.queries number ≡ Some query }
-        ensures { (k : ℕ) → k < 64
-            → has_bit result k ≡ (facts_in self.now.answers.now.replies query.analysis).contains query.point (64 * query.word + k) }
-    {
-        // Only the number tells which answer it is; the query says what it answers.
-        let _ = query;
-        self.answers.word(number)
-    }
-
     // Whether the answer to the query of a number has the bit that it was asked for.
     pub(crate) fn has(&self, number: u32, analysis: Analysis, point: u32, bit: u32) -> bool
         requires found { AreFindings self.now }
         requires queried { slice_get self.now.answers.now.replies.queries number ≡ Some (query_for analysis point bit) }
         ensures { result ≡ (facts_in self.now.answers.now.replies analysis).contains point bit }
     {
-        let query = Query {
-            analysis,
-            point,
-            word: bit / 64,
-        };
-        (self.answer(number, query) >> (bit % 64)) & 1 == 1
+        // Only the number tells which answer it is; the others say what it answers.
+        let _ = (analysis, point);
+        (self.answers.word(number) >> (bit % 64)) & 1 == 1
     }
 }

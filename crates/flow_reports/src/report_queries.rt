@@ -1,6 +1,6 @@
 // What a report asks of the four analyses.
 
-ghost use Rattle.std.specs.Prelude.{◌≡◌, ◌+◌, ◌/◌, ◌^◌, ◌<◌, ◌≤◌, [], ◌∷◌, ◌++◌, Some, length, IfOk};
+ghost use Rattle.std.specs.Prelude.{◌≡◌, ◌+◌, ◌/◌, ◌%◌, ◌^◌, ◌<◌, ◌≤◌, [], ◌∷◌, ◌++◌, Some, length, IfOk};
 ghost use Rattle.flow_graph.specs.Points.{kind_at, point_count};
 ghost use Rattle.tac_program.specs.Sound.{IsSound};
 ghost use Rattle.tac_program.specs.declared.program.StmtKind.{StmtKind as KindValue};
@@ -29,12 +29,13 @@ pub(crate) struct PointQueries {
 
 // The query for a bit of the set of a point.
 fn query_for(analysis: Analysis, point: u32, bit: u32) -> Query
-    ensures { result ≡ record { analysis = analysis; point = point; word = bit / 64 } }
+    ensures { result ≡ record { analysis = analysis; point = point; word = bit / 64; bits = 2 ^ (bit % 64) } }
 {
     Query {
         analysis,
         point,
         word: bit / 64,
+        bits: 1 << (bit % 64),
     }
 }
 

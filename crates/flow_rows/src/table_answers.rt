@@ -2,7 +2,7 @@
 ghost use Rattle.std.specs.List.{range_with_len};
 ghost use Rattle.std.specs.Prelude.{◌≡◌, ◌<◌, ℕ, Some, length, map, slice_get, slice_index, IfOk};
 ghost use Rattle.flow_graph.specs.Points.{point_count};
-ghost use Rattle.flow_queries.specs.Queries.{AreAnswers, AreQueriesOf, IsAnswerTo, IsQueryOf};
+ghost use Rattle.flow_queries.specs.Queries.{AreAnswers, AreQueriesOf, IsAnswerTo, IsQueryOf, IsWordAt};
 ghost use Rattle.flow_queries.specs.declared.query.Query.{Query as QueryValue};
 ghost use Rattle.flow_team.specs.AllTables.{AreTablesOf};
 ghost use Rattle.flow_team.specs.Tables.{IsTableOf, facts_of};
@@ -13,12 +13,12 @@ use flow_queries::{Answers, Query};
 use flow_team::{Table, Tables};
 use std::alloc::Global;
 
-// The answer to a query, read out of the table of its analysis.
+// The word that a query asks bits of, read out of the table of its analysis.
 fn word_in(graph: &Graph<'_>, table: &Table, query: Query) -> u64
     requires analysis { table.now.analysis ≡ query.analysis }
     requires table { IsTableOf graph.now table.now }
     requires query { IsQueryOf graph.now query }
-    ensures { IsAnswerTo graph.now query result }
+    ensures { IsWordAt graph.now query result }
 {
     // Its contract tells how many points there are.
     let _ = graph.points();
@@ -31,7 +31,7 @@ fn answer_in(graph: &Graph<'_>, tables: &Tables, query: Query) -> u64
     requires tables { AreTablesOf graph.now tables.now }
     ensures { IsAnswerTo graph.now query result }
 {
-    word_in(graph, tables.table(query.analysis), query)
+    word_in(graph, tables.table(query.analysis), query) & query.bits
 }
 
 // The query of a number.

@@ -24,10 +24,11 @@ use test_support::worked_programs::series::prints;
 // An analysis, a point, a word of its set, and what the word is.
 type Queried = (Analysis, u32, u32, u64);
 
-// What is asked, and at which points each analysis has no path.
+// What is asked, which bits of each word, and at which points each analysis has no path.
 #[derive(Clone, Copy)]
 struct Querying {
     rows: &'static [Queried],
+    bits: u64,
     pathless: &'static str,
 }
 
@@ -63,11 +64,13 @@ const CALLEE_LOOPS_QUERIES: &[Queried] = &[
 // The same, and its paths.
 const CALLEE_LOOPS_ASKING: Querying = Querying {
     rows: CALLEE_LOOPS_QUERIES,
+    bits: u64::MAX,
     pathless: CALLEE_LOOPS_PATHLESS,
 };
 
 const NOTHING: Querying = Querying {
     rows: &[],
+    bits: u64::MAX,
     pathless: CALLEE_LOOPS_PATHLESS,
 };
 
@@ -105,6 +108,7 @@ const SUMS_65: Querying = Querying {
         (Analysis::Reach, 64, 2, 2),
         (Analysis::Reach, 65, 2, 4),
     ],
+    bits: u64::MAX,
     pathless: ALL_PATHS,
 };
 
@@ -127,6 +131,7 @@ const SUMS_64: Querying = Querying {
         (Analysis::Reach, 63, 2, 0),
         (Analysis::Reach, 64, 2, 1),
     ],
+    bits: u64::MAX,
     pathless: ALL_PATHS,
 };
 
@@ -143,6 +148,7 @@ const PRINTS_65: Querying = Querying {
         (Analysis::Reach, 65, 0, u64::MAX),
         (Analysis::Reach, 65, 1, 1),
     ],
+    bits: u64::MAX,
     pathless: ALL_PATHS,
 };
 
@@ -155,6 +161,7 @@ const PRINTS_64: Querying = Querying {
         (Analysis::Live, 64, 0, 0),
         (Analysis::Reach, 64, 0, u64::MAX),
     ],
+    bits: u64::MAX,
     pathless: ALL_PATHS,
 };
 
@@ -173,7 +180,14 @@ const SUMS_OF_TWO_GROUPS: Querying = Querying {
         (Analysis::Busy, 325, 5, 992),
         (Analysis::Busy, 330, 0, 0),
     ],
+    bits: u64::MAX,
     pathless: ALL_PATHS,
+};
+
+// Of the same words the first bit and the last one: few bits of many words are solved side by side.
+const SUMS_SIDE_BY_SIDE: Querying = Querying {
+    bits: 1 << 63 | 1,
+    ..SUMS_OF_TWO_GROUPS
 };
 
 // The order in which the rows are asked.
@@ -221,9 +235,10 @@ fn are_queries(graph: &Graph<'_>, queries: &[Query]) -> bool
 // The queries of the rows.
 fn queries_in_order(
     alloc: Global,
-    rows: &[Queried],
+    querying: Querying,
     order: Order,
 ) -> Result<Vec<Query>, OutOfMemory> {
+    let rows = querying.rows;
     let mut queries = Vec::new(alloc);
     for place in 0..rows.len() {
         let (analysis, point, word, _) = rows[row_at(order, place, rows.len())];
@@ -231,6 +246,7 @@ fn queries_in_order(
             analysis,
             point,
             word,
+            bits: querying.bits,
         })?;
     }
     Ok(queries)
@@ -240,13 +256,13 @@ fn queries_in_order(
 fn queries_of(
     alloc: Global,
     graph: &Graph<'_>,
-    rows: &[Queried],
+    querying: Querying,
     order: Order,
 ) -> Result<Vec<Query>, Fail>
     ensures queries { IfOk result (λ queries. AreQueriesOf graph.now queries.items) }
     ensures few { IfOk result (λ queries. 64 * length queries.items < 2 ^ 32) }
 {
-    let queries = queries_in_order(alloc, rows, order)?;
+    let queries = queries_in_order(alloc, querying, order)?;
     if are_queries(graph, queries.as_slice()) && queries.len() < 1_000 {
         Ok(queries)
     } else {
@@ -320,6 +336,7 @@ fn wanted_lines(alloc: Global, querying: Querying, order: Order) -> Result<Strin
     text.push_str(querying.pathless)?;
     for place in 0..rows.len() {
         let (analysis, point, word, want) = rows[row_at(order, place, rows.len())];
+        let want = want & querying.bits;
         write!(text, "{} {point} {word}: {want}\n", name_of(analysis))?;
     }
     Ok(text)
@@ -330,13 +347,13 @@ fn lines_of_team<R: Threads + Sync, G: Gate>(
     rt: &R,
     alloc: Global,
     graph: &Graph<'_>,
-    queried: (&[Queried], Order),
+    queried: (Querying, Order),
     how: (u32, u32),
     gate: &G,
 ) -> Result<Option<String>, Fail> {
-    let (rows, order) = queried;
+    let (querying, order) = queried;
     let (cut, workers) = how;
-    let queries = queries_of(alloc, graph, rows, order)?;
+    let queries = queries_of(alloc, graph, querying, order)?;
     match answer(rt, alloc, graph, queries, cut, workers, gate) {
         Ok(answers) => Ok(Some(answer_lines(alloc, graph, &answers)?)),
         Err(_) => Ok(None),
@@ -348,7 +365,7 @@ fn lines_or_left<R: Threads + Sync>(
     rt: &R,
     alloc: Global,
     graph: &Graph<'_>,
-    queried: (&[Queried], Order),
+    queried: (Querying, Order),
     workers: u32,
     gate: &Recorder,
 ) -> Result<String, Fail> {
@@ -362,10 +379,10 @@ fn lines_or_left<R: Threads + Sync>(
 fn lines_here(
     alloc: Global,
     graph: &Graph<'_>,
-    queried: (&[Queried], Order),
+    queried: (Querying, Order),
 ) -> Result<Option<String>, Fail> {
-    let (rows, order) = queried;
-    let queries = queries_of(alloc, graph, rows, order)?;
+    let (querying, order) = queried;
+    let queries = queries_of(alloc, graph, querying, order)?;
     match answer_here(alloc, graph, queries) {
         Ok(answers) => Ok(Some(answer_lines(alloc, graph, &answers)?)),
         Err(_) => Ok(None),
@@ -377,9 +394,9 @@ fn lines_of_tables<R: Threads + Sync>(
     rt: &R,
     alloc: Global,
     graph: &Graph<'_>,
-    queried: (&[Queried], Order),
+    queried: (Querying, Order),
 ) -> Result<Option<String>, Fail> {
-    let (rows, order) = queried;
+    let (querying, order) = queried;
     let team = Team {
         rt,
         gate: &OpenGate,
@@ -387,7 +404,7 @@ fn lines_of_tables<R: Threads + Sync>(
         cut: 64,
     };
     let tables = Tables::of(&team, alloc, graph)?;
-    let queries = queries_of(alloc, graph, rows, order)?;
+    let queries = queries_of(alloc, graph, querying, order)?;
     match answers_of_tables(alloc, graph, &tables, queries) {
         Ok(answers) => Ok(Some(answer_lines(alloc, graph, &answers)?)),
         Err(_) => Ok(None),
@@ -400,14 +417,14 @@ fn lines_again<R: Threads + Sync, G: Gate>(
     rt: &R,
     alloc: Global,
     graph: &Graph<'_>,
-    queried: (&[Queried], Order),
+    queried: (Querying, Order),
     how: (usize, u32),
     gate: &G,
 ) -> Result<String, Fail> {
-    let (rows, order) = queried;
+    let (querying, order) = queried;
     let (kept, workers) = how;
-    let first = queries_of(alloc, graph, rows, order)?;
-    let again = queries_of(alloc, graph, rows, order)?;
+    let first = queries_of(alloc, graph, querying, order)?;
+    let again = queries_of(alloc, graph, querying, order)?;
     let gate = JoinedGate::new(gate, 4);
     let team = Team {
         rt,
@@ -476,7 +493,7 @@ fn lines_by<R: Threads + Sync>(
     rt: &R,
     alloc: Global,
     graph: &Graph<'_>,
-    queried: (&[Queried], Order),
+    queried: (Querying, Order),
     way: Way<'_>,
 ) -> Result<Option<String>, Fail> {
     match way {
@@ -494,7 +511,7 @@ fn lines_by<R: Threads + Sync>(
             Ok(Some(lines_again(rt, alloc, graph, queried, (kept, 2), gate)?))
         }
         Way::MeetingAgain { workers, gate } => {
-            let how = (queried.0.len(), workers);
+            let how = (queried.0.rows.len(), workers);
             Ok(Some(lines_again(rt, alloc, graph, queried, how, gate)?))
         }
         Way::OfTables => lines_of_tables(rt, alloc, graph, queried),
@@ -506,7 +523,7 @@ fn lines_of_graph<R: Threads + Sync>(
     rt: &R,
     alloc: Global,
     graph: &Graph<'_>,
-    queried: (&[Queried], Order),
+    queried: (Querying, Order),
     way: Way<'_>,
     want: &str,
 ) -> Result<String, Fail> {
@@ -525,7 +542,7 @@ fn lines_of_program<R: Threads + Sync>(
     rt: &R,
     alloc: Global,
     program: &Program,
-    queried: (&[Queried], Order),
+    queried: (Querying, Order),
     way: Way<'_>,
     want: &str,
 ) -> Result<String, Fail> {
@@ -537,7 +554,7 @@ fn lines_of_program<R: Threads + Sync>(
 fn check<R: Threads + Sync + Abort + AllocGlobal>(
     rt: &R,
     text: &str,
-    queried: (&[Queried], Order),
+    queried: (Querying, Order),
     way: Way<'_>,
     want: &str,
 ) -> Result<(), Fail> {
@@ -553,7 +570,7 @@ pub fn check_way<R: Threads + Sync + Abort + AllocGlobal>(
     way: Way<'_>,
 ) -> Result<(), Fail> {
     let want = wanted_lines(rt.alloc(), CALLEE_LOOPS_ASKING, Order::AsWritten)?;
-    let queried = (CALLEE_LOOPS_ASKING.rows, Order::AsWritten);
+    let queried = (CALLEE_LOOPS_ASKING, Order::AsWritten);
     check(rt, callee_loops::TEXT, queried, way, want.as_str())
 }
 
@@ -565,7 +582,7 @@ fn check_team<R: Threads + Sync + Abort + AllocGlobal>(
     rt: &R,
     text: &str,
     want: &str,
-    queried: (&[Queried], Order),
+    queried: (Querying, Order),
     slices: Slices,
     workers: u32,
 ) -> Result<(), Fail> {
@@ -597,7 +614,7 @@ fn check_teams<R: Threads + Sync + Abort + AllocGlobal>(
     let want = wanted_lines(rt.alloc(), querying, order)?;
     for slices in cuts {
         for workers in WORKERS {
-            let queried = (querying.rows, order);
+            let queried = (querying, order);
             check_team(rt, text, want.as_str(), queried, *slices, *workers)?;
         }
     }
@@ -612,7 +629,7 @@ fn check_without_team<R: Threads + Sync + Abort + AllocGlobal>(
     order: Order,
 ) -> Result<(), Fail> {
     let want = wanted_lines(rt.alloc(), querying, order)?;
-    let queried = (querying.rows, order);
+    let queried = (querying, order);
     check(rt, text, queried, Way::Here, want.as_str())?;
     check(rt, text, queried, Way::OfTables, want.as_str())
 }
@@ -643,10 +660,11 @@ fn answers_of_all_analyses(rt: HostRuntime) -> Result<(), Fail> {
 
 #[test]
 fn answers_of_solvers_that_were_queried_before(rt: HostRuntime) -> Result<(), Fail> {
-    let queried = (CALLEE_LOOPS_QUERIES, Order::AsWritten);
+    let queried = (CALLEE_LOOPS_ASKING, Order::AsWritten);
     for kept in [0, 5, CALLEE_LOOPS_QUERIES.len()] {
         let querying = Querying {
             rows: &CALLEE_LOOPS_QUERIES[..kept],
+            bits: u64::MAX,
             pathless: CALLEE_LOOPS_PATHLESS,
         };
         let want = wanted_lines(rt.alloc(), querying, Order::AsWritten)?;
@@ -686,4 +704,11 @@ fn answers_of_two_groups(rt: HostRuntime) -> Result<(), Fail> {
     let cuts = &[(1, 4), (64, 4), (512, 2), (4_096, 2)];
     let text = sums(rt.alloc(), BITS_OF_TWO_GROUPS)?;
     check_answers(&rt, text.as_str(), SUMS_OF_TWO_GROUPS, cuts)
+}
+
+#[test]
+fn answers_of_few_bits(rt: HostRuntime) -> Result<(), Fail> {
+    // The bits of each analysis stand in one word, so its queries are in one slice.
+    let text = sums(rt.alloc(), BITS_OF_TWO_GROUPS)?;
+    check_answers(&rt, text.as_str(), SUMS_SIDE_BY_SIDE, TWO_SLICES)
 }

@@ -1,5 +1,5 @@
 -- Words of the analyses' sets that are asked of a handle's program, by numbers.
-use Rattle.std.specs.Prelude.{◌≡◌, ℕ, ◌<◌, ◌^◌, List, Some, None, length, slice_get, slice_index}
+use Rattle.std.specs.Prelude.{◌≡◌, ℕ, ◌-◌, ◌<◌, ◌^◌, List, Some, None, length, slice_get, slice_index}
 use Rattle.flow_graph.specs.declared.analysis.Analysis.{Analysis}
 use Rattle.flow_queries.specs.Queries.{IsAnswerTo, IsQueryOf}
 use Rattle.flow_queries.specs.declared.query.Query.{Query}
@@ -10,9 +10,9 @@ use Rattle.tacflow_c.specs.declared.queries.NumberedQuery.{NumberedQuery}
 use Rattle.tacflow_c.specs.declared.fault.Fault.{Fault}
 use Rattle.tacflow_c.specs.declared.fault.Fault.TheVariants as fault
 
--- the query of an analysis at the point and the word that are asked for
+-- the query of an analysis at the point and the word that are asked for: all bits of the word
 abbrev pub query_of : Analysis → NumberedQuery → Query
-query_of analysis ask = record { analysis = analysis; point = ask.point; word = ask.word }
+query_of analysis ask = record { analysis = analysis; point = ask.point; word = ask.word; bits = 2 ^ 64 - 1 }
 
 -- The query is that of the analysis of the asked number, and the program has its point and its word.
 pub record IsNumberedQuery (program : Program) (ask : NumberedQuery) (query : Query) : Type 0 where

@@ -35,6 +35,7 @@ fn query_of(graph: &Graph<'_>, ask: NumberedQuery) -> Result<Query, Fault>
         analysis,
         point: ask.point,
         word: ask.word,
+        bits: u64::MAX,
     })
 }
 

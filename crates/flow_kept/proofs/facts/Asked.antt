@@ -5,7 +5,7 @@ use Rattle.flow_graph.specs.Universes.{bits}
 use Rattle.flow_kept.specs.Facts.{IsFactWord}
 use Rattle.flow_kept.specs.code.Asked.{AreInRun, IsAsked}
 use Rattle.flow_kept.specs.declared.asking.Run.{Run}
-use Rattle.flow_queries.specs.Queries.{AreQueriesOf, IsAnswerTo}
+use Rattle.flow_queries.specs.Queries.{AreQueriesOf, IsWordAt}
 use Rattle.flow_queries.specs.declared.query.Query.{Query}
 use Rattle.gen_kill.specs.Selections.{all_bits}
 use Rattle.tac_program.specs.Programs.{Program}
@@ -87,10 +87,10 @@ module _ (queries : List Query) (places : List ℕ) (from : ℕ) where
             subst (λ n. (64 * query.word + k < hi) ↔ (64 * query.word + k < n)) same (high query.word k at.2 small);
       }
 
--- the word of a fact is the answer, where the slice has all bits of it
+-- the word of a fact is the query's word, where the slice has all bits of it
 pub answer_is : (program : Program) (lo hi : ℕ) (query : Query) (told : ℕ) → lo ≤ 64 * query.word
     → ((k : ℕ) → k < 64 → (64 * query.word + k < hi) ↔ (64 * query.word + k < bits program query.analysis))
-    → IsFactWord program query.analysis lo hi query.point query.word told → IsAnswerTo program query told
+    → IsFactWord program query.analysis lo hi query.point query.word told → IsWordAt program query told
 answer_is program lo hi query told low high fact k small =
     let is = fact k small in (
       λ has. let there = is.0 has in ((high k small).0 there.1, there.2),

@@ -1,12 +1,14 @@
 -- What the words and flags of a table answer.
 use Rattle.std.proofs.Common.{◌≡◌, ◌↔◌, ◌∙◌, ℕ, ◌+◌, ◌*◌, ◌<◌, ◌≤◌, Bool, true, false, List, [], ◌∷◌, ◌++◌, length, map, slice_get, slice_index}
-use Rattle.std.proofs.Common.{slice_index_or, if◌then◌else◌, Some, inl, inr, sym, ap, subst, arith, true≢false}
+use Rattle.std.proofs.Common.{slice_index_or, if◌then◌else◌, Some, inl, inr, sym, ap, ap₂, ◌&&◌, subst, arith, true≢false}
 use Rattle.std.specs.List.{range_with_len}
+use Rattle.std.specs.Prelude.{bit_and}
+use Rattle.bit_rows.proofs.words.WordBits.{has_bit-and}
 use mathlib.Core.Logic.{dite}
 use native.Mathlib.Decide.{ℕ_discrete}
 use Rattle.std.proofs.Math.ListN.{get_or-append}
 use Rattle.std.proofs.lemmas.List.{get_or_push}
-use Rattle.std.proofs.lemmas.Bool.{cases_lt}
+use Rattle.std.proofs.lemmas.Bool.{and_parts, cases_lt}
 use Rattle.std.proofs.lemmas.List.FromFn.{get_or-map-range_with_len, length-map-range_with_len}
 use Rattle.bit_rows.specs.Words.{has_bit}
 use Rattle.flow_graph.specs.Analyses.{HasPathAt, IsInTable, is_backward}
@@ -15,17 +17,17 @@ use Rattle.flow_graph.specs.Universes.{bits}
 use Rattle.flow_graph.specs.declared.analysis.Analysis.{Analysis}
 use Rattle.flow_graph.specs.declared.analysis.Analysis.TheVariants.{Reach, Live, Avail, Busy}
 use Rattle.tac_program.specs.Programs.{Program}
-use Rattle.flow_queries.specs.Queries.{AreAnswers, IsAnswerTo, IsQueryOf}
+use Rattle.flow_queries.specs.Queries.{AreAnswers, IsAnswerTo, IsQueryOf, IsWordAt}
 use Rattle.flow_team.specs.Tables.{AreFacts, IsTableOf, TableFacts, facts_of}
 use Rattle.flow_queries.specs.declared.query.Query.{Query}
 
--- a word of a table's set is the answer to its query
-pub table_answers : (program : Program) (table : TableFacts) (query : Query) (value : ℕ) → table.analysis ≡ query.analysis → IsTableOf program table
+-- a word of a table's set is the query's word
+pub table_words : (program : Program) (table : TableFacts) (query : Query) (value : ℕ) → table.analysis ≡ query.analysis → IsTableOf program table
     → IsQueryOf program query
     → ((k : ℕ) → k < 64 → has_bit value k ≡ (facts_of table).contains query.point (64 * query.word + k))
     → ((k : ℕ) → k < 64 → table.bits ≤ 64 * query.word + k → has_bit value k ≡ false)
-    → IsAnswerTo program query value
-table_answers program table query value same is of set past k small =
+    → IsWordAt program query value
+table_words program table query value same is of set past k small =
     let b = 64 * query.word + k in
     let facts : AreFacts program query.analysis (facts_of table) = subst (λ (a : Analysis). AreFacts program a (facts_of table)) same is.facts in
     elim (cases_lt b (bits program query.analysis)) [
@@ -42,6 +44,17 @@ table_answers program table query value same is of set past k small =
             (λ there. absurd (omega (arith, above, there.0))),
           )
     ]
+
+-- those of its bits that are asked for answer the query
+pub asked_answers : (program : Program) (query : Query) (value : ℕ) → IsWordAt program query value → IsAnswerTo program query (bit_and value query.bits)
+asked_answers program query value is k small =
+    let both = has_bit-and value query.bits k in (
+      (λ has.
+          let parts = and_parts (has_bit value k) (has_bit query.bits k) (sym both ∙ has) in
+          let found = (is k small).0 parts.0 in
+          (parts.1, found.0, found.1)),
+      (λ found. both ∙ ap₂ ◌&&◌ ((is k small).1 (found.1, found.2)) found.0),
+    )
 
 -- and its flags are the path flags of its direction
 pub table_flags : (program : Program) (table : TableFacts) (analysis : Analysis) (flags : List Bool) → table.analysis ≡ analysis

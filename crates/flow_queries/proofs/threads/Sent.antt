@@ -22,9 +22,9 @@ solvers_sync : (g p : NamedLft) → IsSync (GraphSolvers.the_row g p)
 solvers_sync g p = search (direction_sync, crosses, sendable) depth 60 fits 5000
 
 pub queried_send : (g p : NamedLft) → IsSend (QueriedWords.the_row g p)
-queried_send g p = search (solvers_send, crosses, sendable) depth 60 fits 5000
+queried_send g p = search (solvers_send, solver_send, crosses, sendable) depth 60 fits 5000
 
 pub queried_sync : (g p : NamedLft) → IsSync (QueriedWords.the_row g p)
-queried_sync g p = search (solvers_sync, crosses, sendable) depth 60 fits 5000
+queried_sync g p = search (solvers_sync, solver_sync, crosses, sendable) depth 60 fits 5000
 
 pub ruleset queried_cross = (queried_send, queried_sync, crosses, sendable)

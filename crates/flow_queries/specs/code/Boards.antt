@@ -1,6 +1,6 @@
 -- How queries stand to their board, and how far they are posted.
 use Rattle.std.specs.Prelude.{◌≡◌, ℕ, ◌+◌, ◌*◌, ◌/◌, ◌%◌, ◌^◌, ◌<◌, true, false, List, Some, length, map, slice_get, slice_index, slice_index_or}
-use Rattle.gen_kill.specs.Selections.{Selection, column_count}
+use Rattle.bit_rows.specs.Words.{has_bit}
 use Rattle.flow_graph.specs.declared.analysis.Analysis.TheVariants.{Reach}
 use Rattle.flow_links.specs.Shapes.{LinkedProgram}
 use Rattle.flow_queries.specs.Queries.{AreQueriesOf, IsAnswerTo}
@@ -8,7 +8,6 @@ use Rattle.flow_team.specs.Sets.{IsInColumns}
 use Rattle.flow_queries.specs.code.Cuts.{AreApart}
 use Rattle.flow_queries.specs.code.Directions.{selection_of}
 use Rattle.flow_queries.specs.declared.query.Query.{Query}
-use Rattle.gk_solve.specs.Solved.{IsSliceOf, SliceTable, TellWords}
 use Rattle.slice_board.specs.Boards.{BoardState, board_points}
 use Rattle.slice_board.specs.Passes.{IsLogged}
 use Rattle.slice_board.specs.declared.view.LoggedWord.{LoggedWord}
@@ -23,7 +22,7 @@ pub record Queried : Type 0 where
 
 -- the query that is read where there is none
 abbrev pub no_query : Query
-no_query = record { analysis = Reach; point = 0; word = 0 }
+no_query = record { analysis = Reach; point = 0; word = 0; bits = 0 }
 
 -- queries in the order of these numbers
 abbrev pub ordered : List Query → List ℕ → List Query
@@ -54,11 +53,12 @@ pub record AreDirections (program : Program) (forward backward : LinkedProgram) 
   pub is_backward : backward ≡ record { program = program; backward = true }
 
 -- What workers publish: the words of the queries one after the other, in their order, as the row of one point. Of each word those bits are
--- wanted that are in the may form's set at the query's point.
+-- wanted that are asked and in the may form's set at the query's point.
 pub record IsWanted (queried : Queried) (point bit : ℕ) : Type 0 where
   pub only : point ≡ 0
   pub query : Query
   pub there : slice_get queried.order (bit / 64) ≡ Some query
+  pub asked : has_bit query.bits (bit % 64) ≡ true
   pub some : IsInColumns (selection_of queried.program query.analysis) query.point (64 * query.word + bit % 64)
 
 -- The board wants what is asked: it has one point, a word for each query, and slices of queries of one analysis.
@@ -71,13 +71,6 @@ pub record IsQueryBoard (queried : Queried) (board : BoardState Queried) : Type 
 -- What is wanted of the queries that are done is posted.
 abbrev pub AreDone : Queried → (ℕ → Type 0) → List LoggedWord → Type 0
 AreDone queried done posted = (bit : ℕ) → IsWanted queried 0 bit → done (bit / 64) → IsLogged posted 0 bit
-
--- Of all bits of a problem, the words from one up to another were solved last: they tell the may form's sets.
-pub record AreWordsOf (selection : Selection) (from until : ℕ) (slice : SliceTable) : Type 0 where
-  pub of : IsSliceOf selection slice
-  pub lo : slice.lo ≡ 0
-  pub hi : slice.hi ≡ column_count selection
-  pub solved : from < until → (slice.from ≡ from) × (slice.until ≡ until) × TellWords (IsInColumns selection) slice
 
 -- The queries that are first in the order have their answers.
 abbrev pub AreAnswered : Queried → ℕ → List ℕ → Type 0

@@ -8,7 +8,7 @@ use Rattle.bit_rows.proofs.words.WordBits.{has_bit-zero}
 use Rattle.flow_graph.specs.Analyses.{IsInTable}
 use Rattle.flow_graph.specs.Universes.{bits}
 use Rattle.flow_graph.specs.declared.analysis.Analysis.TheVariants.{Busy}
-use Rattle.flow_queries.specs.Queries.{IsAnswerTo}
+use Rattle.flow_queries.specs.Queries.{IsWordAt}
 use Rattle.flow_reports.specs.code.Busy.{AreBusy, NoneBusy, busy_query, busy_mask, no_word}
 use Rattle.flow_reports.specs.code.Busy.AreBusy.{ended, linked}
 use Rattle.flow_reports.specs.declared.busy_words.BusyWord.{BusyWord}
@@ -60,7 +60,7 @@ module _ (program : Program) (point : ℕ) where
       answers rest
 
   -- a word without a bit has none of the expressions
-  pub none_there : (word : ℕ) → IsAnswerTo program (busy_query point word) 0 → NoneBusy program point word (suc word)
+  pub none_there : (word : ℕ) → IsWordAt program (busy_query point word) 0 → NoneBusy program point word (suc word)
   none_there word answers bit low high below is =
       let k : ℕ = bit % 64 in
       let at : 64 * word + k ≡ bit = omega (arith, low, high) in
@@ -70,7 +70,7 @@ module _ (program : Program) (point : ℕ) where
 
   -- a word put before a list
   pub put_before : (words new : List BusyWord) (busy : BusyWord) (next : ℕ) → new ≡ words ++ busy ∷ [] → busy.next ≡ next
-      → 64 * busy.word < bits program Busy → IsAnswerTo program (busy_query point busy.word) busy.mask
+      → 64 * busy.word < bits program Busy → IsWordAt program (busy_query point busy.word) busy.mask
       → AreBusy program words point (suc busy.word) next
       → AreBusy program new point busy.word (suc (length words))
   put_before words new busy next is first within answers rest =
@@ -105,7 +105,7 @@ module _ (program : Program) (point : ℕ) where
 
   known_here : (words : List BusyWord) (from most place bit : ℕ) (busy : BusyWord) (same : Bool) → nat_eq busy.word (bit / 64) ≡ same
       → slice_get words place ≡ Some busy → 64 * from ≤ bit → NoneBusy program point from busy.word
-      → IsAnswerTo program (busy_query point busy.word) busy.mask
+      → IsWordAt program (busy_query point busy.word) busy.mask
       → (bit / 64 < suc busy.word → busy_mask words most busy.next (bit / 64) ≡ 0)
       → (64 * suc busy.word ≤ bit → (has_bit (busy_mask words most busy.next (bit / 64)) (bit % 64) ≡ true)
       ↔ ((bit < bits program Busy) × IsInTable program Busy point bit))
@@ -154,7 +154,7 @@ module _ (program : Program) (point : ℕ) where
     pub above : from ≤ busy.word
     pub within : 64 * busy.word < bits program Busy
     pub gap : NoneBusy program point from busy.word
-    pub answers : IsAnswerTo program (busy_query point busy.word) busy.mask
+    pub answers : IsWordAt program (busy_query point busy.word) busy.mask
     pub rest : AreBusy program words point (suc busy.word) busy.next
 
   pub first_known : (words : List BusyWord) (from number place : ℕ) (busy : BusyWord) → number ≡ suc place → slice_get words place ≡ Some busy

@@ -1,8 +1,10 @@
 -- What answers tell where they were asked for.
-use Rattle.std.proofs.Common.{◌≡◌, ◌↔◌, ◌∙◌, ℕ, zero, suc, ◌+◌, ◌*◌, ◌/◌, ◌%◌, ◌<◌, Bool, true, false, ◌&&◌, List, [], ◌∷◌, Some, length, nat_eq}
+use Rattle.std.proofs.Common.{◌≡◌, ◌↔◌, ◌∙◌, ℕ, zero, suc, ◌+◌, ◌*◌, ◌/◌, ◌%◌, ◌^◌, ◌<◌, Bool, true, false, ◌&&◌, List, [], ◌∷◌, Some, length, nat_eq}
 use Rattle.std.proofs.Common.{slice_get, slice_index, if◌then◌else◌, refl, sym, ap, subst, arith}
 use Rattle.std.proofs.lemmas.Bool.{eqb-true}
 use Rattle.std.proofs.lemmas.Bool.Decides.{same_from_decides}
+use Rattle.std.proofs.lemmas.Nat.{one_shl}
+use Rattle.bit_rows.proofs.words.WordBits.{has_bit-shifted_same}
 use Rattle.bit_rows.specs.Words.{has_bit}
 use Rattle.flow_graph.specs.Analyses.{IsInTable}
 use Rattle.flow_graph.specs.Universes.{bits}
@@ -38,26 +40,30 @@ analysis_itself Live = refl
 analysis_itself Avail = refl
 analysis_itself Busy = refl
 
-three : (a b c : Bool) → (a && b && c) ≡ true → (a ≡ true) × (b ≡ true) × (c ≡ true)
-three true true true is = (refl, refl, refl)
-three true true false is = absurd (cc is)
-three true false c is = absurd (cc is)
-three false b c is = absurd (cc is)
+four : (a b c d : Bool) → (a && b && c && d) ≡ true → (a ≡ true) × (b ≡ true) × (c ≡ true) × (d ≡ true)
+four true true true true is = (refl, refl, refl, refl)
+four true true true false is = absurd (cc is)
+four true true false d is = absurd (cc is)
+four true false c d is = absurd (cc is)
+four false b c d is = absurd (cc is)
 
 same_query : (one other : Query) → is_query one other ≡ true → one ≡ other
 same_query one other is =
-    let all = three (is_analysis one.analysis other.analysis) (nat_eq one.point other.point) (nat_eq one.word other.word) is in
+    let all =
+    four (is_analysis one.analysis other.analysis) (nat_eq one.point other.point) (nat_eq one.word other.word) (nat_eq one.bits other.bits) is in
     λ i. let query : Query = record {
       analysis = same_analysis one.analysis other.analysis all.0 i;
       point = eqb-true one.point other.point all.1 i;
       word = eqb-true one.word other.word all.2 i;
+      bits = eqb-true one.bits other.bits all.3 i;
     } in query
 
 query_itself : (query : Query) → is_query query query ≡ true
 query_itself query =
-    ap (λ b. b && nat_eq query.point query.point && nat_eq query.word query.word) (analysis_itself query.analysis)
-    ∙ ap (λ b. true && b && nat_eq query.word query.word) (nat_eq_same query.point)
-    ∙ nat_eq_same query.word
+    ap (λ b. b && nat_eq query.point query.point && nat_eq query.word query.word && nat_eq query.bits query.bits) (analysis_itself query.analysis)
+    ∙ ap (λ b. true && b && nat_eq query.word query.word && nat_eq query.bits query.bits) (nat_eq_same query.point)
+    ∙ ap (λ b. b && nat_eq query.bits query.bits) (nat_eq_same query.word)
+    ∙ nat_eq_same query.bits
 
 -- the first word answers a query that is the first, and the others one that is among the others
 known_first : (program : Program) (one : Query) (queries : List Query) (word : ℕ) (words : List ℕ) (query : Query)
@@ -83,24 +89,27 @@ answered program (one ∷ queries) (word ∷ words) size each q query there =
     known_first program one queries word words query (each 0 query)
     (λ p here. answered program queries words (omega (arith, size)) (λ r a is. each (suc r) a is) p query here) q there (is_query one query) refl
 
+-- a bit is asked for by its query
+its_bit : (bit : ℕ) → has_bit (2 ^ (bit % 64)) (bit % 64) ≡ true
+its_bit bit =
+    subst (λ (n : ℕ). has_bit n (bit % 64) ≡ true) (one_shl (bit % 64) 64 (omega arith)) (has_bit-shifted_same (bit % 64) (omega arith))
+
 -- what is told of a bit that was asked for
 pub bit_known : (program : Program) (replies : Replies) → AreAnswers program replies → (analysis : Analysis) (point bit q : ℕ)
     → slice_get replies.queries q ≡ Some (query_for analysis point bit)
     → ((facts_in replies analysis).contains point bit ≡ true) ↔ ((bit < bits program analysis) × IsInTable program analysis point bit)
 bit_known program replies are analysis point bit q there =
     let whole : 64 * (bit / 64) + bit % 64 ≡ bit = omega arith in
+    let known = answered program replies.queries replies.words are.count are.sets q (query_for analysis point bit) there (bit % 64) (omega arith) in
     subst (λ (b : ℕ). ((facts_in replies analysis).contains point bit ≡ true) ↔ ((b < bits program analysis) × IsInTable program analysis point b))
-    whole
-    (answered program replies.queries replies.words are.count are.sets q (query_for analysis point bit) there (bit % 64) (omega arith))
+    whole ((λ has. let found = known.0 has in (found.1, found.2)), (λ found. known.1 (its_bit bit, found.0, found.1)))
 
--- the answer to a query is what is told of it
-pub word_known : (program : Program) (replies : Replies) → AreAnswers program replies → (q : ℕ) (query : Query) → slice_get replies.queries q ≡ Some query
-    → (k : ℕ) → k < 64 → has_bit (slice_index replies.words q) k ≡ (facts_in replies query.analysis).contains query.point (64 * query.word + k)
-word_known program replies are q query there k small =
-    let at : (64 * query.word + k) / 64 ≡ query.word = omega (arith, small) in
-    let place : (64 * query.word + k) % 64 ≡ k = omega (arith, small) in
-    same_from_decides (has_bit (slice_index replies.words q) k) (has_bit (answer_in replies.queries replies.words query) k)
-    (are.sets q query there k small) (answered program replies.queries replies.words are.count are.sets q query there k small)
-    ∙ ap (λ n. has_bit (answer_in replies.queries replies.words query) n) (sym place)
-    ∙ ap (λ n. has_bit (answer_in replies.queries replies.words (let a : Query = record { analysis = query.analysis; point = query.point; word = n } in a))
-    ((64 * query.word + k) % 64)) (sym at)
+-- the answer to its query has the bit where it is told
+pub word_known : (program : Program) (replies : Replies) → AreAnswers program replies → (analysis : Analysis) (point bit q : ℕ)
+    → slice_get replies.queries q ≡ Some (query_for analysis point bit)
+    → has_bit (slice_index replies.words q) (bit % 64) ≡ (facts_in replies analysis).contains point bit
+word_known program replies are analysis point bit q there =
+    let query : Query = query_for analysis point bit in
+    let small : bit % 64 < 64 = omega arith in
+    same_from_decides (has_bit (slice_index replies.words q) (bit % 64)) (has_bit (answer_in replies.queries replies.words query) (bit % 64))
+    (are.sets q query there (bit % 64) small) (answered program replies.queries replies.words are.count are.sets q query there (bit % 64) small)

@@ -1,5 +1,5 @@
 -- What answers tell of the facts, where they were asked for.
-use Rattle.std.specs.Prelude.{ℕ, ◌/◌, ◌%◌, ◌&&◌, Bool, true, false, if◌then◌else◌, List, [], ◌∷◌, nat_eq, slice_index_or}
+use Rattle.std.specs.Prelude.{ℕ, ◌/◌, ◌%◌, ◌^◌, ◌&&◌, Bool, true, false, if◌then◌else◌, List, [], ◌∷◌, nat_eq, slice_index_or}
 use Rattle.bit_rows.specs.Words.{has_bit}
 use Rattle.flow_graph.specs.declared.analysis.Analysis.{Analysis}
 use Rattle.flow_graph.specs.declared.analysis.Analysis.TheVariants.{Reach, Live, Avail, Busy}
@@ -15,7 +15,7 @@ is_analysis Busy Busy = true
 is_analysis _ _ = false
 
 abbrev pub is_query : Query → Query → Bool
-is_query one other = is_analysis one.analysis other.analysis && nat_eq one.point other.point && nat_eq one.word other.word
+is_query one other = is_analysis one.analysis other.analysis && nat_eq one.point other.point && nat_eq one.word other.word && nat_eq one.bits other.bits
 
 -- the word that stands beside a query, or 0 where it is not asked
 abbrev pub answer_in : List Query → List ℕ → Query → ℕ
@@ -25,7 +25,7 @@ answer_in (one ∷ queries) (word ∷ words) query = if is_query one query then 
 
 -- the query for a bit of the set of a point
 abbrev pub query_for : Analysis → ℕ → ℕ → Query
-query_for analysis point bit = record { analysis = analysis; point = point; word = bit / 64 }
+query_for analysis point bit = record { analysis = analysis; point = point; word = bit / 64; bits = 2 ^ (bit % 64) }
 
 -- the facts of an analysis, as far as they were asked for
 abbrev pub facts_in : Replies → Analysis → Facts

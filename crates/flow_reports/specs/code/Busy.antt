@@ -5,7 +5,7 @@ use Rattle.flow_graph.specs.Analyses.{IsInTable}
 use Rattle.flow_graph.specs.Points.{point_count}
 use Rattle.flow_graph.specs.Universes.{bits}
 use Rattle.flow_graph.specs.declared.analysis.Analysis.TheVariants.{Busy}
-use Rattle.flow_queries.specs.Queries.{IsAnswerTo}
+use Rattle.flow_queries.specs.Queries.{IsWordAt}
 use Rattle.flow_queries.specs.declared.query.Query.{Query}
 use Rattle.flow_reports.specs.declared.busy_rounds.BusyRounds.{BusyRounds}
 use Rattle.flow_reports.specs.declared.busy_words.BusyWord.{BusyWord}
@@ -14,7 +14,7 @@ use Rattle.tac_program.specs.Programs.{Program}
 
 -- the query for a word of a test's set
 abbrev pub busy_query : ℕ → ℕ → Query
-busy_query point word = record { analysis = Busy; point = point; word = word }
+busy_query point word = record { analysis = Busy; point = point; word = word; bits = 2 ^ 64 - 1 }
 
 -- None of the expressions from a word on and before another is very busy at the point.
 abbrev pub NoneBusy : Program → ℕ → ℕ → ℕ → Type 0
@@ -26,7 +26,7 @@ pub data AreBusy (program : Program) (words : List BusyWord) (point : ℕ) : ℕ
   ended : (from : ℕ) → ((bit : ℕ) → 64 * from ≤ bit → bit < bits program Busy → ¬ (IsInTable program Busy point bit))
       → AreBusy program words point from 0
   linked : (from place : ℕ) (busy : BusyWord) → slice_get words place ≡ Some busy → busy.next ≤ place → from ≤ busy.word
-      → 64 * busy.word < bits program Busy → NoneBusy program point from busy.word → IsAnswerTo program (busy_query point busy.word) busy.mask
+      → 64 * busy.word < bits program Busy → NoneBusy program point from busy.word → IsWordAt program (busy_query point busy.word) busy.mask
       → AreBusy program words point (suc busy.word) busy.next
       → AreBusy program words point from (suc place)
 

@@ -23,7 +23,7 @@ loop-j-preserved c =
     let places = c.args.places.now in
     let run : Run = c.loop-j.run in
     let j : ℕ = c.loop-j.j in
-    let blank : Query = record { analysis = Reach; point = 0; word = 0 } in
+    let blank : Query = record { analysis = Reach; point = 0; word = 0; bits = 0 } in
     let before = c.loop-j.invariant in
     let query : Query = get_or queries (get_or places j 0) blank in
     let inside : get_or places j 0 < length queries = c.requires.places j (omega (arith, c.loop-j-test.true)) in

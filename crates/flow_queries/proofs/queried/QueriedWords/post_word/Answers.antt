@@ -7,29 +7,23 @@ use Rattle.slice_board.specs.Passes.{PassState, IsLogged}
 use Rattle.flow_queries.proofs.queries.Done.{query_has, query_wants}
 use Rattle.flow_queries.proofs.queried.QueriedWords.post_word.Goals as goal
 
-pub returns-then-mask-eq0-clause-done : goal.returns-then-mask-eq0-clause-done
-returns-then-mask-eq0-clause-done c = λ bit want at.
-    let r = c.requires in
-    let has = query_has c.args.self.now c.args.words.now c.args.j c.args.query c.word-mask.result r.there r.point r.from r.until r.range.0 r.range.1
-    r.tells c.word-mask.ensures bit want at in
-    absurd (none_of_zero (bit % 64) (subst (λ (n : ℕ). has_bit n (bit % 64) ≡ true) c.if-mask-eq0.true has))
+pub returns-then-word-eq0-clause-done : goal.returns-then-word-eq0-clause-done
+returns-then-word-eq0-clause-done c = λ bit want at.
+    let has = query_has c.args.self.now c.args.j c.args._query c.args.word c.requires.there c.requires.tells bit want at in
+    absurd (none_of_zero (bit % 64) (subst (λ (n : ℕ). has_bit n (bit % 64) ≡ true) c.if-word-eq0.true has))
 
 pub post-requires-clause-place : goal.post-requires-clause-place
 post-requires-clause-place c =
-    let within = slice_get_within c.args.self.now.order c.args.j c.args.query c.requires.there in
+    let within = slice_get_within c.args.self.now.order c.args.j c.args._query c.requires.there in
     (omega (arith, c.requires.on.one), omega (arith, within, c.requires.on.words))
 
 pub post-requires-clause-wanted : goal.post-requires-clause-wanted
 post-requires-clause-wanted c = λ k small has.
-    let r = c.requires in
-    subst (λ (queried : Queried). IsWanted queried 0 (64 * c.args.j + k)) (sym r.on.wanted)
-    (query_wants c.args.self.now c.args.words.now c.args.j c.args.query c.word-mask.result r.there r.point r.from r.until r.range.0 r.range.1 r.tells
-    c.word-mask.ensures k small has)
+    subst (λ (queried : Queried). IsWanted queried 0 (64 * c.args.j + k)) (sym c.requires.on.wanted)
+    (query_wants c.args.self.now c.args.j c.args._query c.args.word c.requires.there c.requires.tells k small has)
 
 pub returns-clause-done : goal.returns-clause-done
 returns-clause-done c = λ bit want at.
-    let r = c.requires in
-    let has = query_has c.args.self.now c.args.words.now c.args.j c.args.query c.word-mask.result r.there r.point r.from r.until r.range.0 r.range.1
-    r.tells c.word-mask.ensures bit want at in
+    let has = query_has c.args.self.now c.args.j c.args._query c.args.word c.requires.there c.requires.tells bit want at in
     subst (λ (pass : PassState _). IsLogged pass.posted 0 bit) (sym c.post.ensures)
-    (marked_last c.args.pass.now.posted 0 c.args.j c.word-mask.result bit at has)
+    (marked_last c.args.pass.now.posted 0 c.args.j c.args.word bit at has)

@@ -3,7 +3,7 @@ use Rattle.std.proofs.lemmas.Grind.{get_or-set_at, get_or_default_zero}
 use Rattle.std.proofs.lemmas.List.{length-set}
 use Rattle.flow_graph.specs.Universes.{bits}
 use Rattle.flow_graph.specs.declared.analysis.Analysis.TheVariants.{Busy}
-use Rattle.flow_queries.specs.Queries.{IsAnswerTo}
+use Rattle.flow_queries.specs.Queries.{IsWordAt}
 use Rattle.flow_queries.specs.declared.query.Query.{Query}
 use Rattle.flow_reports.specs.code.Busy.{AreBusy, busy_query}
 use Rattle.flow_reports.specs.declared.busy_words.BusyWord.{BusyWord}
@@ -13,8 +13,8 @@ use Rattle.flow_reports.proofs.busy_words.BusyWords.put.Goals as goal
 
 pub returns-then-mask-eq0-clause-answered : goal.returns-then-mask-eq0-clause-answered
 returns-then-mask-eq0-clause-answered c = λ program point word is answers within answered.
-    let answer : IsAnswerTo program (busy_query point word) 0 = subst (IsAnswerTo program (busy_query point word)) c.if-mask-eq0.true
-    (subst (λ (a : Query). IsAnswerTo program a c.args.mask) is answers) in
+    let answer : IsWordAt program (busy_query point word) 0 = subst (IsWordAt program (busy_query point word)) c.if-mask-eq0.true
+    (subst (λ (a : Query). IsWordAt program a c.args.mask) is answers) in
     passed program point c.args.self.now.words.items word (suc word) (slice_index c.args.self.now.firsts.items c.args.test) (omega arith)
     (none_there program point word answer) answered
 
@@ -38,8 +38,8 @@ returns-clause-answered c = λ program point word is answers within answered.
     c.index-next.ensures ∙ get_or_default_zero firsts c.args.test c.index-next.result.now c.requires in
     let same : c.args.query.word ≡ word = ap (λ (a : Query). a.word) is in
     let low : 64 * c.args.query.word < bits program Busy = subst (λ (w : ℕ). 64 * w < bits program Busy) (sym same) within in
-    let answer : IsAnswerTo program (busy_query point c.args.query.word) c.args.mask =
-    subst (λ (a : Query). IsAnswerTo program a c.args.mask) (is ∙ ap (busy_query point) (sym same)) answers in
+    let answer : IsWordAt program (busy_query point c.args.query.word) c.args.mask =
+    subst (λ (a : Query). IsWordAt program a c.args.mask) (is ∙ ap (busy_query point) (sym same)) answers in
     let rest : AreBusy program words point (suc c.args.query.word) next = subst (λ (w : ℕ). AreBusy program words point (suc w) next) (sym same) answered in
     let put : AreBusy program new point c.args.query.word (suc (length words)) =
     put_before program point words new busy next c.in_ok-push.ensures.items behind low answer rest in

@@ -2,10 +2,10 @@ use Rattle.std.proofs.Common.{◌≡◌, ◌∙◌, ◌+◌, ◌-◌, ◌*◌, �
 use Rattle.std.proofs.lemmas.Nat.{mul-add-lt}
 use Rattle.flow_graph.specs.Universes.{bits}
 use Rattle.flow_graph.specs.declared.analysis.Analysis.TheVariants.{Busy}
-use Rattle.flow_queries.specs.Queries.{IsAnswerTo}
+use Rattle.flow_queries.specs.Queries.{IsWordAt}
 use Rattle.flow_reports.specs.code.Busy.{AreBusy, busy_query, busy_lists, round_query}
 use Rattle.tac_program.specs.Programs.{Program}
-use Rattle.flow_reports.proofs.busy.Rounds.{keeps_then, round_place}
+use Rattle.flow_reports.proofs.busy.Rounds.{keeps_then, round_place, whole_word}
 use Rattle.flow_reports.proofs.busy_words.BusyWords.put_test.Goals as goal
 
 pub loop-behind-preserved : goal.loop-behind-preserved
@@ -26,8 +26,10 @@ loop-behind-preserved c =
     let both : Some c.query.result ≡ Some (round_query points from width place) = sym c.query.ensures ∙ queried in
     let same : c.query.result ≡ round_query points from width place = cc both in
     let is : c.query.result ≡ busy_query point (from + k) = same ∙ round_place points from width c.args.test k inside in
-    let answer : IsAnswerTo program c.query.result c.word.result =
-    subst (IsAnswerTo program c.query.result) (sym c.word.ensures) (c.requires.answers.sets number c.query.result c.query.ensures) in
+    let answer : IsWordAt program c.query.result c.word.result =
+    subst (IsWordAt program c.query.result) (sym c.word.ensures)
+    (whole_word program c.query.result point (from + k) (slice_index c.args.answers.now.words number) is
+    (c.requires.answers.sets number c.query.result c.query.ensures)) in
     let low : 64 * (from + k) < bits program Busy = omega (arith, inside, c.requires.within) in
     let before : from + (width - c.loop-behind.behind) ≡ suc (from + k) = omega (arith, c.loop-behind-test.true) in
     let after : from + k ≡ from + (width - (c.loop-behind.behind + 1)) = omega (arith, c.loop-behind-test.true) in
