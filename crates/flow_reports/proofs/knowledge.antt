@@ -1,4 +1,5 @@
 pub mod Doubts
 pub mod KnownReports
+pub mod Listed
 pub mod RemarkLines
 pub mod SafeReports

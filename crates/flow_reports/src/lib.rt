@@ -5,6 +5,7 @@ mod busy_rounds;
 mod busy_words;
 mod doubt;
 mod findings;
+mod listed;
 mod operands;
 mod remark;
 mod remark_form;
@@ -15,6 +16,7 @@ mod report_rounds;
 mod reports;
 
 pub use findings::Findings;
+pub use listed::{PlacedRemark, remarks_here};
 pub use remark::Remark;
 pub use remark_form::RemarkForm;
 pub use remarks::{words_before_name, words_behind_name};

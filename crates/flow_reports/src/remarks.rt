@@ -254,7 +254,7 @@ impl Findings<'_> {
     }
 
     // Whether it is told which expressions are very busy: at a test that is not doubtful.
-    fn tells_busy(&self, point: u32, kind: &StmtKind) -> bool
+    pub(crate) fn tells_busy(&self, point: u32, kind: &StmtKind) -> bool
         requires found { AreFindings self.now }
         requires point { point < point_count self.now.graph.now }
         ensures { result ≡ (is_test_of kind.now && not ((knowledge_of self.now).doubtful point)) }
