@@ -1,3 +1,4 @@
 pub mod Asked
 pub mod FactWords
+pub mod Flags
 pub mod Told

@@ -11,6 +11,16 @@ use Rattle.tac_program.specs.Programs.{Program}
 abbrev pub AreInRange : Program → Analysis → ℕ → ℕ → ℕ → ℕ → Type 0
 AreInRange program analysis from until lo hi = (from ≤ until) × (until ≤ point_count program) × (lo ≤ hi) × (hi ≤ bits program analysis)
 
+-- from..until are points of the program
+abbrev pub ArePointsOf : Program → ℕ → ℕ → Type 0
+ArePointsOf program from until = (from ≤ until) × (until ≤ point_count program)
+
+-- One number for each point of from..until: 1 exactly where something holds of it, and else 0.
+pub record AreFlagsOf (Holds : ℕ → Type 0) (from until : ℕ) (flags : List ℕ) : Type 0 where
+  pub count : length flags ≡ until - from
+  pub flag : (row : ℕ) → row < until - from → slice_index flags row < 2
+  pub told : (row : ℕ) → row < until - from → (slice_index flags row ≡ 1) ↔ Holds (from + row)
+
 -- there is a flag for each point of from..until, and for each of them a word for each that holds bits of lo..hi
 abbrev pub HasRoom : ℕ → ℕ → ℕ → ℕ → ℕ → ℕ → Type 0
 HasRoom from until lo hi flags words = (flags ≡ until - from) × (words ≡ (until - from) * word_count lo hi)

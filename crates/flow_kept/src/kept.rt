@@ -1,22 +1,26 @@
 // A program that is kept with its edges and paths.
 
-ghost use Rattle.std.specs.Prelude.{◌≡◌, ◌^◌, ◌<◌, true, false, length, None, IfOk, IfErr, OnOk, OnErr, IsErrOf};
-ghost use Rattle.flow_graph.specs.Analyses.{is_backward};
+ghost use Rattle.std.specs.Prelude.{◌≡◌, ◌-◌, ◌^◌, ◌<◌, true, false, length, None, IfOk, IfErr, OnOk, OnErr, IsErrOf};
+ghost use Rattle.flow_graph.specs.Analyses.{HasPathAt, is_backward, shape_of};
 ghost use Rattle.flow_graph.specs.Limits.{HasFewBits, HasFewPoints, HasManyBits, HasManyPoints};
 ghost use Rattle.flow_graph.specs.declared.fault.GraphFault.TheVariants.{TooManyBits, TooManyPoints};
-ghost use Rattle.flow_kept.specs.Facts.{AreFactsOf, AreInRange, HasRoom};
+ghost use Rattle.flow_graph.specs.Runs.{IsDoubtful};
+ghost use Rattle.flow_kept.specs.Facts.{AreFactsOf, AreFlagsOf, AreInRange, ArePointsOf, HasRoom};
 ghost use Rattle.flow_kept.specs.Kept.{IsUnkept};
 ghost use Rattle.flow_kept.specs.Words.{AreWordsAsked};
 ghost use Rattle.flow_queries.specs.Queries.{AreQueriesOf};
+ghost use Rattle.flow_reports.specs.Listed.{AreRemarks};
 ghost use Rattle.tac_reader.specs.Faults.{refusal_within};
 ghost use Rattle.tac_reader.specs.Parses.{program_of};
 
 use crate::OutOfMemory;
 use crate::asking::{ask_run, run_at};
 use crate::fault::KeepFault;
-use crate::table::put_facts;
+use crate::points::complement;
+use crate::table::{put_facts, put_flags};
 use flow_graph::{Analysis, Direction, Graph, GraphFault};
 use flow_queries::{Query, arranged_places};
+use flow_reports::{PlacedRemark, remarks_here};
 use gen_kill::Problem;
 use gk_solve::Routes;
 use std::alloc::Global;
@@ -245,5 +249,49 @@ impl Kept {
             flags,
             words,
         )
+    }
+    /// Puts for each of the points `points.0..points.1` whether it has a valid path in the direction of an analysis, 1 or 0. It takes no
+    /// memory.
+    pub fn put_paths(&self, analysis: Analysis, points: (u32, u32), flags: &mut [u8])
+        requires points { ArePointsOf self.now.program points.0 points.1 }
+        requires room { length flags.old ≡ points.1 - points.0 }
+        ensures { AreFlagsOf (HasPathAt self.now.program analysis) points.0 points.1 flags.new }
+    {
+        // Its contract tells that the program is sound.
+        let _ = self.program.procs();
+        let paths = self.routes(analysis).paths();
+        put_flags(paths, points.0, flags);
+    }
+
+    /// Puts for each of the points `points.0..points.1` whether it is doubtful, 1 or 0: whether some path leads from it to a point that has
+    /// no valid path to the end of `main`. The condition: the graph is of the program. Fails only where memory runs out, and has written
+    /// nothing then.
+    pub fn put_doubtful(
+        &self,
+        alloc: Global,
+        graph: &Graph<'_>,
+        points: (u32, u32),
+        flags: &mut [u8],
+    ) -> Result<(), OutOfMemory>
+        requires graph { graph.now ≡ self.now.program }
+        requires points { ArePointsOf self.now.program points.0 points.1 }
+        requires room { length flags.old ≡ points.1 - points.0 }
+        ensures doubtful { OnOk result (AreFlagsOf (IsDoubtful (shape_of self.now.program)) points.0 points.1 flags.new) }
+        ensures kept { OnErr result (flags.new ≡ flags.old) }
+    {
+        // Its contract tells that the program is sound.
+        let _ = self.program.procs();
+        let endless = complement(alloc, self.routes(Analysis::Live).paths())?;
+        let doubtful = graph.leads_to(alloc, endless.as_slice())?;
+        put_flags(doubtful.as_slice(), points.0, flags);
+        Ok(())
+    }
+
+    /// The remarks on the program, in the order of its report. They make edges and paths of their own. Fails only where memory runs out.
+    pub fn remarks(&self, alloc: Global) -> Result<Vec<PlacedRemark>, OutOfMemory>
+        ensures { IfOk result (λ remarks. AreRemarks self.now.program remarks.items) }
+    {
+        let graph = self.graph(alloc)?;
+        remarks_here(alloc, &graph)
     }
 }

@@ -8,6 +8,7 @@
 mod asking;
 mod fault;
 mod kept;
+mod points;
 mod shared;
 mod table;
 

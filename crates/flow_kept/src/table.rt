@@ -152,13 +152,13 @@ fn put_slice<'a, 'g, 'p>(
     solver.solve_each(routes, slice, &mut filling);
 }
 
-// Puts the path flags of the points from one on, 1 or 0 each.
-fn put_flags(paths: &[bool], from: u32, flags: &mut [u8])
-    requires { from + length flags.old ≤ length paths.now }
-    ensures { AreNumbers paths.now from flags.old flags.new }
+/// Puts truth values of the points from one on, 1 or 0 each.
+pub(crate) fn put_flags(values: &[bool], from: u32, flags: &mut [u8])
+    requires { from + length flags.old ≤ length values.now }
+    ensures { AreNumbers values.now from flags.old flags.new }
 {
     for row in 0..flags.len() {
-        flags[row] = paths[from as usize + row] as u8;
+        flags[row] = values[from as usize + row] as u8;
     }
 }
 

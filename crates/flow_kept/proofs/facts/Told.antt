@@ -13,11 +13,11 @@ use Rattle.flow_kept.specs.code.Filled.{AreFilled}
 use Rattle.flow_kept.specs.code.Flags.{AreNumbers}
 
 -- a number that is 1 where a flag is set
-below_two : (flag : Bool) (n : ℕ) → n ≡ (if flag then 1 else 0) → n < 2
+pub below_two : (flag : Bool) (n : ℕ) → n ≡ (if flag then 1 else 0) → n < 2
 below_two true n is = omega (arith, is)
 below_two false n is = omega (arith, is)
 
-one_where : (P : Type 0) (flag : Bool) (n : ℕ) → n ≡ (if flag then 1 else 0) → ((flag ≡ true) ↔ P) → (n ≡ 1) ↔ P
+pub one_where : (P : Type 0) (flag : Bool) (n : ℕ) → n ≡ (if flag then 1 else 0) → ((flag ≡ true) ↔ P) → (n ≡ 1) ↔ P
 one_where P true n is told = ((λ one. told.0 refl), (λ p. is))
 one_where P false n is told = ((λ one. absurd (omega (arith, is, one))), (λ p. absurd (cc (told.1 p))))
 

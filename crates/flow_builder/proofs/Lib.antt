@@ -1,0 +1,3 @@
+pub mod BuiltPrograms
+pub mod Lists
+pub mod SoundProcedures
