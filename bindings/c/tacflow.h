@@ -8,8 +8,9 @@
  * All memory is the caller's. Texts, names and spans are counted in bytes; lines and columns from 1; all other numbers from 0.
  * A range a..b has the numbers from a up to b - 1.
  * A call that takes room takes a pointer and how many elements it points to, and wants exactly as many as are asked for, but for
- * bytes of names and of texts, where there may be more. tacflow_sizes tells how many there are. After a status other than TACFLOW_OK
- * nothing was written, but the place of a refusal, and the size of a text for which there was too little room.
+ * bytes of names and of texts, edges and remarks, where there may be more. tacflow_sizes tells how many there are. After a status other than TACFLOW_OK
+ * nothing was written, but the place of a refusal, and the size of a text, or the number of edges or remarks, for which there was too little
+ * room.
  *
  * Each call stands here twice: with its own name it keeps to the standard limits, and with _within at the name's end its first argument
  * says which limits (enum tacflow_limits). A program within the standard limits is answered the same within the large ones. A number of
@@ -58,6 +59,7 @@ enum tacflow_status {
     TACFLOW_BAD_POINTER = 6,      /* a pointer is null */
     TACFLOW_BAD_LIMITS = 7,       /* there are no limits of this number */
     TACFLOW_BAD_HANDLE = 8,       /* the handle is closed where it has to be open, or open where it has to be closed */
+    TACFLOW_NOT_BUILT = 9,        /* the arrays stand for no program: the place says why and where */
     TACFLOW_TOO_MANY_POINTS = 21, /* the program has more points than the limits allow: standard 16,384, large 1,048,576 */
     TACFLOW_TOO_MANY_BITS = 22    /* some analysis has more bits than the limits allow: standard 4,096, large: see tacflow_limits */
 };
@@ -142,8 +144,136 @@ typedef struct {
     uint32_t word;
 } tacflow_query;
 
+/* What is told of statements, edges and remarks has this number where there is none. */
+#define TACFLOW_NONE UINT32_MAX
+
+/* What a statement is; the variables x, operands y and z, operators op, labels L. */
+enum tacflow_statement_kind {
+    TACFLOW_NO_STATEMENT = 0, /* the point is a procedure's end */
+    TACFLOW_COPY = 1,         /* x = y */
+    TACFLOW_UNARY = 2,        /* x = op y */
+    TACFLOW_BINARY = 3,       /* x = y op z */
+    TACFLOW_GOTO = 4,         /* goto L */
+    TACFLOW_IF = 5,           /* if y goto L */
+    TACFLOW_IF_FALSE = 6,     /* ifFalse y goto L */
+    TACFLOW_IF_COMPARE = 7,   /* if y op z goto L */
+    TACFLOW_CALL = 8,         /* call p | q ..: the callees are where its edges lead */
+    TACFLOW_RETURN = 9,       /* return */
+    TACFLOW_READ = 10,        /* read x */
+    TACFLOW_PRINT = 11,       /* print y */
+    TACFLOW_SKIP = 12         /* skip */
+};
+
+/* What stands at a point. One operand, as y of the forms with no z, is on the right. */
+typedef struct {
+    uint32_t kind;            /* enum tacflow_statement_kind */
+    uint32_t target;          /* x, the variable that is set; or TACFLOW_NONE */
+    uint32_t operator_number; /* op, a number of tacflow_sign; or TACFLOW_NONE */
+    uint32_t label;           /* L, its number among the labels of the procedure, in the order of the text; or TACFLOW_NONE */
+    uint32_t goes_to;         /* the point that L stands for; or TACFLOW_NO_POINT */
+    uint32_t expression;      /* the bit of avail and busy that the statement evaluates; or TACFLOW_NONE */
+    tacflow_operand left;
+    tacflow_operand right;
+} tacflow_statement;
+
+enum tacflow_edge_kind {
+    TACFLOW_STEP = 0,       /* to where control may be next in the procedure */
+    TACFLOW_CALL_EDGE = 1,  /* from a call to the first point of a callee */
+    TACFLOW_RETURN_EDGE = 2 /* from the last point of a callee to the point behind a call */
+};
+
+/* An edge: its kind, the point of the call that a call or a return belongs to, or TACFLOW_NO_POINT for a step, and the points that it joins. */
+typedef struct {
+    uint32_t kind; /* enum tacflow_edge_kind */
+    uint32_t site;
+    uint32_t from;
+    uint32_t to;
+} tacflow_edge;
+
+enum tacflow_remark_kind {
+    TACFLOW_NEVER_REACHED = 0,    /* no valid path leads to the statement; it names nothing */
+    TACFLOW_UNSET = 1,            /* the statement reads the variable, which may not be set there */
+    TACFLOW_ALREADY_COMPUTED = 2, /* it evaluates the expression, which is available there */
+    TACFLOW_VERY_BUSY = 3,        /* it is a test at which the expression is very busy */
+    TACFLOW_DEAD = 4              /* no execution reads what it assigns to the variable: it can be deleted */
+};
+
+/* A remark: the point of its statement, and the variable or the expression, a bit of avail and busy, that it names. docs/ANALYSES.md says
+ * which remarks may be acted on together. */
+typedef struct {
+    uint32_t point;
+    uint32_t kind; /* enum tacflow_remark_kind */
+    uint32_t name; /* or TACFLOW_NONE */
+} tacflow_remark;
+
 /* The longest name has so many bytes. */
 #define TACFLOW_LONGEST_NAME 64
+
+/* A statement of a program that is built of arrays. What its form has not is not looked at: a goto has a label alone. The label is the number
+ * of one of its procedure, from 0; a call's procedures are `callees` of all callees from first_callee on, one to eight. The line is one's own:
+ * tacflow_points_of tells it, and reports name it. */
+typedef struct {
+    uint32_t kind; /* enum tacflow_statement_kind, TACFLOW_COPY to TACFLOW_SKIP */
+    uint32_t target;
+    uint32_t operator_number; /* a number of tacflow_sign */
+    uint32_t label;
+    uint32_t first_callee;
+    uint32_t callees;
+    uint32_t line;
+    tacflow_operand left;
+    tacflow_operand right;
+} tacflow_built_statement;
+
+/* A procedure: how many statements, and how many labels, are its own, behind those of the procedures before it. */
+typedef struct {
+    uint32_t statements;
+    uint32_t labels;
+} tacflow_built_procedure;
+
+/* Names, one after the other, and where each ends, as tacflow_procedures_of tells them: name n stands at ends[n - 1]..ends[n], the first from
+ * 0. A name has the form of the language's, is no keyword, and stands once. */
+typedef struct {
+    const size_t *ends;
+    size_t count;
+    const char *bytes;
+    size_t length;
+} tacflow_names;
+
+/* What a program is built of: procedures, one of which is called main, their statements and labels, and all callees. A label is how many
+ * statements of its procedure stand before it, those of a procedure do not fall, and the first labels of each procedure have the first names
+ * of labels. There are as many names of procedures as procedures; variables are the names of variables. */
+typedef struct {
+    const tacflow_built_procedure *procedures;
+    size_t procedure_count;
+    const tacflow_built_statement *statements;
+    size_t statement_count;
+    const uint32_t *labels;
+    size_t label_count;
+    const uint32_t *callees;
+    size_t callee_count;
+    tacflow_names procedure_names;
+    tacflow_names variable_names;
+    tacflow_names label_names;
+} tacflow_arrays;
+
+/* Why arrays stand for no program. */
+enum tacflow_build_fault {
+    TACFLOW_BAD_STATEMENT = 1,       /* what the statement of this number names is not there, or not of its form */
+    TACFLOW_BAD_LABEL = 2,           /* the label of this number stands behind its procedure, or before the label ahead of it */
+    TACFLOW_BAD_PROCEDURE_NAME = 3,  /* the procedure of this number has a name that is none, or that an earlier one has */
+    TACFLOW_BAD_VARIABLE_NAME = 4,   /* the same of a variable */
+    TACFLOW_BAD_LABEL_NAME = 5,      /* the same of a name of labels */
+    TACFLOW_BAD_COUNTS = 6,          /* other counts of names, statements or labels than the procedures have, or too few names of labels */
+    TACFLOW_NO_MAIN = 7,             /* no procedure is called main */
+    TACFLOW_TOO_MANY_PROCEDURES = 8, /* more than the limits allow */
+    TACFLOW_TOO_LONG = 9             /* more statements, labels or names than a text within the limits has bytes */
+};
+
+/* What is wrong with arrays, and which of them by number, from 0; 0 too where the fault has none. */
+typedef struct {
+    uint32_t fault; /* enum tacflow_build_fault */
+    uint32_t number;
+} tacflow_build_place;
 
 /* The proved calls: no pointer may be null, also where it points to no element. */
 uint32_t tacflow_c_sizes(const uint8_t *text, size_t length, uint32_t limits, tacflow_sizes_of_program *sizes, tacflow_place *place);
@@ -161,9 +291,22 @@ uint32_t tacflow_c_report(const uint8_t *text, size_t length, uint32_t limits, u
 uint32_t tacflow_c_facts(const uint8_t *text, size_t length, uint32_t limits, uint32_t analysis, uint32_t first_point, uint32_t end_point,
                          uint32_t lo, uint32_t hi, uint8_t *flags, size_t flag_count, uint64_t *words, size_t word_count, tacflow_place *place);
 
+uint32_t tacflow_c_message(uint32_t status, const tacflow_place *place, uint8_t *bytes, size_t room, size_t *size);
+
 /* Memory that a null pointer to no elements stands for. */
 static inline void *tacflow_some(const void *pointer, size_t count, void *nothing) {
     return pointer || count ? (void *)(uintptr_t)pointer : nothing;
+}
+
+/* What a status says, in one line without its end and without a zero, and how many bytes that has: for TACFLOW_REFUSED
+ * `LINE:COLUMN: refusal NUMBER: NAME`, as the programs tell it, by the place that the call told; for others no place is needed, and place may
+ * be null. Where there is room for fewer bytes, the status is TACFLOW_BAD_ROOM and size alone is written; 96 are always enough. */
+static inline int tacflow_message(int status, const tacflow_place *place, char *bytes, size_t room, size_t *size) {
+    static const tacflow_place none = {0, 0, 0};
+    uint64_t nothing = 0;
+    bytes = (char *)tacflow_some(bytes, room, &nothing);
+    if (!bytes || !size || (status == TACFLOW_REFUSED && !place)) return TACFLOW_BAD_POINTER;
+    return (int)tacflow_c_message((uint32_t)status, place ? place : &none, (uint8_t *)bytes, room, size);
 }
 
 /* How large a text's program is. */
@@ -336,6 +479,12 @@ typedef struct {
 
 /* The proved calls: no pointer may be null, also where it points to no element. */
 uint32_t tacflow_c_open(const uint8_t *text, size_t length, uint32_t limits, tacflow_handle *handle, tacflow_place *place);
+uint32_t tacflow_c_build(const tacflow_built_procedure *procedures, size_t procedure_count, const tacflow_built_statement *statements,
+                         size_t statement_count, const uint32_t *labels, size_t label_count, const uint32_t *callees, size_t callee_count,
+                         const size_t *procedure_ends, size_t procedure_end_count, const uint8_t *procedure_names, size_t procedure_bytes,
+                         const size_t *variable_ends, size_t variable_end_count, const uint8_t *variable_names, size_t variable_bytes,
+                         const size_t *label_ends, size_t label_end_count, const uint8_t *label_names, size_t label_bytes, uint32_t limits,
+                         tacflow_handle *handle, tacflow_build_place *place);
 uint32_t tacflow_c_share(tacflow_handle *handle, tacflow_handle *other);
 uint32_t tacflow_c_close(tacflow_handle *handle);
 uint32_t tacflow_c_sizes_of(tacflow_handle *handle, tacflow_sizes_of_program *sizes);
@@ -347,6 +496,11 @@ uint32_t tacflow_c_variables_of(tacflow_handle *handle, size_t *ends, size_t cou
 uint32_t tacflow_c_facts_of(tacflow_handle *handle, uint32_t analysis, uint32_t first_point, uint32_t end_point, uint32_t lo, uint32_t hi,
                             uint8_t *flags, size_t flag_count, uint64_t *words, size_t word_count);
 uint32_t tacflow_c_ask(tacflow_handle *handle, const tacflow_query *queries, size_t count, uint64_t *words, size_t word_count);
+uint32_t tacflow_c_has_path(tacflow_handle *handle, uint32_t analysis, uint32_t first_point, uint32_t end_point, uint8_t *flags, size_t count);
+uint32_t tacflow_c_doubtful(tacflow_handle *handle, uint32_t first_point, uint32_t end_point, uint8_t *flags, size_t count);
+uint32_t tacflow_c_statements(tacflow_handle *handle, tacflow_statement *statements, size_t count);
+uint32_t tacflow_c_edges(tacflow_handle *handle, uint32_t first_point, uint32_t end_point, tacflow_edge *edges, size_t room, size_t *count);
+uint32_t tacflow_c_remarks(tacflow_handle *handle, tacflow_remark *remarks, size_t room, size_t *count);
 uint32_t tacflow_c_listing_of(tacflow_handle *handle, uint8_t *bytes, size_t room, size_t *size);
 uint32_t tacflow_c_report_of(tacflow_handle *handle, uint8_t *bytes, size_t room, size_t *size);
 
@@ -360,6 +514,47 @@ static inline int tacflow_open_within(int limits, const char *text, size_t lengt
 
 static inline int tacflow_open(const char *text, size_t length, tacflow_handle *handle, tacflow_place *place) {
     return tacflow_open_within(TACFLOW_STANDARD, text, length, handle, place);
+}
+
+/* Opens a closed handle with the program that arrays stand for, within limits: without a text, in a fraction of the time. The handle keeps
+ * exactly that program, and answers of it as of a text's: bits, points and labels are numbered as the arrays number them, and a point's bytes
+ * are 0..0. TACFLOW_NOT_BUILT: the arrays stand for no program, and the place says why and where. The arrays are not needed afterwards. */
+static inline int tacflow_build_within(int limits, const tacflow_arrays *it, tacflow_handle *handle, tacflow_build_place *place) {
+    uint64_t nothing = 0;
+    if (!it || !handle || !place) return TACFLOW_BAD_POINTER;
+    const tacflow_names *p = &it->procedure_names, *v = &it->variable_names, *l = &it->label_names;
+    const void *parts[10] = {
+        tacflow_some(it->procedures, it->procedure_count, &nothing), tacflow_some(it->statements, it->statement_count, &nothing),
+        tacflow_some(it->labels, it->label_count, &nothing),         tacflow_some(it->callees, it->callee_count, &nothing),
+        tacflow_some(p->ends, p->count, &nothing),                   tacflow_some(p->bytes, p->length, &nothing),
+        tacflow_some(v->ends, v->count, &nothing),                   tacflow_some(v->bytes, v->length, &nothing),
+        tacflow_some(l->ends, l->count, &nothing),                   tacflow_some(l->bytes, l->length, &nothing),
+    };
+    for (int part = 0; part < 10; part++)
+        if (!parts[part]) return TACFLOW_BAD_POINTER;
+    return (int)tacflow_c_build((const tacflow_built_procedure *)parts[0], it->procedure_count, (const tacflow_built_statement *)parts[1],
+                                it->statement_count, (const uint32_t *)parts[2], it->label_count, (const uint32_t *)parts[3], it->callee_count,
+                                (const size_t *)parts[4], p->count, (const uint8_t *)parts[5], p->length, (const size_t *)parts[6], v->count,
+                                (const uint8_t *)parts[7], v->length, (const size_t *)parts[8], l->count, (const uint8_t *)parts[9], l->length,
+                                (uint32_t)limits, handle, place);
+}
+
+static inline int tacflow_build(const tacflow_arrays *arrays, tacflow_handle *handle, tacflow_build_place *place) {
+    return tacflow_build_within(TACFLOW_STANDARD, arrays, handle, place);
+}
+
+/* Names for who has none: a letter and a number each, from 0 on, as v0, v1 and so on. There is an end for each, and room for 12 bytes each.
+ * Answers how many bytes they have. */
+static inline size_t tacflow_numbered(char letter, size_t count, size_t *ends, char *bytes) {
+    size_t at = 0;
+    for (size_t number = 0; number < count; number++) {
+        size_t width = 1;
+        for (size_t rest = number; rest >= 10; rest /= 10) width++;
+        bytes[at] = letter;
+        for (size_t place = width, rest = number; place > 0; place--, rest /= 10) bytes[at + place] = (char)('0' + rest % 10);
+        ends[number] = at += width + 1;
+    }
+    return at;
 }
 
 /* Opens a closed handle with what an open one keeps, which is not copied: for another thread. What they keep is freed with the last. */
@@ -436,6 +631,55 @@ static inline int tacflow_ask(tacflow_handle *handle, const tacflow_query *queri
     words = (uint64_t *)tacflow_some(words, count, &nothing);
     if (!handle || !from || !words) return TACFLOW_BAD_POINTER;
     return (int)tacflow_c_ask(handle, from, count, words, count);
+}
+
+/* Which of the points first_point..end_point have a valid path: from the beginning of main, or for live and busy to its end. flags[i] is 1
+ * where point first_point + i has one, and else 0; it is the flag of tacflow_facts, and nothing is solved for it. count is end_point less
+ * first_point. TACFLOW_ALL_POINTS stands for the number of points. TACFLOW_BAD_RANGE: these are no points of the program. */
+static inline int tacflow_has_path(tacflow_handle *handle, int analysis, uint32_t first_point, uint32_t end_point, uint8_t *flags, size_t count) {
+    uint64_t nothing = 0;
+    flags = (uint8_t *)tacflow_some(flags, count, &nothing);
+    if (!handle || !flags) return TACFLOW_BAD_POINTER;
+    return (int)tacflow_c_has_path(handle, (uint32_t)analysis, first_point, end_point, flags, count);
+}
+
+/* Which of the points are doubtful (docs/ANALYSES.md): flags[i] is 1 where some path leads from point first_point + i to a point that has no
+ * valid path to the end of main, as where a loop may never end, and else 0. Ranges and room as for tacflow_has_path. A variable that is not
+ * live at a point that is not doubtful is read by no execution from there on before it is written, not even by one that never ends. */
+static inline int tacflow_doubtful(tacflow_handle *handle, uint32_t first_point, uint32_t end_point, uint8_t *flags, size_t count) {
+    uint64_t nothing = 0;
+    flags = (uint8_t *)tacflow_some(flags, count, &nothing);
+    if (!handle || !flags) return TACFLOW_BAD_POINTER;
+    return (int)tacflow_c_doubtful(handle, first_point, end_point, flags, count);
+}
+
+/* What stands at each point. count is the number of points. */
+static inline int tacflow_statements(tacflow_handle *handle, tacflow_statement *statements, size_t count) {
+    uint64_t nothing = 0;
+    statements = (tacflow_statement *)tacflow_some(statements, count, &nothing);
+    if (!handle || !statements) return TACFLOW_BAD_POINTER;
+    return (int)tacflow_c_statements(handle, statements, count);
+}
+
+/* The edges that leave the points first_point..end_point, in the order of these points, and how many they are. A test whose outcomes lead to
+ * one point has one edge. A call's edges lead to the first points of its callees, in the order of the text; from a procedure's last point
+ * there is one return for each call of it, in the order of points. Where there is room for fewer, the status is TACFLOW_BAD_ROOM and count
+ * alone is written, so a call with no room tells how much is needed; what is left of the room stays as it is. Ranges as for
+ * tacflow_has_path. */
+static inline int tacflow_edges(tacflow_handle *handle, uint32_t first_point, uint32_t end_point, tacflow_edge *edges, size_t room, size_t *count) {
+    uint64_t nothing = 0;
+    edges = (tacflow_edge *)tacflow_some(edges, room, &nothing);
+    if (!handle || !edges || !count) return TACFLOW_BAD_POINTER;
+    return (int)tacflow_c_edges(handle, first_point, end_point, edges, room, count);
+}
+
+/* The remarks on the program, one for each line of its report behind the first and in the same order, and how many they are. Room and count
+ * as for tacflow_edges. They are found anew by each call. */
+static inline int tacflow_remarks(tacflow_handle *handle, tacflow_remark *remarks, size_t room, size_t *count) {
+    uint64_t nothing = 0;
+    remarks = (tacflow_remark *)tacflow_some(remarks, room, &nothing);
+    if (!handle || !remarks || !count) return TACFLOW_BAD_POINTER;
+    return (int)tacflow_c_remarks(handle, remarks, room, count);
 }
 
 static inline int tacflow_listing_of(tacflow_handle *handle, char *bytes, size_t room, size_t *size) {

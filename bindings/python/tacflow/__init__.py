@@ -15,12 +15,14 @@ Tables are arrays of numpy where numpy is there, and else memoryviews. While the
 other threads of Python go on.
 """
 
+from tacflow._build import Built, BuiltProcedure, build
 from tacflow._errors import (
     BadAnalysis,
     BadLimits,
     BadRange,
     ClosedProgram,
     Error,
+    NotBuilt,
     OutOfMemory,
     Refused,
     TooManyBits,
@@ -28,28 +30,49 @@ from tacflow._errors import (
 )
 from tacflow._facts import Facts
 from tacflow._library import VERSION as __version__
-from tacflow._program import Definition, Expression, Operand, Point, Program, Sizes, open
-from tacflow._words import Analysis, Limits
+from tacflow._program import (
+    Definition,
+    Edge,
+    Expression,
+    Operand,
+    Point,
+    Program,
+    Remark,
+    Sizes,
+    Statement,
+    open,
+)
+from tacflow._words import Analysis, EdgeKind, Limits, RemarkKind, StatementKind
 
 __all__ = [
     "Analysis",
     "BadAnalysis",
     "BadLimits",
     "BadRange",
+    "Built",
+    "BuiltProcedure",
     "ClosedProgram",
     "Definition",
+    "Edge",
+    "EdgeKind",
     "Error",
     "Expression",
     "Facts",
     "Limits",
+    "NotBuilt",
     "Operand",
     "OutOfMemory",
     "Point",
     "Program",
     "Refused",
+    "Remark",
+    "RemarkKind",
     "Sizes",
+    "Statement",
+    "StatementKind",
     "TooManyBits",
     "TooManyPoints",
     "__version__",
+    "build",
     "open",
 ]

@@ -62,6 +62,37 @@ class Refused(Error, ValueError):
         return f"{self.line}:{self.column}: refusal {self.number}: {self.name}: {self.meaning}"
 
 
+# What may be wrong with what a program is built of, by the library's numbers.
+BUILD_FAULTS = {
+    1: "statement {}: its kind, operator, operands, target, label or callees are not there, or not"
+    " of its form",
+    2: "label {}: it stands behind its procedure, or before the label ahead of it",
+    3: "procedure {}: its name is none of the language, or an earlier one has it",
+    4: "variable {}: its name is none of the language, or an earlier one has it",
+    5: "label name {}: it is none of the language",
+    6: "numbers do not fit one another",
+    7: "no procedure is called main",
+    8: "there are more procedures than the limits allow",
+    9: "there are more statements, labels or variables than a text within the limits has bytes",
+}
+
+
+class NotBuilt(Error, ValueError):
+    """What was to be built is no program.
+
+    `fault` is the library's number of what is wrong, `number` which statement, label, procedure or
+    variable it is, counted through the whole program from 0.
+    """
+
+    def __init__(self, fault: int, number: int) -> None:
+        super().__init__(fault, number)
+        self.fault = fault
+        self.number = number
+
+    def __str__(self) -> str:
+        return BUILD_FAULTS[self.fault].format(self.number)
+
+
 class TooManyPoints(Error, ValueError):
     """The program has more points than the limits allow."""
 

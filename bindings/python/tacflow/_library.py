@@ -21,10 +21,12 @@ REFUSED = 1
 OUT_OF_MEMORY = 2
 BAD_ROOM = 5
 BAD_HANDLE = 8
+NOT_BUILT = 9
 TOO_MANY_POINTS = 21
 TOO_MANY_BITS = 22
 
-NO_POINT = 2**32 - 1
+# TACFLOW_NONE and TACFLOW_NO_POINT.
+NONE = 2**32 - 1
 LONGEST_NAME = 64
 
 # enum tacflow_kind.
@@ -87,6 +89,56 @@ class RawQuery(ctypes.Structure):
     ]
 
 
+class RawStatement(ctypes.Structure):
+    """tacflow_statement."""
+
+    _fields_ = [
+        *[
+            (name, ctypes.c_uint32)
+            for name in ("kind", "target", "operator", "label", "goes_to", "expression")
+        ],
+        ("left", RawOperand),
+        ("right", RawOperand),
+    ]
+
+
+class RawBuiltStatement(ctypes.Structure):
+    """tacflow_built_statement."""
+
+    _fields_ = [
+        *[
+            (name, ctypes.c_uint32)
+            for name in ("kind", "target", "operator", "label", "first_callee", "callees", "line")
+        ],
+        ("left", RawOperand),
+        ("right", RawOperand),
+    ]
+
+
+class RawBuiltProcedure(ctypes.Structure):
+    """tacflow_built_procedure."""
+
+    _fields_ = [("statements", ctypes.c_uint32), ("labels", ctypes.c_uint32)]
+
+
+class RawBuildPlace(ctypes.Structure):
+    """tacflow_build_place."""
+
+    _fields_ = [("fault", ctypes.c_uint32), ("number", ctypes.c_uint32)]
+
+
+class RawEdge(ctypes.Structure):
+    """tacflow_edge."""
+
+    _fields_ = [(name, ctypes.c_uint32) for name in ("kind", "site", "source", "target")]
+
+
+class RawRemark(ctypes.Structure):
+    """tacflow_remark."""
+
+    _fields_ = [(name, ctypes.c_uint32) for name in ("point", "kind", "name")]
+
+
 class RawHandle(ctypes.Structure):
     """tacflow_handle, closed as it is made."""
 
@@ -142,6 +194,20 @@ def opening() -> Any:
     return call
 
 
+def building() -> Any:
+    """The call that opens a handle with arrays: procedures, statements, labels, callees, names of
+    procedures, of variables and of labels, each with its length; limits, handle, place."""
+    call = LIBRARY["tacflow_c_build"]
+    procedures, statements = ctypes.POINTER(RawBuiltProcedure), ctypes.POINTER(RawBuiltStatement)
+    numbers = ctypes.POINTER(ctypes.c_uint32)
+    names = [ctypes.POINTER(COUNT), COUNT, ctypes.c_char_p, COUNT]
+    arrays = [procedures, COUNT, statements, COUNT, numbers, COUNT, numbers, COUNT, *names * 3]
+    handle, place = ctypes.POINTER(RawHandle), ctypes.POINTER(RawBuildPlace)
+    call.argtypes = [*arrays, ctypes.c_uint32, handle, place]
+    call.restype = ctypes.c_uint32
+    return call
+
+
 COUNT = ctypes.c_size_t
 NUMBER = ctypes.c_uint32
 BYTES = ctypes.POINTER(ctypes.c_uint8)
@@ -150,6 +216,7 @@ TEXT = (BYTES, COUNT, ctypes.POINTER(COUNT))
 TABLE = (BYTES, COUNT, ctypes.POINTER(ctypes.c_uint64), COUNT)
 
 OPEN = opening()
+BUILD = building()
 SHARE = call_of("share", ctypes.POINTER(RawHandle))
 CLOSE = call_of("close")
 SIZES = call_of("sizes_of", ctypes.POINTER(RawSizes))
@@ -161,5 +228,11 @@ VARIABLES = call_of("variables_of", *NAMES)
 # analysis, first point, end of the points, lo, hi
 FACTS = call_of("facts_of", NUMBER, NUMBER, NUMBER, NUMBER, NUMBER, *TABLE)
 ASK = call_of("ask", ctypes.POINTER(RawQuery), COUNT, ctypes.POINTER(ctypes.c_uint64), COUNT)
+# first point, end of the points
+HAS_PATH = call_of("has_path", NUMBER, NUMBER, NUMBER, BYTES, COUNT)
+DOUBTFUL = call_of("doubtful", NUMBER, NUMBER, BYTES, COUNT)
+STATEMENTS = call_of("statements", ctypes.POINTER(RawStatement), COUNT)
+EDGES = call_of("edges", NUMBER, NUMBER, ctypes.POINTER(RawEdge), COUNT, ctypes.POINTER(COUNT))
+REMARKS = call_of("remarks", ctypes.POINTER(RawRemark), COUNT, ctypes.POINTER(COUNT))
 LISTING = call_of("listing_of", *TEXT)
 REPORT = call_of("report_of", *TEXT)

@@ -23,7 +23,15 @@ from tacflow._errors import (
     TooManyPoints,
 )
 from tacflow._facts import Facts, within
-from tacflow._words import Analysis, Limits, member_of, words_of
+from tacflow._words import (
+    Analysis,
+    EdgeKind,
+    Limits,
+    RemarkKind,
+    StatementKind,
+    member_of,
+    words_of,
+)
 
 SIGNS = "+ - * / % & | ^ << >> < <= > >= == != ~ !".split()
 # How much room a text has at first.
@@ -87,12 +95,56 @@ class Expression(NamedTuple):
     right: Operand
 
 
+class Statement(NamedTuple):
+    """What stands at a point, of `x = y op z` and the like. What it has not is None. One operand is
+    on the right."""
+
+    kind: StatementKind
+    target: int | None
+    """The variable that is set."""
+    operator: str | None
+    label: int | None
+    """The label that it names: its number among those of the procedure, in the order of the
+    text."""
+    goes_to: int | None
+    """The point that the label stands for."""
+    expression: int | None
+    """The expression that it evaluates: a bit of `avail` and of `busy`."""
+    left: Operand | None
+    right: Operand | None
+
+
+class Edge(NamedTuple):
+    """An edge, from the point `source` to the point `target`."""
+
+    kind: EdgeKind
+    site: int | None
+    """The point of the call that a call or a return belongs to; None for a step."""
+    source: int
+    target: int
+
+
+class Remark(NamedTuple):
+    """A remark on the statement at a point."""
+
+    point: int
+    kind: RemarkKind
+    name: int | None
+    """The variable of `UNSET` and `DEAD`, the expression of `ALREADY_COMPUTED` and `VERY_BUSY`, by
+    number."""
+
+
+def number_of(raw: int) -> int | None:
+    """A number, or None where the library tells that there is none."""
+    return None if raw == library.NONE else raw
+
+
 def point_of(raw: Any) -> Point:
     return Point(raw.procedure, raw.place, raw.line, raw.start, raw.end)
 
 
 def definition_of(raw: Any) -> Definition:
-    return Definition(raw.variable, None if raw.point == library.NO_POINT else raw.point)
+    return Definition(raw.variable, number_of(raw.point))
 
 
 def operand_of(raw: Any) -> Operand:
@@ -101,9 +153,27 @@ def operand_of(raw: Any) -> Operand:
     return Operand(None, raw.number)
 
 
+def operand_if(raw: Any) -> Operand | None:
+    return None if raw.kind == library.NOTHING else operand_of(raw)
+
+
 def expression_of(raw: Any) -> Expression:
-    left = None if raw.left.kind == library.NOTHING else operand_of(raw.left)
-    return Expression(SIGNS[raw.operator], left, operand_of(raw.right))
+    return Expression(SIGNS[raw.operator], operand_if(raw.left), operand_of(raw.right))
+
+
+def statement_of(raw: Any) -> Statement:
+    operator = None if raw.operator == library.NONE else SIGNS[raw.operator]
+    numbers = (number_of(it) for it in (raw.label, raw.goes_to, raw.expression))
+    operands = operand_if(raw.left), operand_if(raw.right)
+    return Statement(StatementKind(raw.kind), number_of(raw.target), operator, *numbers, *operands)
+
+
+def edge_of(raw: Any) -> Edge:
+    return Edge(EdgeKind(raw.kind), number_of(raw.site), raw.source, raw.target)
+
+
+def remark_of(raw: Any) -> Remark:
+    return Remark(raw.point, RemarkKind(raw.kind), number_of(raw.name))
 
 
 def close_handle(handle: library.RawHandle) -> None:
@@ -234,6 +304,92 @@ class Program:
         return self._once(
             "expressions", lambda: self._ask_rows(library.EXPRESSIONS, raw, count, expression_of)
         )
+
+    @property
+    def statements(self) -> Rows[Statement]:
+        """What stands at each point, by number."""
+        count, raw = self.sizes.points, library.RawStatement
+        return self._once(
+            "statements", lambda: self._ask_rows(library.STATEMENTS, raw, count, statement_of)
+        )
+
+    def _ask_list(
+        self, call: Any, kind: Any, most: int, make: Callable[[Any], Made], *words: Any
+    ) -> Rows[Made]:
+        """What the library tells with its number, in room for so many at first."""
+        count = ctypes.c_size_t(most)
+        while True:
+            length = count.value
+            raw = room(kind, length)
+            if self._ask(call, *words, raw, length, count):
+                return Rows(raw, count.value, make)
+
+    def edges(self, points: range | slice | None = None) -> Rows[Edge]:
+        """The edges that leave the points, in the order of these points.
+
+        A test whose outcomes lead to one point has one edge. A call has one to the first point of
+        each callee, and from a procedure's last point there is a return for each call of it.
+
+        Args:
+            points: which points; all by itself. A slice is cut to the program's points.
+
+        Raises:
+            BadRange: the points are none of the program.
+            ClosedProgram: the program is closed.
+            OutOfMemory: memory was refused.
+        """
+        at = within(points, self.sizes.points, "points")
+        most, where = 2 * len(at), (at.start, at.stop)
+        return self._ask_list(library.EDGES, library.RawEdge, most, edge_of, *where)
+
+    def remarks(self) -> Rows[Remark]:
+        """The remarks, in the order of the report's lines. They are found anew each time."""
+        most = self.sizes.points
+        return self._ask_list(library.REMARKS, library.RawRemark, most, remark_of)
+
+    def has_path(
+        self, analysis: Analysis | str | int, points: range | slice | None = None
+    ) -> Array:
+        """Which points have a valid path: from the beginning of `main`, or for `live` and `busy` to
+        its end.
+
+        Args:
+            analysis: the analysis, or its word.
+            points: which points; all by itself. A slice is cut to the program's points.
+
+        Returns:
+            A bool for each of the points, in their order.
+
+        Raises:
+            BadAnalysis: there is no such analysis.
+            BadRange: the points are none of the program.
+            ClosedProgram: the program is closed.
+            OutOfMemory: memory was refused.
+        """
+        return self._ask_flags(library.HAS_PATH, points, int(analysis_of(analysis)))
+
+    def doubtful(self, points: range | slice | None = None) -> Array:
+        """Which points are doubtful: from which some path leads to a point that has no valid path
+        to the end of `main`, as where a loop may never end.
+
+        Args:
+            points: which points; all by itself. A slice is cut to the program's points.
+
+        Returns:
+            A bool for each of the points, in their order.
+
+        Raises:
+            BadRange: the points are none of the program.
+            ClosedProgram: the program is closed.
+            OutOfMemory: memory was refused.
+        """
+        return self._ask_flags(library.DOUBTFUL, points)
+
+    def _ask_flags(self, call: Any, points: range | slice | None, *words: Any) -> Array:
+        at = within(points, self.sizes.points, "points")
+        flags = room(ctypes.c_uint8, len(at))
+        self._ask(call, *words, at.start, at.stop, flags, len(at))
+        return flat(flags, ctypes.c_bool, "?", len(at))
 
     def _ask_names(self, call: Any, count: int) -> tuple[str, ...]:
         ends, length = room(ctypes.c_size_t, count), count * library.LONGEST_NAME
@@ -446,6 +602,11 @@ def open(
     status: int = library.OPEN(taken, len(taken), int(size), handle, place)
     if status == library.REFUSED:
         raise Refused(place.number, place.line, place.column, size)
+    return opened(status, handle, size)
+
+
+def opened(status: int, handle: library.RawHandle, size: Limits) -> Program:
+    """The program of a handle that a call with this status opened."""
     if status == library.TOO_MANY_POINTS:
         raise TooManyPoints("the program has more points than the limits allow")
     if status == library.TOO_MANY_BITS:

@@ -31,6 +31,53 @@ class Limits(enum.IntEnum):
     expressions."""
 
 
+class StatementKind(enum.IntEnum):
+    """What a statement is: x = y, x = op y, x = y op z, goto L, if y goto L, ifFalse y goto L,
+    if y op z goto L, call p | q .., return, read x, print y, skip."""
+
+    NONE = 0
+    """No statement: the point is a procedure's end."""
+    COPY = 1
+    UNARY = 2
+    BINARY = 3
+    GOTO = 4
+    IF = 5
+    IF_FALSE = 6
+    IF_COMPARE = 7
+    CALL = 8
+    """Its edges lead to the callees."""
+    RETURN = 9
+    READ = 10
+    PRINT = 11
+    SKIP = 12
+
+
+class EdgeKind(enum.IntEnum):
+    """What an edge is."""
+
+    STEP = 0
+    """To where control may be next in the procedure."""
+    CALL = 1
+    """From a call to the first point of a callee."""
+    RETURN = 2
+    """From the last point of a callee to the point behind a call."""
+
+
+class RemarkKind(enum.IntEnum):
+    """What a remark says."""
+
+    NEVER_REACHED = 0
+    """No valid path leads to the statement."""
+    UNSET = 1
+    """The statement reads the variable, which may not be set there."""
+    ALREADY_COMPUTED = 2
+    """It evaluates the expression, which is available there."""
+    VERY_BUSY = 3
+    """It is a test at which the expression is very busy."""
+    DEAD = 4
+    """No execution reads what it assigns to the variable: it can be deleted."""
+
+
 Word = TypeVar("Word", Analysis, Limits)
 
 

@@ -16,9 +16,12 @@
 //! at the same time.
 #![deny(unsafe_code)]
 
+mod build;
 mod handles;
 #[allow(unsafe_code)]
 mod raw;
+
+pub use build::{Built, BuiltProcedure};
 
 use handles::Handles;
 use raw::Handle;
@@ -66,6 +69,14 @@ pub enum Error {
         /// The column, in bytes.
         column: u32,
     },
+    /// What was to be built is no program: what is wrong with it, and which statement, label or name it is, through the whole program from 0.
+    NotBuilt {
+        /// What is wrong: 1 a statement, 2 a label, the name 3 of a procedure, 4 of a variable or 5 of a label, 6 other numbers of them than
+        /// there have to be, 7 no procedure `main`, 8 too many procedures, 9 too many statements, labels or variables.
+        fault: u32,
+        /// Which of them.
+        number: u32,
+    },
     /// The program has more points than the limits allow.
     TooManyPoints,
     /// Some analysis of the program has more bits than the limits allow.
@@ -100,6 +111,17 @@ impl fmt::Display for Error {
                 let name = (*number as usize).checked_sub(1).and_then(|at| REFUSALS.get(at)).unwrap_or(&"unknown");
                 write!(f, "{line}:{column}: refusal {number}: {name}")
             }
+            Error::NotBuilt { fault, number } => match fault {
+                1 => write!(f, "statement {number} is none"),
+                2 => write!(f, "label {number} has no such place"),
+                3 => write!(f, "procedure {number} has no name of its own"),
+                4 => write!(f, "variable {number} has no name of its own"),
+                5 => write!(f, "the name of label {number} is none"),
+                6 => f.write_str("there are other numbers of statements, labels or names than there have to be"),
+                7 => f.write_str("no procedure is called main"),
+                8 => f.write_str("there are too many procedures"),
+                _ => f.write_str("there are too many statements, labels or variables"),
+            },
             Error::TooManyPoints => f.write_str("the program has too many points"),
             Error::TooManyBits => f.write_str("an analysis of the program has too many bits"),
             Error::BadRange => f.write_str("the range is none of the analysis's bits, or of the program's points"),
@@ -179,8 +201,157 @@ fn expression(raw: raw::RawExpression) -> Expression {
     }
 }
 
+// A number, or none where the library tells that there is none.
+fn number(raw: u32) -> Option<u32> {
+    (raw != u32::MAX).then_some(raw)
+}
+
 fn definition(raw: raw::RawDefinition) -> Definition {
-    Definition { variable: raw.variable, point: (raw.point != u32::MAX).then_some(raw.point) }
+    Definition { variable: raw.variable, point: number(raw.point) }
+}
+
+/// What a statement is, of variables x, operands y and z, and labels L.
+#[derive(Clone, Copy, Debug, PartialEq, Eq, Hash)]
+pub enum StatementKind {
+    /// `x = y`
+    Copy,
+    /// `x = op y`
+    Unary,
+    /// `x = y op z`
+    Binary,
+    /// `goto L`
+    Goto,
+    /// `if y goto L`
+    If,
+    /// `ifFalse y goto L`
+    IfFalse,
+    /// `if y op z goto L`
+    IfCompare,
+    /// `call p | q ..`: its edges lead to the callees.
+    Call,
+    /// `return`
+    Return,
+    /// `read x`
+    Read,
+    /// `print y`
+    Print,
+    /// `skip`
+    Skip,
+}
+
+const KINDS: [StatementKind; 12] = [
+    StatementKind::Copy,
+    StatementKind::Unary,
+    StatementKind::Binary,
+    StatementKind::Goto,
+    StatementKind::If,
+    StatementKind::IfFalse,
+    StatementKind::IfCompare,
+    StatementKind::Call,
+    StatementKind::Return,
+    StatementKind::Read,
+    StatementKind::Print,
+    StatementKind::Skip,
+];
+
+/// A statement. One operand, as y of the forms with no z, is on the right.
+#[derive(Clone, Copy, Debug, PartialEq, Eq)]
+pub struct Statement {
+    /// What it is.
+    pub kind: StatementKind,
+    /// The variable that is set, by number.
+    pub target: Option<u32>,
+    /// The operator, as it is written.
+    pub operator: Option<&'static str>,
+    /// The label that it names: its number among those of the procedure, in the order of the text.
+    pub label: Option<u32>,
+    /// The point that the label stands for.
+    pub goes_to: Option<u32>,
+    /// The expression that it evaluates: a bit of available and of very busy expressions.
+    pub expression: Option<u32>,
+    /// What stands left of the operator.
+    pub left: Option<Operand>,
+    /// What stands right of it.
+    pub right: Option<Operand>,
+}
+
+fn statement(raw: raw::RawStatement) -> Option<Statement> {
+    Some(Statement {
+        kind: *KINDS.get((raw.kind as usize).checked_sub(1)?)?,
+        target: number(raw.target),
+        operator: number(raw.operator).map(|sign| SIGNS[sign as usize]),
+        label: number(raw.label),
+        goes_to: number(raw.goes_to),
+        expression: number(raw.expression),
+        left: operand(raw.left),
+        right: operand(raw.right),
+    })
+}
+
+/// What an edge is.
+#[derive(Clone, Copy, Debug, PartialEq, Eq, Hash)]
+pub enum EdgeKind {
+    /// To where control may be next in the procedure.
+    Step,
+    /// From the call at this point to the first point of a callee.
+    Call(u32),
+    /// From the last point of a callee to the point behind the call at this point.
+    Return(u32),
+}
+
+/// An edge.
+#[derive(Clone, Copy, Debug, PartialEq, Eq, Hash)]
+pub struct Edge {
+    /// What it is.
+    pub kind: EdgeKind,
+    /// The point that it leaves.
+    pub from: u32,
+    /// The point to which it leads.
+    pub to: u32,
+}
+
+fn edge(raw: raw::RawEdge) -> Edge {
+    let kind = match raw.kind {
+        0 => EdgeKind::Step,
+        1 => EdgeKind::Call(raw.site),
+        _ => EdgeKind::Return(raw.site),
+    };
+    Edge { kind, from: raw.from, to: raw.to }
+}
+
+/// What a remark says.
+#[derive(Clone, Copy, Debug, PartialEq, Eq, Hash)]
+pub enum Says {
+    /// No valid path leads to the statement.
+    NeverReached,
+    /// The statement reads the variable, which may not be set there.
+    Unset(u32),
+    /// It evaluates the expression, which is available there.
+    AlreadyComputed(u32),
+    /// It is a test at which the expression is very busy.
+    VeryBusy(u32),
+    /// No execution reads what it assigns to the variable: it can be deleted.
+    Dead(u32),
+}
+
+/// A remark on the statement at a point. `docs/ANALYSES.md` of the repository says which may be acted on together.
+#[derive(Clone, Copy, Debug, PartialEq, Eq, Hash)]
+pub struct Remark {
+    /// The point.
+    pub point: u32,
+    /// What is said.
+    pub says: Says,
+}
+
+fn remark(raw: raw::RawRemark) -> Remark {
+    let says = match raw.kind {
+        0 => Says::NeverReached,
+        1 => Says::Unset(raw.name),
+        2 => Says::AlreadyComputed(raw.name),
+        3 => Says::VeryBusy(raw.name),
+        _ => Says::Dead(raw.name),
+    };
+    Remark { point: raw.point, says }
 }
 
 /// A program that was read: its text, its points, and what the bits of its analyses are. The library keeps it, so nothing is read anew
@@ -215,6 +386,7 @@ struct Kept {
     limits: Limits,
     sizes: Sizes,
     points: Vec<Point>,
+    statements: Vec<Option<Statement>>,
     procedures: Vec<String>,
     variables: Vec<String>,
     definitions: Vec<Definition>,
@@ -286,12 +458,18 @@ impl Program {
     /// As those of [`Program::read`].
     pub fn within(text: impl Into<Vec<u8>>, limits: Limits) -> Result<Program, Error> {
         let text = text.into();
-        let mut handle = Handle::open(&text, limits)?;
+        let handle = Handle::open(&text, limits)?;
+        Program::of(handle, limits, text)
+    }
+
+    // The program that an open handle keeps.
+    fn of(mut handle: Handle, limits: Limits, text: Vec<u8>) -> Result<Program, Error> {
         let sizes = handle.sizes()?;
         let kept = Kept {
             limits,
             sizes,
             points: handle.points(sizes.points)?,
+            statements: handle.statements(sizes.points)?.into_iter().map(statement).collect(),
             procedures: handle.procedures(sizes.procedures)?,
             variables: handle.variables(sizes.variables)?,
             definitions: handle.definitions(sizes.definitions)?.into_iter().map(definition).collect(),
@@ -302,7 +480,7 @@ impl Program {
         Ok(Program { kept: Arc::new(kept) })
     }
 
-    /// The text.
+    /// The text; no bytes of a program that was built without one.
     pub fn text(&self) -> &[u8] {
         &self.kept.text
     }
@@ -326,6 +504,11 @@ impl Program {
     pub fn points_of(&self, procedure: u32) -> Range<u32> {
         let before = |number| self.kept.points.partition_point(|point| point.procedure < number) as u32;
         before(procedure)..before(procedure.saturating_add(1))
+    }
+
+    /// What stands at each point, by number; nothing at a procedure's end.
+    pub fn statements(&self) -> &[Option<Statement>] {
+        &self.kept.statements
     }
 
     /// The names of the procedures, by number.
@@ -384,6 +567,57 @@ impl Program {
     /// `OutOfMemory` where memory was refused.
     pub fn report(&self) -> Result<Vec<u8>, Error> {
         self.kept.handles.ask(Handle::report)
+    }
+
+    /// The remarks, in the order of the report's lines. They are found anew each time.
+    ///
+    /// # Errors
+    ///
+    /// `OutOfMemory` where memory was refused.
+    pub fn remarks(&self) -> Result<Vec<Remark>, Error> {
+        let room = self.kept.sizes.points;
+        Ok(self.kept.handles.ask(|handle| handle.remarks(room))?.into_iter().map(remark).collect())
+    }
+
+    // Some of the points.
+    fn some(&self, points: Range<u32>) -> Result<Range<u32>, Error> {
+        if points.start <= points.end && points.end <= self.kept.sizes.points {
+            return Ok(points);
+        }
+        Err(Error::BadRange)
+    }
+
+    /// The edges that leave some of the points, in the order of these points. A test whose outcomes lead to one point has one edge; a
+    /// call has one to the first point of each callee; from a procedure's last point there is a return for each call of it.
+    ///
+    /// # Errors
+    ///
+    /// `BadRange` where the points are none of the program; `OutOfMemory` where memory was refused.
+    pub fn edges(&self, points: Range<u32>) -> Result<Vec<Edge>, Error> {
+        let points = self.some(points)?;
+        Ok(self.kept.handles.ask(|handle| handle.edges(points))?.into_iter().map(edge).collect())
+    }
+
+    /// For each of some points whether it has a valid path: from the beginning of `main`, or for live variables and very busy
+    /// expressions to its end.
+    ///
+    /// # Errors
+    ///
+    /// `BadRange` where the points are none of the program; `OutOfMemory` where memory was refused.
+    pub fn has_path(&self, analysis: Analysis, points: Range<u32>) -> Result<Vec<bool>, Error> {
+        let points = self.some(points)?;
+        Ok(self.kept.handles.ask(|handle| handle.has_path(analysis, points))?.into_iter().map(|flag| flag == 1).collect())
+    }
+
+    /// For each of some points whether it is doubtful: whether some path leads from it to a point that has no valid path to the end of
+    /// `main`, as where a loop may never end.
+    ///
+    /// # Errors
+    ///
+    /// `BadRange` where the points are none of the program; `OutOfMemory` where memory was refused.
+    pub fn doubtful(&self, points: Range<u32>) -> Result<Vec<bool>, Error> {
+        let points = self.some(points)?;
+        Ok(self.kept.handles.ask(|handle| handle.doubtful(points))?.into_iter().map(|flag| flag == 1).collect())
     }
 
     /// The facts of an analysis.

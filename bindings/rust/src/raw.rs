@@ -54,6 +54,94 @@ pub(crate) struct RawExpression {
 }
 
 #[repr(C)]
+#[derive(Clone, Copy, Default)]
+pub(crate) struct RawStatement {
+    pub kind: u32,
+    pub target: u32,
+    pub operator: u32,
+    pub label: u32,
+    pub goes_to: u32,
+    pub expression: u32,
+    pub left: RawOperand,
+    pub right: RawOperand,
+}
+
+#[repr(C)]
+#[derive(Clone, Copy, Default)]
+pub(crate) struct RawBuilt {
+    pub kind: u32,
+    pub target: u32,
+    pub operator: u32,
+    pub label: u32,
+    pub first_callee: u32,
+    pub callees: u32,
+    pub line: u32,
+    pub left: RawOperand,
+    pub right: RawOperand,
+}
+
+#[repr(C)]
+#[derive(Clone, Copy, Default)]
+pub(crate) struct RawBuiltProcedure {
+    pub statements: u32,
+    pub labels: u32,
+}
+
+/// Names, one after the other, and where each ends.
+#[derive(Clone, Debug, Default)]
+pub(crate) struct RawNames {
+    pub ends: Vec<usize>,
+    pub bytes: Vec<u8>,
+}
+
+impl RawNames {
+    pub fn of<T: AsRef<str>>(names: impl IntoIterator<Item = T>) -> RawNames {
+        let mut made = RawNames::default();
+        for name in names {
+            made.bytes.extend_from_slice(name.as_ref().as_bytes());
+            made.ends.push(made.bytes.len());
+        }
+        made
+    }
+}
+
+/// What a program is built of.
+#[derive(Default)]
+pub(crate) struct RawArrays {
+    pub procedures: Vec<RawBuiltProcedure>,
+    pub statements: Vec<RawBuilt>,
+    pub labels: Vec<u32>,
+    pub callees: Vec<u32>,
+    pub procedure_names: RawNames,
+    pub variable_names: RawNames,
+    pub label_names: RawNames,
+}
+
+#[repr(C)]
+#[derive(Clone, Copy, Default)]
+struct BuildPlace {
+    fault: u32,
+    number: u32,
+}
+
+#[repr(C)]
+#[derive(Clone, Copy, Default)]
+pub(crate) struct RawEdge {
+    pub kind: u32,
+    pub site: u32,
+    pub from: u32,
+    pub to: u32,
+}
+
+#[repr(C)]
+#[derive(Clone, Copy, Default)]
+pub(crate) struct RawRemark {
+    pub point: u32,
+    pub kind: u32,
+    pub name: u32,
+}
+
+#[repr(C)]
 struct RawHandle {
     is_open: bool,
     at: *mut c_void,
@@ -67,6 +155,31 @@ type RowsCall = unsafe extern "C" fn(*mut RawHandle, *mut c_void, usize) -> u32;
 
 extern "C" {
     fn tacflow_c_open(text: *const u8, length: usize, limits: u32, handle: *mut RawHandle, place: *mut Place) -> u32;
+    fn tacflow_c_build(
+        procedures: *const RawBuiltProcedure,
+        procedure_count: usize,
+        statements: *const RawBuilt,
+        statement_count: usize,
+        labels: *const u32,
+        label_count: usize,
+        callees: *const u32,
+        callee_count: usize,
+        procedure_ends: *const usize,
+        procedure_end_count: usize,
+        procedure_names: *const u8,
+        procedure_bytes: usize,
+        variable_ends: *const usize,
+        variable_end_count: usize,
+        variable_names: *const u8,
+        variable_bytes: usize,
+        label_ends: *const usize,
+        label_end_count: usize,
+        label_names: *const u8,
+        label_bytes: usize,
+        limits: u32,
+        handle: *mut RawHandle,
+        place: *mut BuildPlace,
+    ) -> u32;
     fn tacflow_c_share(handle: *mut RawHandle, other: *mut RawHandle) -> u32;
     fn tacflow_c_close(handle: *mut RawHandle) -> u32;
     fn tacflow_c_sizes_of(handle: *mut RawHandle, sizes: *mut Sizes) -> u32;
@@ -75,6 +188,18 @@ extern "C" {
     fn tacflow_c_expressions_of(handle: *mut RawHandle, expressions: *mut c_void, count: usize) -> u32;
     fn tacflow_c_procedures_of(handle: *mut RawHandle, ends: *mut usize, count: usize, bytes: *mut u8, room: usize) -> u32;
     fn tacflow_c_variables_of(handle: *mut RawHandle, ends: *mut usize, count: usize, bytes: *mut u8, room: usize) -> u32;
+    fn tacflow_c_has_path(handle: *mut RawHandle, analysis: u32, first_point: u32, end_point: u32, flags: *mut u8, count: usize) -> u32;
+    fn tacflow_c_doubtful(handle: *mut RawHandle, first_point: u32, end_point: u32, flags: *mut u8, count: usize) -> u32;
+    fn tacflow_c_statements(handle: *mut RawHandle, statements: *mut c_void, count: usize) -> u32;
+    fn tacflow_c_edges(
+        handle: *mut RawHandle,
+        first_point: u32,
+        end_point: u32,
+        edges: *mut RawEdge,
+        room: usize,
+        count: *mut usize,
+    ) -> u32;
+    fn tacflow_c_remarks(handle: *mut RawHandle, remarks: *mut RawRemark, room: usize, count: *mut usize) -> u32;
     fn tacflow_c_ask(handle: *mut RawHandle, queries: *const Query, count: usize, words: *mut u64, word_count: usize) -> u32;
     fn tacflow_c_listing_of(handle: *mut RawHandle, bytes: *mut u8, room: usize, size: *mut usize) -> u32;
     fn tacflow_c_report_of(handle: *mut RawHandle, bytes: *mut u8, room: usize, size: *mut usize) -> u32;
@@ -92,8 +217,11 @@ extern "C" {
     ) -> u32;
 }
 
-/// The status that tells how much room a text needs.
+/// The status that tells how much room a list needs.
 const BAD_ROOM: u32 = 5;
+
+/// The status that tells that arrays stand for no program.
+const NOT_BUILT: u32 = 9;
 
 /// How much room a text has at first.
 const ROOM: usize = 65_536;
@@ -138,6 +266,43 @@ impl Handle {
         let status = unsafe { tacflow_c_open(text.as_ptr(), text.len(), limits as u32, &mut raw, &mut place) };
         if status == 1 {
             return Err(Error::Refused { number: place.number, line: place.line, column: place.column });
+        }
+        answered(status).map(|()| Handle { raw })
+    }
+
+    pub fn build(it: &RawArrays, limits: Limits) -> Result<Handle, Error> {
+        let (mut raw, mut place) = (CLOSED, BuildPlace::default());
+        let (procedures, variables, labels) = (&it.procedure_names, &it.variable_names, &it.label_names);
+        // SAFETY: the pointers and lengths are of slices and values that outlive the call; the handle is closed.
+        let status = unsafe {
+            tacflow_c_build(
+                it.procedures.as_ptr(),
+                it.procedures.len(),
+                it.statements.as_ptr(),
+                it.statements.len(),
+                it.labels.as_ptr(),
+                it.labels.len(),
+                it.callees.as_ptr(),
+                it.callees.len(),
+                procedures.ends.as_ptr(),
+                procedures.ends.len(),
+                procedures.bytes.as_ptr(),
+                procedures.bytes.len(),
+                variables.ends.as_ptr(),
+                variables.ends.len(),
+                variables.bytes.as_ptr(),
+                variables.bytes.len(),
+                labels.ends.as_ptr(),
+                labels.ends.len(),
+                labels.bytes.as_ptr(),
+                labels.bytes.len(),
+                limits as u32,
+                &mut raw,
+                &mut place,
+            )
+        };
+        if status == NOT_BUILT {
+            return Err(Error::NotBuilt { fault: place.fault, number: place.number });
         }
         answered(status).map(|()| Handle { raw })
     }
@@ -228,25 +393,70 @@ impl Handle {
         answered(status).map(|()| words)
     }
 
-    // A text that is made whole: where there is too little room the call tells how long it is.
-    fn made(&mut self, call: TextCall) -> Result<Vec<u8>, Error> {
-        let mut size = ROOM;
+    pub fn has_path(&mut self, analysis: Analysis, points: Range<u32>) -> Result<Vec<u8>, Error> {
+        let mut flags = vec![0; points.len()];
+        // SAFETY: the pointer and the length are of a slice that outlives the call.
+        let status = unsafe {
+            tacflow_c_has_path(&mut self.raw, analysis as u32, points.start, points.end, flags.as_mut_ptr(), flags.len())
+        };
+        answered(status).map(|()| flags)
+    }
+
+    pub fn doubtful(&mut self, points: Range<u32>) -> Result<Vec<u8>, Error> {
+        let mut flags = vec![0; points.len()];
+        // SAFETY: the pointer and the length are of a slice that outlives the call.
+        let status =
+            unsafe { tacflow_c_doubtful(&mut self.raw, points.start, points.end, flags.as_mut_ptr(), flags.len()) };
+        answered(status).map(|()| flags)
+    }
+
+    pub fn statements(&mut self, count: u32) -> Result<Vec<RawStatement>, Error> {
+        self.rows(tacflow_c_statements, count)
+    }
+
+    // A list that is made whole: where there is too little room the call tells how long it is.
+    fn made<T: Clone + Default>(
+        &mut self,
+        room: usize,
+        call: impl Fn(&mut RawHandle, &mut [T], &mut usize) -> u32,
+    ) -> Result<Vec<T>, Error> {
+        let mut size = room;
         loop {
-            let mut bytes = vec![0; size];
-            // SAFETY: the pointers and lengths are of slices and values that outlive the call.
-            let status = unsafe { call(&mut self.raw, bytes.as_mut_ptr(), bytes.len(), &mut size) };
+            let mut list = vec![T::default(); size];
+            let status = call(&mut self.raw, &mut list, &mut size);
             if status != BAD_ROOM {
-                bytes.truncate(size);
-                return answered(status).map(|()| bytes);
+                list.truncate(size);
+                return answered(status).map(|()| list);
             }
         }
     }
 
+    pub fn edges(&mut self, points: Range<u32>) -> Result<Vec<RawEdge>, Error> {
+        self.made(2 * points.len(), |handle, edges, count| {
+            // SAFETY: the pointers and lengths are of slices and values that outlive the call.
+            unsafe { tacflow_c_edges(handle, points.start, points.end, edges.as_mut_ptr(), edges.len(), count) }
+        })
+    }
+
+    pub fn remarks(&mut self, room: u32) -> Result<Vec<RawRemark>, Error> {
+        self.made(room as usize, |handle, remarks, count| {
+            // SAFETY: the pointers and lengths are of slices and values that outlive the call.
+            unsafe { tacflow_c_remarks(handle, remarks.as_mut_ptr(), remarks.len(), count) }
+        })
+    }
+
+    fn text(&mut self, call: TextCall) -> Result<Vec<u8>, Error> {
+        self.made(ROOM, |handle, bytes, size| {
+            // SAFETY: the pointers and lengths are of slices and values that outlive the call.
+            unsafe { call(handle, bytes.as_mut_ptr(), bytes.len(), size) }
+        })
+    }
+
     pub fn listing(&mut self) -> Result<Vec<u8>, Error> {
-        self.made(tacflow_c_listing_of)
+        self.text(tacflow_c_listing_of)
     }
 
     pub fn report(&mut self) -> Result<Vec<u8>, Error> {
-        self.made(tacflow_c_report_of)
+        self.text(tacflow_c_report_of)
     }
 }

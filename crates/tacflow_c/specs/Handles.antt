@@ -7,8 +7,8 @@ use Rattle.flow_kept.specs.Kept.{KeptProgram}
 use Rattle.tac_program.specs.Programs.{Program}
 use Rattle.tac_program.specs.declared.limits.Limits.{Limits}
 use Rattle.tacflow_c.specs.Names.{names_of}
+use Rattle.tacflow_c.specs.Rooms.{NeedsRoom}
 use Rattle.tacflow_c.specs.Statuses.{IsBadTable, IsFaultOf, analysis_of, end_of, status_of}
-use Rattle.tacflow_c.specs.Texts.{NeedsRoom}
 use Rattle.tacflow_c.specs.declared.fault.Fault.{Fault}
 use Rattle.tacflow_c.specs.declared.fault.Fault.TheVariants as fault
 use Rattle.tacflow_c.specs.declared.names.Named.{Named}
@@ -66,7 +66,7 @@ IsNumberFault number from until lo hi flags words program fault.BadRoom =
     × IsBadTable program analysis from (end_of program until) lo hi flags words fault.BadRoom
 IsNumberFault number from until lo hi flags words program fault = IsMemoryFault fault
 
--- why there is no such text in such room; its length is told where it is room that lacks
-abbrev pub IsTextFault : (List ℕ → Type 0) → ℕ → ℕ → Fault → Type 0
-IsTextFault IsText room size fault.BadRoom = NeedsRoom IsText room size
-IsTextFault IsText room size fault = IsMemoryFault fault
+-- why there is no such list in such room; its length is told where it is room that lacks
+abbrev pub IsListFault : {A : Type 0} → (List A → Type 0) → ℕ → ℕ → Fault → Type 0
+IsListFault IsList room size fault.BadRoom = NeedsRoom IsList room size
+IsListFault IsList room size fault = IsMemoryFault fault

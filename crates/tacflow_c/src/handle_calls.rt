@@ -7,12 +7,12 @@ ghost use Rattle.flow_reports.specs.Reports.{ListsSafely};
 ghost use Rattle.tac_listing.specs.Listings.{listing_of};
 ghost use Rattle.tac_reader.specs.Parses.{program_of};
 ghost use Rattle.tacflow_c.specs.Handles.{AreFactsOfNumber, IsAsked, IsMemoryFault, IsNamesRoomFault, IsNumberFault, IsOpenFault};
-ghost use Rattle.tacflow_c.specs.Handles.{IsPartsFault, IsTextFault};
+ghost use Rattle.tacflow_c.specs.Handles.{IsListFault, IsPartsFault};
 ghost use Rattle.tacflow_c.specs.Names.{AreNames};
 ghost use Rattle.tacflow_c.specs.Parts.{AreParts, ArePartsOf, definition_part, expression_part, point_part, sizes_of};
 ghost use Rattle.tacflow_c.specs.Queries.{AreAnswersTo, IsQueriesFault};
 ghost use Rattle.tacflow_c.specs.Statuses.{HasGraph, IsAnswered};
-ghost use Rattle.tacflow_c.specs.Texts.{HoldsText, IsTextKept};
+ghost use Rattle.tacflow_c.specs.Rooms.{HoldsList, IsListKept};
 ghost use Rattle.tacflow_c.specs.declared.names.Named.TheVariants.{Procedures, Variables};
 
 use crate::fault::{Place, answer_status, asked_status, fault_status};
@@ -291,9 +291,9 @@ pub extern "C" fn tacflow_c_listing_of(
     size: &mut usize,
 ) -> u32
     ensures { IsAsked result handle.old.held.value handle.new.held.value
-        (λ program. HoldsText (λ out. out ≡ listing_of program) bytes.old bytes.new size.new)
-        (IsTextKept bytes.old bytes.new size.old size.new)
-        (λ program. IsTextFault (λ out. out ≡ listing_of program) (length bytes.old) size.new) }
+        (λ program. HoldsList (λ out. out ≡ listing_of program) bytes.old bytes.new size.new)
+        (IsListKept bytes.old bytes.new size.old size.new)
+        (λ program. IsListFault (λ out. out ≡ listing_of program) (length bytes.old) size.new) }
 {
     if !handle.is_open {
         return 8;
@@ -314,9 +314,9 @@ pub extern "C" fn tacflow_c_report_of(
     size: &mut usize,
 ) -> u32
     ensures { IsAsked result handle.old.held.value handle.new.held.value
-        (λ program. HoldsText (ListsSafely program) bytes.old bytes.new size.new)
-        (IsTextKept bytes.old bytes.new size.old size.new)
-        (λ program. IsTextFault (ListsSafely program) (length bytes.old) size.new) }
+        (λ program. HoldsList (ListsSafely program) bytes.old bytes.new size.new)
+        (IsListKept bytes.old bytes.new size.old size.new)
+        (λ program. IsListFault (ListsSafely program) (length bytes.old) size.new) }
 {
     if !handle.is_open {
         return 8;

@@ -4,9 +4,10 @@ ghost use Rattle.std.specs.Prelude.{◌≡◌, length, IfErr, OnOk, OnErr};
 ghost use Rattle.flow_graph.specs.Points.{point_count};
 ghost use Rattle.flow_graph.specs.Universes.{definitions as definitions_in, expressions as expressions_in};
 ghost use Rattle.flow_reports.specs.Reports.{ListsSafely};
-ghost use Rattle.tacflow_c.specs.Handles.{AreFactsOfNumber, IsMemoryFault, IsNumberFault, IsPartsFault, IsTextFault};
+ghost use Rattle.tacflow_c.specs.Handles.{AreFactsOfNumber, IsMemoryFault, IsNumberFault, IsPartsFault, IsListFault};
 ghost use Rattle.tacflow_c.specs.Parts.{AreParts, ArePartsOf, definition_part, expression_part, point_part, sizes_of};
-ghost use Rattle.tacflow_c.specs.Texts.{HoldsText, IsTextKept};
+ghost use Rattle.tacflow_c.specs.Rooms.{HoldsList, IsListKept};
+ghost use Rattle.tacflow_c.specs.Statements.{statement_part};
 
 use crate::calls::{check_table, find_analysis, find_end};
 use crate::fault::Fault;
@@ -14,6 +15,7 @@ use crate::parts::{
     Definition, Expression, Point, Sizes, fill_definitions, fill_expressions, fill_points,
     find_sizes,
 };
+use crate::statements::{NumberedStatement, fill_statements};
 use crate::texts::put_report;
 use flow_kept::{Kept, put_facts};
 use gen_kill::Problem;
@@ -68,6 +70,20 @@ pub(crate) fn expressions_of_kept(
     fill_expressions(&graph, expressions)
 }
 
+/// What stands at the points of a kept program.
+pub(crate) fn statements_of_kept(
+    alloc: Global,
+    kept: &Kept,
+    statements: &mut [NumberedStatement],
+) -> Result<(), Fault>
+    ensures statements { OnOk result (AreParts (statement_part kept.now.program) (point_count kept.now.program) statements.new) }
+    ensures kept { OnErr result (statements.new ≡ statements.old) }
+    ensures fault { IfErr result (IsPartsFault (length statements.old) (point_count kept.now.program)) }
+{
+    let graph = kept.graph(alloc)?;
+    fill_statements(&graph, statements)
+}
+
 /// The facts of an analysis of a kept program: at a range of its points, on a range of the analysis's bits.
 pub(crate) fn facts_of_kept(
     alloc: Global,
@@ -109,9 +125,9 @@ pub(crate) fn report_of_kept(
     bytes: &mut [u8],
     size: &mut usize,
 ) -> Result<(), Fault>
-    ensures held { OnOk result (HoldsText (ListsSafely kept.now.program) bytes.old bytes.new size.new) }
-    ensures kept { IfErr result (IsTextKept bytes.old bytes.new size.old size.new) }
-    ensures fault { IfErr result (IsTextFault (ListsSafely kept.now.program) (length bytes.old) size.new) }
+    ensures held { OnOk result (HoldsList (ListsSafely kept.now.program) bytes.old bytes.new size.new) }
+    ensures kept { IfErr result (IsListKept bytes.old bytes.new size.old size.new) }
+    ensures fault { IfErr result (IsListFault (ListsSafely kept.now.program) (length bytes.old) size.new) }
 {
     let graph = kept.graph(alloc)?;
     put_report(alloc, &graph, bytes, size)

@@ -5,18 +5,27 @@
 //! and the size of a text for which there is too little room. No call starts a thread or waits: a caller who has several asks for ranges of
 //! bits in threads of its own, and together they are the table.
 //!
-//! A handle keeps a text's program between calls (`handle_calls`), and a call over it answers the same of that program.
+//! A handle keeps a text's program between calls (`handle_calls`), and a call over it answers the same of that program. Words at single
+//! points, flags of points, statements, edges and remarks are asked of handles alone (`data_calls`).
 #![tactic(auto)]
 
+mod builds;
 mod calls;
+mod data_calls;
+mod edges;
 mod fault;
+mod flags;
 mod handle;
 mod handle_calls;
 mod held;
 mod kept_calls;
+mod messages;
 mod names;
 mod parts;
 mod queries;
+mod remarks;
+mod rooms;
+mod statements;
 mod text;
 mod texts;
 
@@ -29,13 +38,16 @@ ghost use Rattle.tac_reader.specs.Faults.{refusal_within};
 ghost use Rattle.tacflow_c.specs.Names.{AreNames, IsNamesFault};
 ghost use Rattle.tacflow_c.specs.declared.names.Named.TheVariants.{Procedures, Variables};
 ghost use Rattle.tacflow_c.specs.Parts.{AreParts, ArePartsOf, definition_part, expression_part, point_part, sizes_of};
-ghost use Rattle.tacflow_c.specs.Texts.{HoldsText, IsListingFault, IsListingOf, IsReportFault, IsReportOf, IsTextKept};
+ghost use Rattle.tacflow_c.specs.Rooms.{HoldsList, IsListKept};
+ghost use Rattle.tacflow_c.specs.Texts.{IsListingFault, IsListingOf, IsReportFault, IsReportOf};
 ghost use Rattle.tacflow_c.specs.Statuses.{HasGraph, IsAnswered, IsFaultOf, IsRoomFault};
 
+pub use builds::BuildPlace;
 use calls::{
     definitions_of_text, expressions_of_text, facts_of_text, names_of_text, points_of_text,
     sizes_of_text,
 };
+pub use edges::NumberedEdge;
 pub use fault::Place;
 use fault::{answer_status, fault_status};
 pub use handle::Handle;
@@ -43,6 +55,8 @@ pub use held::{Held, Opaque};
 use names::Named;
 pub use parts::{Definition, Expression, Part, Point, Sizes};
 pub use queries::NumberedQuery;
+pub use remarks::NumberedRemark;
+pub use statements::NumberedStatement;
 use std::alloc::Global;
 use text::find_limits;
 use texts::{listing_of_text, report_of_text};
@@ -229,8 +243,8 @@ pub extern "C" fn tacflow_c_listing(
     size: &mut usize,
     place: &mut Place,
 ) -> u32
-    ensures { IsAnswered result limits place.old place.new (λ l. HoldsText (IsListingOf l text.now) bytes.old bytes.new size.new)
-        (IsTextKept bytes.old bytes.new size.old size.new)
+    ensures { IsAnswered result limits place.old place.new (λ l. HoldsList (IsListingOf l text.now) bytes.old bytes.new size.new)
+        (IsListKept bytes.old bytes.new size.old size.new)
         (λ l. IsListingFault l text.now (length bytes.old) size.new) }
 {
     match find_limits(limits) {
@@ -250,8 +264,8 @@ pub extern "C" fn tacflow_c_report(
     size: &mut usize,
     place: &mut Place,
 ) -> u32
-    ensures { IsAnswered result limits place.old place.new (λ l. HoldsText (IsReportOf l text.now) bytes.old bytes.new size.new)
-        (IsTextKept bytes.old bytes.new size.old size.new)
+    ensures { IsAnswered result limits place.old place.new (λ l. HoldsList (IsReportOf l text.now) bytes.old bytes.new size.new)
+        (IsListKept bytes.old bytes.new size.old size.new)
         (λ l. IsReportFault l text.now (length bytes.old) size.new) }
 {
     match find_limits(limits) {

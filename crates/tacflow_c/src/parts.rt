@@ -123,7 +123,8 @@ fn put_definitions(graph: &Graph<'_>, definitions: &mut [Definition])
     }
 }
 
-fn operator_number(op: Op) -> u32
+/// The number of an operator.
+pub(crate) fn operator_number(op: Op) -> u32
     ensures { result ≡ operator_number op }
 {
     match op {
@@ -148,7 +149,8 @@ fn operator_number(op: Op) -> u32
     }
 }
 
-fn part_of(operand: Operand) -> Part
+/// An operand by its numbers.
+pub(crate) fn part_of(operand: Operand) -> Part
     ensures { result ≡ operand_part operand }
 {
     match operand {

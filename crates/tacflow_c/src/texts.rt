@@ -1,32 +1,20 @@
 // Listings and reports in room of a caller's.
 
-ghost use Rattle.std.specs.Prelude.{◌≡◌, ◌<◌, ◌≤◌, ◌++◌, drop, length, IfErr, OnOk, MatchBool};
+ghost use Rattle.std.specs.Prelude.{◌≡◌, length, IfErr, OnOk};
 ghost use Rattle.flow_reports.specs.Reports.{ListsSafely};
 ghost use Rattle.tac_listing.specs.Listings.{listing_of};
-ghost use Rattle.tacflow_c.specs.Handles.{IsTextFault};
-ghost use Rattle.tacflow_c.specs.Texts.{HoldsText, IsListingFault, IsListingOf, IsReportFault, IsReportOf, IsTextKept};
+ghost use Rattle.tacflow_c.specs.Handles.{IsListFault};
+ghost use Rattle.tacflow_c.specs.Rooms.{HoldsList, IsListKept};
+ghost use Rattle.tacflow_c.specs.Texts.{IsListingFault, IsListingOf, IsReportFault, IsReportOf};
 
 use crate::fault::Fault;
+use crate::rooms::put_list;
 use crate::text::{graph_of, program_of};
 use flow_graph::Graph;
 use flow_reports::report_here;
 use std::alloc::Global;
 use tac_listing::listing;
 use tac_program::{Limits, Program};
-
-// Puts a text where there is room for it, and tells how long it is.
-fn put_text(text: &[u8], bytes: &mut [u8], size: &mut usize) -> bool
-    ensures size { size.new ≡ length text.now }
-    ensures bytes { MatchBool result (bytes.new ≡ text.now ++ drop (length text.now) bytes.old) (bytes.new ≡ bytes.old) }
-    ensures room { MatchBool result (length text.now ≤ length bytes.old) (length bytes.old < length text.now) }
-{
-    *size = text.len();
-    if bytes.len() < text.len() {
-        return false;
-    }
-    bytes[..text.len()].copy_from_slice(text);
-    true
-}
 
 /// Puts the listing of a program where there is room for it, and tells how long it is.
 pub(crate) fn put_listing(
@@ -35,12 +23,12 @@ pub(crate) fn put_listing(
     bytes: &mut [u8],
     size: &mut usize,
 ) -> Result<(), Fault>
-    ensures held { OnOk result (HoldsText (λ out. out ≡ listing_of program.now) bytes.old bytes.new size.new) }
-    ensures kept { IfErr result (IsTextKept bytes.old bytes.new size.old size.new) }
-    ensures fault { IfErr result (IsTextFault (λ out. out ≡ listing_of program.now) (length bytes.old) size.new) }
+    ensures held { OnOk result (HoldsList (λ out. out ≡ listing_of program.now) bytes.old bytes.new size.new) }
+    ensures kept { IfErr result (IsListKept bytes.old bytes.new size.old size.new) }
+    ensures fault { IfErr result (IsListFault (λ out. out ≡ listing_of program.now) (length bytes.old) size.new) }
 {
     let out = listing(alloc, program)?;
-    if put_text(&out, bytes, size) {
+    if put_list(out.as_slice(), bytes, size) {
         Ok(())
     } else {
         Err(Fault::BadRoom)
@@ -54,12 +42,12 @@ pub(crate) fn put_report(
     bytes: &mut [u8],
     size: &mut usize,
 ) -> Result<(), Fault>
-    ensures held { OnOk result (HoldsText (ListsSafely graph.now) bytes.old bytes.new size.new) }
-    ensures kept { IfErr result (IsTextKept bytes.old bytes.new size.old size.new) }
-    ensures fault { IfErr result (IsTextFault (ListsSafely graph.now) (length bytes.old) size.new) }
+    ensures held { OnOk result (HoldsList (ListsSafely graph.now) bytes.old bytes.new size.new) }
+    ensures kept { IfErr result (IsListKept bytes.old bytes.new size.old size.new) }
+    ensures fault { IfErr result (IsListFault (ListsSafely graph.now) (length bytes.old) size.new) }
 {
     let out = report_here(alloc, graph)?;
-    if put_text(&out, bytes, size) {
+    if put_list(out.as_slice(), bytes, size) {
         Ok(())
     } else {
         Err(Fault::BadRoom)
@@ -74,8 +62,8 @@ pub(crate) fn listing_of_text(
     bytes: &mut [u8],
     size: &mut usize,
 ) -> Result<(), Fault>
-    ensures held { OnOk result (HoldsText (IsListingOf limits text.now) bytes.old bytes.new size.new) }
-    ensures kept { IfErr result (IsTextKept bytes.old bytes.new size.old size.new) }
+    ensures held { OnOk result (HoldsList (IsListingOf limits text.now) bytes.old bytes.new size.new) }
+    ensures kept { IfErr result (IsListKept bytes.old bytes.new size.old size.new) }
     ensures fault { IfErr result (IsListingFault limits text.now (length bytes.old) size.new) }
 {
     let program = program_of(alloc, text, limits)?;
@@ -90,8 +78,8 @@ pub(crate) fn report_of_text(
     bytes: &mut [u8],
     size: &mut usize,
 ) -> Result<(), Fault>
-    ensures held { OnOk result (HoldsText (IsReportOf limits text.now) bytes.old bytes.new size.new) }
-    ensures kept { IfErr result (IsTextKept bytes.old bytes.new size.old size.new) }
+    ensures held { OnOk result (HoldsList (IsReportOf limits text.now) bytes.old bytes.new size.new) }
+    ensures kept { IfErr result (IsListKept bytes.old bytes.new size.old size.new) }
     ensures fault { IfErr result (IsReportFault limits text.now (length bytes.old) size.new) }
 {
     let program = program_of(alloc, text, limits)?;

@@ -1,0 +1,276 @@
+/* Points, statements, edges and remarks as data, against what is worked out by hand; bad input; each request for memory refused. Prints one
+ * line for each that goes wrong. With a file's name it prints the program's remarks as the lines of its report. Compile with
+ * -Wl,--wrap=malloc,--wrap=realloc,--wrap=free. */
+#include "counted.h"
+
+#include <inttypes.h>
+
+static tacflow_handle opened(const char *text) {
+    tacflow_handle handle = TACFLOW_CLOSED;
+    tacflow_place place;
+    expect("opened", TACFLOW_OK, tacflow_open(text, strlen(text), &handle, &place));
+    return handle;
+}
+
+/* Points 0 to 3 are of main, 4 to 7 of p; the variables are a and b, the expressions b + 1 and a * a. */
+static const char calls[] = "proc main\n  a = b + 1\n  call p\n  print a\nend\nproc p\n  if a goto L\n  call p\n  b = a * a\nL:\nend\n";
+
+#define NO TACFLOW_NONE
+#define NOTHING {TACFLOW_NOTHING, 0, 0}
+#define A {TACFLOW_VARIABLE, 0, 0}
+#define B {TACFLOW_VARIABLE, 1, 0}
+
+static const tacflow_statement statements_by_hand[8] = {
+    {TACFLOW_BINARY, 0, 0, NO, NO, 0, B, {TACFLOW_NUMBER, 0, 1}},
+    {TACFLOW_CALL, NO, NO, NO, NO, NO, NOTHING, NOTHING},
+    {TACFLOW_PRINT, NO, NO, NO, NO, NO, NOTHING, A},
+    {TACFLOW_NO_STATEMENT, NO, NO, NO, NO, NO, NOTHING, NOTHING},
+    {TACFLOW_IF, NO, NO, 0, 7, NO, NOTHING, A},
+    {TACFLOW_CALL, NO, NO, NO, NO, NO, NOTHING, NOTHING},
+    {TACFLOW_BINARY, 1, 2, NO, NO, 1, A, A},
+    {TACFLOW_NO_STATEMENT, NO, NO, NO, NO, NO, NOTHING, NOTHING},
+};
+
+static const tacflow_edge edges_by_hand[9] = {
+    {TACFLOW_STEP, NO, 0, 1},      {TACFLOW_CALL_EDGE, 1, 1, 4}, {TACFLOW_STEP, NO, 2, 3},
+    {TACFLOW_STEP, NO, 4, 5},      {TACFLOW_STEP, NO, 4, 7},     {TACFLOW_CALL_EDGE, 5, 5, 4},
+    {TACFLOW_STEP, NO, 6, 7},      {TACFLOW_RETURN_EDGE, 1, 7, 2}, {TACFLOW_RETURN_EDGE, 5, 7, 6},
+};
+
+static const tacflow_remark remarks_by_hand[2] = {{0, TACFLOW_UNSET, 1}, {6, TACFLOW_DEAD, 1}};
+
+/* What the calls write. */
+struct told {
+    uint8_t paths[8];
+    uint8_t doubtful[8];
+    tacflow_statement statements[8];
+    tacflow_edge edges[10];
+    tacflow_remark remarks[3];
+    size_t edge_count;
+    size_t remark_count;
+};
+
+enum { CALLS = 5 };
+
+static int call(int number, tacflow_handle *handle, struct told *told) {
+    switch (number) {
+    case 0: return tacflow_has_path(handle, TACFLOW_LIVE, 0, TACFLOW_ALL_POINTS, told->paths, 8);
+    case 1: return tacflow_doubtful(handle, 0, TACFLOW_ALL_POINTS, told->doubtful, 8);
+    case 2: return tacflow_statements(handle, told->statements, 8);
+    case 3: return tacflow_edges(handle, 0, TACFLOW_ALL_POINTS, told->edges, 10, &told->edge_count);
+    default: return tacflow_remarks(handle, told->remarks, 3, &told->remark_count);
+    }
+}
+
+static void by_hand(void) {
+    tacflow_handle handle = opened(calls);
+    struct told told, before;
+    memset(&told, 0x33, sizeof told), memset(&before, 0x33, sizeof before);
+    for (int number = 0; number < CALLS; number++) expect("asked", TACFLOW_OK, call(number, &handle, &told));
+    for (int point = 0; point < 8; point++) expect("a path", 1, told.paths[point]), expect("no doubt", 0, told.doubtful[point]);
+    for (int point = 0; point < 8; point++) expect_same("a statement", &statements_by_hand[point], &told.statements[point], sizeof(tacflow_statement));
+    expect("edges", 9, (int)told.edge_count), expect("remarks", 2, (int)told.remark_count);
+    expect_same("edges", edges_by_hand, told.edges, sizeof edges_by_hand);
+    expect_same("behind the edges", &before.edges[9], &told.edges[9], sizeof(tacflow_edge));
+    expect_same("remarks", remarks_by_hand, told.remarks, sizeof remarks_by_hand);
+    expect_same("behind the remarks", &before.remarks[2], &told.remarks[2], sizeof(tacflow_remark));
+    told.edge_count = 7, told.edges[1] = before.edges[0];
+    expect("edges of a call", TACFLOW_OK, tacflow_edges(&handle, 1, 2, told.edges, 1, &told.edge_count));
+    expect("one edge", 1, (int)told.edge_count);
+    expect_same("the call's edge", &edges_by_hand[1], told.edges, sizeof(tacflow_edge));
+    expect_same("behind the call's edge", &before.edges[0], &told.edges[1], sizeof(tacflow_edge));
+    expect("edges of no points", TACFLOW_OK, tacflow_edges(&handle, 8, 8, NULL, 0, &told.edge_count));
+    expect("no edges", 0, (int)told.edge_count);
+    expect("closed", TACFLOW_OK, tacflow_close(&handle));
+    expect("blocks", 0, (int)blocks);
+}
+
+/* A procedure that never returns, and a statement that is never reached. */
+static void doubt(void) {
+    tacflow_handle handle = opened("proc main\n  read a\n  goto M\n  x = a\nM:\n  if a goto M\n  call q\n  print a\nend\nproc q\nN:\n  goto N\nend\n");
+    static const uint8_t forward[9] = {1, 1, 0, 1, 1, 0, 0, 1, 0}, backward[9] = {0, 0, 0, 0, 0, 1, 1, 0, 1};
+    static const uint8_t doubtful[9] = {1, 1, 1, 1, 1, 0, 0, 1, 0};
+    static const tacflow_remark remarks[2] = {{2, TACFLOW_NEVER_REACHED, TACFLOW_NONE}, {5, TACFLOW_NEVER_REACHED, TACFLOW_NONE}};
+    tacflow_remark told[2];
+    uint8_t flags[9];
+    size_t count;
+    for (int analysis = 0; analysis < 4; analysis++) {
+        expect("paths", TACFLOW_OK, tacflow_has_path(&handle, analysis, 0, TACFLOW_ALL_POINTS, flags, 9));
+        expect_same("paths", analysis % 2 ? backward : forward, flags, 9);
+    }
+    expect("some paths", TACFLOW_OK, tacflow_has_path(&handle, TACFLOW_REACH, 2, 6, flags, 4));
+    expect_same("some paths", forward + 2, flags, 4);
+    expect("doubt", TACFLOW_OK, tacflow_doubtful(&handle, 0, 9, flags, 9));
+    expect_same("doubt", doubtful, flags, 9);
+    expect("some doubt", TACFLOW_OK, tacflow_doubtful(&handle, 4, 8, flags, 4));
+    expect_same("some doubt", doubtful + 4, flags, 4);
+    expect("what is never reached", TACFLOW_OK, tacflow_remarks(&handle, told, 2, &count));
+    expect_same("what is never reached", remarks, told, sizeof told);
+    expect("closed", TACFLOW_OK, tacflow_close(&handle));
+}
+
+/* Bad input: nothing is written, but for the number of edges or remarks where room lacks. */
+static void faults(void) {
+    tacflow_handle handle = opened(calls), closed = TACFLOW_CLOSED;
+    struct told told, before;
+    memset(&told, 0x33, sizeof told), memset(&before, 0x33, sizeof before);
+    for (int number = 0; number < CALLS; number++) expect("a closed one is asked", TACFLOW_BAD_HANDLE, call(number, &closed, &told));
+    for (int number = 0; number < CALLS; number++) expect("no handle", TACFLOW_BAD_POINTER, call(number, NULL, &told));
+    expect("no analysis", TACFLOW_BAD_ANALYSIS, tacflow_has_path(&handle, 4, 0, 8, told.paths, 8));
+    expect("points too far", TACFLOW_BAD_RANGE, tacflow_has_path(&handle, TACFLOW_REACH, 0, 9, told.paths, 9));
+    expect("points backwards", TACFLOW_BAD_RANGE, tacflow_has_path(&handle, TACFLOW_REACH, 3, 2, told.paths, 8));
+    expect("a flag too few", TACFLOW_BAD_ROOM, tacflow_has_path(&handle, TACFLOW_REACH, 0, 8, told.paths, 7));
+    expect("a flag too many", TACFLOW_BAD_ROOM, tacflow_has_path(&handle, TACFLOW_REACH, 0, 7, told.paths, 8));
+    expect("no flags", TACFLOW_BAD_POINTER, tacflow_has_path(&handle, TACFLOW_REACH, 0, 8, NULL, 8));
+    expect("doubt too far", TACFLOW_BAD_RANGE, tacflow_doubtful(&handle, 9, TACFLOW_ALL_POINTS, told.doubtful, 0));
+    expect("doubt in little room", TACFLOW_BAD_ROOM, tacflow_doubtful(&handle, 0, TACFLOW_ALL_POINTS, told.doubtful, 7));
+    expect("no room for doubt", TACFLOW_BAD_POINTER, tacflow_doubtful(&handle, 0, 8, NULL, 8));
+    expect("a statement too few", TACFLOW_BAD_ROOM, tacflow_statements(&handle, told.statements, 7));
+    expect("no statements", TACFLOW_BAD_POINTER, tacflow_statements(&handle, NULL, 8));
+    expect("edges too far", TACFLOW_BAD_RANGE, tacflow_edges(&handle, 0, 9, told.edges, 10, &told.edge_count));
+    expect("no edges", TACFLOW_BAD_POINTER, tacflow_edges(&handle, 0, 8, NULL, 10, &told.edge_count));
+    expect("no number of edges", TACFLOW_BAD_POINTER, tacflow_edges(&handle, 0, 8, told.edges, 10, NULL));
+    expect("no remarks", TACFLOW_BAD_POINTER, tacflow_remarks(&handle, NULL, 2, &told.remark_count));
+    expect("no number of remarks", TACFLOW_BAD_POINTER, tacflow_remarks(&handle, told.remarks, 2, NULL));
+    expect_same("after faults", &before, &told, sizeof told);
+    expect("edges in little room", TACFLOW_BAD_ROOM, tacflow_edges(&handle, 0, 8, told.edges, 8, &told.edge_count));
+    expect("remarks in no room", TACFLOW_BAD_ROOM, tacflow_remarks(&handle, NULL, 0, &told.remark_count));
+    expect("edges that are needed", 9, (int)told.edge_count), expect("remarks that are needed", 2, (int)told.remark_count);
+    told.edge_count = before.edge_count, told.remark_count = before.remark_count;
+    expect_same("where room lacked", &before, &told, sizeof told);
+    expect("closed", TACFLOW_OK, tacflow_close(&handle));
+    expect("blocks after faults", 0, (int)blocks);
+}
+
+/* Each request for memory of each call in turn is refused. */
+static void refused(void) {
+    tacflow_handle handle = opened(calls);
+    long open_blocks = blocks;
+    for (int number = 0; number < CALLS; number++) {
+        struct told told, before;
+        memset(&told, 0x33, sizeof told), memset(&before, 0x33, sizeof before);
+        long requests = -1, left;
+        int status;
+        do {
+            answered = ++requests;
+            status = call(number, &handle, &told);
+            left = answered, answered = -1;
+            if (left < 0 && (status != TACFLOW_OUT_OF_MEMORY || memcmp(&told, &before, sizeof told)))
+                wrong = printf("call %d, request %ld refused: status %d, or something was written\n", number, requests + 1, status);
+            if (blocks != open_blocks) wrong = printf("call %d: %ld blocks in place of %ld\n", number, blocks, open_blocks);
+        } while (left < 0 && requests < 10000);
+        expect("asked with ample memory", TACFLOW_OK, status);
+    }
+    expect("closed after refusals", TACFLOW_OK, tacflow_close(&handle));
+    expect("blocks after refusals", 0, (int)blocks);
+}
+
+static void expect_said(const char *wanted, int status, const tacflow_place *place) {
+    char line[96] = "";
+    size_t size = 0;
+    expect(wanted, TACFLOW_OK, tacflow_message(status, place, line, sizeof line, &size));
+    if (size != strlen(wanted) || memcmp(line, wanted, size) || line[size]) wrong = printf("status %d: %.*s\n", status, (int)size, line);
+    expect(wanted, TACFLOW_BAD_ROOM, tacflow_message(status, place, NULL, 0, &size));
+    if (size != strlen(wanted)) wrong = printf("status %d: %zu bytes\n", status, size);
+}
+
+/* What statuses say, and that memory that is refused is told. */
+static void messages(void) {
+    static const char *const names[] = {
+        "BadByte", "NumberTooLarge", "NameTooLong", "Syntax", "Unclosed", "NoMain", "DuplicateProcedure", "DuplicateLabel", "UnknownLabel",
+        "UnknownProcedure", "TextTooLong", "TooManyProcedures", "DuplicateCallee", "unknown",
+    };
+    char line[96], wanted[96];
+    size_t size = 7;
+    tacflow_place place = {4, 12, 7};
+    for (place.number = 1; place.number <= 14; place.number++) {
+        snprintf(wanted, sizeof wanted, "12:7: refusal %" PRIu32 ": %s", place.number, names[place.number - 1]);
+        expect_said(wanted, TACFLOW_REFUSED, &place);
+    }
+    place = (tacflow_place){UINT32_MAX, UINT32_MAX, UINT32_MAX};
+    expect_said("4294967295:4294967295: refusal 4294967295: unknown", TACFLOW_REFUSED, &place);
+    expect_said("no fault", TACFLOW_OK, NULL);
+    expect_said("out of memory", TACFLOW_OUT_OF_MEMORY, NULL);
+    expect_said("no such analysis", TACFLOW_BAD_ANALYSIS, NULL);
+    expect_said("no such points or bits", TACFLOW_BAD_RANGE, &place);
+    expect_said("the room does not fit the answer", TACFLOW_BAD_ROOM, NULL);
+    expect_said("a pointer is null", TACFLOW_BAD_POINTER, NULL);
+    expect_said("no such limits", TACFLOW_BAD_LIMITS, NULL);
+    expect_said("the handle is closed, or open where it has to be closed", TACFLOW_BAD_HANDLE, NULL);
+    expect_said("refusal 21: TooManyPoints", TACFLOW_TOO_MANY_POINTS, NULL);
+    expect_said("refusal 22: TooManyBits", TACFLOW_TOO_MANY_BITS, NULL);
+    expect_said("unknown status", 23, NULL);
+    expect("no place of a refusal", TACFLOW_BAD_POINTER, tacflow_message(TACFLOW_REFUSED, NULL, line, sizeof line, &size));
+    expect("no size", TACFLOW_BAD_POINTER, tacflow_message(TACFLOW_OK, NULL, line, sizeof line, NULL));
+    size = 7, answered = 0;
+    expect("a request refused", TACFLOW_OUT_OF_MEMORY, tacflow_message(TACFLOW_REFUSED, &place, line, sizeof line, &size));
+    answered = -1;
+    expect("a request refused: size", 7, (int)size);
+    expect("blocks after messages", 0, (int)blocks);
+}
+
+static char text[1 << 20];
+static tacflow_point points[16384];
+static tacflow_expression expressions[4096];
+static tacflow_remark remarks[1 << 20];
+static size_t ends[4096];
+static char names[4096 * TACFLOW_LONGEST_NAME];
+
+static void print_variable(uint32_t variable) {
+    size_t start = variable ? ends[variable - 1] : 0;
+    printf("%.*s", (int)(ends[variable] - start), names + start);
+}
+
+static void print_operand(const tacflow_operand *operand) {
+    if (operand->kind == TACFLOW_VARIABLE) print_variable(operand->variable);
+    if (operand->kind == TACFLOW_NUMBER) printf("%" PRIu64, operand->number);
+}
+
+static void print_expression(uint32_t number) {
+    const tacflow_expression *expression = &expressions[number];
+    const char *sign = tacflow_sign[expression->operator_number];
+    print_operand(&expression->left);
+    printf(expression->left.kind == TACFLOW_NOTHING ? "%s" : " %s ", sign);
+    print_operand(&expression->right);
+}
+
+static void print_remark(const tacflow_remark *remark) {
+    static const char *const behind[] = {"never reached", " may be used before it is set", " is already computed", " is very busy", " is dead"};
+    printf("%" PRIu32 ": ", points[remark->point].line);
+    if (remark->kind == TACFLOW_DEAD) printf("assignment to ");
+    if (remark->kind == TACFLOW_UNSET || remark->kind == TACFLOW_DEAD) print_variable(remark->name);
+    if (remark->kind == TACFLOW_ALREADY_COMPUTED || remark->kind == TACFLOW_VERY_BUSY) print_expression(remark->name);
+    puts(behind[remark->kind]);
+}
+
+/* The report of a file's program without its first line, made of data. */
+static void print_report(const char *name) {
+    FILE *file = fopen(name, "rb");
+    if (!file) return;
+    size_t count = fread(text, 1, sizeof text - 1, file);
+    fclose(file);
+    text[count] = '\0';
+    tacflow_handle handle = opened(text);
+    tacflow_sizes_of_program sizes;
+    if (tacflow_sizes_of(&handle, &sizes) || tacflow_points_of(&handle, points, sizes.points)
+        || tacflow_expressions_of(&handle, expressions, sizes.expressions)
+        || tacflow_variables_of(&handle, ends, sizes.variables, names, sizeof names)
+        || tacflow_remarks(&handle, remarks, sizeof remarks / sizeof *remarks, &count))
+        puts("not answered");
+    else
+        for (size_t i = 0; i < count; i++) print_remark(&remarks[i]);
+    tacflow_close(&handle);
+}
+
+int main(int argc, char **argv) {
+    if (argc == 2) {
+        print_report(argv[1]);
+        return 0;
+    }
+    by_hand();
+    doubt();
+    faults();
+    refused();
+    messages();
+    return wrong != 0;
+}

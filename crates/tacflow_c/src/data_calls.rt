@@ -1,0 +1,144 @@
+// The calls over a handle that tell what stands at its program's points, and the remarks on it, as data.
+
+ghost use Rattle.std.specs.Prelude.{◌≡◌, length};
+ghost use Rattle.flow_graph.specs.Points.{point_count};
+ghost use Rattle.tacflow_c.specs.Edges.{IsEdgesFault, edges_between};
+ghost use Rattle.tacflow_c.specs.Flags.{AreDoubts, ArePathsOfNumber, IsFlagsFault, IsPathsFault};
+ghost use Rattle.tacflow_c.specs.Handles.{IsAsked, IsListFault, IsPartsFault};
+ghost use Rattle.tacflow_c.specs.Parts.{AreParts};
+ghost use Rattle.tacflow_c.specs.Remarks.{AreNumberedRemarks};
+ghost use Rattle.tacflow_c.specs.Rooms.{HoldsList, IsListKept};
+ghost use Rattle.tacflow_c.specs.Statements.{statement_part};
+ghost use Rattle.tacflow_c.specs.Statuses.{end_of};
+
+use crate::edges::{NumberedEdge, edges_of_kept};
+use crate::fault::asked_status;
+use crate::flags::{doubtful_of_kept, paths_of_kept};
+use crate::handle::Handle;
+use crate::kept_calls::statements_of_kept;
+use crate::remarks::{NumberedRemark, remarks_of_kept};
+use crate::statements::NumberedStatement;
+use std::alloc::Global;
+
+/// Which of the points `from..until` have a valid path in the direction of an analysis: from the beginning of `main`, or for live variables and
+/// very busy expressions to its end. A flag for each, 1 or 0. 4294967295 stands for the end of all points.
+#[unsafe(no_mangle)]
+#[tactic(auto, using(crate::proofs::answers::Asked::closed, crate::proofs::answers::Asked::asked))]
+pub extern "C" fn tacflow_c_has_path(
+    alloc: Global,
+    handle: &mut Handle,
+    analysis: u32,
+    from: u32,
+    until: u32,
+    flags: &mut [u8],
+) -> u32
+    ensures { IsAsked result handle.old.held.value handle.new.held.value
+        (λ program. ArePathsOfNumber program analysis from until flags.new)
+        (λ _. flags.new ≡ flags.old)
+        (IsPathsFault analysis from until (length flags.old)) }
+{
+    if !handle.is_open {
+        return 8;
+    }
+    let shared = handle.take(alloc);
+    let answer = paths_of_kept(alloc, shared.kept(), analysis, (from, until), flags);
+    handle.put(shared);
+    asked_status(answer)
+}
+
+/// Which of the points `from..until` are doubtful: whether some path leads from it to a point that has no valid path to the end of `main`. A
+/// flag for each, 1 or 0. 4294967295 stands for the end of all points.
+#[unsafe(no_mangle)]
+#[tactic(auto, using(crate::proofs::answers::Asked::closed, crate::proofs::answers::Asked::asked))]
+pub extern "C" fn tacflow_c_doubtful(
+    alloc: Global,
+    handle: &mut Handle,
+    from: u32,
+    until: u32,
+    flags: &mut [u8],
+) -> u32
+    ensures { IsAsked result handle.old.held.value handle.new.held.value
+        (λ program. AreDoubts program from until flags.new)
+        (λ _. flags.new ≡ flags.old)
+        (IsFlagsFault from until (length flags.old)) }
+{
+    if !handle.is_open {
+        return 8;
+    }
+    let shared = handle.take(alloc);
+    let answer = doubtful_of_kept(alloc, shared.kept(), (from, until), flags);
+    handle.put(shared);
+    asked_status(answer)
+}
+
+/// What stands at each point of a handle's program. There is room for as many as it has.
+#[unsafe(no_mangle)]
+#[tactic(auto, using(crate::proofs::answers::Asked::closed, crate::proofs::answers::Asked::asked))]
+pub extern "C" fn tacflow_c_statements(
+    alloc: Global,
+    handle: &mut Handle,
+    statements: &mut [NumberedStatement],
+) -> u32
+    ensures { IsAsked result handle.old.held.value handle.new.held.value
+        (λ program. AreParts (statement_part program) (point_count program) statements.new)
+        (λ _. statements.new ≡ statements.old)
+        (λ program. IsPartsFault (length statements.old) (point_count program)) }
+{
+    if !handle.is_open {
+        return 8;
+    }
+    let shared = handle.take(alloc);
+    let answer = statements_of_kept(alloc, shared.kept(), statements);
+    handle.put(shared);
+    asked_status(answer)
+}
+
+/// The edges that leave the points `from..until` of a handle's program, in the order of these points, and how many they are: where there is
+/// too little room their number alone is told. 4294967295 stands for the end of all points.
+#[unsafe(no_mangle)]
+#[tactic(auto, using(crate::proofs::answers::Asked::closed, crate::proofs::answers::Asked::asked))]
+pub extern "C" fn tacflow_c_edges(
+    alloc: Global,
+    handle: &mut Handle,
+    from: u32,
+    until: u32,
+    edges: &mut [NumberedEdge],
+    count: &mut usize,
+) -> u32
+    ensures { IsAsked result handle.old.held.value handle.new.held.value
+        (λ program. HoldsList (λ all. all ≡ edges_between program from (end_of program until)) edges.old edges.new count.new)
+        (IsListKept edges.old edges.new count.old count.new)
+        (IsEdgesFault from until (length edges.old) count.new) }
+{
+    if !handle.is_open {
+        return 8;
+    }
+    let shared = handle.take(alloc);
+    let answer = edges_of_kept(alloc, shared.kept(), (from, until), edges, count);
+    handle.put(shared);
+    asked_status(answer)
+}
+
+/// The remarks on a handle's program, in the order of its report, and how many they are: where there is too little room their number alone
+/// is told.
+#[unsafe(no_mangle)]
+#[tactic(auto, using(crate::proofs::answers::Asked::closed, crate::proofs::answers::Asked::asked))]
+pub extern "C" fn tacflow_c_remarks(
+    alloc: Global,
+    handle: &mut Handle,
+    remarks: &mut [NumberedRemark],
+    count: &mut usize,
+) -> u32
+    ensures { IsAsked result handle.old.held.value handle.new.held.value
+        (λ program. HoldsList (AreNumberedRemarks program) remarks.old remarks.new count.new)
+        (IsListKept remarks.old remarks.new count.old count.new)
+        (λ program. IsListFault (AreNumberedRemarks program) (length remarks.old) count.new) }
+{
+    if !handle.is_open {
+        return 8;
+    }
+    let shared = handle.take(alloc);
+    let answer = remarks_of_kept(alloc, shared.kept(), remarks, count);
+    handle.put(shared);
+    asked_status(answer)
+}
