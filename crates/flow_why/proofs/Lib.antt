@@ -1,0 +1,5 @@
+mod found
+mod solutions
+mod trails
+mod unfoldings
+mod visits

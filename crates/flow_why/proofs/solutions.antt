@@ -1,0 +1,4 @@
+pub mod Complete
+pub mod Frames
+pub mod Passing
+pub mod Sound

@@ -1,0 +1,4 @@
+pub mod Directed
+pub mod Laws
+pub mod Witnesses
+pub mod code

@@ -1,0 +1,9 @@
+-- How the code's own tables stand for what a search has found.
+pub mod Closed
+pub mod Found
+pub mod Frames
+pub mod Marked
+pub mod Moves
+pub mod Trails
+pub mod Visits
+pub mod Ways

@@ -1,0 +1,42 @@
+-- What visits of points add.
+use Rattle.std.specs.Prelude.{◌≡◌, ℕ, true, false}
+use Rattle.flow_graph.specs.declared.edge.Edge.TheVariants.{Step}
+use Rattle.flow_graph.specs.Paths.{IsEdge}
+use Rattle.summary_equations.specs.Equations.{CallsAt}
+use Rattle.flow_why.specs.code.Found.{Found, Has}
+use Rattle.flow_why.specs.code.Closed.{IsBegun, IsClosed}
+use Rattle.flow_why.specs.code.Frames.{call_after}
+use Rattle.flow_why.specs.code.Marked.{BaseHas, Question}
+use Rattle.flow_why.specs.declared.claim.Claim.{Claim}
+use Rattle.flow_why.specs.declared.claim.Claim.TheVariants as claim
+
+-- what a visit of a claim of a point adds, by its steps
+abbrev pub AreStepsVisited : Question → Claim → ℕ → Found → Type 0
+AreStepsVisited question c x new =
+    (y : ℕ) → IsEdge question.shape (Step x y) → question.transfer.kill x y ≡ false → Has new c y
+
+-- by a call of a procedure
+pub record IsCallVisited (question : Question) (c : Claim) (x p : ℕ) (old new : Found) : Type 0 where
+  pub begin : Has new claim.Preserved (question.shape.entry p)
+  pub enter : c ≡ claim.Holds → Has new claim.Holds (question.shape.entry p)
+  pub pass : Has old claim.Preserved (question.shape.exit p) → Has new c (call_after question.backward x)
+
+-- by a call from a point of the procedure that is left there
+pub record IsCallerVisited (question : Question) (c : Claim) (y : ℕ) (old new : Found) : Type 0 where
+  pub wake : c ≡ claim.Preserved → (d : Claim) → Has old d y → Has new d (call_after question.backward y)
+  pub generate : c ≡ claim.Generated → (d : Claim) → BaseHas question.base d y → Has new d (call_after question.backward y)
+
+-- and by all that
+pub record IsVisited (question : Question) (c : Claim) (x : ℕ) (old new : Found) : Type 0 where
+  pub steps : AreStepsVisited question c x new
+  pub calls : (site p : ℕ) → CallsAt question.shape site x p → IsCallVisited question c x p old new
+  pub callers : (site y p : ℕ) → CallsAt question.shape site y p → x ≡ question.shape.exit p → IsCallerVisited question c y old new
+
+-- what a step from a point to which paths lead adds where it generates the bit
+abbrev pub IsGenVisited : Question → ℕ → ℕ → Found → Type 0
+IsGenVisited question x y new = (c : Claim) → question.transfer.gen x y ≡ true → BaseHas question.base c x → Has new c y
+
+-- all that follows was found
+pub record IsComplete (question : Question) (found : Found) : Type 0 where
+  pub closed : IsClosed question.shape question.transfer (BaseHas question.base) (Has found) (Has found)
+  pub begun : IsBegun question.shape question.transfer (BaseHas question.base) (Has found)

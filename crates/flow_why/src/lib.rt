@@ -1,0 +1,21 @@
+//! Why a bit is in the set of a point: a path that shows it, as a list of hops.
+#![tactic(auto)]
+
+mod claim;
+pub mod examples;
+mod frame;
+mod hop;
+pub mod laws;
+mod mark;
+mod marks;
+mod run;
+mod search;
+mod trail;
+mod visit;
+mod ways;
+mod why;
+
+pub use hop::{Effect, Hop};
+pub use std::alloc::AllocError as OutOfMemory;
+pub use ways::Ways;
+pub use why::Why;

@@ -1,0 +1,118 @@
+// Where the valid paths of a direction lead.
+ghost use Rattle.std.specs.Prelude.{◌≡◌, ◌<◌, IfOk};
+ghost use Rattle.flow_links.specs.Shapes.{directed_shape};
+ghost use Rattle.flow_why.specs.Directed.{direction_of};
+ghost use Rattle.flow_why.specs.code.Frames.{IsFrame, question_of};
+ghost use Rattle.flow_why.specs.code.Trails.{base_question};
+ghost use Rattle.flow_why.specs.code.Ways.{AreWays, IsBare};
+
+use crate::OutOfMemory;
+use crate::frame::Frame;
+use crate::run::search_for;
+use crate::search::Search;
+use flow_links::Links;
+use gen_kill::Problem;
+use std::alloc::Global;
+use std::marker::Model;
+
+/// The edges of a problem by point, and for each point to which a valid path leads how one does.
+///
+/// It rests on the program and the direction alone: two analyses of one direction have the same ways, and all their bits share them. Time and
+/// memory go with the number of points and edges.
+pub struct Ways {
+    links: Links,
+    search: Search,
+}
+
+impl Model for Ways {
+    ghost use Rattle.flow_why.specs.code.Ways.{AreWays, KnownWays};
+
+    ghost Value = { KnownWays };
+
+    ghost view = { λ ways. record { linked = ways.links; found = ways.search } };
+
+    ghost invariant = { λ ways. AreWays (record { linked = ways.links; found = ways.search }) };
+}
+
+impl Drop for Ways {
+    // By hand: who gives ways up then makes one call.
+    fn drop(self) {
+        let Ways {
+            links: _,
+            search: _,
+        } = self;
+    }
+}
+
+// The frame of a search for where paths lead.
+fn bare_frame<'a, 'g, 'p>(
+    links: &'a Links,
+    problem: &'a Problem<'g, 'p>,
+    base: &'a Search,
+) -> Frame<'a, 'g, 'p>
+    requires linked { links.now ≡ direction_of problem.now }
+    requires bare { IsBare links.now base.now }
+    ensures frame { IsFrame result }
+    ensures question { question_of result ≡ base_question links.now }
+{
+    // Their contracts tell what a shape's edges are, and that the program is sound.
+    let _ = links.points();
+    let _ = problem.procedures();
+    Frame {
+        links,
+        problem,
+        column: None,
+        base,
+    }
+}
+
+// What is found of where paths lead.
+fn base_search(
+    alloc: Global,
+    links: &Links,
+    problem: &Problem<'_, '_>,
+) -> Result<Search, OutOfMemory>
+    requires { links.now ≡ direction_of problem.now }
+    ensures { IfOk result (λ search. AreWays (record { linked = links.now; found = search })) }
+{
+    // Its contract tells that the program is sound.
+    let _ = problem.procedures();
+    let blank = Search::blank(alloc, links.points())?;
+    let frame = bare_frame(links, problem, &blank);
+    search_for(alloc, &frame)
+}
+
+impl Ways {
+    /// The ways of a problem's direction. Fails only where memory runs out.
+    pub fn of(alloc: Global, problem: &Problem<'_, '_>) -> Result<Self, OutOfMemory>
+        ensures { IfOk result (λ ways. ways.linked ≡ direction_of problem.now) }
+    {
+        let links = Links::of(alloc, problem)?;
+        let search = base_search(alloc, &links, problem)?;
+        Ok(Ways { links, search })
+    }
+
+    /// The edges.
+    pub(crate) fn links(&self) -> &Links
+        ensures links { result.now ≡ self.now.linked }
+        ensures ways { AreWays self.now }
+    {
+        &self.links
+    }
+
+    /// The point at which a procedure is left.
+    pub(crate) fn exit(&self, procedure: u32) -> u32
+        requires { procedure < (directed_shape self.now.linked).procedures }
+        ensures exit { result ≡ (directed_shape self.now.linked).exit procedure }
+        ensures ways { AreWays self.now }
+    {
+        self.links.exit(procedure)
+    }
+
+    /// What is found of where paths lead.
+    pub(crate) fn search(&self) -> &Search
+        ensures { result.now ≡ self.now.found }
+    {
+        &self.search
+    }
+}

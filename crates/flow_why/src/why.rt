@@ -1,0 +1,202 @@
+// Why a bit is in the sets of points.
+ghost use Rattle.std.specs.Prelude.{◌≡◌, ◌<◌, ◌≤◌, ◌*◌, true, IfOk, IfSome, MatchOption, length};
+ghost use Rattle.flow_graph.specs.Paths.{SomePathHas};
+ghost use Rattle.flow_graph.specs.Points.{point_count};
+ghost use Rattle.flow_graph.specs.Problems.{may_shape};
+ghost use Rattle.gen_kill.specs.Selections.{column_count, column_transfer};
+ghost use Rattle.flow_why.specs.Directed.{direction_of};
+ghost use Rattle.flow_why.specs.Witnesses.{IsNeverPassed, IsThroughWitness, IsWitness};
+ghost use Rattle.flow_why.specs.declared.hop.Effect.TheVariants as effects;
+ghost use Rattle.flow_why.specs.code.Frames.{question_of};
+ghost use Rattle.flow_why.specs.code.Marked.{is_inner};
+ghost use Rattle.flow_why.specs.code.Trails.{IsAskedFrame, claim_effect};
+ghost use Rattle.flow_why.specs.code.Ways.{IsAnswered, IsOver, bit_question};
+
+use crate::OutOfMemory;
+use crate::claim::Claim;
+use crate::frame::Frame;
+use crate::hop::{Effect, Hop};
+use crate::run::search_for;
+use crate::search::Search;
+use crate::trail::{hops_of, inner_hops_of};
+use crate::ways::Ways;
+use gen_kill::Problem;
+use std::alloc::Global;
+use std::marker::Model;
+
+// The frame of a search for a bit.
+fn frame_of<'a, 'g, 'p>(
+    ways: &'a Ways,
+    problem: &'a Problem<'g, 'p>,
+    column: u32,
+) -> Frame<'a, 'g, 'p>
+    requires { IsOver ways.now (record { form = problem.now; column = column }) }
+    ensures frame { IsAskedFrame result }
+    ensures question { question_of result ≡ bit_question ways.now (record { form = problem.now; column = column }) }
+{
+    Frame {
+        links: ways.links(),
+        problem,
+        column: Some(column),
+        base: ways.search(),
+    }
+}
+
+/// What is found of a bit of a problem at all points: why it is in the set of each where it is.
+///
+/// A search takes time that goes with the number of points and edges, and memory that goes with the number of points and of those where
+/// something was found. It serves every point.
+pub struct Why<'a, 'g, 'p> {
+    ways: &'a Ways,
+    problem: &'a Problem<'g, 'p>,
+    column: u32,
+    search: Search,
+}
+
+impl<'a, 'g, 'p> Model for Why<'a, 'g, 'p> {
+    ghost use Rattle.flow_why.specs.code.Ways.{AskedBit, IsAnswered};
+
+    ghost Value = { AskedBit };
+
+    ghost view = { λ why. record { form = why.problem.now; column = why.column } };
+
+    ghost invariant = { λ why. IsAnswered why.ways.now (record { form = why.problem.now; column = why.column }) why.search };
+}
+
+impl Drop for Why<'_, '_, '_> {
+    // By hand: who gives a search up then makes one call.
+    fn drop(self) {
+        let Why {
+            ways: _,
+            problem: _,
+            column: _,
+            search: _,
+        } = self;
+    }
+}
+
+impl<'a, 'g, 'p> Why<'a, 'g, 'p> {
+    /// Searches for a column's bit, over the ways of the problem's direction. Fails only where memory runs out.
+    pub fn of(
+        alloc: Global,
+        ways: &'a Ways,
+        problem: &'a Problem<'g, 'p>,
+        column: u32,
+    ) -> Result<Self, OutOfMemory>
+        requires ways { ways.now.linked ≡ direction_of problem.now }
+        requires column { column < column_count problem.now }
+        ensures { IfOk result (λ why. why ≡ record { form = problem.now; column = column }) }
+    {
+        let search = bit_search(alloc, ways, problem, column)?;
+        Ok(Why {
+            ways,
+            problem,
+            column,
+            search,
+        })
+    }
+
+    /// A witness of the bit at a point, in the direction of the analysis: hops from where the problem begins to the point. None where the
+    /// bit is not in the set of the may form there. Fails only where memory runs out.
+    ///
+    /// It is short, since points are found breadth first; that none is shorter is not promised.
+    pub fn witness(&self, alloc: Global, point: u32) -> Result<Option<Vec<Hop>>, OutOfMemory>
+        requires { point < point_count self.now.form.program }
+        ensures witness { IfOk result (λ found. MatchOption found
+            (SomePathHas (may_shape self.now.form.program self.now.form.analysis) (column_transfer self.now.form self.now.column) point → ⊥)
+            (λ hops. IsWitness (may_shape self.now.form.program self.now.form.analysis)
+            (column_transfer self.now.form self.now.column) point hops.items)) }
+        ensures short { IfOk result (λ found. IfSome found (λ hops. length hops.items ≤ 2 * point_count self.now.form.program)) }
+    {
+        // Its contract tells that these are ways.
+        let _ = self.ways.links();
+        match self.search.marks(Claim::Holds).place(point) {
+            None => Ok(None),
+            Some(place) => {
+                let frame = frame_of(self.ways, self.problem, self.column);
+                let hops = hops_of(alloc, &frame, &self.search, Claim::Holds, place)?;
+                Ok(Some(hops))
+            }
+        }
+    }
+
+    /// One way through a callee, from its entry to its exit, that has an effect: one level of a call that a witness passes is unfolded so, and
+    /// again what these hops pass. None where no path through the callee has the effect, at least if it is called where a witness may
+    /// pass it: from a point to which a valid path leads, for [`Effect::Preserves`] one that has the bit. Fails only where memory runs out.
+    pub fn through(
+        &self,
+        alloc: Global,
+        callee: u32,
+        effect: Effect,
+    ) -> Result<Option<Vec<Hop>>, OutOfMemory>
+        requires { callee < (may_shape self.now.form.program self.now.form.analysis).procedures }
+        ensures { IfOk result (λ found. MatchOption found
+            (IsNeverPassed (may_shape self.now.form.program self.now.form.analysis) (column_transfer self.now.form self.now.column) callee effect)
+            (λ hops. IsThroughWitness (may_shape self.now.form.program self.now.form.analysis) (column_transfer self.now.form self.now.column)
+            callee effect hops.items)) }
+    {
+        match effect {
+            Effect::Reaches => self.reached_through(alloc, callee),
+            Effect::Generates => self.found_through(alloc, callee, Claim::Generated),
+            Effect::Preserves => self.found_through(alloc, callee, Claim::Preserved),
+        }
+    }
+
+    // The same for a path of which nothing is said.
+    fn reached_through(&self, alloc: Global, callee: u32) -> Result<Option<Vec<Hop>>, OutOfMemory>
+        requires { callee < (may_shape self.now.form.program self.now.form.analysis).procedures }
+        ensures { IfOk result (λ found. MatchOption found
+            (IsNeverPassed (may_shape self.now.form.program self.now.form.analysis)
+            (column_transfer self.now.form self.now.column) callee effects.Reaches)
+            (λ hops. IsThroughWitness (may_shape self.now.form.program self.now.form.analysis) (column_transfer self.now.form self.now.column)
+            callee effects.Reaches hops.items)) }
+    {
+        let exit = self.ways.exit(callee);
+        if !self.ways.search().has(Claim::Preserved, exit) {
+            return Ok(None);
+        }
+        let frame = frame_of(self.ways, self.problem, self.column);
+        let hops = inner_hops_of(alloc, &frame, exit)?;
+        Ok(Some(hops))
+    }
+
+    // The same for the effect of a claim that was searched for.
+    fn found_through(
+        &self,
+        alloc: Global,
+        callee: u32,
+        claim: Claim,
+    ) -> Result<Option<Vec<Hop>>, OutOfMemory>
+        requires callee { callee < (may_shape self.now.form.program self.now.form.analysis).procedures }
+        requires inner { is_inner claim ≡ true }
+        ensures { IfOk result (λ found. MatchOption found
+            (IsNeverPassed (may_shape self.now.form.program self.now.form.analysis) (column_transfer self.now.form self.now.column) callee
+            (claim_effect claim))
+            (λ hops. IsThroughWitness (may_shape self.now.form.program self.now.form.analysis) (column_transfer self.now.form self.now.column)
+            callee (claim_effect claim) hops.items)) }
+    {
+        let exit = self.ways.exit(callee);
+        match self.search.marks(claim).place(exit) {
+            None => Ok(None),
+            Some(place) => {
+                let frame = frame_of(self.ways, self.problem, self.column);
+                let hops = hops_of(alloc, &frame, &self.search, claim, place)?;
+                Ok(Some(hops))
+            }
+        }
+    }
+}
+
+// What is found of a bit.
+fn bit_search(
+    alloc: Global,
+    ways: &Ways,
+    problem: &Problem<'_, '_>,
+    column: u32,
+) -> Result<Search, OutOfMemory>
+    requires { IsOver ways.now (record { form = problem.now; column = column }) }
+    ensures { IfOk result (λ search. IsAnswered ways.now (record { form = problem.now; column = column }) search) }
+{
+    let frame = frame_of(ways, problem, column);
+    search_for(alloc, &frame)
+}
