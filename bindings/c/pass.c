@@ -64,7 +64,7 @@ struct program {
     size_t *procedure_ends, *variable_ends;
     char *procedures, *variables;
     size_t longest;     /* how long the longest name of a variable is */
-    uint8_t *is_target; /* whether some jump leads to the point */
+    uint32_t *labels;   /* the number of the label at the point, from 1, or 0 where no jump leads to it */
 };
 
 static struct program opened(const struct text *text) {
@@ -76,7 +76,7 @@ static struct program opened(const struct text *text) {
     it.points = taken(points, sizeof *it.points), it.statements = taken(points, sizeof *it.statements);
     it.procedure_ends = taken(procedures, sizeof(size_t)), it.variable_ends = taken(variables, sizeof(size_t));
     it.procedures = taken(procedures, TACFLOW_LONGEST_NAME), it.variables = taken(variables, TACFLOW_LONGEST_NAME);
-    it.is_target = taken(points, 1);
+    it.labels = taken(points, sizeof *it.labels);
     expect_answer(tacflow_points_of(&it.handle, it.points, points), NULL);
     expect_answer(tacflow_statements(&it.handle, it.statements, points), NULL);
     expect_answer(tacflow_procedures_of(&it.handle, it.procedure_ends, procedures, it.procedures, procedures * TACFLOW_LONGEST_NAME), NULL);
@@ -85,7 +85,9 @@ static struct program opened(const struct text *text) {
     it.edges = taken(it.edge_count, sizeof *it.edges);
     expect_answer(tacflow_edges(&it.handle, 0, TACFLOW_ALL_POINTS, it.edges, it.edge_count, &it.edge_count), NULL);
     for (size_t point = 0; point < points; point++)
-        if (it.statements[point].goes_to != TACFLOW_NONE) it.is_target[it.statements[point].goes_to] = 1;
+        if (it.statements[point].goes_to != TACFLOW_NONE) it.labels[it.statements[point].goes_to] = 1;
+    for (uint32_t point = 0, number = 0; point < points; point++)
+        if (it.labels[point]) it.labels[point] = ++number;
     for (size_t start = 0, variable = 0; variable < variables; start = it.variable_ends[variable++])
         if (it.variable_ends[variable] - start > it.longest) it.longest = it.variable_ends[variable] - start;
     return it;
@@ -93,7 +95,7 @@ static struct program opened(const struct text *text) {
 
 static void closed(struct program *it) {
     tacflow_close(&it->handle);
-    free(it->points), free(it->statements), free(it->edges), free(it->is_target);
+    free(it->points), free(it->statements), free(it->edges), free(it->labels);
     free(it->procedure_ends), free(it->variable_ends), free(it->procedures), free(it->variables);
 }
 
@@ -131,28 +133,27 @@ static void put_callees(struct text *text, const struct program *it, size_t edge
     }
 }
 
-static void put_jump(struct text *text, const tacflow_statement *statement) {
-    put_words(text, " goto L");
-    put_number(text, statement->goes_to);
+static void put_jump(struct text *text, const struct program *it, const tacflow_statement *statement) {
+    put_words(text, statement->kind == TACFLOW_GOTO ? "goto L" : " goto L");
+    put_number(text, it->labels[statement->goes_to]);
 }
 
 static void put_statement(struct text *text, const struct program *it, size_t edge, uint32_t point) {
-    static const char *const words[] = {"", "", "", "", "goto L", "if ", "ifFalse ", "if ", "call", "return", "read ", "print ", "skip"};
+    static const char *const words[] = {"", "", "", "", "", "if ", "ifFalse ", "if ", "call", "return", "read ", "print ", "skip"};
     const tacflow_statement *statement = &it->statements[point];
     put_words(text, words[statement->kind]);
     if (statement->target != TACFLOW_NONE) put_variable(text, it, statement->target);
     if (statement->kind <= TACFLOW_BINARY) put_words(text, " = ");
-    if (statement->kind == TACFLOW_GOTO) put_number(text, statement->goes_to);
     if (statement->kind == TACFLOW_CALL) put_callees(text, it, edge, point);
     put_value(text, it, statement);
-    if (statement->kind >= TACFLOW_IF && statement->kind <= TACFLOW_IF_COMPARE) put_jump(text, statement);
+    if (statement->goes_to != TACFLOW_NONE) put_jump(text, it, statement);
     put_words(text, "\n");
 }
 
 /* How a pass writes the statement at a point. */
 typedef void writes(struct text *text, const struct program *it, size_t edge, uint32_t point, const void *found);
 
-/* The program as text, each statement as the pass writes it. A label is named after its point. */
+/* The program as text, each statement as the pass writes it. Labels are numbered in their order. */
 static struct text written(const struct program *it, writes *write, const void *found) {
     struct text text = {NULL, 0, 0};
     size_t edge = 0;
@@ -162,7 +163,7 @@ static struct text written(const struct program *it, writes *write, const void *
             put_name(&text, it->procedures, it->procedure_ends, it->points[point].procedure);
             put_words(&text, "\n");
         }
-        if (it->is_target[point]) put_words(&text, "L"), put_number(&text, point), put_words(&text, ":\n");
+        if (it->labels[point]) put_words(&text, "L"), put_number(&text, it->labels[point]), put_words(&text, ":\n");
         while (edge < it->edge_count && it->edges[edge].from < point) edge++;
         if (it->statements[point].kind == TACFLOW_NO_STATEMENT) put_words(&text, "end\n");
         else write(&text, it, edge, point, found);
@@ -253,7 +254,7 @@ static size_t mark_back(const struct program *it, uint32_t point, uint64_t *live
     return found;
 }
 
-/* Deletes dead assignments; false where there are none, and the text is as it was. */
+/* Deletes dead assignments; false where there are none, and labels alone may have changed. */
 static int delete_dead(struct text *text) {
     struct program it = opened(text);
     size_t points = it.sizes.points, width = tacflow_words(0, it.sizes.variables), found = 0;
@@ -263,11 +264,9 @@ static int delete_dead(struct text *text) {
     expect_answer(tacflow_facts_of(&it.handle, TACFLOW_LIVE, 0, TACFLOW_ALL_POINTS, 0, it.sizes.variables, flags, points, live, points * width), NULL);
     for (uint32_t point = 0; point < points; point++)
         if (it.statements[point].kind == TACFLOW_NO_STATEMENT || !is_step(&it.statements[point])) found += mark_back(&it, point, live + point * width, doubtful, is_dead);
-    if (found) {
-        struct text left = written(&it, write_undeleted, is_dead);
-        free(text->bytes);
-        *text = left;
-    }
+    struct text left = written(&it, write_undeleted, is_dead);
+    free(text->bytes);
+    *text = left;
     free(flags), free(doubtful), free(is_dead), free(live);
     closed(&it);
     return found != 0;
