@@ -12,7 +12,6 @@ use Rattle.tacflow_c.specs.Statuses.{IsOverLimit, limits_of, status_of}
 use Rattle.tacflow_c.specs.declared.builds.BuildPlace.{BuildPlace}
 use Rattle.tacflow_c.specs.declared.builds.Unbuilt.{Unbuilt}
 use Rattle.tacflow_c.specs.declared.builds.Unbuilt.TheVariants.{NotBuilt, NotOpened}
-use Rattle.tacflow_c.specs.declared.fault.Fault.{Fault}
 use Rattle.tacflow_c.specs.declared.fault.Fault.TheVariants as fault
 
 -- what is wrong with arrays, by numbers: which kind of thing, and which of them

@@ -1,5 +1,5 @@
 -- Flags of points as numbers tell what the flags tell.
-use Rattle.std.proofs.Common.{◌≡◌, ◌↔◌, ◌∙◌, ℕ, ◌+◌, ◌-◌, ◌<◌, Bool, true, false, List, length, get_or, subst, arith}
+use Rattle.std.proofs.Common.{◌≡◌, ◌↔◌, ◌∙◌, ℕ, ◌+◌, ◌-◌, ◌<◌, Bool, true, false, List, length, arith}
 use Rattle.std.specs.Prelude.{slice_index_or}
 use Rattle.flow_graph.specs.Analyses.{HasPathAt, is_backward}
 use Rattle.flow_graph.specs.Points.{point_count}
