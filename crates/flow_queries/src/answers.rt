@@ -119,7 +119,7 @@ impl Answers {
         query_at(self.queries.as_slice(), number)
     }
 
-    /// The answer to the query of a number: the word of the analysis's set at its point, with 0 at all places past the last bit.
+    /// The answer to the query of a number: of its word of the set the bits that are asked, with 0 at all other places.
     pub fn word(&self, number: usize) -> u64
         requires { number < length self.now.words }
         ensures { result ≡ slice_index self.now.words number }

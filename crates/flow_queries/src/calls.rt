@@ -32,7 +32,7 @@ fn worked_answers<'g, 'p, R: Threads + Sync, G: Gate>(
     Ok(answers)
 }
 
-/// The words that are asked of a graph's four analyses, by so many workers: of each the bits in the analysis's set at the query's point,
+/// The bits that are asked of a graph's four analyses, by so many workers: of each query those in the analysis's set at its point,
 /// exactly the union or intersection over all valid paths, as [`analyse`](flow_team::analyse) finds them.
 ///
 /// The queries come in any order. They are solved in slices of `cut` bits, brought within 1 to 4,096, as [`SlicePlan`](crate::SlicePlan) rounds
