@@ -1,6 +1,6 @@
 -- The procedures of arrays, one after the other, and what holds of their program.
-use Rattle.std.proofs.Common.{◌≡◌, ◌∙◌, ℕ, zero, suc, ◌+◌, ◌-◌, ◌<◌, ◌≤◌, Bool, true, false, List, [], ◌∷◌, ◌++◌, Option, Some, None, All, length, get_or}
-use Rattle.std.proofs.Common.{inl, inr, map, take, drop, slice_get, codes, refl, sym, ap, subst, arith, append_assoc, position, is_some}
+use Rattle.std.proofs.Common.{◌≡◌, ◌∙◌, ℕ, zero, suc, ◌+◌, ◌-◌, ◌<◌, ◌≤◌, false, List, [], ◌∷◌, Option, Some, None, All, length, get_or}
+use Rattle.std.proofs.Common.{inl, inr, map, take, drop, slice_get, codes, refl, sym, ap, subst, arith, position, is_some}
 use Rattle.std.specs.Prelude.{Contains, bytes_eq, slice_range, sum_by, IsNone}
 use Rattle.std.specs.Option.{ForSome}
 use Rattle.std.proofs.Math.Seq.{drop-nil}
@@ -8,26 +8,21 @@ use Rattle.std.proofs.lemmas.Bool.{cases_lt}
 use Rattle.std.proofs.lemmas.List.Folds.{list_any_at}
 use Rattle.std.proofs.lemmas.List.Sums.{sum_by-append}
 use Rattle.std.proofs.lemmas.List.{get_or-drop, get_or-take, length-drop, length-map, length-take, length-take-le, take_more}
-use Rattle.std.proofs.lemmas.List.Elements.{All-append, All-contains, All-push, Contains-get_or}
+use Rattle.std.proofs.lemmas.List.Elements.{All-contains, Contains-get_or}
 use Rattle.std.proofs.lemmas.List.Quantifiers.{position-Some}
-use Rattle.std.proofs.lemmas.Option.{get_or_from_slice_get, slice_get-get_or, slice_get_within}
 use Rattle.std.proofs.lemmas.Slice.Eq.{bytes_eq-Decides}
 use Rattle.tac_program.specs.Limits.{longest_text, most_procedures}
 use Rattle.tac_program.proofs.known_names.NameTexts.{numbered}
 use Rattle.tac_program.specs.Names.{is_one_of}
-use Rattle.tac_program.specs.Programs.{Procedure, Program}
+use Rattle.tac_program.specs.Programs.{Procedure}
 use Rattle.tac_program.specs.Sound.{AllDiffer, IsLawfulName, IsSound, IsSoundProcedure, NumberedByPlace}
 use Rattle.tac_program.specs.declared.limits.Limits.{Limits}
 use Rattle.tac_program.specs.declared.limits.Limits.TheVariants.{Large, Standard}
-use Rattle.flow_builder.specs.Built.{labels_from, names_from, names_of, procedure_of, procedures_from, statement_of}
-use Rattle.flow_builder.specs.Checks.{AreFew, IsBuildFault, IsKnown, IsProcedureFault, IsProceduresFault, IsSoundNumbers, IsTableFault, bad_name_of, names_chosen}
+use Rattle.flow_builder.specs.Built.{labels_from, names_from, procedure_of, procedures_from, statement_of}
+use Rattle.flow_builder.specs.Checks.{AreFew}
 use Rattle.flow_builder.specs.declared.arrays.Arrays.{Arrays}
 use Rattle.flow_builder.specs.declared.arrays.BuiltProcedure.{BuiltProcedure}
 use Rattle.flow_builder.specs.declared.arrays.BuiltStatement.{BuiltStatement}
-use Rattle.flow_builder.specs.declared.building.Names.{Names}
-use Rattle.flow_builder.specs.declared.building.Names.TheVariants.{Procedures, Variables, Labels}
-use Rattle.flow_builder.specs.declared.fault.BuildFault.{BuildFault}
-use Rattle.flow_builder.specs.declared.fault.BuildFault.TheVariants as fault
 use Rattle.flow_builder.proofs.Lists.{drop_more, length-labels}
 
 -- what is left behind so many, and then so many more
@@ -155,80 +150,6 @@ none_contained names name (Some i) is none there = absurd (cc none)
 pub length-names : (start : ℕ) (ends bytes : List ℕ) → length (names_from start ends bytes) ≡ length ends
 length-names start [] bytes = refl
 length-names start (end ∷ ends) bytes = ap suc (length-names end ends bytes)
-
--- an element of a part is one of the whole
-pub part_of_whole : {A : Type 0} (xs : List A) (a b i : ℕ) (x : A) → slice_get (slice_range xs a b) i ≡ Some x → slice_get xs (a + i) ≡ Some x
-part_of_whole {A = A} xs a b i x is =
-    let inside : i < length (slice_range xs a b) = slice_get_within (slice_range xs a b) i x is in
-    let so_many = length-take (b - a) (drop a xs) in
-    let left = length-drop a xs in
-    let below : a + i < length xs = omega (arith, inside, so_many, left) in
-    let here : get_or (slice_range xs a b) i x ≡ x = get_or_from_slice_get (slice_range xs a b) i x x is in
-    let there : get_or (slice_range xs a b) i x ≡ get_or xs (a + i) x =
-    get_or-take (b - a) (drop a xs) i x (omega (arith, inside, so_many)) ∙ get_or-drop a xs i x in
-    slice_get-get_or xs (a + i) x below ∙ ap (λ (y : A). Some y) (sym there ∙ here)
-
--- why a procedure is not built is why the program is not
-pub procedure_fault : (variables procedures st st' lb lb' : ℕ) (callees : List ℕ) (arrays : Arrays) (f : BuildFault)
-    → lb' ≤ length arrays.labels.now → callees ≡ arrays.callees.now
-    → IsProcedureFault variables procedures callees (slice_range arrays.statements.now st st') (slice_range arrays.labels.now lb lb') st lb f
-    → IsProceduresFault variables procedures arrays f
-procedure_fault variables procedures st st' lb lb' callees arrays (fault.BadStatement n) within same (i, s, at, number, unsound) = (
-  length (slice_range arrays.labels.now lb lb'),
-  s,
-  subst (λ (k : ℕ). slice_get arrays.statements.now k ≡ Some s) (sym number) (part_of_whole arrays.statements.now st st' i s at),
-  (λ sound. unsound
-      (subst (λ (cs : List ℕ). IsSoundNumbers variables (length (slice_range arrays.labels.now lb lb')) procedures cs s) (sym same) sound)),
-)
-procedure_fault variables procedures st st' lb lb' callees arrays (fault.BadLabel n) within same (i, below, number) =
-    let so_many = length-take (lb' - lb) (drop lb arrays.labels.now) in
-    omega (arith, below, number, so_many, length-drop lb arrays.labels.now)
-procedure_fault variables procedures st st' lb lb' callees arrays fault.BadCounts within same cause = tt
-procedure_fault variables procedures st st' lb lb' callees arrays fault.OutOfMemory within same cause = tt
-procedure_fault variables procedures st st' lb lb' callees arrays (fault.BadProcedureName n) within same cause = absurd cause
-procedure_fault variables procedures st st' lb lb' callees arrays (fault.BadVariableName n) within same cause = absurd cause
-procedure_fault variables procedures st st' lb lb' callees arrays (fault.BadLabelName n) within same cause = absurd cause
-procedure_fault variables procedures st st' lb lb' callees arrays fault.NoMain within same cause = absurd cause
-procedure_fault variables procedures st st' lb lb' callees arrays fault.TooManyProcedures within same cause = absurd cause
-procedure_fault variables procedures st st' lb lb' callees arrays fault.TooLong within same cause = absurd cause
-
-pub procedures_fault : (limits : Limits) (variables procedures : ℕ) (arrays : Arrays) (f : BuildFault)
-    → variables ≡ length arrays.variable_names.ends.now → procedures ≡ length arrays.procedures.now
-    → IsProceduresFault variables procedures arrays f → IsBuildFault limits arrays f
-procedures_fault limits variables procedures arrays (fault.BadStatement n) vs ps (labels, s, at, unsound) = (
-  labels,
-  s,
-  at,
-  λ sound. unsound
-      (subst (λ v. IsSoundNumbers v labels procedures arrays.callees.now s) (sym vs)
-      (subst (λ p. IsSoundNumbers (length arrays.variable_names.ends.now) labels p arrays.callees.now s) (sym ps) sound)),
-)
-procedures_fault limits variables procedures arrays (fault.BadLabel n) vs ps cause = cause
-procedures_fault limits variables procedures arrays fault.BadCounts vs ps cause = tt
-procedures_fault limits variables procedures arrays fault.OutOfMemory vs ps cause = tt
-procedures_fault limits variables procedures arrays (fault.BadProcedureName n) vs ps cause = absurd cause
-procedures_fault limits variables procedures arrays (fault.BadVariableName n) vs ps cause = absurd cause
-procedures_fault limits variables procedures arrays (fault.BadLabelName n) vs ps cause = absurd cause
-procedures_fault limits variables procedures arrays fault.NoMain vs ps cause = absurd cause
-procedures_fault limits variables procedures arrays fault.TooManyProcedures vs ps cause = absurd cause
-procedures_fault limits variables procedures arrays fault.TooLong vs ps cause = absurd cause
-
-pub table_fault : (limits : Limits) (arrays : Arrays) (f : BuildFault) → IsTableFault arrays f → IsBuildFault limits arrays f
-table_fault limits arrays (fault.BadProcedureName n) cause = cause
-table_fault limits arrays (fault.BadVariableName n) cause = cause
-table_fault limits arrays (fault.BadLabelName n) cause = cause
-table_fault limits arrays fault.OutOfMemory cause = tt
-table_fault limits arrays (fault.BadStatement n) cause = absurd cause
-table_fault limits arrays (fault.BadLabel n) cause = absurd cause
-table_fault limits arrays fault.BadCounts cause = absurd cause
-table_fault limits arrays fault.NoMain cause = absurd cause
-table_fault limits arrays fault.TooManyProcedures cause = absurd cause
-table_fault limits arrays fault.TooLong cause = absurd cause
-
-pub bad_name_fault : (which : Names) (arrays : Arrays) (n : ℕ) → n < length (names_chosen which arrays).ends.now → IsTableFault arrays (bad_name_of which n)
-bad_name_fault Procedures arrays n below = below
-bad_name_fault Variables arrays n below = below
-bad_name_fault Labels arrays n below = below
 
 -- within limits is within the large ones
 pub few_large : (limits : Limits) (arrays : Arrays) → AreFew limits arrays → AreFew Large arrays

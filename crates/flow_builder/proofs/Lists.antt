@@ -1,12 +1,11 @@
 -- Lists that grow by one: labels, names.
 use Rattle.std.proofs.Common.{◌≡◌, ◌≢◌, ◌∙◌, ℕ, zero, suc, ◌+◌, ◌-◌, ◌<◌, ◌≤◌, Bool, true, false, List, [], ◌∷◌, ◌++◌, All, length, get_or, map, take, drop}
-use Rattle.std.proofs.Common.{if◌then◌else◌, not, refl, sym, ap, subst, arith, slice_get, Some}
-use Rattle.std.specs.List.{list_any}
+use Rattle.std.proofs.Common.{if◌then◌else◌, not, refl, sym, ap, subst, arith, slice_get}
 use Rattle.std.specs.List.Sorted.{IsNonDecreasing}
 use Rattle.std.proofs.lemmas.List.{get_or-take, get_or_default, length-take-le, map-append, take_all, take_more}
 use Rattle.std.proofs.Math.Numerals.{add-one}
 use Rattle.std.proofs.Math.Seq.{drop-cons}
-use Rattle.std.proofs.lemmas.List.Elements.{All-push, All-get_or}
+use Rattle.std.proofs.lemmas.List.Elements.{All-push}
 use Rattle.std.proofs.lemmas.List.Folds.{list_any_at, list_any_none}
 use Rattle.std.proofs.lemmas.List.Quantifiers.{all_pairs_push}
 use Rattle.std.proofs.lemmas.List.Sorted.{IsNonDecreasingBy-push}
@@ -17,6 +16,10 @@ use Rattle.std.specs.Option.{ForSome}
 use Rattle.tac_program.specs.Sound.{AllDiffer, NumberedByPlace}
 use Rattle.tac_program.specs.declared.program.Label.{Label}
 use Rattle.flow_builder.specs.Built.{labels_from}
+
+-- what stands ahead of the next element is this one
+pub behind_one : (xs : List ℕ) (d i : ℕ) → get_or (d ∷ xs) (i + 1) 0 ≡ get_or xs i 0
+behind_one xs d i = ap (λ n. get_or (d ∷ xs) n 0) (add-one i)
 
 -- a label more
 labels-push : (n : ℕ) (places : List ℕ) (place : ℕ)

@@ -1,14 +1,13 @@
 -- A procedure of sound numbers is sound.
-use Rattle.std.proofs.Common.{◌≡◌, ◌∙◌, ℕ, ◌<◌, ◌≤◌, List, Some, All, length, get_or, map, take, unwrap_or, is_some, sym, ap, subst, arith}
+use Rattle.std.proofs.Common.{◌≡◌, ◌∙◌, ℕ, ◌<◌, ◌≤◌, List, All, length, get_or, map, unwrap_or, is_some, sym, ap, subst, arith}
 use Rattle.std.specs.List.Sorted.{IsNonDecreasing}
 use Rattle.std.proofs.Math.ListN.{get_or-map, length-map}
 use Rattle.std.proofs.lemmas.List.{get_or_default, length-take-le}
 use Rattle.tac_program.specs.Sound.{AllDiffer, IsLawfulName, IsSoundProcedure, IsSoundStatement}
 use Rattle.tac_program.specs.declared.program.Label.{Label}
 use Rattle.tac_program.specs.declared.program.Stmt.{Stmt}
-use Rattle.tac_program.specs.declared.program.StmtKind.{StmtKind}
 use Rattle.tac_program.specs.declared.program.StmtKind.TheVariants as kind
-use Rattle.flow_builder.specs.Built.{kind_at, labels_from, procedure_of, statement_of}
+use Rattle.flow_builder.specs.Built.{labels_from, procedure_of, statement_of}
 use Rattle.flow_builder.specs.Checks.{IsKnown, IsSoundNumbers}
 use Rattle.flow_builder.specs.declared.arrays.BuiltStatement.{BuiltStatement}
 use Rattle.flow_builder.proofs.Lists.{All_take, differ_take, length-labels, numbered, places_of_labels}

@@ -1,5 +1,5 @@
 -- The program that arrays of numbers stand for.
-use Rattle.std.specs.Prelude.{◌≡◌, ℕ, suc, ◌+◌, ◌==◌, ◌&&◌, nat_le, if◌then◌else◌, List, [], ◌∷◌, map, take, drop, length, slice_range}
+use Rattle.std.specs.Prelude.{ℕ, suc, ◌+◌, ◌==◌, ◌&&◌, nat_le, if◌then◌else◌, List, [], ◌∷◌, map, take, drop, length, slice_range}
 use Rattle.std.specs.Prelude.{Option, Some, None, option_map, option_and_then, unwrap_or}
 use Rattle.tac_program.specs.Programs.{Procedure, Program}
 use Rattle.tac_program.specs.declared.program.Label.{Label}

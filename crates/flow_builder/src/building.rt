@@ -95,6 +95,7 @@ fn procedures(
 ) -> Result<Vec<Proc>, BuildFault>
     requires few { AreFew Large arrays }
     requires callees { shared.callees.now ≡ arrays.callees.now }
+    requires label_names { length shared.label_names.now ≡ length arrays.label_names.ends.now }
     requires lawful { All IsLawfulName shared.label_names.now }
     requires differ { AllDiffer shared.label_names.now }
     ensures procedures { IfOk result (λ procedures. procedures.items ≡ procedures_from shared.entry.label_names.now arrays.entry.callees.now 0
@@ -102,6 +103,7 @@ fn procedures(
     ensures sound { IfOk result (λ procedures. All (IsSoundProcedure shared.entry.variables shared.entry.procedures) procedures.items) }
     ensures statements { OnOk result (sum_by (λ p. p.statements) arrays.entry.procedures.now ≡ length arrays.entry.statements.now) }
     ensures labels { OnOk result (sum_by (λ p. p.labels) arrays.entry.procedures.now ≡ length arrays.entry.labels.now) }
+    ensures label_names { OnOk result (All (λ p. p.labels ≤ length arrays.entry.label_names.ends.now) arrays.entry.procedures.now) }
     ensures known { OnOk result (All (IsKnown arrays.entry.callees.now) arrays.entry.statements.now) }
     ensures fault { IfErr result (IsProceduresFault shared.entry.variables shared.entry.procedures arrays.entry) }
 {

@@ -90,7 +90,7 @@ pub(crate) fn names(alloc: Global, built: BuiltNames<'_>) -> Result<NameTable, N
     ensures names { IfOk result (λ table. table ≡ names_from 0 built.entry.ends.now built.entry.bytes.now) }
     ensures lawful { IfOk result (λ table. All IsLawfulName table) }
     ensures differ { IfOk result (λ table. AllDiffer table) }
-    ensures fault { IfErr result (IsNamesFault (length built.entry.ends.now)) }
+    ensures fault { IfErr result (IsNamesFault built.entry) }
 {
     let ends = built.ends;
     let bytes = built.bytes;

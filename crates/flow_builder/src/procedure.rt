@@ -1,6 +1,6 @@
 // Procedures of statements and labels by numbers.
 
-ghost use Rattle.std.specs.Prelude.{◌≡◌, ◌+◌, ◌^◌, ◌<◌, All, IfErr, IfOk, OnOk, length};
+ghost use Rattle.std.specs.Prelude.{◌≡◌, ◌+◌, ◌^◌, ◌<◌, ◌≤◌, All, IfErr, IfOk, OnOk, length};
 ghost use Rattle.flow_builder.specs.Built.{procedure_of};
 ghost use Rattle.flow_builder.specs.Checks.{IsKnown, IsProcedureFault};
 ghost use Rattle.tac_program.specs.Sound.{AllDiffer, IsLawfulName, IsSoundProcedure};
@@ -48,8 +48,9 @@ pub(crate) fn procedure(
         (λ p. p ≡ procedure_of shared.entry.label_names.now shared.entry.callees.now number own.entry.statements.now own.entry.places.now) }
     ensures sound { IfOk result (λ p. IsSoundProcedure shared.entry.variables shared.entry.procedures p) }
     ensures known { OnOk result (All (IsKnown shared.entry.callees.now) own.entry.statements.now) }
-    ensures fault { IfErr result (IsProcedureFault shared.entry.variables shared.entry.procedures shared.entry.callees.now own.entry.statements.now
-        own.entry.places.now own.entry.first_statement own.entry.first_label) }
+    ensures named { OnOk result (length own.entry.places.now ≤ length shared.entry.label_names.now) }
+    ensures fault { IfErr result (IsProcedureFault shared.entry.variables shared.entry.procedures (length shared.entry.label_names.now)
+        shared.entry.callees.now own.entry.statements.now own.entry.places.now own.entry.first_statement own.entry.first_label) }
 {
     if (shared.label_names.len() as usize) < own.places.len() {
         return Err(BuildFault::BadCounts);

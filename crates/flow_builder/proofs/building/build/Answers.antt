@@ -1,13 +1,13 @@
-use Rattle.std.proofs.Common.{◌≡◌, ◌∙◌, ℕ, ◌≤◌, All, List, codes, length, not, sym, ap, subst, arith}
+use Rattle.std.proofs.Common.{◌≡◌, ◌∙◌, ℕ, All, List, codes, length, not, sym, ap, subst, arith}
 use Rattle.std.specs.Prelude.{Contains}
 use Rattle.std.proofs.lemmas.Result.{err_from_is_err_and}
 use Rattle.tac_program.specs.Programs.{Procedure}
 use Rattle.tac_program.specs.Sound.{IsSoundProcedure}
 use Rattle.tac_program.specs.declared.limits.Limits.TheVariants.{Large}
-use Rattle.flow_builder.specs.Built.{procedures_from}
 use Rattle.flow_builder.specs.Checks.{AreFew}
 use Rattle.flow_builder.specs.declared.arrays.Arrays.{Arrays}
-use Rattle.flow_builder.proofs.BuiltPrograms.{few_large, found_contained, length-names, none_contained, procedures_fault, sound_program}
+use Rattle.flow_builder.proofs.BuiltPrograms.{few_large, found_contained, length-names, none_contained, sound_program}
+use Rattle.flow_builder.proofs.Faults.{procedures_fault}
 use Rattle.flow_builder.proofs.building.build.Goals as goal
 
 pub returns-then-is_none-clause-fault : goal.returns-then-is_none-clause-fault
@@ -27,6 +27,18 @@ returns-in_err-procedures-clause-fault c =
     ∙ length-names 0 arrays.procedure_names.ends.now arrays.procedure_names.bytes.now ∙ c.in_ok-check.ensures.named in
     rw (fault.1, fault.2)
     (procedures_fault c.args.limits c.len.result c.len-2.result arrays _ variables count c.in_err-procedures.ensures.fault)
+
+pub procedures-requires-clause-label_names : goal.procedures-requires-clause-label_names
+procedures-requires-clause-label_names c =
+    ap length c.in_ok-labels.ensures.names ∙ length-names 0 c.args.arrays.label_names.ends.now c.args.arrays.label_names.bytes.now
+
+pub returns-clause-fit : goal.returns-clause-fit
+returns-clause-fit c = record {
+  names = c.in_ok-check.ensures.named;
+  statements = c.in_ok-procedures.ensures.statements;
+  labels = c.in_ok-procedures.ensures.labels;
+  label_names = c.in_ok-procedures.ensures.label_names;
+}
 
 pub new-requires : goal.new-requires
 new-requires c =

@@ -16,5 +16,6 @@ invariant-loop-number l = record {
       (drop l.statement l.statements) (drop l.label l.places)
       ≡ procedures_from l.shared.label_names.now l.shared.callees.now 0 l.built l.statements l.places;
   sound : All (IsSoundProcedure l.shared.variables l.shared.procedures) l.procedures.items;
+  named : All (λ (p : BuiltProcedure). p.labels ≤ length l.shared.label_names.now) (take l.number l.built);
   known : All (IsKnown l.shared.callees.now) (take l.statement l.statements);
 }

@@ -1,6 +1,5 @@
 use Rattle.std.proofs.Common.{◌≡◌, ◌∙◌, ◌≤◌, rules, length, map, sym, ap, subst, arith}
 use Rattle.std.specs.List.Sorted.{IsNonDecreasing}
-use Rattle.tac_program.specs.Programs.{Procedure}
 use Rattle.tac_program.specs.Sound.{IsSoundProcedure}
 use Rattle.tac_program.specs.declared.program.Label.{Label}
 use Rattle.flow_builder.specs.Built.{procedure_of}

@@ -1,4 +1,4 @@
-use Rattle.std.proofs.Common.{◌≡◌, ◌∙◌, ℕ, ◌<◌, [], ◌∷◌, ◌++◌, All, List, length, get_or, refl, sym, ap, arith}
+use Rattle.std.proofs.Common.{◌∙◌, ℕ, ◌<◌, [], ◌∷◌, ◌++◌, List, length, get_or, refl, sym, ap, arith}
 use Rattle.std.proofs.lemmas.Option.{slice_get-get_or}
 use Rattle.flow_builder.specs.Built.{statement_of}
 use Rattle.flow_builder.specs.Checks.{IsSoundNumbers}
