@@ -25,6 +25,12 @@ fn is_operand(operand: Operand, variables: u32) -> bool
     }
 }
 
+fn are_operands(left: Operand, right: Operand, variables: u32) -> bool
+    ensures { IsTrue result ↔ (IsSoundOperand variables left × IsSoundOperand variables right) }
+{
+    is_operand(left, variables) && is_operand(right, variables)
+}
+
 fn is_unary(op: Op) -> bool
     ensures { IsTrue result ↔ IsUnary op }
 {
@@ -122,12 +128,7 @@ pub(crate) fn is_sound(kind: &StmtKind, counts: Counts) -> bool
             target,
             left,
             right,
-        } => {
-            *target < variables
-                && is_operand(*left, variables)
-                && is_binary(*op)
-                && is_operand(*right, variables)
-        }
+        } => *target < variables && is_binary(*op) && are_operands(*left, *right, variables),
         StmtKind::Goto { label } => *label < counts.labels,
         StmtKind::If { condition, label } => {
             is_operand(*condition, variables) && *label < counts.labels
@@ -140,12 +141,7 @@ pub(crate) fn is_sound(kind: &StmtKind, counts: Counts) -> bool
             label,
             left,
             right,
-        } => {
-            is_operand(*left, variables)
-                && is_comparison(*op)
-                && is_operand(*right, variables)
-                && *label < counts.labels
-        }
+        } => is_comparison(*op) && are_operands(*left, *right, variables) && *label < counts.labels,
         StmtKind::Call { callees } => is_call(callees.as_slice(), counts.procedures),
         StmtKind::Return => true,
         StmtKind::Read { target } => *target < variables,
