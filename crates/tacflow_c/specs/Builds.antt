@@ -8,11 +8,13 @@ use Rattle.flow_builder.specs.declared.fault.BuildFault.TheVariants as build_fau
 use Rattle.flow_graph.specs.Limits.{HasFewBits, HasFewPoints}
 use Rattle.flow_kept.specs.Kept.{KeptProgram}
 use Rattle.tac_program.specs.declared.limits.Limits.{Limits}
-use Rattle.tacflow_c.specs.Statuses.{IsOverLimit, limits_of, status_of}
+use Rattle.flow_records.specs.Faults.{IsOverLimit}
+use Rattle.flow_records.specs.Numbers.{limits_of}
+use Rattle.tacflow_c.specs.Statuses.{status_of}
 use Rattle.tacflow_c.specs.declared.builds.BuildPlace.{BuildPlace}
 use Rattle.tacflow_c.specs.declared.builds.Unbuilt.{Unbuilt}
 use Rattle.tacflow_c.specs.declared.builds.Unbuilt.TheVariants.{NotBuilt, NotOpened}
-use Rattle.tacflow_c.specs.declared.fault.Fault.TheVariants as fault
+use Rattle.flow_records.specs.declared.fault.Fault.TheVariants as fault
 
 -- what is wrong with arrays, by numbers: which kind of thing, and which of them
 abbrev pub place_of : BuildFault → BuildPlace

@@ -1,15 +1,5 @@
 pub mod Builds
-pub mod Edges
-pub mod Facts
-pub mod Flags
 pub mod Handles
 pub mod Held
 pub mod Messages
-pub mod Names
-pub mod Parts
-pub mod Queries
-pub mod Remarks
-pub mod Rooms
-pub mod Statements
 pub mod Statuses
-pub mod Texts

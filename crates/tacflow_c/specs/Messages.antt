@@ -1,6 +1,6 @@
 -- What a status and the place of a refusal say, in one line.
 use Rattle.std.specs.Prelude.{ℕ, ◌==◌, if◌then◌else◌, List, ◌++◌, codes, decimal}
-use Rattle.tacflow_c.specs.declared.fault.Place.{Place}
+use Rattle.tacflow_c.specs.declared.statuses.Place.{Place}
 
 -- the name of a refusal by its number
 abbrev pub refusal_name : ℕ → List ℕ

@@ -5,14 +5,14 @@ ghost use Rattle.flow_builder.specs.Built.{program_of};
 ghost use Rattle.flow_builder.specs.Checks.{AreFew, Fit, IsKnown};
 ghost use Rattle.flow_graph.specs.Limits.{HasFewBits, HasFewPoints};
 ghost use Rattle.tacflow_c.specs.Builds.{AnswersBuild, IsBuildable, IsUnbuilt, build_place, build_status, place_of, unbuilt_in};
-ghost use Rattle.tacflow_c.specs.Statuses.{IsOverLimit};
+ghost use Rattle.flow_records.specs.Faults.{IsOverLimit};
 
-use crate::fault::{Fault, asked_status};
 use crate::handle::{Handle, put_shared};
-use crate::text::find_limits;
+use crate::statuses::asked_status;
 use flow_builder::{Arrays, BuildFault, BuiltNames, BuiltProcedure, BuiltStatement, build};
 use flow_graph::GraphFault;
 use flow_kept::{Kept, Shared};
+use flow_records::{Fault, find_limits};
 use std::alloc::Global;
 use tac_program::{Limits, Program};
 

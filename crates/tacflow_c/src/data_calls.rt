@@ -2,22 +2,22 @@
 
 ghost use Rattle.std.specs.Prelude.{◌≡◌, length};
 ghost use Rattle.flow_graph.specs.Points.{point_count};
-ghost use Rattle.tacflow_c.specs.Edges.{IsEdgesFault, edges_between};
-ghost use Rattle.tacflow_c.specs.Flags.{AreDoubts, ArePathsOfNumber, IsFlagsFault, IsPathsFault};
-ghost use Rattle.tacflow_c.specs.Handles.{IsAsked, IsListFault, IsPartsFault};
-ghost use Rattle.tacflow_c.specs.Parts.{AreParts};
-ghost use Rattle.tacflow_c.specs.Remarks.{AreNumberedRemarks};
-ghost use Rattle.tacflow_c.specs.Rooms.{HoldsList, IsListKept};
-ghost use Rattle.tacflow_c.specs.Statements.{statement_part};
-ghost use Rattle.tacflow_c.specs.Statuses.{end_of};
+ghost use Rattle.flow_records.specs.Edges.{IsEdgesFault, edges_between};
+ghost use Rattle.flow_records.specs.Flags.{AreDoubts, ArePathsOfNumber, IsFlagsFault, IsPathsFault};
+ghost use Rattle.tacflow_c.specs.Handles.{IsAsked};
+ghost use Rattle.flow_records.specs.Rooms.{IsListFault, HoldsList, IsListKept};
+ghost use Rattle.flow_records.specs.Faults.{IsPartsFault};
+ghost use Rattle.flow_records.specs.Parts.{AreParts};
+ghost use Rattle.flow_records.specs.Remarks.{AreNumberedRemarks};
+ghost use Rattle.flow_records.specs.Statements.{statement_part};
+ghost use Rattle.flow_records.specs.Numbers.{end_of};
 
-use crate::edges::{NumberedEdge, edges_of_kept};
-use crate::fault::asked_status;
-use crate::flags::{doubtful_of_kept, paths_of_kept};
 use crate::handle::Handle;
-use crate::kept_calls::statements_of_kept;
-use crate::remarks::{NumberedRemark, remarks_of_kept};
-use crate::statements::NumberedStatement;
+use crate::statuses::asked_status;
+use flow_records::{
+    NumberedEdge, NumberedRemark, NumberedStatement, doubtful_of_kept, edges_of_kept,
+    paths_of_kept, remarks_of_kept, statements_of_kept,
+};
 use std::alloc::Global;
 
 /// Which of the points `from..until` have a valid path in the direction of an analysis: from the beginning of `main`, or for live variables and

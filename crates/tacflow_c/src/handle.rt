@@ -3,12 +3,12 @@
 ghost use Rattle.std.specs.Prelude.{◌≡◌, IsSome, None, Some, OnErr, OnOk, IfErr, IfOk, is_some};
 ghost use Rattle.flow_kept.specs.declared.shared.Shared.{Shared};
 ghost use Rattle.tac_reader.specs.Parses.{program_of};
-ghost use Rattle.tacflow_c.specs.Handles.{IsMemoryFault, IsOpenFault};
-ghost use Rattle.tacflow_c.specs.Statuses.{HasGraph, IsFaultOf};
+ghost use Rattle.flow_records.specs.Faults.{IsMemoryFault, HasGraph, IsFaultOf};
+ghost use Rattle.tacflow_c.specs.Handles.{IsOpenFault};
 
-use crate::fault::Fault;
 use crate::held::Held;
 use flow_kept::{KeepFault, Kept, Shared};
+use flow_records::Fault;
 use loose_box::Loose;
 use std::alloc::Global;
 use std::mem::replace;

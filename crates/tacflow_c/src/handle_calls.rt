@@ -6,26 +6,23 @@ ghost use Rattle.flow_graph.specs.Universes.{definitions as definitions_in, expr
 ghost use Rattle.flow_reports.specs.Reports.{ListsSafely};
 ghost use Rattle.tac_listing.specs.Listings.{listing_of};
 ghost use Rattle.tac_reader.specs.Parses.{program_of};
-ghost use Rattle.tacflow_c.specs.Handles.{AreFactsOfNumber, IsAsked, IsMemoryFault, IsNamesRoomFault, IsNumberFault, IsOpenFault};
-ghost use Rattle.tacflow_c.specs.Handles.{IsListFault, IsPartsFault};
-ghost use Rattle.tacflow_c.specs.Names.{AreNames};
-ghost use Rattle.tacflow_c.specs.Parts.{AreParts, ArePartsOf, definition_part, expression_part, point_part, sizes_of};
-ghost use Rattle.tacflow_c.specs.Queries.{AreAnswersTo, IsQueriesFault};
-ghost use Rattle.tacflow_c.specs.Statuses.{HasGraph, IsAnswered};
-ghost use Rattle.tacflow_c.specs.Rooms.{HoldsList, IsListKept};
-ghost use Rattle.tacflow_c.specs.declared.names.Named.TheVariants.{Procedures, Variables};
+ghost use Rattle.flow_records.specs.Facts.{AreFactsOfNumber, IsNumberFault};
+ghost use Rattle.tacflow_c.specs.Handles.{IsAsked, IsOpenFault};
+ghost use Rattle.flow_records.specs.Faults.{IsMemoryFault, IsPartsFault, HasGraph};
+ghost use Rattle.flow_records.specs.Names.{IsNamesRoomFault, AreNames};
+ghost use Rattle.flow_records.specs.Rooms.{IsListFault, HoldsList, IsListKept};
+ghost use Rattle.flow_records.specs.Parts.{AreParts, ArePartsOf, definition_part, expression_part, point_part, sizes_of};
+ghost use Rattle.flow_records.specs.Queries.{AreAnswersTo, IsQueriesFault};
+ghost use Rattle.tacflow_c.specs.Statuses.{IsAnswered};
+ghost use Rattle.flow_records.specs.declared.names.Named.TheVariants.{Procedures, Variables};
 
-use crate::fault::{Place, answer_status, asked_status, fault_status};
 use crate::handle::{Handle, open_text, put_shared};
-use crate::kept_calls::{
-    definitions_of_kept, expressions_of_kept, facts_of_kept, points_of_kept, report_of_kept,
-    sizes_of_kept,
+use crate::statuses::{Place, answer_status, asked_status, fault_status};
+use flow_records::{
+    Definition, Expression, Named, NumberedQuery, Point, Sizes, ask_kept, definitions_of_kept,
+    expressions_of_kept, facts_of_kept, fill_names, find_limits, points_of_kept, put_listing,
+    report_of_kept, sizes_of_kept,
 };
-use crate::names::{Named, fill_names};
-use crate::parts::{Definition, Expression, Point, Sizes};
-use crate::queries::{NumberedQuery, ask_kept};
-use crate::text::find_limits;
-use crate::texts::put_listing;
 use std::alloc::Global;
 
 /// Opens a closed handle with the program of a text within limits.

@@ -10,56 +10,38 @@
 #![tactic(auto)]
 
 mod builds;
-mod calls;
 mod data_calls;
-mod edges;
-mod fault;
-mod flags;
 mod handle;
 mod handle_calls;
 mod held;
-mod kept_calls;
 mod messages;
-mod names;
-mod parts;
-mod queries;
-mod remarks;
-mod rooms;
-mod statements;
-mod text;
-mod texts;
+mod statuses;
 
 ghost use Rattle.std.specs.Prelude.{◌≡◌, None, length};
 ghost use Rattle.flow_graph.specs.Points.{point_count};
 ghost use Rattle.flow_graph.specs.Universes.{definitions as definitions_in, expressions as expressions_in};
 ghost use Rattle.tac_reader.specs.Parses.{program_of};
-ghost use Rattle.tacflow_c.specs.Facts.{AreFactsOfText, IsTableFault};
+ghost use Rattle.flow_records.specs.Facts.{AreFactsOfText, IsTableFault};
 ghost use Rattle.tac_reader.specs.Faults.{refusal_within};
-ghost use Rattle.tacflow_c.specs.Names.{AreNames, IsNamesFault};
-ghost use Rattle.tacflow_c.specs.declared.names.Named.TheVariants.{Procedures, Variables};
-ghost use Rattle.tacflow_c.specs.Parts.{AreParts, ArePartsOf, definition_part, expression_part, point_part, sizes_of};
-ghost use Rattle.tacflow_c.specs.Rooms.{HoldsList, IsListKept};
-ghost use Rattle.tacflow_c.specs.Texts.{IsListingFault, IsListingOf, IsReportFault, IsReportOf};
-ghost use Rattle.tacflow_c.specs.Statuses.{HasGraph, IsAnswered, IsFaultOf, IsRoomFault};
+ghost use Rattle.flow_records.specs.Names.{AreNames, IsNamesFault};
+ghost use Rattle.flow_records.specs.declared.names.Named.TheVariants.{Procedures, Variables};
+ghost use Rattle.flow_records.specs.Parts.{AreParts, ArePartsOf, definition_part, expression_part, point_part, sizes_of};
+ghost use Rattle.flow_records.specs.Rooms.{HoldsList, IsListKept};
+ghost use Rattle.flow_records.specs.Texts.{IsListingFault, IsListingOf, IsReportFault, IsReportOf};
+ghost use Rattle.flow_records.specs.Faults.{HasGraph, IsFaultOf, IsRoomFault};
+ghost use Rattle.tacflow_c.specs.Statuses.{IsAnswered};
 
 pub use builds::BuildPlace;
-use calls::{
-    definitions_of_text, expressions_of_text, facts_of_text, names_of_text, points_of_text,
+use flow_records::{
+    Definition, Expression, Named, Point, Sizes, definitions_of_text, expressions_of_text,
+    facts_of_text, find_limits, listing_of_text, names_of_text, points_of_text, report_of_text,
     sizes_of_text,
 };
-pub use edges::NumberedEdge;
-pub use fault::Place;
-use fault::{answer_status, fault_status};
 pub use handle::Handle;
 pub use held::{Held, Opaque};
-use names::Named;
-pub use parts::{Definition, Expression, Part, Point, Sizes};
-pub use queries::NumberedQuery;
-pub use remarks::NumberedRemark;
-pub use statements::NumberedStatement;
+pub use statuses::Place;
+use statuses::{answer_status, fault_status};
 use std::alloc::Global;
-use text::find_limits;
-use texts::{listing_of_text, report_of_text};
 
 /// How large a text's program is.
 #[unsafe(no_mangle)]

@@ -2,10 +2,10 @@
 
 ghost use Rattle.std.specs.Prelude.{◌≡◌, ◌⊎◌, IfOk, length};
 ghost use Rattle.tacflow_c.specs.Messages.{message_of, refusal_line, refusal_name as refusal_named, status_line as status_lined};
-ghost use Rattle.tacflow_c.specs.Rooms.{HoldsList, NeedsRoom};
+ghost use Rattle.flow_records.specs.Rooms.{HoldsList, NeedsRoom};
 
-use crate::fault::Place;
-use crate::rooms::put_list;
+use crate::statuses::Place;
+use flow_records::put_list;
 use std::alloc::{AllocError as OutOfMemory, Global};
 
 // The name of a refusal by its number.

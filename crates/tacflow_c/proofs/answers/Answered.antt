@@ -2,10 +2,11 @@
 use Rattle.std.proofs.Common.{◌≡◌, ℕ, Some, None, ap, sym, subst}
 use Rattle.std.specs.Prelude.{Option}
 use Rattle.tac_program.specs.declared.limits.Limits.{Limits}
-use Rattle.tacflow_c.specs.Statuses.{IsAnswered, Outcome, limits_of, place_after, status_of}
-use Rattle.tacflow_c.specs.declared.fault.Fault.{Fault}
-use Rattle.tacflow_c.specs.declared.fault.Fault.TheVariants.{BadLimits}
-use Rattle.tacflow_c.specs.declared.fault.Place.{Place}
+use Rattle.tacflow_c.specs.Statuses.{IsAnswered, Outcome, place_after, status_of}
+use Rattle.flow_records.specs.Numbers.{limits_of}
+use Rattle.flow_records.specs.declared.fault.Fault.{Fault}
+use Rattle.flow_records.specs.declared.fault.Fault.TheVariants.{BadLimits}
+use Rattle.tacflow_c.specs.declared.statuses.Place.{Place}
 
 pub no_limits : (status number : ℕ) (old new : Place) (Answer : Limits → Type 0) (IsKept : Fault → Type 0) (IsFault : Limits → Fault → Type 0)
     (found : Fault)

@@ -5,8 +5,8 @@ use Rattle.flow_kept.specs.Kept.{KeptProgram}
 use Rattle.tac_program.specs.Programs.{Program}
 use Rattle.tacflow_c.specs.Handles.{Asked, IsAsked}
 use Rattle.tacflow_c.specs.Statuses.{fault_in, status_of}
-use Rattle.tacflow_c.specs.declared.fault.Fault.{Fault}
-use Rattle.tacflow_c.specs.declared.fault.Fault.TheVariants.{BadHandle}
+use Rattle.flow_records.specs.declared.fault.Fault.{Fault}
+use Rattle.flow_records.specs.declared.fault.Fault.TheVariants.{BadHandle}
 
 -- of a closed one
 pub closed : (old : Option KeptProgram) (Answer : Program → Type 0) (IsKept : Fault → Type 0) (IsFault : Program → Fault → Type 0)

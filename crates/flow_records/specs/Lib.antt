@@ -1,0 +1,12 @@
+pub mod Edges
+pub mod Facts
+pub mod Faults
+pub mod Flags
+pub mod Names
+pub mod Numbers
+pub mod Parts
+pub mod Queries
+pub mod Remarks
+pub mod Rooms
+pub mod Statements
+pub mod Texts
