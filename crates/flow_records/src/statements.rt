@@ -5,14 +5,14 @@ ghost use Rattle.flow_graph.specs.Edges.{label_point};
 ghost use Rattle.flow_graph.specs.Points.{kind_at, point_count, procedure_at};
 ghost use Rattle.flow_graph.specs.Universes.{evaluated_at};
 ghost use Rattle.flow_graph.specs.code.Labels.{labels_at};
-ghost use Rattle.flow_records.specs.Parts.{AreParts};
+ghost use Rattle.flow_records.specs.Parts.{AreParts, operator_number as number_of_operator};
 ghost use Rattle.flow_records.specs.Statements.{goes_to as goes_to_in, label_named, no_number, statement_alone, statement_part, statement_with};
 ghost use Rattle.flow_records.specs.Faults.{IsBadRoom};
 
 use crate::fault::Fault;
 use crate::parts::{Part, operator_number, part_of};
 use flow_graph::Graph;
-use tac_program::StmtKind;
+use tac_program::{Op, StmtKind};
 
 /// What stands at a point. Its kind is 0 where there is no statement, at a procedure's end, and else counts the forms of the language from 1:
 /// copy, unary and binary assignment, goto, if, ifFalse, comparison, call, return, read, print, skip. 4294967295 stands for none: no variable
@@ -61,6 +61,20 @@ fn statement(
     }
 }
 
+// The same of a form with an operator.
+fn operated(
+    kind: u32,
+    target: u32,
+    op: Op,
+    label: u32,
+    left: Part,
+    right: Part,
+) -> NumberedStatement
+    ensures { result ≡ statement_with kind target (number_of_operator op) label left right }
+{
+    statement(kind, target, operator_number(op), label, left, right)
+}
+
 // A statement by itself, without the point to which it may jump and the expression that it evaluates.
 fn statement_alone_of(kind: &StmtKind) -> NumberedStatement
     ensures { result ≡ statement_alone kind.now }
@@ -73,27 +87,13 @@ fn statement_alone_of(kind: &StmtKind) -> NumberedStatement
             target,
             op,
             operand,
-        } => statement(
-            2,
-            *target,
-            operator_number(*op),
-            NONE,
-            NO_PART,
-            part_of(*operand),
-        ),
+        } => operated(2, *target, *op, NONE, NO_PART, part_of(*operand)),
         StmtKind::Binary {
             op,
             target,
             left,
             right,
-        } => statement(
-            3,
-            *target,
-            operator_number(*op),
-            NONE,
-            part_of(*left),
-            part_of(*right),
-        ),
+        } => operated(3, *target, *op, NONE, part_of(*left), part_of(*right)),
         StmtKind::Goto { label } => statement(4, NONE, NONE, *label, NO_PART, NO_PART),
         StmtKind::If { condition, label } => {
             statement(5, NONE, NONE, *label, NO_PART, part_of(*condition))
@@ -106,14 +106,7 @@ fn statement_alone_of(kind: &StmtKind) -> NumberedStatement
             label,
             left,
             right,
-        } => statement(
-            7,
-            NONE,
-            operator_number(*op),
-            *label,
-            part_of(*left),
-            part_of(*right),
-        ),
+        } => operated(7, NONE, *op, *label, part_of(*left), part_of(*right)),
         StmtKind::Call { .. } => statement(8, NONE, NONE, NONE, NO_PART, NO_PART),
         StmtKind::Return => statement(9, NONE, NONE, NONE, NO_PART, NO_PART),
         StmtKind::Read { target } => statement(10, *target, NONE, NONE, NO_PART, NO_PART),
