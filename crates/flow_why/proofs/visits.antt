@@ -5,4 +5,5 @@ pub mod Listed
 pub mod Reasons
 pub mod Results
 pub mod Sites
+pub mod Statements
 pub mod Visiting

@@ -1,4 +1,5 @@
 pub mod Directed
 pub mod Laws
+pub mod PointBits
 pub mod Witnesses
 pub mod code

@@ -5,31 +5,42 @@ ghost use Rattle.flow_graph.specs.Directions.{goes_backward};
 ghost use Rattle.flow_graph.specs.Paths.{IsEdge};
 ghost use Rattle.flow_graph.specs.Points.{point_count};
 ghost use Rattle.flow_links.specs.Shapes.{after_site, directed_shape};
-ghost use Rattle.flow_why.specs.code.Frames.{IsFrame, call_after, call_site, effect_of, step_statement, transfer_for};
+ghost use Rattle.flow_why.specs.PointBits.{step_statement};
+ghost use Rattle.flow_why.specs.code.Frames.{IsFrame, call_after, call_site, effect_of, step_begin, step_end, transfer_for};
 ghost use Rattle.flow_why.specs.code.Marked.{BaseHas};
 
 use crate::claim::Claim;
 use crate::hop::Effect;
+use crate::point_bit::PointBit;
 use crate::search::Search;
-use flow_graph::Direction;
+use flow_graph::{Direction, Graph};
 use flow_links::Links;
 use gen_kill::Problem;
 
-/// What a search is for: a bit of a problem, or where paths lead, which is the search for a bit that is always there.
+/// What a search is for.
+#[derive(Clone, Copy)]
+pub(crate) enum Asked<'a, 'g, 'p> {
+    /// Where paths lead, which is the search for a bit that is always there.
+    Paths,
+    /// The bit of a problem's column.
+    Column(&'a Problem<'g, 'p>, u32),
+    /// A bit of one's own, of the statements of a graph.
+    Points(&'a Graph<'p>, &'a PointBit<'a>),
+}
+
+/// What a search goes over.
 #[derive(Drop)]
 pub(crate) struct Frame<'a, 'g, 'p> {
-    /// The problem's edges by point.
+    /// The edges by point.
     pub links: &'a Links,
-    /// The problem.
-    pub problem: &'a Problem<'g, 'p>,
-    /// The bit's column; without one, where paths lead.
-    pub column: Option<u32>,
+    /// What it is for.
+    pub asked: Asked<'a, 'g, 'p>,
     /// Where paths lead.
     pub base: &'a Search,
 }
 
-// The point of a step's statement.
-fn statement_point(direction: Direction, from: u32, to: u32) -> u32
+/// The point of a step's statement.
+pub(crate) fn statement_point(direction: Direction, from: u32, to: u32) -> u32
     ensures { result ≡ step_statement (goes_backward direction) from to }
 {
     match direction {
@@ -45,22 +56,10 @@ pub(crate) fn kills(frame: &Frame<'_, '_, '_>, from: u32, to: u32) -> bool
     ensures { result ≡ (transfer_for frame.now).kill from to }
 {
     let point = statement_point(frame.links.direction(), from, to);
-    match frame.column {
-        None => false,
-        Some(column) => frame.problem.kills(point, column),
-    }
-}
-
-/// Whether a step generates it.
-pub(crate) fn gens(frame: &Frame<'_, '_, '_>, from: u32, to: u32) -> bool
-    requires frame { IsFrame frame.now }
-    requires there { IsEdge (directed_shape frame.now.links.now) (Step from to) }
-    ensures { result ≡ (transfer_for frame.now).gen from to }
-{
-    let point = statement_point(frame.links.direction(), from, to);
-    match frame.column {
-        None => false,
-        Some(column) => frame.problem.gens(point, column),
+    match frame.asked {
+        Asked::Paths => false,
+        Asked::Column(problem, column) => problem.kills(point, column),
+        Asked::Points(_, bit) => bit.is_killed_at(point),
     }
 }
 
@@ -69,19 +68,31 @@ pub(crate) fn in_boundary(frame: &Frame<'_, '_, '_>) -> bool
     requires { IsFrame frame.now }
     ensures { result ≡ (transfer_for frame.now).boundary }
 {
-    match frame.column {
-        None => true,
-        Some(column) => frame.problem.in_boundary(column),
+    match frame.asked {
+        Asked::Paths => true,
+        Asked::Column(problem, column) => problem.in_boundary(column),
+        Asked::Points(_, bit) => bit.in_boundary(),
     }
 }
 
 /// The effect of a call by which a claim is carried over it.
 pub(crate) fn effect(frame: &Frame<'_, '_, '_>) -> Effect
-    ensures { result ≡ effect_of frame.now.column }
+    ensures { result ≡ effect_of frame.now.asked }
 {
-    match frame.column {
-        None => Effect::Reaches,
-        Some(_) => Effect::Preserves,
+    match frame.asked {
+        Asked::Paths => Effect::Reaches,
+        Asked::Column(..) | Asked::Points(..) => Effect::Preserves,
+    }
+}
+
+/// The ends of a program's step in a direction.
+pub(crate) fn directed_step(direction: Direction, from: u32, to: u32) -> (u32, u32)
+    ensures from { result.0 ≡ step_begin (goes_backward direction) from to }
+    ensures to { result.1 ≡ step_end (goes_backward direction) from to }
+{
+    match direction {
+        Direction::Forward => (from, to),
+        Direction::Backward => (to, from),
     }
 }
 

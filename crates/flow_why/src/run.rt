@@ -1,22 +1,26 @@
 // A search: where it begins, and visits of all that it finds.
-ghost use Rattle.std.specs.Prelude.{◌≡◌, ◌<◌, ℕ, true, IfOk, OnOk};
+ghost use Rattle.std.specs.Prelude.{◌≡◌, ◌<◌, ℕ, true, Contains, IfOk, OnOk};
+ghost use Rattle.flow_graph.specs.Edges.{edges as edges_of};
 ghost use Rattle.flow_graph.specs.declared.edge.Edge.TheVariants.{Step};
-ghost use Rattle.flow_graph.specs.Paths.{IsEdge, root};
+ghost use Rattle.flow_graph.specs.Paths.{IsEdge, root, source_of};
 ghost use Rattle.flow_graph.specs.Points.{point_count};
 ghost use Rattle.flow_links.specs.Shapes.{directed_shape};
 ghost use Rattle.flow_why.specs.declared.claim.Claim.TheVariants as claims;
 ghost use Rattle.flow_why.specs.code.Found.{Has, nothing_found};
-ghost use Rattle.flow_why.specs.code.Frames.{IsFrame, question_of, transfer_for};
+ghost use Rattle.flow_why.specs.code.Frames.{GeneratesAt, IsColumnFrame, IsFrame, IsPointFrame, question_of, transfer_for};
 ghost use Rattle.flow_why.specs.code.Marked.{AreMarks, BaseHas, Spreads};
-ghost use Rattle.flow_why.specs.code.Visits.{IsComplete, IsGenVisited};
+ghost use Rattle.flow_why.specs.code.Visits.{AreGensVisited, IsComplete, IsEdgeGenVisited, IsGenVisited, IsStatementGenVisited};
 
 use crate::OutOfMemory;
 use crate::claim::Claim;
-use crate::frame::{Frame, based, gens, in_boundary};
+use crate::frame::{Asked, Frame, based, directed_step, in_boundary, statement_point};
 use crate::hop::Hop;
 use crate::mark::{Mark, Reason};
+use crate::point_bit::PointBit;
 use crate::search::Search;
 use crate::visit::{add, visit};
+use flow_graph::{Edge, Graph};
+use gen_kill::Problem;
 use std::alloc::Global;
 
 // Begins where the problem does, if the boundary has the bit.
@@ -58,8 +62,8 @@ fn gen_known(
     add(frame, search, claim, Mark { point: to, reason })
 }
 
-// Looks at one step.
-fn gen_step(
+// Goes over a step that generates the bit.
+fn gen_here(
     frame: &Frame<'_, '_, '_>,
     search: &mut Search,
     at: u32,
@@ -68,19 +72,47 @@ fn gen_step(
     requires frame { IsFrame frame.now }
     requires marks { AreMarks (question_of frame.now) search.old }
     requires there { IsEdge (directed_shape frame.now.links.now) (Step at to) }
+    requires gens { (transfer_for frame.now).gen at to ≡ true }
     ensures spreads { OnOk result (Spreads (question_of frame.now) search.old search.new) }
     ensures visited { OnOk result (IsGenVisited (question_of frame.now) at to search.new) }
 {
-    if !gens(frame, at, to) {
-        return Ok(());
-    }
     gen_known(frame, search, Claim::Generated, at, to)?;
     gen_known(frame, search, Claim::Holds, at, to)
 }
 
-// Looks at the steps from a point.
-fn gen_steps(frame: &Frame<'_, '_, '_>, search: &mut Search, at: u32) -> Result<(), OutOfMemory>
+// Looks at one step, for a column.
+fn gen_step(
+    frame: &Frame<'_, '_, '_>,
+    problem: &Problem<'_, '_>,
+    column: u32,
+    search: &mut Search,
+    at: u32,
+    to: u32,
+) -> Result<(), OutOfMemory>
     requires frame { IsFrame frame.now }
+    requires column { IsColumnFrame frame.now problem.now column }
+    requires marks { AreMarks (question_of frame.now) search.old }
+    requires there { IsEdge (directed_shape frame.now.links.now) (Step at to) }
+    ensures spreads { OnOk result (Spreads (question_of frame.now) search.old search.new) }
+    ensures visited { OnOk result (IsGenVisited (question_of frame.now) at to search.new) }
+{
+    let point = statement_point(frame.links.direction(), at, to);
+    if !problem.gens(point, column) {
+        return Ok(());
+    }
+    gen_here(frame, search, at, to)
+}
+
+// Looks at the steps from a point.
+fn gen_steps(
+    frame: &Frame<'_, '_, '_>,
+    problem: &Problem<'_, '_>,
+    column: u32,
+    search: &mut Search,
+    at: u32,
+) -> Result<(), OutOfMemory>
+    requires frame { IsFrame frame.now }
+    requires column { IsColumnFrame frame.now problem.now column }
     requires marks { AreMarks (question_of frame.now) search.old }
     requires within { at < point_count frame.now.links.now.program }
     ensures spreads { OnOk result (Spreads (question_of frame.now) search.old search.new) }
@@ -89,34 +121,119 @@ fn gen_steps(frame: &Frame<'_, '_, '_>, search: &mut Search, at: u32) -> Result<
 {
     let steps = frame.links.steps_from(at);
     for to in steps {
-        gen_step(frame, search, at, *to)?;
+        gen_step(frame, problem, column, search, at, *to)?;
     }
     Ok(())
 }
 
-// Looks at all steps.
-fn gen_all(frame: &Frame<'_, '_, '_>, search: &mut Search) -> Result<(), OutOfMemory>
+// Looks at all steps, for a column.
+fn gen_points(
+    frame: &Frame<'_, '_, '_>,
+    problem: &Problem<'_, '_>,
+    column: u32,
+    search: &mut Search,
+) -> Result<(), OutOfMemory>
+    requires frame { IsFrame frame.now }
+    requires column { IsColumnFrame frame.now problem.now column }
+    requires marks { AreMarks (question_of frame.now) search.old }
+    ensures spreads { OnOk result (Spreads (question_of frame.now) search.old search.new) }
+    ensures visited { OnOk result (AreGensVisited (question_of frame.now) search.new) }
+{
+    for at in 0..frame.links.points() {
+        gen_steps(frame, problem, column, search, at)?;
+    }
+    Ok(())
+}
+
+// Goes over an edge out of a statement that generates the bit.
+fn gen_edge(frame: &Frame<'_, '_, '_>, search: &mut Search, edge: Edge) -> Result<(), OutOfMemory>
+    requires frame { IsFrame frame.now }
+    requires marks { AreMarks (question_of frame.now) search.old }
+    requires there { Contains (edges_of frame.now.links.now.program) edge }
+    requires gens { GeneratesAt frame.now (source_of edge) }
+    ensures spreads { OnOk result (Spreads (question_of frame.now) search.old search.new) }
+    ensures visited { OnOk result (IsEdgeGenVisited frame.now edge search.new) }
+{
+    match edge {
+        Edge::Step { from, to } => {
+            let (at, to) = directed_step(frame.links.direction(), from, to);
+            gen_here(frame, search, at, to)
+        },
+        Edge::Call { .. } => Ok(()),
+        Edge::Ret { .. } => Ok(()),
+    }
+}
+
+// Goes over the steps of a statement that generates the bit, if there is one at the point.
+fn gen_statement(
+    alloc: Global,
+    frame: &Frame<'_, '_, '_>,
+    graph: &Graph<'_>,
+    search: &mut Search,
+    point: u32,
+) -> Result<(), OutOfMemory>
+    requires frame { IsFrame frame.now }
+    requires graph { graph.now ≡ frame.now.links.now.program }
+    requires marks { AreMarks (question_of frame.now) search.old }
+    requires gens { GeneratesAt frame.now point }
+    ensures spreads { OnOk result (Spreads (question_of frame.now) search.old search.new) }
+    ensures visited { OnOk result (IsStatementGenVisited frame.now point search.new) }
+{
+    // Its contract tells that the program is sound, too.
+    if point >= graph.points() {
+        return Ok(());
+    }
+    let edges = graph.succ(alloc, point)?;
+    for edge in edges.as_slice() {
+        gen_edge(frame, search, *edge)?;
+    }
+    Ok(())
+}
+
+// Goes over all statements that generate a bit of one's own.
+fn gen_statements(
+    alloc: Global,
+    frame: &Frame<'_, '_, '_>,
+    graph: &Graph<'_>,
+    bit: &PointBit<'_>,
+    search: &mut Search,
+) -> Result<(), OutOfMemory>
+    requires frame { IsFrame frame.now }
+    requires points { IsPointFrame frame.now graph.now bit.now }
+    requires marks { AreMarks (question_of frame.now) search.old }
+    ensures spreads { OnOk result (Spreads (question_of frame.now) search.old search.new) }
+    ensures visited { OnOk result (AreGensVisited (question_of frame.now) search.new) }
+{
+    let gens = bit.gens();
+    for point in gens {
+        gen_statement(alloc, frame, graph, search, *point)?;
+    }
+    Ok(())
+}
+
+// Goes over all steps that generate what is asked for: where paths lead, none does.
+fn gen_all(alloc: Global, frame: &Frame<'_, '_, '_>, search: &mut Search) -> Result<(), OutOfMemory>
     requires frame { IsFrame frame.now }
     requires marks { AreMarks (question_of frame.now) search.old }
     ensures spreads { OnOk result (Spreads (question_of frame.now) search.old search.new) }
-    ensures visited { OnOk result ((x y : ℕ) → IsEdge (directed_shape frame.now.links.now) (Step x y)
-        → IsGenVisited (question_of frame.now) x y search.new) }
+    ensures visited { OnOk result (AreGensVisited (question_of frame.now) search.new) }
 {
-    for at in 0..frame.links.points() {
-        gen_steps(frame, search, at)?;
+    match frame.asked {
+        Asked::Paths => Ok(()),
+        Asked::Column(problem, column) => gen_points(frame, problem, column, search),
+        Asked::Points(graph, bit) => gen_statements(alloc, frame, graph, bit, search),
     }
-    Ok(())
 }
 
 // Fills a blank search.
-fn run(frame: &Frame<'_, '_, '_>, search: &mut Search) -> Result<(), OutOfMemory>
+fn run(alloc: Global, frame: &Frame<'_, '_, '_>, search: &mut Search) -> Result<(), OutOfMemory>
     requires frame { IsFrame frame.now }
     requires blank { search.old ≡ nothing_found (point_count frame.now.links.now.program) }
     ensures marks { OnOk result (AreMarks (question_of frame.now) search.new) }
     ensures complete { OnOk result (IsComplete (question_of frame.now) search.new) }
 {
     begin_at_root(frame, search)?;
-    gen_all(frame, search)?;
+    gen_all(alloc, frame, search)?;
     'visits: while let Some((claim, at)) = search.take() {
         visit(frame, search, claim, at)?;
     }
@@ -130,6 +247,6 @@ pub(crate) fn search_for(alloc: Global, frame: &Frame<'_, '_, '_>) -> Result<Sea
     ensures complete { IfOk result (λ search. IsComplete (question_of frame.now) search) }
 {
     let mut search = Search::blank(alloc, frame.links.points())?;
-    run(frame, &mut search)?;
+    run(alloc, frame, &mut search)?;
     Ok(search)
 }

@@ -1,5 +1,7 @@
 // Where the valid paths of a direction lead.
-ghost use Rattle.std.specs.Prelude.{◌≡◌, ◌<◌, IfOk};
+ghost use Rattle.std.specs.Prelude.{◌≡◌, ◌<◌, ◌↔◌, true, IfOk};
+ghost use Rattle.flow_graph.specs.Paths.{HasPath};
+ghost use Rattle.flow_graph.specs.Points.{point_count};
 ghost use Rattle.flow_links.specs.Shapes.{directed_shape};
 ghost use Rattle.flow_why.specs.Directed.{direction_of};
 ghost use Rattle.flow_why.specs.code.Frames.{IsFrame, question_of};
@@ -7,7 +9,8 @@ ghost use Rattle.flow_why.specs.code.Trails.{base_question};
 ghost use Rattle.flow_why.specs.code.Ways.{AreWays, IsBare};
 
 use crate::OutOfMemory;
-use crate::frame::Frame;
+use crate::claim::Claim;
+use crate::frame::{Asked, Frame};
 use crate::run::search_for;
 use crate::search::Search;
 use flow_links::Links;
@@ -47,7 +50,7 @@ impl Drop for Ways {
 // The frame of a search for where paths lead.
 fn bare_frame<'a, 'g, 'p>(
     links: &'a Links,
-    problem: &'a Problem<'g, 'p>,
+    problem: &Problem<'g, 'p>,
     base: &'a Search,
 ) -> Frame<'a, 'g, 'p>
     requires linked { links.now ≡ direction_of problem.now }
@@ -60,8 +63,7 @@ fn bare_frame<'a, 'g, 'p>(
     let _ = problem.procedures();
     Frame {
         links,
-        problem,
-        column: None,
+        asked: Asked::Paths,
         base,
     }
 }
@@ -92,21 +94,20 @@ impl Ways {
         Ok(Ways { links, search })
     }
 
+    /// Whether some valid path leads to a point, in the direction of the ways.
+    pub fn has_path(&self, point: u32) -> bool
+        requires { point < point_count self.now.linked.program }
+        ensures { (result ≡ true) ↔ HasPath (directed_shape self.now.linked) point }
+    {
+        self.search.has(Claim::Holds, point)
+    }
+
     /// The edges.
     pub(crate) fn links(&self) -> &Links
         ensures links { result.now ≡ self.now.linked }
         ensures ways { AreWays self.now }
     {
         &self.links
-    }
-
-    /// The point at which a procedure is left.
-    pub(crate) fn exit(&self, procedure: u32) -> u32
-        requires { procedure < (directed_shape self.now.linked).procedures }
-        ensures exit { result ≡ (directed_shape self.now.linked).exit procedure }
-        ensures ways { AreWays self.now }
-    {
-        self.links.exit(procedure)
     }
 
     /// What is found of where paths lead.

@@ -1,24 +1,24 @@
 // Why a bit is in the sets of points.
-ghost use Rattle.std.specs.Prelude.{◌≡◌, ◌<◌, ◌≤◌, ◌*◌, true, IfOk, IfSome, MatchOption, length};
+ghost use Rattle.std.specs.Prelude.{◌≡◌, ◌<◌, ◌≤◌, ◌*◌, IfOk, IfSome, MatchOption, length};
 ghost use Rattle.flow_graph.specs.Paths.{SomePathHas};
 ghost use Rattle.flow_graph.specs.Points.{point_count};
 ghost use Rattle.flow_graph.specs.Problems.{may_shape};
 ghost use Rattle.gen_kill.specs.Selections.{column_count, column_transfer};
 ghost use Rattle.flow_why.specs.Directed.{direction_of};
 ghost use Rattle.flow_why.specs.Witnesses.{IsNeverPassed, IsThroughWitness, IsWitness};
-ghost use Rattle.flow_why.specs.declared.hop.Effect.TheVariants as effects;
+ghost use Rattle.flow_links.specs.Shapes.{directed_shape};
+ghost use Rattle.flow_why.specs.code.Closed.{IsGround};
 ghost use Rattle.flow_why.specs.code.Frames.{question_of};
-ghost use Rattle.flow_why.specs.code.Marked.{is_inner};
-ghost use Rattle.flow_why.specs.code.Trails.{IsAskedFrame, claim_effect};
+ghost use Rattle.flow_why.specs.code.Marked.{BaseHas};
+ghost use Rattle.flow_why.specs.code.Trails.{IsAskedFrame};
 ghost use Rattle.flow_why.specs.code.Ways.{IsAnswered, IsOver, bit_question};
 
 use crate::OutOfMemory;
-use crate::claim::Claim;
-use crate::frame::Frame;
+use crate::answers::{through_of, witness_of};
+use crate::frame::{Asked, Frame};
 use crate::hop::{Effect, Hop};
 use crate::run::search_for;
 use crate::search::Search;
-use crate::trail::{hops_of, inner_hops_of};
 use crate::ways::Ways;
 use gen_kill::Problem;
 use std::alloc::Global;
@@ -32,12 +32,12 @@ fn frame_of<'a, 'g, 'p>(
 ) -> Frame<'a, 'g, 'p>
     requires { IsOver ways.now (record { form = problem.now; column = column }) }
     ensures frame { IsAskedFrame result }
+    ensures ground { IsGround (directed_shape result.links.now) (BaseHas result.base.now) }
     ensures question { question_of result ≡ bit_question ways.now (record { form = problem.now; column = column }) }
 {
     Frame {
         links: ways.links(),
-        problem,
-        column: Some(column),
+        asked: Asked::Column(problem, column),
         base: ways.search(),
     }
 }
@@ -108,16 +108,8 @@ impl<'a, 'g, 'p> Why<'a, 'g, 'p> {
             (column_transfer self.now.form self.now.column) point hops.items)) }
         ensures short { IfOk result (λ found. IfSome found (λ hops. length hops.items ≤ 2 * point_count self.now.form.program)) }
     {
-        // Its contract tells that these are ways.
-        let _ = self.ways.links();
-        match self.search.marks(Claim::Holds).place(point) {
-            None => Ok(None),
-            Some(place) => {
-                let frame = frame_of(self.ways, self.problem, self.column);
-                let hops = hops_of(alloc, &frame, &self.search, Claim::Holds, place)?;
-                Ok(Some(hops))
-            }
-        }
+        let frame = frame_of(self.ways, self.problem, self.column);
+        witness_of(alloc, &frame, &self.search, point)
     }
 
     /// One way through a callee, from its entry to its exit, that has an effect: one level of a call that a witness passes is unfolded so, and
@@ -135,55 +127,8 @@ impl<'a, 'g, 'p> Why<'a, 'g, 'p> {
             (λ hops. IsThroughWitness (may_shape self.now.form.program self.now.form.analysis) (column_transfer self.now.form self.now.column)
             callee effect hops.items)) }
     {
-        match effect {
-            Effect::Reaches => self.reached_through(alloc, callee),
-            Effect::Generates => self.found_through(alloc, callee, Claim::Generated),
-            Effect::Preserves => self.found_through(alloc, callee, Claim::Preserved),
-        }
-    }
-
-    // The same for a path of which nothing is said.
-    fn reached_through(&self, alloc: Global, callee: u32) -> Result<Option<Vec<Hop>>, OutOfMemory>
-        requires { callee < (may_shape self.now.form.program self.now.form.analysis).procedures }
-        ensures { IfOk result (λ found. MatchOption found
-            (IsNeverPassed (may_shape self.now.form.program self.now.form.analysis)
-            (column_transfer self.now.form self.now.column) callee effects.Reaches)
-            (λ hops. IsThroughWitness (may_shape self.now.form.program self.now.form.analysis) (column_transfer self.now.form self.now.column)
-            callee effects.Reaches hops.items)) }
-    {
-        let exit = self.ways.exit(callee);
-        if !self.ways.search().has(Claim::Preserved, exit) {
-            return Ok(None);
-        }
         let frame = frame_of(self.ways, self.problem, self.column);
-        let hops = inner_hops_of(alloc, &frame, exit)?;
-        Ok(Some(hops))
-    }
-
-    // The same for the effect of a claim that was searched for.
-    fn found_through(
-        &self,
-        alloc: Global,
-        callee: u32,
-        claim: Claim,
-    ) -> Result<Option<Vec<Hop>>, OutOfMemory>
-        requires callee { callee < (may_shape self.now.form.program self.now.form.analysis).procedures }
-        requires inner { is_inner claim ≡ true }
-        ensures { IfOk result (λ found. MatchOption found
-            (IsNeverPassed (may_shape self.now.form.program self.now.form.analysis) (column_transfer self.now.form self.now.column) callee
-            (claim_effect claim))
-            (λ hops. IsThroughWitness (may_shape self.now.form.program self.now.form.analysis) (column_transfer self.now.form self.now.column)
-            callee (claim_effect claim) hops.items)) }
-    {
-        let exit = self.ways.exit(callee);
-        match self.search.marks(claim).place(exit) {
-            None => Ok(None),
-            Some(place) => {
-                let frame = frame_of(self.ways, self.problem, self.column);
-                let hops = hops_of(alloc, &frame, &self.search, claim, place)?;
-                Ok(Some(hops))
-            }
-        }
+        through_of(alloc, &frame, &self.search, callee, effect)
     }
 }
 

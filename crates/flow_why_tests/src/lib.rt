@@ -2,6 +2,8 @@
 #![tactic(auto)]
 
 #[cfg(test)]
+mod point_tests;
+#[cfg(test)]
 mod walks;
 #[cfg(test)]
 mod witness_tests;

@@ -58,7 +58,8 @@ fn write_hops(text: &mut String, hops: &[Hop]) -> Result<(), OutOfMemory> {
     Ok(())
 }
 
-fn write_found(text: &mut String, found: Option<Vec<Hop>>) -> Result<(), OutOfMemory> {
+/// Hops, or that there are none.
+pub fn write_found(text: &mut String, found: Option<Vec<Hop>>) -> Result<(), OutOfMemory> {
     match found {
         None => text.push_str("none"),
         Some(hops) => write_hops(text, hops.as_slice()),

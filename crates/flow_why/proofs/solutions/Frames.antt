@@ -1,25 +1,26 @@
 -- Frames of searches, and what they find
-use Rattle.std.proofs.Common.{◌≡◌, ◌<◌, ◌≤◌, ◌*◌, length, ℕ, true, false, Option, Some, None, IfSome, List, refl, sym, ◌∙◌, ap, subst}
+use Rattle.std.proofs.Common.{◌≡◌, ◌≤◌, ◌↔◌, ℕ, Bool, true, false, List, refl, sym, subst}
 use Rattle.tac_program.specs.Sound.{IsSound}
-use Rattle.flow_graph.specs.Paths.{SomePathHas}
-use Rattle.flow_graph.specs.Problems.{may_shape}
+use Rattle.flow_graph.specs.Paths.{Shape, Transfer, HasPath, SomePathHas}
 use Rattle.flow_graph.specs.Points.{point_count}
 use Rattle.flow_links.specs.Shapes.{IsNumbered, LinkedProgram, directed_shape}
-use Rattle.gen_kill.specs.Selections.{Selection, column_count, column_transfer}
 use Rattle.summary_equations.specs.Equations.{CallsAt, IsInSolution}
 use Rattle.summary_equations.proofs.paths.Meet.{solution_is_meet}
-use Rattle.flow_why.specs.Directed.{direction_of}
+use Rattle.flow_graph.specs.Problems.{may_shape}
+use Rattle.gen_kill.specs.Selections.{column_transfer}
+use Rattle.flow_why.specs.PointBits.{StatementBit, point_transfer}
 use Rattle.flow_why.specs.Witnesses.{IsWitness}
 use Rattle.flow_why.specs.code.Closed.{IsBegun, IsClosed, IsGround, Nowhere, idle_transfer}
 use Rattle.flow_why.specs.code.Found.{Found, Has, IsThere, marks_of, nothing_found}
-use Rattle.flow_why.specs.code.Frames.{IsFrame, is_asked}
-use Rattle.flow_why.specs.code.Marked.{AreMarks, BaseHas}
+use Rattle.flow_why.specs.code.Frames.{IsAskedOf, IsFrame, is_asked, question_of, transfer_for}
+use Rattle.flow_why.specs.code.Marked.{AreMarks, BaseHas, Question}
 use Rattle.flow_why.specs.code.Moves.{Lead}
 use Rattle.flow_why.specs.code.Trails.{AreHops, IsAskedFrame, base_question}
 use Rattle.flow_why.specs.code.Visits.{IsComplete}
-use Rattle.flow_why.specs.code.Ways.{AreWays, AskedBit, IsAnswered, IsOver, IsSited, KnownWays, bit_question}
+use Rattle.flow_why.specs.code.Ways.{AreWays, AskedBit, IsAnsweredIn, IsOver, IsSited, KnownWays, bit_question, point_question}
 use Rattle.flow_why.specs.declared.claim.Claim.{Claim}
 use Rattle.flow_why.specs.declared.claim.Claim.TheVariants as claim
+use Rattle.flow_why.specs.declared.frame.Asked.TheVariants.{Paths}
 use Rattle.flow_why.specs.declared.frame.Frame.{Frame}
 use Rattle.flow_why.proofs.solutions.Complete.{all_found, based_on, ground_of}
 use Rattle.flow_why.proofs.trails.Collecting.{nothing_based}
@@ -38,12 +39,11 @@ blank_points points claim.Generated = refl
 blank_points points claim.Preserved = refl
 
 -- a frame without a bit
-pub bare_frame : (frame : Frame) → frame.links.now ≡ direction_of frame.problem.now → frame.column ≡ None → IsSited frame.links.now
+pub bare_frame : (frame : Frame) → frame.asked ≡ Paths → IsSited frame.links.now
     → frame.base.now ≡ nothing_found (point_count frame.links.now.program) → IsFrame frame
-bare_frame frame linked none is blank =
+bare_frame frame none is blank =
     let points = point_count frame.links.now.program in record {
-      linked = linked;
-      column = subst (λ (column : Option ℕ). IfSome column (λ c. c < column_count frame.problem.now)) (sym none) tt;
+      asked = subst (IsAskedOf frame.links.now) (sym none) tt;
       few = is.few;
       numbered = is.numbered;
       sites = is.sites;
@@ -91,21 +91,25 @@ module _ (linked : LinkedProgram) (is : IsSited linked) (found : Found) (are : A
   pub ways_of : AreWays (record { linked = linked; found = found })
   ways_of = record { sited = is; marks = are; ground = ground }
 
+-- what was found of where paths lead is right for edges that are the same
+pub ground_in : (ways : KnownWays) (linked : LinkedProgram) (base : Found) → AreWays ways → linked ≡ ways.linked → base ≡ ways.found
+    → IsGround (directed_shape linked) (BaseHas base)
+ground_in ways linked base are links found =
+    subst (λ (l : LinkedProgram). IsGround (directed_shape l) (BaseHas base)) (sym links)
+    (subst (λ f. IsGround (directed_shape ways.linked) (BaseHas f)) (sym found) are.ground)
+
 -- a frame with a bit
-pub asked_frame : (ways : KnownWays) (asked : AskedBit) (frame : Frame) → AreWays ways → IsOver ways asked → frame.links.now ≡ ways.linked
-    → frame.problem.now ≡ asked.form → frame.column ≡ Some asked.column → frame.base.now ≡ ways.found → IsAskedFrame frame
-asked_frame ways asked frame are over links problem column base =
+pub asked_frame : (ways : KnownWays) (frame : Frame) → AreWays ways → frame.links.now ≡ ways.linked → frame.base.now ≡ ways.found
+    → IsAskedOf frame.links.now frame.asked → is_asked frame.asked ≡ true → IsAskedFrame frame
+asked_frame ways frame are links base asked has =
     let sited : IsSited frame.links.now = subst IsSited (sym links) are.sited in
-    let marks : AreMarks (base_question frame.links.now) frame.base.now = subst (λ (l : LinkedProgram). AreMarks (base_question l) frame.base.now)
-    (sym links)
+    let marks : AreMarks (base_question frame.links.now) frame.base.now =
+    subst (λ (l : LinkedProgram). AreMarks (base_question l) frame.base.now) (sym links)
     (subst (AreMarks (base_question ways.linked)) (sym base) are.marks) in
-    let ground : IsGround (directed_shape frame.links.now) (BaseHas frame.base.now) =
-    subst (λ (l : LinkedProgram). IsGround (directed_shape l) (BaseHas frame.base.now)) (sym links)
-    (subst (λ f. IsGround (directed_shape ways.linked) (BaseHas f)) (sym base) are.ground) in record {
+    let ground : IsGround (directed_shape frame.links.now) (BaseHas frame.base.now) = ground_in ways frame.links.now frame.base.now are links base in
+    record {
       formed = record {
-        linked = links ∙ (over.linked ∙ ap direction_of (sym problem));
-        column = subst (λ (some : Option ℕ). IfSome some (λ c. c < column_count frame.problem.now)) (sym column)
-            (subst (λ (form : Selection). asked.column < column_count form) (sym problem) over.column);
+        asked = asked;
         few = sited.few;
         numbered = sited.numbered;
         sites = sited.sites;
@@ -113,37 +117,58 @@ asked_frame ways asked frame are over links problem column base =
         flags = ground.flags;
         reaches = ground.reaches;
       };
-      asked = ap is_asked column;
+      asked = has;
       based = marks;
     }
 
+-- what is said of a question is said of a problem's bit, and of a bit of one's own
+pub of_column : (ways : KnownWays) (asked : AskedBit) (question : Question) → question ≡ bit_question ways asked → IsOver ways asked
+    → (P : Shape → Transfer → ℕ → Type 0) → P question.shape question.transfer question.points
+    → P (may_shape asked.form.program asked.form.analysis) (column_transfer asked.form asked.column) (point_count asked.form.program)
+of_column ways asked question same over P holds =
+    subst (λ (l : LinkedProgram). P (directed_shape l) (column_transfer asked.form asked.column) (point_count l.program)) over.linked
+    (subst (λ (q : Question). P q.shape q.transfer q.points) same holds)
+
+pub of_points : (ways : KnownWays) (bit : StatementBit) (question : Question) → question ≡ point_question ways bit
+    → (P : Shape → Transfer → ℕ → Type 0) → P question.shape question.transfer question.points
+    → P (directed_shape ways.linked) (point_transfer ways.linked.backward bit) (point_count ways.linked.program)
+of_points ways bit question same P holds = subst (λ (q : Question). P q.shape q.transfer q.points) same holds
+
+-- what is found of where paths lead is all
+pub leads_there : (ways : KnownWays) → AreWays ways → (x : ℕ) (has : Bool) → (has ≡ true) ↔ Has ways.found claim.Holds x
+    → (has ≡ true) ↔ HasPath (directed_shape ways.linked) x
+leads_there ways are x has tells =
+    let flag = (solution_is_meet (directed_shape ways.linked) idle_transfer x are.sited.numbered.formed).0 in
+    (λ yes. flag.0 (are.ground.flags x (tells.0 yes)), λ path. tells.1 (are.ground.all_flags x (flag.1 path)))
+
 -- what is found of a bit is all
-module _ (ways : KnownWays) (asked : AskedBit) (found : Found) (are : AreWays ways) (answered : IsAnswered ways asked found) where
-  pub found_all : (x : ℕ) → IsInSolution (directed_shape ways.linked) (column_transfer asked.form asked.column) x → Has found claim.Holds x
+module _ (frame : Frame) (found : Found) (is : IsAnsweredIn frame found) where
+  pub found_all : (x : ℕ) → IsInSolution (question_of frame).shape (transfer_for frame) x → Has found claim.Holds x
   found_all x member =
-      all_found (directed_shape ways.linked) (column_transfer asked.form asked.column) are.sited.numbered.formed (BaseHas ways.found) (Has found)
-      answered.complete.closed answered.complete.begun are.ground x member
+      all_found (question_of frame).shape (transfer_for frame) is.asked.formed.numbered.formed (BaseHas frame.base.now) (Has found)
+      is.complete.closed is.complete.begun is.ground x member
 
--- a point that is not found has no path that has the bit
-pub no_path : (ways : KnownWays) (asked : AskedBit) (found : Found) → AreWays ways → IsAnswered ways asked found → (x : ℕ)
-    → (IsThere found.holds x → ⊥) → SomePathHas (may_shape asked.form.program asked.form.analysis) (column_transfer asked.form asked.column) x → ⊥
-no_path ways asked found are answered x never some =
-    let linked = answered.over.linked in
-    let here = subst (λ (l : LinkedProgram). SomePathHas (directed_shape l) (column_transfer asked.form asked.column) x) (sym linked) some in
-    never (found_all ways asked found are answered x
-    ((solution_is_meet (directed_shape ways.linked) (column_transfer asked.form asked.column) x are.sited.numbered.formed).1.1 here))
+  -- a point that is not found has no path that has the bit
+  pub no_path : (x : ℕ) → (IsThere found.holds x → ⊥) → SomePathHas (question_of frame).shape (transfer_for frame) x → ⊥
+  no_path x never some =
+      never (found_all x ((solution_is_meet (question_of frame).shape (transfer_for frame) x is.asked.formed.numbered.formed).1.1 some))
 
--- hops by which it is found are a witness
-pub witness_here : (ways : KnownWays) (asked : AskedBit) (x : ℕ) (hops : List Hop) → IsOver ways asked
-    → AreHops (bit_question ways asked) claim.Holds x hops
-    → IsWitness (may_shape asked.form.program asked.form.analysis) (column_transfer asked.form asked.column) x hops
-witness_here ways asked x hops over are =
-    subst (λ (l : LinkedProgram). IsWitness (directed_shape l) (column_transfer asked.form asked.column) x hops) over.linked
-    (witness_of (directed_shape ways.linked) (column_transfer asked.form asked.column) are.value x hops are.is.1
-    (subst (λ start. Lead (directed_shape ways.linked)
-    (column_transfer asked.form asked.column) false start are.value hops x true) are.is.0 are.lead))
+  -- one that is found has one
+  pub some_path : (x : ℕ) → IsThere found.holds x → SomePathHas (question_of frame).shape (transfer_for frame) x
+  some_path x there =
+      (solution_is_meet (question_of frame).shape (transfer_for frame) x is.asked.formed.numbered.formed).1.0
+      (has_family (question_of frame) found claim.Holds x is.marks there)
 
-pub short_here : (ways : KnownWays) (asked : AskedBit) (x : ℕ) (hops : List Hop) → IsOver ways asked
-    → AreHops (bit_question ways asked) claim.Holds x hops → length hops ≤ 2 * point_count asked.form.program
-short_here ways asked x hops over are =
-    subst (λ (l : LinkedProgram). length hops ≤ 2 * point_count l.program) over.linked are.count
+  -- hops by which it is found are a witness
+  pub witness_here : (x : ℕ) (hops : List Hop) → AreHops (question_of frame) claim.Holds x hops
+      → IsWitness (question_of frame).shape (transfer_for frame) x hops
+  witness_here x hops are =
+      witness_of (question_of frame).shape (transfer_for frame) are.value x hops are.is.1
+      (subst (λ start. Lead (question_of frame).shape (transfer_for frame) false start are.value hops x true) are.is.0 are.lead)
+
+-- whether a point is found tells whether it has one
+pub tells_path : (frame : Frame) (found : Found) → IsAnsweredIn frame found → (x : ℕ) (has : Bool) → (has ≡ true) ↔ Has found claim.Holds x
+    → (has ≡ true) ↔ SomePathHas (question_of frame).shape (transfer_for frame) x
+tells_path frame found is x has tells =
+    let meet = (solution_is_meet (question_of frame).shape (transfer_for frame) x is.asked.formed.numbered.formed).1 in
+    (λ yes. some_path frame found is x (tells.0 yes), λ some. tells.1 (found_all frame found is x (meet.1 some)))

@@ -3,20 +3,19 @@ use Rattle.std.proofs.Common.{◌≡◌, ◌<◌, ℕ, Bool, true, false, List, 
 use Rattle.flow_graph.specs.declared.edge.Edge.{Edge}
 use Rattle.flow_graph.specs.MatchedPaths.{IsMatchedPath, IsPathFromEntry}
 use Rattle.flow_graph.specs.Paths.{Shape, Transfer, HasPath}
-use Rattle.flow_graph.specs.Problems.{may_shape}
 use Rattle.flow_graph.specs.WellFormed.{IsWellFormed}
-use Rattle.flow_links.specs.Shapes.{LinkedProgram, directed_shape}
-use Rattle.gen_kill.specs.Selections.{column_transfer}
 use Rattle.summary_equations.specs.Equations.{CallsAt, Generated, Preserved, Reached}
 use Rattle.summary_equations.proofs.paths.Meet.{solution_is_meet, summaries_are_paths}
 use Rattle.flow_why.specs.Witnesses.{IsNeverPassed, IsThrough, IsThroughWitness}
 use Rattle.flow_why.specs.code.Found.{Found, Has}
+use Rattle.flow_why.specs.code.Frames.{question_of, transfer_for}
 use Rattle.flow_why.specs.code.Marked.{BaseHas, is_inner}
 use Rattle.flow_why.specs.code.Moves.{Lead, effect_between}
 use Rattle.flow_why.specs.code.Trails.{AreHops, AreInnerHops, claim_effect}
-use Rattle.flow_why.specs.code.Ways.{AreWays, AskedBit, IsAnswered, KnownWays, bit_question}
+use Rattle.flow_why.specs.code.Ways.{IsAnsweredIn}
 use Rattle.flow_why.specs.declared.claim.Claim.{Claim}
 use Rattle.flow_why.specs.declared.claim.Claim.TheVariants as claim
+use Rattle.flow_why.specs.declared.frame.Frame.{Frame}
 use Rattle.flow_why.specs.declared.hop.Effect.TheVariants.{Reaches, Generates, Preserves}
 use Rattle.flow_why.specs.declared.hop.Hop.{Hop}
 use Rattle.flow_why.proofs.solutions.Complete.{all_generated, all_preserved}
@@ -53,78 +52,71 @@ module _ (shape : Shape) (transfer : Transfer) (well : IsWellFormed shape) (p : 
       through_of shape transfer v w p hops
       (subst (λ x. Lead shape transfer true x v hops (shape.exit p) w) (at_entry start q low at (lead.inside refl)) lead)
 
-module _ (ways : KnownWays) (asked : AskedBit) (found : Found) (are : AreWays ways) (answered : IsAnswered ways asked found) (p : ℕ) where
-  -- in the program's own terms
-  in_form : (P : Shape → Type 0) → P (directed_shape ways.linked) → P (may_shape asked.form.program asked.form.analysis)
-  in_form P holds = subst (λ (l : LinkedProgram). P (directed_shape l)) answered.over.linked holds
-
-  based_exit : (c : Claim) (site x : ℕ) → CallsAt (directed_shape ways.linked) site x p → BaseHas ways.found c x
-      → BaseHas ways.found claim.Generated ((directed_shape ways.linked).entry ((directed_shape ways.linked).procedure_of
-      ((directed_shape ways.linked).exit p)))
+module _ (frame : Frame) (found : Found) (is : IsAnsweredIn frame found) (p : ℕ) where
+  based_exit : (c : Claim) (site x : ℕ) → CallsAt (question_of frame).shape site x p → BaseHas frame.base.now c x
+      → BaseHas frame.base.now claim.Generated ((question_of frame).shape.entry ((question_of frame).shape.procedure_of
+      ((question_of frame).shape.exit p)))
   based_exit c site x call here =
-      subst (λ q. BaseHas ways.found claim.Generated ((directed_shape ways.linked).entry q))
-      (sym (are.sited.numbered.formed.exit_inside p call.0)) (are.ground.begins c site x p call here)
+      subst (λ q. BaseHas frame.base.now claim.Generated ((question_of frame).shape.entry q))
+      (sym (is.asked.formed.numbered.formed.exit_inside p call.0)) (is.ground.begins c site x p call here)
 
-  based_point : (x : ℕ) → HasPath (directed_shape ways.linked) x → BaseHas ways.found claim.Holds x
+  based_point : (x : ℕ) → HasPath (question_of frame).shape x → BaseHas frame.base.now claim.Holds x
   based_point x path =
-      are.ground.all_flags x
-      ((solution_is_meet (directed_shape ways.linked) (column_transfer asked.form asked.column) x are.sited.numbered.formed).0.1 path)
+      is.ground.all_flags x
+      ((solution_is_meet (question_of frame).shape (transfer_for frame) x is.asked.formed.numbered.formed).0.1 path)
 
-  pub never_reached : (BaseHas ways.found claim.Generated ((directed_shape ways.linked).exit p) → ⊥)
-      → IsNeverPassed (may_shape asked.form.program asked.form.analysis) (column_transfer asked.form asked.column) p Reaches
-  never_reached never = in_form (λ s. IsNeverPassed s (column_transfer asked.form asked.column) p Reaches) (λ site x path call may through.
-      never (are.ground.all_reached ((directed_shape ways.linked).exit p)
-      (reached_exit (directed_shape ways.linked) (column_transfer asked.form asked.column) are.sited.numbered.formed p call.0 path through)
-      (based_exit claim.Holds site x call (based_point x may))))
+  pub never_reached : (BaseHas frame.base.now claim.Generated ((question_of frame).shape.exit p) → ⊥)
+      → IsNeverPassed (question_of frame).shape (transfer_for frame) p Reaches
+  never_reached never site x path call may through =
+      never (is.ground.all_reached ((question_of frame).shape.exit p)
+      (reached_exit (question_of frame).shape (transfer_for frame) is.asked.formed.numbered.formed p call.0 path through)
+      (based_exit claim.Holds site x call (based_point x may)))
 
-  pub never_generated : (Has found claim.Generated ((directed_shape ways.linked).exit p) → ⊥)
-      → IsNeverPassed (may_shape asked.form.program asked.form.analysis) (column_transfer asked.form asked.column) p Generates
-  never_generated never = in_form (λ s. IsNeverPassed s (column_transfer asked.form asked.column) p Generates) (λ site x path call may through.
-      never (all_generated (directed_shape ways.linked) (column_transfer asked.form asked.column) are.sited.numbered.formed (BaseHas ways.found)
+  pub never_generated : (Has found claim.Generated ((question_of frame).shape.exit p) → ⊥)
+      → IsNeverPassed (question_of frame).shape (transfer_for frame) p Generates
+  never_generated never site x path call may through =
+      never (all_generated (question_of frame).shape (transfer_for frame) is.asked.formed.numbered.formed (BaseHas frame.base.now)
       (Has found)
-      answered.complete.closed answered.complete.begun are.ground ((directed_shape ways.linked).exit p)
-      (generated_exit (directed_shape ways.linked) (column_transfer asked.form asked.column) are.sited.numbered.formed p call.0 path through)
-      (based_exit claim.Holds site x call (based_point x may))))
+      is.complete.closed is.complete.begun is.ground ((question_of frame).shape.exit p)
+      (generated_exit (question_of frame).shape (transfer_for frame) is.asked.formed.numbered.formed p call.0 path through)
+      (based_exit claim.Holds site x call (based_point x may)))
 
-  pub never_preserved : (Has found claim.Preserved ((directed_shape ways.linked).exit p) → ⊥)
-      → IsNeverPassed (may_shape asked.form.program asked.form.analysis) (column_transfer asked.form asked.column) p Preserves
-  never_preserved never = in_form (λ s. IsNeverPassed s (column_transfer asked.form asked.column) p Preserves) (λ site x path call may through.
-      let member = (solution_is_meet (directed_shape ways.linked) (column_transfer asked.form asked.column) x are.sited.numbered.formed).1.1 may in
-      never (all_preserved (directed_shape ways.linked) (column_transfer asked.form asked.column) are.sited.numbered.formed (BaseHas ways.found)
+  pub never_preserved : (Has found claim.Preserved ((question_of frame).shape.exit p) → ⊥)
+      → IsNeverPassed (question_of frame).shape (transfer_for frame) p Preserves
+  never_preserved never site x path call may through =
+      let member = (solution_is_meet (question_of frame).shape (transfer_for frame) x is.asked.formed.numbered.formed).1.1 may in
+      never (all_preserved (question_of frame).shape (transfer_for frame) is.asked.formed.numbered.formed (BaseHas frame.base.now)
       (Has found)
-      answered.complete.closed ((directed_shape ways.linked).exit p)
-      (preserved_exit (directed_shape ways.linked) (column_transfer asked.form asked.column) are.sited.numbered.formed p call.0 path through)
-      (subst (λ q. Has found claim.Preserved ((directed_shape ways.linked).entry q)) (sym (are.sited.numbered.formed.exit_inside p call.0))
-      (answered.complete.closed.begin claim.Holds site x p call (found_all ways asked found are answered x member)))))
+      is.complete.closed ((question_of frame).shape.exit p)
+      (preserved_exit (question_of frame).shape (transfer_for frame) is.asked.formed.numbered.formed p call.0 path through)
+      (subst (λ q. Has found claim.Preserved ((question_of frame).shape.entry q)) (sym (is.asked.formed.numbered.formed.exit_inside p call.0))
+      (is.complete.closed.begin claim.Holds site x p call (found_all frame found is x member))))
 
-  pub never_found : (c : Claim) → is_inner c ≡ true → (Has found c ((directed_shape ways.linked).exit p) → ⊥)
-      → IsNeverPassed (may_shape asked.form.program asked.form.analysis) (column_transfer asked.form asked.column) p (claim_effect c)
+  pub never_found : (c : Claim) → is_inner c ≡ true → (Has found c ((question_of frame).shape.exit p) → ⊥)
+      → IsNeverPassed (question_of frame).shape (transfer_for frame) p (claim_effect c)
   never_found claim.Holds inner never = absurd (cc inner)
   never_found claim.Generated inner never = never_generated never
   never_found claim.Preserved inner never = never_preserved never
 
   -- the hops that are found are through the procedure
-  pub found_passes : (c : Claim) (hops : List Hop) → is_inner c ≡ true → p < (directed_shape ways.linked).procedures
-      → AreHops (bit_question ways asked) c ((directed_shape ways.linked).exit p) hops
-      → IsThroughWitness (may_shape asked.form.program asked.form.analysis) (column_transfer asked.form asked.column) p (claim_effect c) hops
+  pub found_passes : (c : Claim) (hops : List Hop) → is_inner c ≡ true → p < (question_of frame).shape.procedures
+      → AreHops (question_of frame) c ((question_of frame).shape.exit p) hops
+      → IsThroughWitness (question_of frame).shape (transfer_for frame) p (claim_effect c) hops
   found_passes claim.Holds hops inner there hops_are = absurd (cc inner)
   found_passes claim.Generated hops inner there hops_are =
-      in_form (λ s. IsThroughWitness s (column_transfer asked.form asked.column) p Generates hops)
-      (through_start (directed_shape ways.linked) (column_transfer asked.form asked.column) are.sited.numbered.formed p there hops_are.start
+      through_start (question_of frame).shape (transfer_for frame) is.asked.formed.numbered.formed p there hops_are.start
       hops_are.is.1.0 false true hops hops_are.is.1.1 hops_are.is.1.2
-      (subst (λ v. Lead (directed_shape ways.linked) (column_transfer asked.form asked.column) true hops_are.start v hops
-      ((directed_shape ways.linked).exit p) true) hops_are.is.0 hops_are.lead))
+      (subst (λ v. Lead (question_of frame).shape (transfer_for frame) true hops_are.start v hops
+      ((question_of frame).shape.exit p) true) hops_are.is.0 hops_are.lead)
   found_passes claim.Preserved hops inner there hops_are =
-      in_form (λ s. IsThroughWitness s (column_transfer asked.form asked.column) p Preserves hops)
-      (through_start (directed_shape ways.linked) (column_transfer asked.form asked.column) are.sited.numbered.formed p there hops_are.start
+      through_start (question_of frame).shape (transfer_for frame) is.asked.formed.numbered.formed p there hops_are.start
       hops_are.is.1.0 true true hops hops_are.is.1.1 hops_are.is.1.2
-      (subst (λ v. Lead (directed_shape ways.linked) (column_transfer asked.form asked.column) true hops_are.start v hops
-      ((directed_shape ways.linked).exit p) true) hops_are.is.0 hops_are.lead))
+      (subst (λ v. Lead (question_of frame).shape (transfer_for frame) true hops_are.start v hops
+      ((question_of frame).shape.exit p) true) hops_are.is.0 hops_are.lead)
 
-  pub reached_passes : (hops : List Hop) → p < (directed_shape ways.linked).procedures
-      → AreInnerHops (bit_question ways asked) ((directed_shape ways.linked).exit p) hops
-      → IsThroughWitness (may_shape asked.form.program asked.form.analysis) (column_transfer asked.form asked.column) p Reaches hops
+  pub reached_passes : (hops : List Hop) → p < (question_of frame).shape.procedures
+      → AreInnerHops (question_of frame) ((question_of frame).shape.exit p) hops
+      → IsThroughWitness (question_of frame).shape (transfer_for frame) p Reaches hops
   reached_passes hops there hops_are =
-      in_form (λ s. IsThroughWitness s (column_transfer asked.form asked.column) p Reaches hops)
-      (through_start (directed_shape ways.linked) (column_transfer asked.form asked.column) are.sited.numbered.formed p there hops_are.start
-      hops_are.is.0 false false hops hops_are.is.1 hops_are.is.2 hops_are.lead)
+      through_start (question_of frame).shape (transfer_for frame) is.asked.formed.numbered.formed p there hops_are.start
+      hops_are.is.0 false false hops hops_are.is.1 hops_are.is.2 hops_are.lead

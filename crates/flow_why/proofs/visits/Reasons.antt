@@ -1,21 +1,24 @@
 -- Reasons to mark points
-use Rattle.std.proofs.Common.{◌≡◌, ◌<◌, ℕ, Bool, true, false, arith, refl, sym, ◌∙◌, ap, subst, List, Option, Some, None}
+use Rattle.std.proofs.Common.{◌≡◌, ◌<◌, ℕ, Bool, true, false, arith, refl, sym, ◌∙◌, ap, subst, List}
 use Rattle.flow_graph.specs.MatchedPaths.{IsMatchedPath, is_preserved_along}
 use Rattle.flow_graph.specs.declared.edge.Edge.{Edge}
 use Rattle.flow_graph.specs.declared.edge.Edge.TheVariants.{Step, Call, Ret}
 use Rattle.flow_graph.specs.Paths.{Shape, Transfer, IsEdge, root}
 use Rattle.flow_graph.specs.Points.{point_count}
 use Rattle.flow_graph.specs.WellFormed.{IsWellFormed}
-use Rattle.flow_links.specs.Shapes.{LinkedProgram, after_site}
+use Rattle.flow_links.specs.Shapes.{after_site}
+use Rattle.flow_why.specs.PointBits.{step_statement}
 use Rattle.summary_equations.specs.Equations.{CallsAt, ReturnsTo, Preserved, Generated, preserved_at_entry}
 use Rattle.summary_equations.proofs.paths.Sound.{generated_path, preserved_path}
 use Rattle.flow_why.specs.Witnesses.{HasEffect, IsThrough}
 use Rattle.flow_why.specs.code.Found.{Found, Has}
-use Rattle.flow_why.specs.code.Frames.{IsFrame, call_after, call_site, effect_of, is_asked, question_of, step_statement, transfer_for}
+use Rattle.flow_why.specs.code.Frames.{IsFrame, call_after, call_site, effect_of, is_asked, question_of, transfer_for}
 use Rattle.flow_why.specs.code.Marked.{AreMarks, BaseHas, MayMark}
 use Rattle.flow_why.specs.code.Moves.{Crosses, moves_by_step, moves_into_call, moves_past_call, effect_between}
 use Rattle.flow_why.specs.declared.claim.Claim.{Claim}
 use Rattle.flow_why.specs.declared.claim.Claim.TheVariants as claim
+use Rattle.flow_why.specs.declared.frame.Asked.{Asked}
+use Rattle.flow_why.specs.declared.frame.Asked.TheVariants.{Paths, Column, Points}
 use Rattle.flow_why.specs.declared.frame.Frame.{Frame}
 use Rattle.flow_why.specs.declared.hop.Effect.{Effect}
 use Rattle.flow_why.specs.declared.hop.Effect.TheVariants.{Generates}
@@ -29,9 +32,10 @@ crosses_kept : (transfer : Transfer) (x y : ℕ) (v : Bool) → transfer.kill x 
 crosses_kept transfer x y true unkilled = unkilled
 crosses_kept transfer x y false unkilled = tt
 
-effect_is : (column : Option ℕ) → effect_of column ≡ effect_between (is_asked column) (is_asked column)
-effect_is (Some column) = refl
-effect_is None = refl
+effect_is : (asked : Asked) → effect_of asked ≡ effect_between (is_asked asked) (is_asked asked)
+effect_is Paths = refl
+effect_is (Column problem column) = refl
+effect_is (Points graph bit) = refl
 
 module _ (shape : Shape) (transfer : Transfer) (well : IsWellFormed shape) where
   -- a path through a callee that keeps the bit has the effect that is wanted
@@ -92,13 +96,9 @@ module _ (frame : Frame) (is : IsFrame frame) where
   caller_low site x p call = (is.numbered.edge_in_range _ call.1).0
 
   pub statement_low : (x y : ℕ) (b : Bool) → IsEdge (question_of frame).shape (Step x y)
-      → step_statement b x y < point_count frame.problem.now.program
-  statement_low x y b edge =
-      subst (λ (linked : LinkedProgram). step_statement b x y < point_count linked.program) is.linked (either b)
-    where
-      either : (b : Bool) → step_statement b x y < point_count frame.links.now.program
-      either true = target_low x y edge
-      either false = source_low x y edge
+      → step_statement b x y < point_count frame.links.now.program
+  statement_low x y true edge = target_low x y edge
+  statement_low x y false edge = source_low x y edge
 
   pub site_low : (b : Bool) (x : ℕ) → x < point_count frame.links.now.program → call_site b x < 1048576
   site_low true x within = omega (arith, within, is.few)
@@ -114,8 +114,8 @@ module _ (frame : Frame) (is : IsFrame frame) where
       is = (
         x,
         has,
-        moves_by_step x y (is_asked frame.column) (is_asked frame.column) edge (is.numbered.formed.step_inside x y edge)
-            (crosses_kept (transfer_for frame) x y (is_asked frame.column) unkilled),
+        moves_by_step x y (is_asked frame.asked) (is_asked frame.asked) edge (is.numbered.formed.step_inside x y edge)
+            (crosses_kept (transfer_for frame) x y (is_asked frame.asked) unkilled),
       );
     }
 
@@ -140,7 +140,7 @@ module _ (frame : Frame) (is : IsFrame frame) where
       is = (
         x,
         has,
-        moves_into_call (call_site frame.links.now.backward x) x ((question_of frame).shape.entry p) (is_asked frame.column) refl
+        moves_into_call (call_site frame.links.now.backward x) x ((question_of frame).shape.entry p) (is_asked frame.asked) refl
             (call_here site x p call).1,
       );
     }
@@ -148,11 +148,11 @@ module _ (frame : Frame) (is : IsFrame frame) where
     pub may_pass : (c : Claim) (site x p : ℕ) → AreMarks (question_of frame) found → CallsAt (question_of frame).shape site x p → Has found c x
         → Preserved (question_of frame).shape (transfer_for frame).kill ((question_of frame).shape.exit p)
         → MayMark (question_of frame) c found (call_after frame.links.now.backward x)
-        (Own (hop.Pass (call_site frame.links.now.backward x) x p (call_after frame.links.now.backward x) (effect_of frame.column)))
+        (Own (hop.Pass (call_site frame.links.now.backward x) x p (call_after frame.links.now.backward x) (effect_of frame.asked)))
     may_pass c site x p are call has kept =
         let here = call_here site x p call in
         let return = return_here site x p call in
-        let v = is_asked frame.column in
+        let v = is_asked frame.asked in
         let through = kept_through (question_of frame).shape (transfer_for frame) is.numbered.formed p call.0 kept v in record {
           within = (is.numbered.edge_in_range _ return).1;
           sound = pass_holds (question_of frame).shape (transfer_for frame) is.numbered.formed c (call_site frame.links.now.backward x) x p
@@ -162,11 +162,11 @@ module _ (frame : Frame) (is : IsFrame frame) where
             x,
             has,
             moves_past_call (call_site frame.links.now.backward x) x p (call_after frame.links.now.backward x) v v
-                (effect_of frame.column) here return
-                (is.numbered.formed.site_inside _ x _ _ _ here.1 return) (λ had. had) (effect_is frame.column) (
+                (effect_of frame.asked) here return
+                (is.numbered.formed.site_inside _ x _ _ _ here.1 return) (λ had. had) (effect_is frame.asked) (
                   through.0,
                   subst (λ e. IsThrough (question_of frame).shape (transfer_for frame) p e through.0) (sym
-                      (effect_is frame.column)) through.1,
+                      (effect_is frame.asked)) through.1,
                 ),
           );
         }
@@ -217,7 +217,7 @@ module _ (frame : Frame) (is : IsFrame frame) where
     pub may_pass_as : (c : Claim) (site x p s to : ℕ) (effect : Effect) → AreMarks (question_of frame) found → CallsAt
         (question_of frame).shape site x p
         → Has found c x → Preserved (question_of frame).shape (transfer_for frame).kill ((question_of frame).shape.exit p)
-        → s ≡ call_site frame.links.now.backward x → to ≡ call_after frame.links.now.backward x → effect ≡ effect_of frame.column
+        → s ≡ call_site frame.links.now.backward x → to ≡ call_after frame.links.now.backward x → effect ≡ effect_of frame.asked
         → MayMark (question_of frame) c found to (Own (hop.Pass s x p to effect))
     may_pass_as c site x p s to effect are call has kept s_is to_is effect_same =
         subst (λ n. MayMark (question_of frame) c found n (Own (hop.Pass s x p n effect))) (sym to_is)

@@ -43,7 +43,7 @@ base_question linked = record {
 -- a frame with a bit, over what was found of where paths lead
 pub record IsAskedFrame (frame : Frame) : Type 0 where
   pub formed : IsFrame frame
-  pub asked : is_asked frame.column ≡ true
+  pub asked : is_asked frame.asked ≡ true
   pub based : AreMarks (base_question frame.links.now) frame.base.now
 
 -- a list of marks that is followed: of which search it is, and which claim

@@ -1,17 +1,20 @@
 -- What ways are, and what a search for a bit stands on.
 use Rattle.std.specs.Prelude.{◌≡◌, ◌<◌, ◌≤◌, ℕ, true}
 use Rattle.flow_graph.specs.declared.edge.Edge.TheVariants.{Call}
-use Rattle.flow_graph.specs.Paths.{IsEdge}
+use Rattle.flow_graph.specs.Paths.{Transfer, IsEdge}
 use Rattle.flow_graph.specs.Points.{point_count}
 use Rattle.flow_links.specs.Shapes.{IsNumbered, LinkedProgram, directed_shape}
+use Rattle.tac_program.specs.Programs.{Program}
 use Rattle.gen_kill.specs.Selections.{Selection, column_count, column_transfer}
 use Rattle.flow_why.specs.Directed.{direction_of}
+use Rattle.flow_why.specs.PointBits.{StatementBit, point_transfer}
 use Rattle.flow_why.specs.code.Closed.{IsGround}
 use Rattle.flow_why.specs.code.Found.{Found, nothing_found}
-use Rattle.flow_why.specs.code.Frames.{call_site}
+use Rattle.flow_why.specs.code.Frames.{call_site, question_of}
 use Rattle.flow_why.specs.code.Marked.{AreMarks, BaseHas, Question}
-use Rattle.flow_why.specs.code.Trails.{base_question}
+use Rattle.flow_why.specs.code.Trails.{IsAskedFrame, base_question}
 use Rattle.flow_why.specs.code.Visits.{IsComplete}
+use Rattle.flow_why.specs.declared.frame.Frame.{Frame}
 
 -- a program in a direction, and what was found of where its paths lead
 pub record KnownWays : Type 0 where
@@ -39,16 +42,24 @@ pub record AskedBit : Type 0 where
   pub form : Selection
   pub column : ℕ
 
--- the question of a bit, over ways
-abbrev pub bit_question : KnownWays → AskedBit → Question
-bit_question ways asked = record {
+-- the question of a transfer, over ways
+abbrev pub ways_question : KnownWays → Transfer → Question
+ways_question ways transfer = record {
   shape = directed_shape ways.linked;
   backward = ways.linked.backward;
   points = point_count ways.linked.program;
-  transfer = column_transfer asked.form asked.column;
+  transfer = transfer;
   value = true;
   base = ways.found;
 }
+
+-- the question of a bit
+abbrev pub bit_question : KnownWays → AskedBit → Question
+bit_question ways asked = ways_question ways (column_transfer asked.form asked.column)
+
+-- the question of a bit of one's own
+abbrev pub point_question : KnownWays → StatementBit → Question
+point_question ways bit = ways_question ways (point_transfer ways.linked.backward bit)
 
 -- a bit that is there, of a problem in the direction of the ways
 pub record IsOver (ways : KnownWays) (asked : AskedBit) : Type 0 where
@@ -60,3 +71,16 @@ pub record IsAnswered (ways : KnownWays) (asked : AskedBit) (found : Found) : Ty
   pub over : IsOver ways asked
   pub marks : AreMarks (bit_question ways asked) found
   pub complete : IsComplete (bit_question ways asked) found
+
+-- all is found of a bit of one's own, of a graph of the ways' program
+pub record IsPointAnswered (ways : KnownWays) (program : Program) (bit : StatementBit) (found : Found) : Type 0 where
+  pub of : program ≡ ways.linked.program
+  pub marks : AreMarks (point_question ways bit) found
+  pub complete : IsComplete (point_question ways bit) found
+
+-- all is found of what a frame asks
+pub record IsAnsweredIn (frame : Frame) (found : Found) : Type 0 where
+  pub asked : IsAskedFrame frame
+  pub ground : IsGround (directed_shape frame.links.now) (BaseHas frame.base.now)
+  pub marks : AreMarks (question_of frame) found
+  pub complete : IsComplete (question_of frame) found

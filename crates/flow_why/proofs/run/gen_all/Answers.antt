@@ -1,35 +1,21 @@
-use Rattle.std.proofs.Common.{◌<◌, ℕ, arith, below_more}
-use Rattle.flow_graph.specs.declared.edge.Edge.TheVariants.{Step}
-use Rattle.flow_graph.specs.Paths.{IsEdge}
-use Rattle.flow_links.specs.Shapes.{directed_shape}
-use Rattle.flow_why.specs.code.Frames.{question_of}
-use Rattle.flow_why.specs.code.Visits.{IsGenVisited}
-use Rattle.flow_why.proofs.visits.Growing.{spreads_not, spreads_on}
-use Rattle.flow_why.proofs.visits.Reasons.{source_low}
-use Rattle.flow_why.proofs.visits.Visiting.{gen_visited_on}
+use Rattle.std.proofs.Common.{◌≡◌, ◌<◌, ap, subst, sym}
+use Rattle.flow_why.specs.code.Frames.{IsAskedOf, transfer_of_asked}
+use Rattle.flow_why.proofs.visits.Statements.{paths_visited}
 use Rattle.flow_why.proofs.run.gen_all.Goals as goal
 
-pub loop-at-init : goal.loop-at-init
-loop-at-init c = record {
-  spreads = spreads_not (question_of c.args.frame.now) c.args.search.now c.requires.marks;
-  done = λ x below. absurd (omega (arith, below));
-}
+pub returns-in-Paths-clause-visited : goal.returns-in-Paths-clause-visited
+returns-in-Paths-clause-visited c = paths_visited c.args.frame.now c.requires.frame c.args.search.now c.in-Paths.is
 
-pub loop-at-preserved : goal.loop-at-preserved
-loop-at-preserved c =
+pub gen_points-requires-clause-column : goal.gen_points-requires-clause-column
+gen_points-requires-clause-column c =
     let frame = c.args.frame.now in
-    let question = question_of frame in
-    let more = c.in_ok-gen_steps.ensures in record {
-      spreads = spreads_on question c.args.search.now c.loop-at.search c.gen_steps.new.search c.loop-at.invariant.spreads more.spreads;
-      done = below_more (λ x. (y : ℕ) → IsEdge (directed_shape frame.links.now) (Step x y) → IsGenVisited question x y c.gen_steps.new.search)
-          c.loop-at.at
-          (λ x below y there. gen_visited_on question x y c.loop-at.search c.gen_steps.new.search more.spreads.grows
-          (c.loop-at.invariant.done x below y there))
-          more.visited;
-    }
+    let asked = subst (IsAskedOf frame.links.now) c.in-Column.is c.requires.frame.asked in
+    record { linked = asked.0; within = asked.1; transfer = ap (transfer_of_asked frame.links.now.backward) c.in-Column.is }
 
-pub returns-clause-visited : goal.returns-clause-visited
-returns-clause-visited c x y there =
-    let low = source_low c.args.frame.now c.requires.frame x y there in
-    let below : x < c.loop-at.at = omega (arith, low, c.loop-at-test.false, c.points-at-end.ensures.count) in
-    c.loop-at.invariant.done x below y there
+pub gen_statements-requires-clause-points : goal.gen_statements-requires-clause-points
+gen_statements-requires-clause-points c =
+    let frame = c.args.frame.now in
+    record {
+      of = subst (IsAskedOf frame.links.now) c.in-Points.is c.requires.frame.asked;
+      transfer = ap (transfer_of_asked frame.links.now.backward) c.in-Points.is;
+    }

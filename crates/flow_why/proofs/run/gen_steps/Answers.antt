@@ -21,6 +21,7 @@ gen_step-requires c =
     let list = c.steps_from-steps.result.now in
     let k = c.loop-to.to-index in record {
       frame = c.requires.frame;
+      column = c.requires.column;
       marks = c.loop-to.invariant.spreads.marks;
       there = (c.steps_from-steps.ensures.listed (get_or list k 0)).0 (Contains-get_or list k 0 c.loop-to-test.true);
     }

@@ -6,6 +6,6 @@ use Rattle.flow_why.proofs.ways.bare_frame.Goals as goal
 
 pub returns-clause-frame : goal.returns-clause-frame
 returns-clause-frame c =
-    bare_frame _ c.requires.linked refl
+    bare_frame _ refl
     (sited c.args.links.now (subst (λ (linked : LinkedProgram). IsSound linked.program) (sym c.requires.linked) c.procedures.ensures.sound)
     c.points.ensures.few c.points.ensures.numbered) c.requires.bare

@@ -5,7 +5,7 @@ use Rattle.flow_links.specs.Shapes.{directed_shape}
 use Rattle.flow_why.specs.code.Frames.{question_of}
 use Rattle.flow_why.specs.code.Marked.{Spreads}
 use Rattle.flow_why.specs.code.Visits.{IsGenVisited}
-use Rattle.flow_why.proofs.run.gen_all.Given as goal
+use Rattle.flow_why.proofs.run.gen_points.Given as goal
 
 abbrev pub invariant-loop-at : goal.invariant-loop-at
 invariant-loop-at l = record {
