@@ -28,8 +28,8 @@ Plant = tuple[str, Callable[[str], None], str]
 WIDTH = 140
 # How long a document may be; all others below docs/ may have OTHER_SIZE lines.
 SIZES = {
-    "docs/ARCHITECTURE.md": 200,
-    "docs/TRUST.md": 215,
+    "docs/ARCHITECTURE.md": 205,
+    "docs/TRUST.md": 225,
     "docs/PROVING.md": 350,
     "docs/GLOSSARY.md": 80,
     "README.md": 180,

@@ -1,0 +1,32 @@
+use Rattle.std.proofs.Common.{◌≡◌, ◌<◌, ◌≤◌, ◌+◌, ◌↔◌, true, IfOk, List, Bool, suc, length, arith, refl, sym, subst, ◌∙◌, ap}
+use Rattle.std.proofs.lemmas.Result.{IfOk-weaker}
+use Rattle.tac_program.specs.Programs.{Program}
+use Rattle.flow_graph.specs.Points.{point_count}
+use Rattle.flow_links.specs.Shapes.{LinkedProgram}
+use Rattle.gen_kill.specs.Selections.{Selection, column_count}
+use Rattle.flow_reasons.specs.Lists.{AreAll}
+use Rattle.flow_graph.specs.Transfers.{gens}
+use Rattle.flow_graph.specs.Universes.{expressions}
+use Rattle.flow_graph.specs.declared.analysis.Analysis.TheVariants.{Busy}
+use Rattle.flow_reasons.specs.Meetings.{IsNextEvaluation, decides}
+use Rattle.flow_reasons.specs.code.Marks.{AreMarks, IsMet}
+use Rattle.flow_reasons.proofs.lists.Rising.{all_as}
+use Rattle.flow_reasons.proofs.meetings.Problems.{decision_marks, busy_marks, next_evaluation}
+use Rattle.flow_reasons.proofs.reasons.Reasons.next_evaluations.Goals as goal
+
+pub returns : goal.returns
+returns c =
+    let here = c.self.inside in
+    let program = here.graph.now in
+    let e = c.args.expression in
+    let wanted = subst (AreMarks (point_count program) (λ x. gens program Busy x e)) (sym c.as_slice-2.ensures.value)
+    (busy_marks program here.busy e c.in_ok-evaluates.evaluates.items c.self.invariant.busy_is c.in_ok-evaluates.ensures) in
+    let stops = subst (AreMarks (point_count program) (decides program e)) (sym c.as_slice.ensures.value)
+    (decision_marks program here.busy e c.in_ok-decides.decides.items c.self.invariant.busy_is c.in_ok-decides.ensures) in
+    subst (λ (p : Program). IfOk c.met_points.result (λ list. AreAll (IsNextEvaluation p e c.args.point) list.items)) c.self.view_is
+    (IfOk-weaker c.met_points.result _ _
+    (λ list are. all_as (IsMet here.backward.linked c.as_slice-2.result.now c.as_slice.result.now c.args.point)
+    (IsNextEvaluation program e c.args.point) list.items
+    (λ q. next_evaluation program c.self.invariant.sound here.backward.linked c.args.point q e c.as_slice-2.result.now c.as_slice.result.now
+    c.self.invariant.backward_is wanted stops) are)
+    c.met_points.ensures)

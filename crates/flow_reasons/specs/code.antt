@@ -1,0 +1,3 @@
+-- How the code's own tables stand for what statements do.
+pub mod Marks
+pub mod Problems

@@ -1,0 +1,115 @@
+// Which of some marked statements are met before any that stops the way.
+ghost use Rattle.std.specs.Prelude.{◌≡◌, ◌<◌, ◌↔◌, ◌∷◌, ◌++◌, [], true, IfOk, OnOk, length, if◌then◌else◌};
+ghost use Rattle.flow_graph.specs.Paths.{SomePathHas};
+ghost use Rattle.flow_graph.specs.Points.{point_count};
+ghost use Rattle.flow_links.specs.Shapes.{directed_shape};
+ghost use Rattle.flow_why.specs.PointBits.{point_transfer};
+ghost use Rattle.flow_reasons.specs.Lists.{AreAll};
+ghost use Rattle.flow_reasons.specs.code.Marks.{IsMet, Meets};
+
+use crate::OutOfMemory;
+use flow_graph::Graph;
+use flow_why::{PointBit, PointWhy, Ways};
+use std::alloc::Global;
+
+/// Whether some valid path to a point has a bit.
+pub(crate) fn path_has(
+    alloc: Global,
+    ways: &Ways,
+    graph: &Graph<'_>,
+    bit: &PointBit<'_>,
+    at: u32,
+) -> Result<bool, OutOfMemory>
+    requires graph { graph.now ≡ ways.now.linked.program }
+    requires at { at < point_count ways.now.linked.program }
+    ensures { IfOk result (λ has. (has ≡ true)
+        ↔ SomePathHas (directed_shape ways.now.linked) (point_transfer ways.now.linked.backward bit.now) at) }
+{
+    let why = PointWhy::of(alloc, ways, graph, bit)?;
+    Ok(why.has(at))
+}
+
+// Whether a statement is met.
+fn meets(
+    alloc: Global,
+    ways: &Ways,
+    graph: &Graph<'_>,
+    stops: &[bool],
+    at: u32,
+    point: u32,
+) -> Result<bool, OutOfMemory>
+    requires graph { graph.now ≡ ways.now.linked.program }
+    requires at { at < point_count ways.now.linked.program }
+    ensures { IfOk result (λ has. (has ≡ true) ↔ Meets ways.now.linked stops.now at point) }
+{
+    let gens = [point];
+    let bit = PointBit::new(&gens, stops, false);
+    path_has(alloc, ways, graph, &bit, at)
+}
+
+/// Puts a number last where it is one of those that are wanted.
+pub(crate) fn put_if(numbers: &mut Vec<u32>, number: u32, wanted: bool) -> Result<(), OutOfMemory>
+    ensures { OnOk result (numbers.new.items ≡ (if wanted then numbers.old.items ++ number ∷ [] else numbers.old.items)) }
+{
+    if wanted {
+        numbers.push(number)?;
+    }
+    Ok(())
+}
+
+/// Where a search for what is met ends, and which statements it stops at.
+#[derive(Drop)]
+pub(crate) struct Search<'a, 'p> {
+    /// The ways that it goes.
+    pub ways: &'a Ways,
+    /// Their program's graph.
+    pub graph: &'a Graph<'p>,
+    /// By point, which statements stop a way.
+    pub stops: &'a [bool],
+    /// The point to which the ways lead.
+    pub at: u32,
+}
+
+// Whether a statement is marked and met.
+fn is_met(
+    alloc: Global,
+    search: &Search<'_, '_>,
+    wanted: &[bool],
+    point: u32,
+) -> Result<bool, OutOfMemory>
+    requires graph { search.now.graph.now ≡ search.now.ways.now.linked.program }
+    requires at { search.now.at < point_count search.now.ways.now.linked.program }
+    requires below { point < length wanted.now }
+    ensures { IfOk result (λ has. (has ≡ true) ↔ IsMet search.now.ways.now.linked wanted.now search.now.stops.now search.now.at point) }
+{
+    if !wanted[point as usize] {
+        return Ok(false);
+    }
+    meets(
+        alloc,
+        search.ways,
+        search.graph,
+        search.stops,
+        search.at,
+        point,
+    )
+}
+
+/// Those of some marked statements that are met.
+pub(crate) fn met_points(
+    alloc: Global,
+    search: &Search<'_, '_>,
+    wanted: &[bool],
+) -> Result<Vec<u32>, OutOfMemory>
+    requires graph { search.now.graph.now ≡ search.now.ways.now.linked.program }
+    requires at { search.now.at < point_count search.now.ways.now.linked.program }
+    requires wanted { length wanted.now ≡ point_count search.now.ways.now.linked.program }
+    ensures { IfOk result (λ list. AreAll (IsMet search.now.ways.now.linked wanted.now search.now.stops.now search.now.at) list.items) }
+{
+    let mut list = Vec::new(alloc);
+    for point in 0..search.graph.points() {
+        let has = is_met(alloc, search, wanted, point)?;
+        put_if(&mut list, point, has)?;
+    }
+    Ok(list)
+}

@@ -1,0 +1,51 @@
+use crate::questions::{Question, Row, check_rows};
+use std::test::Fail;
+use test_support::worked_programs::{both_branches, call_between, no_end, recursion, two_callees};
+
+/// An assignment that is overwritten on one branch, and whose variable is not written again on the other. The points are the lines of
+/// `main` from 0 on.
+const BRANCHES: &str =
+    "proc main\nx = 1\nread c\nif c goto L\nx = 2\nprint x\nreturn\nL: skip\nx = 3\nx = 4\nend\n";
+
+/// A loop, in which an assignment comes round to itself.
+const ROUND: &str = "proc main\nL: x = 1\nread c\nif c goto L\nend\n";
+
+/// An expression that is computed on both branches, and once more behind them; one evaluation writes an operand.
+const TWICE: &str =
+    "proc main\nif c goto L\nx = a + b\ngoto M\nL: y = a + b\nM: z = a + b\na = a + b\nz = a + b\nend\n";
+
+/// An endless loop on one side.
+const ENDLESS: &str = "proc main\nx = 1\nif c goto L\nx = 2\nreturn\nL: x = 3\nM: goto M\nend\n";
+
+/// By hand: variables and expressions are numbered as they come first in the text.
+const ROWS: &[Row] = &[
+    (BRANCHES, Question::NextWrites(0, 0), "3;7;"),
+    (BRANCHES, Question::NextWrites(0, 3), "end"),
+    (BRANCHES, Question::NextWrites(0, 7), "8;"),
+    (BRANCHES, Question::NextWrites(0, 8), "end"),
+    (ROUND, Question::NextWrites(0, 0), "0;end"),
+    (TWICE, Question::LastEvaluations(0, 0), ""),
+    (TWICE, Question::LastEvaluations(0, 4), "1;3;"),
+    (TWICE, Question::LastEvaluations(0, 5), "4;"),
+    (TWICE, Question::LastEvaluations(0, 6), ""),
+    (TWICE, Question::NextEvaluations(0, 0), "1;3;"),
+    (TWICE, Question::NextEvaluations(0, 5), "5;"),
+    (TWICE, Question::NextEvaluations(0, 6), "6;"),
+    (TWICE, Question::NextEvaluations(0, 7), ""),
+    // The way into the endless loop does not count: it never comes to the end.
+    (ENDLESS, Question::NextWrites(0, 0), "2;"),
+    // Through a call that calls itself, and through either of two.
+    (recursion::TEXT, Question::NextWrites(0, 0), "6;end"),
+    (recursion::TEXT, Question::NextWrites(0, 6), "6;end"),
+    (two_callees::TEXT, Question::NextWrites(0, 0), "4;end"),
+    (call_between::TEXT, Question::LastEvaluations(0, 2), "0;"),
+    (call_between::TEXT, Question::NextEvaluations(0, 1), "2;"),
+    (both_branches::TEXT, Question::NextEvaluations(0, 0), ""),
+    (both_branches::TEXT, Question::NextEvaluations(0, 2), "3;6;"),
+    (no_end::TEXT, Question::NextWrites(0, 0), "end"),
+];
+
+#[test]
+fn reasons_by_hand(rt: HostRuntime) -> Result<(), Fail> {
+    check_rows(&rt, ROWS)
+}
