@@ -1,7 +1,8 @@
 // What is asked of a text's program, and the answers as text.
 
-ghost use Rattle.std.specs.Prelude.{◌≡◌, ◌<◌, ◌+◌};
+ghost use Rattle.std.specs.Prelude.{◌≡◌, ◌<◌, length};
 ghost use Rattle.flow_graph.specs.Points.{point_count};
+ghost use Rattle.flow_graph.specs.Universes.{expressions};
 
 use flow_graph::{Analysis, Graph, OutOfMemory};
 use flow_reasons::Reasons;
@@ -59,25 +60,52 @@ fn write_next_writes(
     Ok(())
 }
 
+fn write_last(
+    text: &mut String,
+    alloc: Global,
+    reasons: &Reasons<'_, '_>,
+    expression: u32,
+    point: u32,
+) -> Result<(), OutOfMemory>
+    requires expression { expression < length (expressions reasons.now) }
+    requires point { point < point_count reasons.now }
+{
+    let points = reasons.last_evaluations(alloc, expression, point)?;
+    write_numbers(text, points.as_slice())
+}
+
+fn write_next(
+    text: &mut String,
+    alloc: Global,
+    reasons: &Reasons<'_, '_>,
+    expression: u32,
+    point: u32,
+) -> Result<(), OutOfMemory>
+    requires expression { expression < length (expressions reasons.now) }
+    requires point { point < point_count reasons.now }
+{
+    let points = reasons.next_evaluations(alloc, expression, point)?;
+    write_numbers(text, points.as_slice())
+}
+
 fn write_evaluations(
     text: &mut String,
     alloc: Global,
     graph: &Graph<'_>,
     reasons: &Reasons<'_, '_>,
-    expression: u32,
-    point: u32,
+    at: (u32, u32),
     which: Which,
 ) -> Result<(), OutOfMemory>
     requires { reasons.now ≡ graph.now }
 {
+    let (expression, point) = at;
     if expression >= graph.bits(Analysis::Avail) || point >= graph.points() {
         return text.push_str("not there");
     }
-    let numbers = match which {
-        Which::Last => reasons.last_evaluations(alloc, expression, point)?,
-        Which::Next => reasons.next_evaluations(alloc, expression, point)?,
-    };
-    write_numbers(text, numbers.as_slice())
+    match which {
+        Which::Last => write_last(text, alloc, reasons, expression, point),
+        Which::Next => write_next(text, alloc, reasons, expression, point),
+    }
 }
 
 fn write_answer(
@@ -92,10 +120,24 @@ fn write_answer(
             write_next_writes(text, alloc, graph, &reasons, variable, point)
         },
         Question::LastEvaluations(expression, point) => {
-            write_evaluations(text, alloc, graph, &reasons, expression, point, Which::Last)
+            write_evaluations(
+                text,
+                alloc,
+                graph,
+                &reasons,
+                (expression, point),
+                Which::Last,
+            )
         },
         Question::NextEvaluations(expression, point) => {
-            write_evaluations(text, alloc, graph, &reasons, expression, point, Which::Next)
+            write_evaluations(
+                text,
+                alloc,
+                graph,
+                &reasons,
+                (expression, point),
+                Which::Next,
+            )
         },
     }
 }

@@ -1,7 +1,6 @@
 // Bits of one's own, by hand.
 
 ghost use Rattle.std.specs.Prelude.{◌≡◌};
-ghost use Rattle.flow_why.specs.Directed.{direction_of};
 
 use crate::witnesses::write_found;
 use flow_graph::{Analysis, Graph, OutOfMemory};
