@@ -30,7 +30,7 @@ WIDTH = 140
 SIZES = {
     "docs/ARCHITECTURE.md": 205,
     "docs/TRUST.md": 225,
-    "docs/PROVING.md": 350,
+    "docs/PROVING.md": 375,
     "docs/GLOSSARY.md": 80,
     "README.md": 180,
 }
