@@ -1,3 +1,4 @@
 pub mod Listed
 pub mod Reports
+pub mod Uses
 pub mod code

@@ -14,6 +14,7 @@ mod report_answers;
 mod report_queries;
 mod report_rounds;
 mod reports;
+mod unset;
 
 pub use findings::Findings;
 pub use listed::{PlacedRemark, remarks_here};
@@ -24,3 +25,4 @@ pub use report_answers::ReportAnswers;
 pub use report_rounds::{FirstRound, LaterRounds};
 pub use reports::{ReportText, report_here};
 pub use std::alloc::AllocError as OutOfMemory;
+pub use unset::UnsetUse;
