@@ -94,6 +94,12 @@ remark_object program point remark =
     codes "{\"type\":\"remark\",\"point\":" ++ decimal point ++ span_fields program point
     ++ codes ",\"kind\":" ++ remark_fields program remark ++ codes "}\n"
 
+-- it but for its end
+abbrev pub remark_head : Program → ℕ → Remark → List ℕ
+remark_head program point remark =
+    codes "{\"type\":\"remark\",\"point\":" ++ decimal point ++ span_fields program point
+    ++ codes ",\"kind\":" ++ remark_fields program remark
+
 abbrev pub remark_lines : Program → Knowledge → ℕ → List ℕ
 remark_lines program known point = flat_map (remark_object program point) (remarks_at program known point)
 
@@ -101,6 +107,12 @@ abbrev pub json_of : Program → Knowledge → View → List ℕ
 json_of program known view =
     program_line program ++ flat_map (point_line program known view.facts) (shown_points program view)
     ++ flat_map (remark_lines program known) (shown_points program view)
+
+-- the same lines with the remarks in a form of their own
+abbrev pub json_with : (Program → ℕ → Remark → List ℕ) → Program → Knowledge → View → List ℕ
+json_with object program known view =
+    program_line program ++ flat_map (point_line program known view.facts) (shown_points program view)
+    ++ flat_map (λ point. flat_map (object program point) (remarks_at program known point)) (shown_points program view)
 
 -- The text tells the meets over all valid paths.
 pub record IsJson (program : Program) (view : View) (text : List ℕ) : Type 0 where

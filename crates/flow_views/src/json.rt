@@ -12,8 +12,9 @@ ghost use Rattle.tac_listing.specs.Listings.{statement_text};
 ghost use Rattle.flow_views.specs.ViewTables.{AreViewTables};
 ghost use Rattle.flow_views.specs.code.ViewProgram.{AreShown, IsShownPoint, TellSame, known_of};
 ghost use Rattle.flow_views.specs.declared.names.NameForm.TheVariants.{Quoted};
-ghost use Rattle.flow_views.specs.Json.{IsJson, array, boolean, edge_object, facts_field, json_of, point_line, program_line, remark_fields};
-ghost use Rattle.flow_views.specs.Json.{remark_lines, remark_object, span_fields, statement_field};
+ghost use Rattle.flow_views.specs.Json.{IsJson, array, boolean, edge_object, facts_field, json_with, point_line, program_line, remark_fields};
+ghost use Rattle.flow_views.specs.Json.{remark_head, remark_object, span_fields, statement_field};
+ghost use Rattle.flow_reports.specs.Reports.{remarks_at};
 ghost use Rattle.text_pieces.specs.Strings.{quoted};
 ghost use Rattle.flow_views.specs.Views.{analysis_if, chosen_analyses, names_at, procedure_name, known_facts, is_chosen};
 
@@ -93,6 +94,28 @@ fn write_place<K: Sink>(out: &mut Pieces<'_, K>, graph: &Graph<'_>, point: u32)
     }
 }
 
+/// Writes a remark as an object but for its end, a brace and a line feed, before which fields may stand.
+///
+/// The conditions: what was found is of one program, and it has the point and what the remark names.
+pub fn write_remark_head<K: Sink>(
+    out: &mut Pieces<'_, K>,
+    found: &Findings<'_>,
+    point: u32,
+    remark: Remark,
+)
+    requires ready { CanWrite K.Sink out.old }
+    requires found { AreFindings found.now }
+    requires point { point < point_count found.now.graph.now }
+    requires remark { IsRemarkIn found.now.graph.now remark }
+    ensures { Writes K.Sink out.old out.new (remark_head found.now.graph.now point remark) }
+{
+    out.write(b"{\"type\":\"remark\",\"point\":");
+    write_number(out, point);
+    write_place(out, found.graph, point);
+    out.write(b",\"kind\":");
+    write_kind(out, found, remark);
+}
+
 // A remark as an object.
 #[derive(Clone, Copy)]
 struct JsonLine;
@@ -107,11 +130,7 @@ impl RemarkForm for JsonLine {
         point: u32,
         remark: Remark,
     ) {
-        out.write(b"{\"type\":\"remark\",\"point\":");
-        write_number(out, point);
-        write_place(out, found.graph, point);
-        out.write(b",\"kind\":");
-        write_kind(out, found, remark);
+        write_remark_head(out, found, point, remark);
         out.write(b"}\n");
     }
 }
@@ -350,16 +369,18 @@ impl ViewProgram<'_> {
         write_number(out, place.place);
     }
 
-    // Writes the whole text.
-    fn write_json<K: Sink>(&self, out: &mut Pieces<'_, K>)
+    /// Writes the lines of JSON, the remarks in a form of their own.
+    ///
+    /// The conditions: it is one program that is shown, and the names of its bits are quoted.
+    pub fn write_json<F: RemarkForm, K: Sink>(&self, form: &F, out: &mut Pieces<'_, K>)
         requires ready { CanWrite K.Sink out.old }
         requires shown { AreShown self.now }
         requires form { self.now.names.form ≡ Quoted }
-        ensures { Writes K.Sink out.old out.new (json_of self.now.found.graph.now (known_of self.now) self.now.view) }
+        ensures { Writes K.Sink out.old out.new (json_with (F.text form.now) self.now.found.graph.now (known_of self.now) self.now.view) }
     {
         self.write_program(out);
         self.write_all_points(&JsonPoints, out);
-        self.write_all_points(&JsonRemarks, out);
+        self.write_all_points(&JsonRemarks { form }, out);
     }
 }
 
@@ -387,17 +408,20 @@ impl PointForm for JsonPoints {
     }
 }
 
-// The lines of the remarks on a point.
+// The remarks on a point, each in a form.
 #[derive(Clone, Copy)]
-struct JsonRemarks;
+struct JsonRemarks<'f, F> {
+    form: &'f F,
+}
 
-impl PointForm for JsonRemarks {
+impl<F: RemarkForm> PointForm for JsonRemarks<'_, F> {
     ghost name_form = { λ _. Quoted };
 
-    ghost text = { λ _ shown point. remark_lines shown.found.graph.now (known_of shown) point };
+    ghost text = { λ remarks shown point.
+        flat_map (F.text remarks.form.now shown.found.graph.now point) (remarks_at shown.found.graph.now (known_of shown) point) };
 
     fn write_point<K: Sink>(&self, out: &mut Pieces<'_, K>, shown: &ViewProgram<'_>, point: u32) {
-        shown.write_remarks_at(&JsonLine, out, point);
+        shown.write_remarks_at(self.form, out, point);
     }
 }
 
@@ -464,6 +488,6 @@ impl<'a> Text for JsonText<'a> {
     ghost bytes = { λ text. text };
 
     fn write<K: Sink>(&self, out: &mut Pieces<'_, K>) {
-        self.shown.write_json(out);
+        self.shown.write_json(&JsonLine, out);
     }
 }

@@ -10,7 +10,9 @@ mod view_program;
 mod view_tables;
 
 pub use dots::DotText;
-pub use json::JsonText;
+pub use json::{JsonText, write_remark_head};
+pub use names::NameForm;
 pub use std::alloc::AllocError as OutOfMemory;
 pub use view::{Chosen, View, analysis_name};
+pub use view_program::ViewProgram;
 pub use view_tables::ViewTables;

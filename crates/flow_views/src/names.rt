@@ -14,7 +14,7 @@ use text_pieces::{Separator, TextBlock, push_escaped, push_quoted};
 
 /// How the names of bits are written.
 #[derive(Clone, Copy)]
-pub(crate) enum NameForm {
+pub enum NameForm {
     /// As they stand between quotes, `, ` between them.
     Escaped,
     /// Each between quotes, `,` between them, and numbers beside them.

@@ -1,12 +1,14 @@
 // What both texts are made of.
 
-ghost use Rattle.std.specs.Prelude.{◌≡◌, ℕ, ◌+◌, ◌<◌, ◌≤◌, suc, None, Some, false, true, flat_map, length, map, IfOk, IfSome};
+ghost use Rattle.std.specs.Prelude.{◌≡◌, ℕ, ◌+◌, ◌*◌, ◌-◌, ◌<◌, ◌≤◌, suc, None, Some, false, true, flat_map, length, map, IfOk, IfSome};
 ghost use Rattle.flow_graph.specs.Edges.{edges_from};
 ghost use Rattle.flow_graph.specs.Points.{end_place, entry_point, kind_at, point_count, points, procedure_at, statement_at};
 ghost use Rattle.flow_team.specs.Tables.{facts_of};
 ghost use Rattle.text_pieces.specs.Pieces.{CanWrite, Writes};
-ghost use Rattle.flow_views.specs.ViewTables.{AreViewTables, end_shown};
+ghost use Rattle.flow_views.specs.ViewTables.{AreViewTables, end_shown, first_shown};
 ghost use Rattle.flow_reports.specs.Reports.{dead_at, remarks_at, unset_at};
+ghost use Rattle.flow_reports.specs.Uses.{unset_uses};
+ghost use Rattle.flow_reports.specs.code.Findings.{knowledge_of};
 ghost use Rattle.flow_reports.specs.code.Reported.{TellReport};
 ghost use Rattle.text_pieces.specs.code.Lists.{some_stand};
 ghost use Rattle.tac_listing.specs.Listings.{statement_text};
@@ -21,9 +23,9 @@ use crate::OutOfMemory;
 use crate::names::{NameForm, Names};
 use crate::point_form::PointForm;
 use crate::view::View;
-use crate::view_tables::ViewTables;
+use crate::view_tables::{ViewTables, shown_points};
 use flow_graph::{Analysis, Edge, Graph};
-use flow_reports::{Findings, RemarkForm, ReportAnswers};
+use flow_reports::{Findings, RemarkForm, ReportAnswers, UnsetUse};
 use flow_team::Table;
 use smallvec::SmallVec;
 use std::alloc::Global;
@@ -40,7 +42,7 @@ pub(crate) struct Numbers {
 
 /// What was found of a program, what the bits of its analyses are called, its edges, and what is shown of it.
 #[derive(Drop)]
-pub(crate) struct ViewProgram<'a> {
+pub struct ViewProgram<'a> {
     /// What was found.
     pub(crate) found: Findings<'a>,
     /// The tables of the analyses whose facts are shown.
@@ -93,7 +95,7 @@ impl<'a> ViewProgram<'a> {
     ///
     /// The conditions: the answers to what a report asks and the tables are of this graph, these of the analyses that are shown, and the
     /// procedure is there. Fails only where memory runs out.
-    pub(crate) fn of(
+    pub fn of(
         alloc: Global,
         graph: &'a Graph<'a>,
         tables: &'a ViewTables,
@@ -183,6 +185,20 @@ impl ViewProgram<'_> {
         ensures { result ≡ some_stand (dead_at self.now.found.graph.now (known_of self.now) point) }
     {
         self.found.sets_dead(point, kind)
+    }
+
+    /// The uses of variables that may not be set there, at the points that are shown, in their order. Fails only where memory runs out.
+    ///
+    /// The condition: it is one program that is shown.
+    pub fn unset_uses(&self, alloc: Global) -> Result<Vec<UnsetUse>, OutOfMemory>
+        requires { AreShown self.now }
+        ensures uses { IfOk result (λ uses. uses.items ≡ unset_uses self.now.found.graph.now (knowledge_of self.now.found)
+            (first_shown self.now.found.graph.now self.now.view.procedure)
+            (end_shown self.now.found.graph.now self.now.view.procedure - first_shown self.now.found.graph.now self.now.view.procedure)) }
+        ensures few { IfOk result (λ uses. length uses.items ≤ 2 * point_count self.now.found.graph.now) }
+    {
+        let points = shown_points(self.found.graph, self.view.procedure);
+        self.found.unset_uses(alloc, points.first, points.end)
     }
 
     /// The edges out of a point.

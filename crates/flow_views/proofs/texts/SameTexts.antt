@@ -9,13 +9,14 @@ use Rattle.flow_graph.specs.Points.{end_place, entry_point, place_of, point_coun
 use Rattle.flow_graph.specs.Universes.{bits}
 use Rattle.flow_graph.specs.declared.analysis.Analysis.{Analysis}
 use Rattle.flow_graph.specs.declared.analysis.TheConstants.Analysis as all
-use Rattle.flow_reports.specs.Reports.{Knowledge, remark_text}
+use Rattle.flow_reports.specs.Reports.{Knowledge, remark_text, remarks_at}
+use Rattle.flow_reports.specs.declared.remark.Remark.{Remark}
 use Rattle.flow_texts.specs.Tables.{bit_text, listed}
 use Rattle.flow_reports.proofs.knowledge.KnownReports.{Agree, same_dead, same_remarks, same_texts, same_unset}
 use Rattle.tac_program.specs.Programs.{Program}
 use Rattle.tac_program.specs.Sound.{IsSound}
 use Rattle.flow_views.specs.Dots.{cluster, dot_of, edge_lines, fact_line, head, label_line, label_lines, marks, node, path_marks, text_if_some, title}
-use Rattle.flow_views.specs.Json.{array, boolean, edge_object, facts_field, json_of, point_line, program_line, remark_lines, remark_object}
+use Rattle.flow_views.specs.Json.{array, boolean, edge_object, facts_field, json_of, json_with, point_line, program_line, remark_object}
 use Rattle.flow_views.specs.Json.{span_fields, statement_field}
 use Rattle.text_pieces.specs.Strings.{quoted}
 use Rattle.flow_views.specs.Views.{analysis_name, chosen_analyses, points_in, procedure_name, shown_points, shown_procedures, known_facts, is_chosen}
@@ -136,16 +137,21 @@ module _ (program : Program) (sound : IsSound program) (one other : Knowledge) (
       ++ fields ++ codes "}\n")
       (same_fields point at)
 
-  -- the lines of JSON
-  pub same_json : json_of program one (record { facts = chosen; procedure = procedure })
-      ≡ json_of program other (record { facts = chosen; procedure = procedure })
-  same_json =
+  -- the lines of JSON, with the remarks in any form
+  pub same_json_with : (object : Program → ℕ → Remark → List ℕ) → json_with object program one (record { facts = chosen; procedure = procedure })
+      ≡ json_with object program other (record { facts = chosen; procedure = procedure })
+  same_json_with object =
       let points = same_shown program procedure there (point_line program one chosen) (point_line program other chosen)
       (λ point at. same_point point at) chosen in
-      let remarks = same_shown program procedure there (remark_lines program one) (remark_lines program other)
-      (λ point at. ap (flat_map (remark_object program point))
+      let remarks = same_shown program procedure there (λ point. flat_map (object program point) (remarks_at program one point))
+      (λ point. flat_map (object program point) (remarks_at program other point))
+      (λ point at. ap (flat_map (object program point))
       (same_remarks program sound one other agree point (shown_below program procedure there point at))) chosen in
       λ i. program_line program ++ points i ++ remarks i
+
+  pub same_json : json_of program one (record { facts = chosen; procedure = procedure })
+      ≡ json_of program other (record { facts = chosen; procedure = procedure })
+  same_json = same_json_with remark_object
 
   module _ (point : ℕ) (at : (first_shown program procedure ≤ point) × (point < end_shown program procedure)) where
     below : point < point_count program

@@ -2,7 +2,4 @@ use Rattle.text_pieces.proofs.sinks.Taking.{takes_then}
 use Rattle.flow_views.proofs.json.JsonLineRemarkForm.write_remark.Goals as goal
 
 pub returns : goal.returns
-returns g c =
-    takes_then _ _ _ _ _ (takes_then _ _ _ _ _ (takes_then _ _ _ _ _ (takes_then _ _ _ _ _ (takes_then _ _ _ _ _
-    c.write.ensures c.write_number.ensures) c.write_place.ensures) c.write-2.ensures)
-    c.write_kind.ensures) c.write-3.ensures
+returns g c = takes_then _ _ _ _ _ c.write_remark_head.ensures c.write.ensures
