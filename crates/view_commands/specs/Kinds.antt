@@ -18,6 +18,14 @@ formats = (codes "dot", format.Dot) ∷ (codes "json", format.Json) ∷ (codes "
 abbrev pub format_named : List ℕ → Option Format
 format_named = kind_named formats
 
+-- The format with paths, where they are asked for: only lines of JSON have them.
+abbrev pub with_paths : Bool → Format → Option Format
+with_paths false format = Some format
+with_paths true format.Dot = None
+with_paths true format.Json = Some format.JsonPaths
+with_paths true format.JsonPaths = Some format.JsonPaths
+with_paths true format.Report = None
+
 -- The limits with their words.
 abbrev pub sizes : List (List ℕ × Limits)
 sizes = (codes "standard", Standard) ∷ (codes "large", Large) ∷ []
@@ -63,6 +71,7 @@ facts_named list =
 abbrev pub facts_by_format : Format → Chosen
 facts_by_format format.Dot = no_facts
 facts_by_format format.Json = all_facts
+facts_by_format format.JsonPaths = all_facts
 facts_by_format format.Report = no_facts
 
 -- The facts that are asked for, by a list or by none.

@@ -1,6 +1,7 @@
 -- What is shown of a program.
 use Rattle.std.specs.Prelude.{◌≡◌, ℕ, List, Option, None, Some, slice_get}
 use Rattle.tac_program.specs.Programs.{Program}
+use Rattle.flow_paths.specs.Paths.{IsJsonWithPaths}
 use Rattle.flow_reports.specs.Reports.{IsReport, ListsSafely}
 use Rattle.flow_views.specs.Dots.{IsDot}
 use Rattle.flow_views.specs.Json.{IsJson}
@@ -27,6 +28,7 @@ LacksProcedure (Some name) program = (number : ℕ) → ¬ (HasProcedure program
 abbrev pub IsText : Format → Program → View → List ℕ → Type 0
 IsText format.Dot program view out = IsDot program view out
 IsText format.Json program view out = IsJson program view out
+IsText format.JsonPaths program view out = IsJsonWithPaths program view out
 IsText format.Report program view out = IsReport program out × ListsSafely program out
 
 -- What is written of a program: the text of this format, with these facts, of the procedures that are asked for.

@@ -14,6 +14,8 @@ pub enum Format {
     Dot,
     /// Lines of JSON.
     Json,
+    /// Lines of JSON, with a path for each variable that may be used before it is set.
+    JsonPaths,
     /// The report on the whole program.
     Report,
 }

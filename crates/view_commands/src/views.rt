@@ -3,6 +3,7 @@
 ghost use Rattle.std.specs.Prelude.{◌≡◌, ◌+◌, ◌-◌, ◌^◌, ◌<◌, Some, IfOk, IfErr, IfSome, OnOk, MatchOption, length, true};
 ghost use Rattle.std.specs.Thread.{IsSync};
 ghost use Rattle.flow_graph.specs.Limits.{HasFewBits, HasFewPoints};
+ghost use Rattle.flow_paths.specs.Paths.{IsJsonWithPaths};
 ghost use Rattle.flow_runs.specs.Faults.{Delivers, OfProgram, write_faults_in};
 ghost use Rattle.flow_runs.specs.Runs.{IsOverLimit};
 ghost use Rattle.flow_reports.specs.code.Reported.{TellReport};
@@ -15,6 +16,7 @@ ghost use Rattle.view_commands.specs.Views.{HasProcedure, IsShown, IsText, Lacks
 use crate::options::{Format, Options};
 use crate::progress::Progress;
 use flow_graph::Graph;
+use flow_paths::JsonPathsText;
 use flow_reports::ReportAnswers;
 use flow_runs::{Fault, OutOfMemory, Output, graph_of, push_report, push_text};
 use flow_team::Team;
@@ -117,6 +119,27 @@ fn push_json<R: Threads + Sync, K: Sink>(
     push_text(alloc, &text, sink)
 }
 
+// Writes the lines of JSON with paths.
+fn push_json_paths<R: Threads + Sync, K: Sink>(
+    team: &Team<'_, R, Progress>,
+    alloc: Global,
+    graph: &Graph<'_>,
+    view: View,
+    sink: &mut K,
+) -> Result<(), Fault>
+    requires threads { IsSync R.row }
+    requires below { K.faults sink.old < 2 ^ 32 - 1 }
+    requires there { IfSome view.procedure (λ number. number < length graph.now.procedure_names) }
+    ensures delivers { Delivers (λ out. IsJsonWithPaths graph.now view out) (K.contents sink.old) (K.contents sink.new) result }
+    ensures flushed { OnOk result (K.flushed sink.new ≡ true) }
+    ensures fault { IfErr result (OfProgram (λ _. ⊥) ⊥) }
+    ensures faults { K.faults sink.new ≡ K.faults sink.old + write_faults_in result }
+{
+    let (tables, answers) = tables_and_answers(team, alloc, graph, view)?;
+    let text = JsonPathsText::of(alloc, graph, &tables, &answers, view)?;
+    push_text(alloc, &text, sink)
+}
+
 // Writes what the options ask for of a graph. A report wants no tables.
 fn view_of_graph<R: Threads + Sync, K: Sink>(
     team: &Team<'_, R, Progress>,
@@ -137,6 +160,7 @@ fn view_of_graph<R: Threads + Sync, K: Sink>(
     match options.format {
         Format::Dot => push_dot(team, alloc, graph, view, sink),
         Format::Json => push_json(team, alloc, graph, view, sink),
+        Format::JsonPaths => push_json_paths(team, alloc, graph, view, sink),
         Format::Report => push_report(team, alloc, graph, sink),
     }
 }

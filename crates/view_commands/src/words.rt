@@ -5,8 +5,9 @@ ghost use Rattle.std.specs.String.{string_bytes};
 ghost use Rattle.clap.specs.Words.{FailsBy, app_of, first_of, found_of, rows_of, rule_of};
 ghost use Rattle.flow_runs.specs.Words.{AreKindsOf, kind_rule};
 ghost use Rattle.flow_runs.specs.code.Matches.{HoldsKind};
-ghost use Rattle.view_commands.specs.Commands.{AnswersWords, NamesOptions, facts_kinds, knows_facts, tacview_command, text_rule, view_command};
-ghost use Rattle.view_commands.specs.Kinds.{facts_queried, format_named, formats as known_formats, limits_named, sizes as known_sizes};
+ghost use Rattle.view_commands.specs.Commands.{AnswersWords, NamesOptions, flag_rule, format_queried, has_paths, knows_facts};
+ghost use Rattle.view_commands.specs.Commands.{option_kinds, tacview_command, text_rule, view_command};
+ghost use Rattle.view_commands.specs.Kinds.{with_paths, facts_queried, format_named, formats as known_formats, limits_named, sizes as known_sizes};
 ghost use Rattle.view_commands.specs.code.Matches.{HoldsOptions};
 
 use crate::facts::{facts_by, facts_of};
@@ -25,6 +26,7 @@ const ABOUT: &str =
 
 const AFTER_HELP: &str = "Examples:\n  tacview < program.tac | dot -Tsvg > program.svg\n  \
     tacview --format json --facts reach,live --procedure main < program.tac\n  \
+    tacview --format json --facts none --paths < program.tac\n  \
     tacview --format report --limits large < program.tac\n\nExit status:\n  \
     0  it was written, or help was asked for\n  \
     1  the text was refused, the procedure is not there, or reading, writing or memory failed; standard error has one line on it\n  \
@@ -32,6 +34,8 @@ const AFTER_HELP: &str = "Examples:\n  tacview < program.tac | dot -Tsvg > progr
 
 const NO_FACTS: &str =
     "the value of '--facts <LIST>' is none, all, or words of reach, live, avail and busy with commas between them";
+
+const NO_PATHS: &str = "'--paths' goes with '--format json' alone";
 
 fn format_of(word: &str) -> Option<Format>
     ensures { result ≡ format_named word.now }
@@ -117,6 +121,18 @@ fn procedure_option<'a>(alloc: Global) -> Arg<'a>
         .help("The one procedure to show; without it all are")
 }
 
+fn paths_option<'a>(alloc: Global) -> Arg<'a>
+    ensures rule { rule_of result ≡ flag_rule (codes "paths") }
+    ensures own { result.global ≡ false }
+{
+    Arg::new(alloc, "paths")
+        .long("paths")
+        .action(ArgAction::SetTrue)
+        .help(
+            "With --format json: for each variable that may be used before it is set, a path that shows it",
+        )
+}
+
 fn limits_option<'a>(alloc: Global, sizes: &'a [PossibleValue<'a>]) -> Arg<'a>
     ensures rule { rule_of result ≡ kind_rule (codes "limits") (codes "standard") sizes.entry }
     ensures own { result.global ≡ false }
@@ -142,7 +158,8 @@ fn view_command<'a>(
         .after_help(AFTER_HELP)
         .arg(format_option(alloc, formats))?
         .arg(facts_option(alloc))?
-        .arg(procedure_option(alloc))
+        .arg(procedure_option(alloc))?
+        .arg(paths_option(alloc))
 }
 
 fn command<'a>(
@@ -164,6 +181,39 @@ fn format_by(matches: &ArgMatches<'_>) -> Format
     ensures { option_and_then format_named (first_of (codes "format") (rows_of (found_of matches.now))) ≡ Some result }
 {
     format_of(kind_word(matches, "format")).unwrap()
+}
+
+// Whether paths were asked for.
+fn has_paths(matches: &ArgMatches<'_>) -> bool
+    ensures { result ≡ has_paths (rows_of (found_of matches.now)) }
+{
+    match matches.get_str("paths") {
+        Some(word) => word == "true",
+        None => false,
+    }
+}
+
+// The format with paths, where they are asked for. None where it has none.
+fn with_paths(is: bool, format: Format) -> Option<Format>
+    ensures { result ≡ with_paths is format }
+{
+    if !is {
+        return Some(format);
+    }
+    match format {
+        Format::Dot => None,
+        Format::Json => Some(Format::JsonPaths),
+        Format::JsonPaths => Some(Format::JsonPaths),
+        Format::Report => None,
+    }
+}
+
+// The format that was asked for. None where it has no paths, and they were asked for.
+fn format_found(matches: &ArgMatches<'_>) -> Option<Format>
+    requires { HoldsKind known_formats (rows_of (found_of matches.now)) (codes "format") }
+    ensures { result ≡ format_queried (rows_of (found_of matches.now)) }
+{
+    with_paths(has_paths(matches), format_by(matches))
 }
 
 // The limits that were found.
@@ -194,16 +244,20 @@ fn procedure_found(alloc: Global, matches: &ArgMatches<'_>) -> Result<Option<Str
     }
 }
 
-// The options that the matches name. None where the list of facts names no facts.
-fn options_of(alloc: Global, matches: &ArgMatches<'_>) -> Result<Option<Options>, OutOfMemory>
-    requires { HoldsOptions (rows_of (found_of matches.now)) }
+// The options that the matches name, of which the format is found. None where the list of facts names no facts.
+fn options_of(
+    alloc: Global,
+    matches: &ArgMatches<'_>,
+    format: Format,
+) -> Result<Option<Options>, OutOfMemory>
+    requires held { HoldsOptions (rows_of (found_of matches.now)) }
+    requires format { format_queried (rows_of (found_of matches.now)) ≡ Some format }
     ensures options { IfOk result (λ options. IfSome options (NamesOptions (rows_of (found_of matches.now)))) }
     ensures known { IfOk result (λ options. is_some options ≡ knows_facts (rows_of (found_of matches.now))) }
 {
     let workers = number_of(matches, "workers");
     let cut = number_of(matches, "cut");
     let limits = limits_by(matches);
-    let format = format_by(matches);
     let Some(facts) = facts_found(matches, format) else {
         return Ok(None);
     };
@@ -211,7 +265,8 @@ fn options_of(alloc: Global, matches: &ArgMatches<'_>) -> Result<Option<Options>
     Ok(Options::new(workers, cut, limits, format, facts, procedure))
 }
 
-// The options that the matches name, or an error of the command where the list of facts names no facts.
+// The options that the matches name, or an error of the command where the format has no paths and they were asked for, or where the list of
+// facts names no facts.
 fn named_options(
     alloc: Global,
     command: &mut Command<'_>,
@@ -219,9 +274,12 @@ fn named_options(
 ) -> Result<Options, Error>
     requires { HoldsOptions (rows_of (found_of matches.now)) }
     ensures options { IfOk result (NamesOptions (rows_of (found_of matches.now))) }
-    ensures faults { FailsBy (facts_kinds (rows_of (found_of matches.now))) result }
+    ensures faults { FailsBy (option_kinds (rows_of (found_of matches.now))) result }
 {
-    match options_of(alloc, matches)? {
+    let Some(format) = format_found(matches) else {
+        return Err(command.error(ErrorKind::ArgumentConflict, NO_PATHS)?);
+    };
+    match options_of(alloc, matches, format)? {
         Some(options) => Ok(options),
         None => Err(command.error(ErrorKind::InvalidValue, NO_FACTS)?),
     }
@@ -229,11 +287,11 @@ fn named_options(
 
 impl Options {
     /// The options that the program's words name, of which the first is the program's own name:
-    /// `tacview [--format KIND] [--facts LIST] [--procedure NAME] [--limits SIZE] [--workers N] [--cut N]`. Without an option stands
-    /// its default: `dot`, no facts for it and all for `json`, all procedures, `standard`, 1 and 64.
+    /// `tacview [--format KIND] [--facts LIST] [--procedure NAME] [--paths] [--limits SIZE] [--workers N] [--cut N]`. Without an option
+    /// stands its default: `dot`, no facts for it and all for `json`, all procedures, no paths, `standard`, 1 and 64.
     ///
-    /// Refuses words that the command does not take, a number outside its range, a word that is no format or no limits and a list
-    /// that names no facts among them, and a call for help; or memory was refused.
+    /// Refuses words that the command does not take, a number outside its range, a word that is no format or no limits, paths with a
+    /// format other than `json` and a list that names no facts among them, and a call for help; or memory was refused.
     pub fn from_words<'a>(alloc: Global, words: &'a [&'a str]) -> Result<Options, Error>
         ensures { AnswersWords (map (λ w. w.now) words.entry.now) result }
     {

@@ -481,6 +481,8 @@ fn words_that_are_taken(rt: HostRuntime) -> Result<(), Fail> {
     assert!(rt; workers == 1 && cut == 64 && format == Format::Dot && facts == NONE);
     let (_, _, format, facts) = named_by(rt.alloc(), &["tacview", "--format", "json"])?;
     assert!(rt; facts == ALL && format == Format::Json);
+    let (_, _, format, facts) = named_by(rt.alloc(), &["tacview", "--format", "json", "--paths"])?;
+    assert!(rt; facts == ALL && format == Format::JsonPaths);
     let (_, _, format, facts) = named_by(rt.alloc(), &["tacview", "--format", "report"])?;
     assert!(rt; facts == NONE && format == Format::Report);
     let (workers, cut, _, facts) = named_by(rt.alloc(), ALL_WORDS)?;
@@ -554,6 +556,10 @@ const REFUSED_WORDS: &[[&str; 3]] = &[
     ["tacview", "--facts=reach", "--procedure"],
     ["tacview", "--procedure=f", "--procedure=f"],
     ["tacview", "--procedure=f", "program.tac"],
+    ["tacview", "--facts=all", "--paths"],
+    ["tacview", "--paths", "--format=dot"],
+    ["tacview", "--format=report", "--paths"],
+    ["tacview", "--format=json", "--paths=yes"],
 ];
 
 #[test]

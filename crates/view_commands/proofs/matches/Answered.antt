@@ -8,16 +8,14 @@ use Rattle.clap.specs.declared.builder.possible_value.PossibleValue.{PossibleVal
 use Rattle.clap.specs.declared.error.Error.{Error}
 use Rattle.clap.specs.declared.error.kind.ErrorKind.TheVariants.{InvalidValue, OutOfMemory}
 use Rattle.flow_runs.specs.Words.{AreKindsOf}
-use Rattle.view_commands.specs.Commands.{AnswersWords, NamesOptions, facts_kinds, knows_facts, tacview_command}
+use Rattle.view_commands.specs.Commands.{AnswersWords, NamesOptions, option_kinds, tacview_command}
 use Rattle.view_commands.specs.Kinds.{formats, sizes}
 use Rattle.view_commands.specs.declared.options.Options.{Options}
 
--- an error of facts that are known is want of memory
-known_refused : (rows : List Row) (r : Result Options Error) → FailsBy (facts_kinds rows) r
-    → IfErr r (λ e. knows_facts rows ≡ true → kind_of e ≡ OutOfMemory)
-known_refused rows (Ok options) fails = tt
-known_refused rows (Err e) fails = λ known. elim (none_but_memory
-    (subst (λ (b : Bool). HasKind (if b then [] else InvalidValue ∷ []) e) known fails)) [ inl is ↦ is | inr none ↦ absurd none ]
+-- an error of options that fit is want of memory
+fit_refused : (kinds : Kinds) (r : Result Options Error) → FailsBy kinds r → IfErr r (λ e. kinds ≡ [] → kind_of e ≡ OutOfMemory)
+fit_refused kinds (Ok options) fails = tt
+fit_refused kinds (Err e) fails = λ fit. elim (none_but_memory (subst (λ (ks : Kinds). HasKind ks e) fit fails)) [ inl is ↦ is | inr none ↦ absurd none ]
   where
     none_but_memory : HasKind [] e → (kind_of e ≡ OutOfMemory) ⊎ ⊥
     none_but_memory h = h
@@ -26,10 +24,10 @@ unless_taken : (P : Type 0) (r : Result Options Error) (Q : Error → Type 0) �
 unless_taken P (Ok options) Q told = tt
 unless_taken P (Err e) Q told = λ _. told
 
--- where `clap` has taken the words, the facts decide
+-- where `clap` has taken the words, the options decide
 pub answered : (words : List Text) (values bounds : Bor (List PossibleValue)) → AreKindsOf formats values.now → AreKindsOf sizes bounds.now
     → (r : Result Options Error) (rows : List Row) → rows ≡ matches_of (tacview_command values bounds) words
-    → IfOk r (NamesOptions rows) → FailsBy (facts_kinds rows) r
+    → IfOk r (NamesOptions rows) → FailsBy (option_kinds rows) r
     → fault_of (tacview_command values bounds) words ≡ [] → AnswersWords words r
 answered words values bounds are_formats are_limits r rows is named fails faultless = record {
   values = values;
@@ -38,9 +36,9 @@ answered words values bounds are_formats are_limits r rows is named fails faultl
   are_limits = are_limits;
   named = subst (λ (x : List Row). IfOk r (NamesOptions x)) is named;
   refused =
-      unless_taken _ r _ (subst (λ (x : List Row). IfErr r (λ e. knows_facts x ≡ true → kind_of e ≡ OutOfMemory)) is (known_refused rows r fails));
-  faults = subst (λ (k : Kinds). FailsBy (or_else k (facts_kinds (matches_of (tacview_command values bounds) words))) r) (sym faultless)
-      (subst (λ (x : List Row). FailsBy (facts_kinds x) r) is fails);
+      unless_taken _ r _ (subst (λ (x : List Row). IfErr r (λ e. option_kinds x ≡ [] → kind_of e ≡ OutOfMemory)) is (fit_refused (option_kinds rows) r fails));
+  faults = subst (λ (k : Kinds). FailsBy (or_else k (option_kinds (matches_of (tacview_command values bounds) words))) r) (sym faultless)
+      (subst (λ (x : List Row). FailsBy (option_kinds x) r) is fails);
 }
 
 -- where it has refused them, it has

@@ -14,7 +14,7 @@ queried_known format (Some list) = refl
 pub returns-clause-known : goal.returns-clause-known
 returns-clause-known c =
     let rows = rows_of (found_of c.args.matches.now) in
-    let workers = named_within rows _ 64 c.requires.workers (omega arith) c.number_of-workers.result c.number_of-workers.ensures in
-    let cut = named_within rows _ 4096 c.requires.cut (omega arith) c.number_of-cut.result c.number_of-cut.ensures in
+    let workers = named_within rows _ 64 c.requires.held.workers (omega arith) c.number_of-workers.result c.number_of-workers.ensures in
+    let cut = named_within rows _ 4096 c.requires.held.cut (omega arith) c.number_of-cut.result c.number_of-cut.ensures in
     let made = c.new.ensures.answered.1 (workers.0, workers.1, cut.0, cut.1) in
-    made ∙ sym (ap is_some c.in-Some.is) ∙ ap is_some c.facts_found.ensures ∙ queried_known c.format_by-format.result (first_of (codes "facts") rows)
+    made ∙ sym (ap is_some c.in-Some.is) ∙ ap is_some c.facts_found.ensures ∙ queried_known c.args.format (first_of (codes "facts") rows)
