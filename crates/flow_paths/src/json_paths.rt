@@ -69,7 +69,8 @@ impl RemarkForm for PathLine<'_> {
 /// The lines of JSON of [`JsonText`](flow_views::JsonText), in which each remark that a variable may be used before it is set has a field
 /// more, `path`: the hops of a way on which some execution's beginning may bring the variable's value at the beginning there.
 ///
-///     {"type":"remark","point":3,"line":5,"first":29,"last":35,"kind":"unset","variable":"x","path":[{"kind":"pass","site":0,"callee":1,"from":0,"to":1},..]}
+///     {"type":"remark","point":3,"line":5,"first":29,"last":35,"kind":"unset","variable":"x",
+///      "path":[{"kind":"pass","site":0,"callee":1,"from":0,"to":1},..]}
 ///
 /// - A hop is a `step`, a call that is left open (`enter`), or a call that is passed as a whole (`pass`), with the points where it begins,
 ///   `from`, and ends, `to`; calls have the point of the call, `site`, and a passed one the number of the procedure that is passed, `callee`.

@@ -72,8 +72,8 @@ fn put_variable(
     requires variable { variable < length reaching.problem.now.program.variable_names }
     ensures put { OnOk result (uses_in paths.new.items
         ≡ uses_in paths.old.items ++ map (use_at uses.now) (numbers_of by_variable.now.starts.items by_variable.now.places.items variable)) }
-    ensures witnessed { OnOk result
-        (All (IsWitnessed reaching.entry.problem.now.program) paths.old.items → All (IsWitnessed reaching.entry.problem.now.program) paths.new.items) }
+    ensures witnessed { OnOk result (All (IsWitnessed reaching.entry.problem.now.program) paths.old.items
+        → All (IsWitnessed reaching.entry.problem.now.program) paths.new.items) }
 {
     if by_variable.starts[variable as usize] == by_variable.starts[variable as usize + 1] {
         return Ok(());
@@ -95,7 +95,8 @@ fn paths_by_variable(
         by_variable.now.starts.items by_variable.now.places.items }
     requires form { reaching.problem.now ≡ all_bits reaching.problem.now.program Reach }
     ensures put { IfOk result (λ paths. uses_in paths.items ≡ map (use_at uses.now) (between by_variable.now.places.items
-        (slice_index by_variable.now.starts.items 0) (slice_index by_variable.now.starts.items (length reaching.entry.problem.now.program.variable_names)))) }
+        (slice_index by_variable.now.starts.items 0)
+        (slice_index by_variable.now.starts.items (length reaching.entry.problem.now.program.variable_names)))) }
     ensures witnessed { IfOk result (λ paths. All (IsWitnessed reaching.entry.problem.now.program) paths.items) }
 {
     let mut paths = Vec::with_capacity(alloc, uses.len())?;

@@ -1,5 +1,6 @@
 // Which bits of an analysis are solved, and in which columns.
-ghost use Rattle.std.specs.Prelude.{◌≡◌, ◌^◌, ◌<◌, ◌↔◌, ℕ, true, None, Some, length, nat_eq, option_map, slice_index, unwrap_or, IfOk, IfSome, IsTrue};
+ghost use Rattle.std.specs.Prelude.{◌≡◌, ◌^◌, ◌<◌, ◌↔◌, ℕ, true, None, Some, length, nat_eq, option_map, slice_index, unwrap_or};
+ghost use Rattle.std.specs.Prelude.{IfOk, IfSome, IsTrue};
 ghost use Rattle.gen_kill.specs.Selections.{bit_in};
 ghost use Rattle.gen_kill.specs.code.Columns.{HasColumn};
 ghost use Rattle.gen_kill.specs.code.Effects.{effect_owns, marks};

@@ -1,10 +1,12 @@
-ghost use Rattle.std.specs.Prelude.{◌≡◌, ◌+◌, ◌*◌, ◌/◌, ◌%◌, ◌^◌, ◌<◌, ◌≤◌, ◌&&◌, ◌||◌, ℕ, false, true, IfOk, IfSome, length, nat_eq, nat_lt, option_map};
+ghost use Rattle.std.specs.Prelude.{◌≡◌, ◌+◌, ◌*◌, ◌/◌, ◌%◌, ◌^◌, ◌<◌, ◌≤◌, ◌&&◌, ◌||◌, ℕ, IfOk, IfSome};
+ghost use Rattle.std.specs.Prelude.{false, true, length, nat_eq, nat_lt, option_map};
 ghost use Rattle.std.specs.Prelude.{None, unwrap_or};
 ghost use Rattle.bit_rows.specs.Words.{has_bit};
 ghost use Rattle.flow_graph.specs.Analyses.{is_backward, is_must, main_procedure};
 ghost use Rattle.flow_graph.specs.Directions.{goes_backward};
 ghost use Rattle.flow_graph.specs.Problems.{may_shape, IsWordOfTest};
-ghost use Rattle.gen_kill.specs.Selections.{AreChosen, IsColumnAffected, IsColumnOf, all_bits, bit_of, column_boundary, column_count, column_gens, column_kills};
+ghost use Rattle.gen_kill.specs.Selections.{AreChosen, IsColumnAffected, IsColumnOf};
+ghost use Rattle.gen_kill.specs.Selections.{all_bits, bit_of, column_boundary, column_count, column_gens, column_kills};
 ghost use Rattle.gen_kill.specs.Selections.{some_bits};
 ghost use Rattle.gen_kill.specs.code.Columns.{IsChosenOf};
 ghost use Rattle.gen_kill.specs.code.Effects.{IsColumnEffect, IsDependence, column_depends, marks};
