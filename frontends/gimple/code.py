@@ -65,12 +65,13 @@ class Step:
     `variable` and, for an expression, `operator` and `operands`; one that is `weak` may also leave
     the variable as it is. A use reads its operands; one with a `label` is a test, which leads there
     or on. A fork leads to `label` or on. A note stands for no statement: it says that the variables
-    of `touched` may be written from there on, through an address or a part. A test that compares
-    one variable with a number has variable, operation and number in `compares`, one of two numbers
-    its outcome in `outcome`. Of a set that is `told_once` a copy in a procedure of one activation
-    tells whether its value is read. One that `is_copy` sets its variable to its operand, as it is;
-    one that is `chained` stands behind another sign of assignment at that place, as `y = 0` in `x =
-    y = 0`. `line` is a statement's line in the text, once that was written, and 0 for others.
+    of `touched` may be written from there on, through an address or a part; once a program is made,
+    the next step says so. A test that compares one variable with a number has variable, operation
+    and number in `compares`, one of two numbers its outcome in `outcome`. Of a set that is
+    `told_once` a copy in a procedure of one activation tells whether its value is read. One that
+    `is_copy` sets its variable to its operand, as it is; one that is `chained` stands behind
+    another sign of assignment at that place, as `y = 0` in `x = y = 0`. `line` is a statement's
+    line in the text, once that was written, and 0 for others.
     """
 
     # What most steps have; all else stands in a step's own dictionary where it is not as below.

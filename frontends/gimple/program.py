@@ -261,11 +261,15 @@ def may_stop(procedure: Procedure, step: Step, stopping: set[Procedure]) -> bool
 
 
 def tidy(procedure: Procedure) -> None:
-    """Takes out jumps to the next statement, and notes."""
-    steps = [step for step in procedure.steps if step.kind != "note"]
-    kept = []
-    for at in range(len(steps) - 1, -1, -1):
-        step = steps[at]
+    """Takes out jumps to the next statement, and notes, of which the next step keeps what they
+    say.
+    """
+    kept: list[Step] = []
+    for step in reversed(procedure.steps):
+        if step.kind == "note":
+            if kept:
+                kept[-1].touched += step.touched
+            continue
         if step.kind in ("goto", "fork") and leads_on(step.label, kept):
             continue
         if step.kind == "return" and not any(later.kind != "label" for later in kept):
