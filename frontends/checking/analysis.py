@@ -13,7 +13,7 @@ import subprocess
 import tempfile
 from collections import Counter
 from collections.abc import Callable, Iterator
-from dataclasses import dataclass, field
+from dataclasses import dataclass, field, replace
 from typing import TYPE_CHECKING, Any
 
 from gimple import emit, program
@@ -21,7 +21,7 @@ from gimple.dump import Place
 from gimple.faults import Refusal
 from gimple.world import World
 
-from .compiling import BadWords
+from .compiling import SYSTEM_HEADERS, BadWords
 from .findings import Claim, Findings
 from .remark import KINDS
 from .sources import Lines, Sources
@@ -51,8 +51,8 @@ ENDINGS = {
     "dead": " is dead",
     "unset": " may be used before it is set",
 }
-# The kinds that are looked for only where they are told.
-ON_REQUEST = ("computed", "busy")
+# The kinds that are looked for, or of which more is found out, only where they are told.
+ON_REQUEST = ("computed", "busy", "maybe-unset")
 HERE = os.path.dirname(os.path.realpath(__file__))
 ROOT = os.path.join(HERE, "..", "..")
 
@@ -317,6 +317,8 @@ class Analysis:
             self.files,
             self.task.shows_all,
         )
+        if "maybe-unset" in self.task.kinds:
+            self.show_ways(found)
         said += [
             f"{procedure.refusal}; '{procedure.source}' is taken as unknown code"
             for procedure in built.refused
@@ -324,6 +326,29 @@ class Analysis:
         part = Outcome(found.remarks, seen=self.seen_in(found), notes=said)
         part.lines.take(self.sources, part.remarks.values())
         self.parts.append(part)
+
+    def show_ways(self, found: Findings) -> None:
+        """Has remarks on what may be unset show the way on which it is."""
+        unsure = {
+            key: use
+            for key, use in found.unsure.items()
+            if not key[0].file.startswith(SYSTEM_HEADERS)
+        }
+        if not unsure:
+            return
+        from .ways import Ways, paths_in  # few runs need them
+
+        ways = Ways(unsure.values(), found.never, self.sources)
+        try:
+            pieces = emit.Writer().write(ways.program()).pieces
+        except emit.TooLarge:
+            return  # the remarks are told without
+        words = ("--format", "json", "--facts", "none", "--paths")
+        paths = paths_in(run_tacview(pieces, self.workers, *words)[0])
+        for key, (line, variable) in unsure.items():
+            remark = found.remarks[key]
+            notes = ways.notes(line, variable, paths)
+            found.remarks[key] = replace(remark, notes=(*notes, *remark.notes))
 
     def seen_in(self, found: Findings) -> set[Claim]:
         """What could be told at places that other programs, or other parts of this one, may have
@@ -368,12 +393,13 @@ def tacview() -> str:
     return os.environ.get("TACVIEW", os.path.join(ROOT, "tacview"))
 
 
-def run_tacview(pieces: list[str], workers: int) -> tuple[str, list[str]]:
-    """The report of tacview on a program, by so many workers, and what it says on standard error,
-    as that it runs unproved.
+def run_tacview(pieces: list[str], workers: int, *words: str) -> tuple[str, list[str]]:
+    """What tacview writes of a program by so many workers, its report unless words ask for other
+    things, and what it says on standard error, as that it runs unproved.
     """
     try:
-        words = ["--format", "report", "--limits", "large", "--workers", str(workers)]
+        words = words or ("--format", "report")
+        words = ("--limits", "large", "--workers", str(workers), *words)
         with tempfile.TemporaryFile("w+", encoding="ascii") as text:
             text.writelines(pieces)
             text.seek(0)

@@ -38,7 +38,8 @@ class Findings:
     """The remarks on one program.
 
     remarks: by keys, which are the same for all copies of a place in all programs. tried: the keys
-    that were looked at. told: the lines of which there are facts.
+    that were looked at. told: the lines of which there are facts. unsure: the uses of variables
+    that may be unset and are told of, by the keys of their remarks.
     """
 
     def __init__(
@@ -63,6 +64,7 @@ class Findings:
         self.by_claim: dict[Claim, list[Line]] = {}
         self.traces = Traces()
         self.remarks: dict[Claim, Remark] = {}
+        self.unsure: dict[Claim, tuple[Line, Variable]] = {}
         self.tried: set[Claim] = set()
         self.texts: set[tuple] = set()
         self.words: dict[Place, str] = {}
@@ -513,7 +515,11 @@ class Findings:
             ((place.file, place.line, place.column) for place in places if place.line != first.line)
         )
         notes = tuple(Note(*place, "used here too") for place in others[:4])
-        self.put((first, "unset", self.name(variable)), self.remark(line, kind, text, notes))
+        key = first, "unset", self.name(variable)
+        remark = self.remark(line, kind, text, notes)
+        self.put(key, remark)
+        if kind == "maybe-unset" and self.remarks.get(key) is remark:
+            self.unsure[key] = line, variable
 
     def take_copies(self) -> None:
         """Assignments of variables to themselves."""
