@@ -4,6 +4,7 @@ Not verified.
 
     /* expect: assignment to 'x' is dead */  the remark, without its column, of this line
     /* note: overwritten here */             a note on this line, of some remark
+    /* notes: all */                         there are no other notes than those
     /* options: --whole */                   options of check-c; all kinds without --kinds
     /* files: other_a.c */                   further files
     /* noted: unknown code */                standard error must say this of this line
@@ -16,11 +17,12 @@ import re
 import subprocess
 import sys
 
+import conditions
 import words
 
 HERE = os.path.dirname(os.path.realpath(__file__))
 CHECK = os.path.join(HERE, "..", "check-c")
-COMMENT = re.compile(r"/\* (expect|note|noted|options|files): (.*?) \*/")
+COMMENT = re.compile(r"/\* (expect|note|notes|noted|options|files): (.*?) \*/")
 
 
 class Wanted:
@@ -29,6 +31,7 @@ class Wanted:
     def __init__(self, name: str) -> None:
         self.files = [name]
         self.options = []
+        self.has_all_notes = False
         self.told = {"expect": [], "note": [], "noted": []}
         self.read(name)
         for other in self.files[1:]:
@@ -53,6 +56,8 @@ class Wanted:
             self.options += text.split()
         elif kind == "files":
             self.files += text.split()
+        elif kind == "notes":
+            self.has_all_notes = True
         else:
             self.told[kind].append((name, number, text))
 
@@ -72,6 +77,11 @@ def difference(name: str) -> list[str]:
         [f"missing: {place}" for place in expected if place not in found]
         + [f"not expected: {place}" for place in found if place not in expected]
         + [f"no note: {place}" for place in wanted.told["note"] if place not in notes]
+        + [
+            f"not expected: {place}"
+            for place in sorted(notes)
+            if wanted.has_all_notes and place not in wanted.told["note"]
+        ]
         + [
             f"not noted: {place}"
             for place in wanted.told["noted"]
@@ -99,6 +109,8 @@ def main() -> int:
     wrong = {name: difference(name) for name in names}
     if not sys.argv[1:]:
         wrong |= {f"words {number}": lines for number, lines in enumerate(words.differences(), 1)}
+        tried = enumerate(conditions.differences(), 1)
+        wrong |= {f"conditions {number}": lines for number, lines in tried}
     for name, lines in wrong.items():
         for line in lines:
             print(f"{name}: {line}")

@@ -36,6 +36,17 @@ static inline int get_{0}(int x)
         result = x * 2 + LOW_{0}(x);
     return result + x * 2 + late;
 }}
+static inline int odd_{0}(int x)
+{{
+    int odd;
+#ifdef LATE_{0}
+    if (x > 1)
+        odd = x;
+#endif
+    if (x > {2})
+        odd = x * 2;
+    return odd;
+}}
 static int spare_of_{0}(void)
 {{
     return spare_{0};
@@ -79,6 +90,8 @@ class Project:
         lines += [f"int value_{number};", f"int part_{number}(int n)", "{", "    int kept = n;"]
         for header in chosen:
             lines += [f"    {call.format(header)};" for call in self.calls()]
+            # to show its way takes one more run of tacview
+            lines += ["    kept += odd_0(n);"] if header == 0 else []
         lines += ["    return kept;", "}"]
         if self.random.random() < 0.4:
             lines += [f"int unused_{number}(int n)", "{", f"    value_{number} = n;"]

@@ -1,5 +1,6 @@
 /* Unset: the first use of each variable, with the others as notes; surely so, or maybe; arrays where it is sure. */
 /* options: --whole */
+/* notes: all */
 int printf(const char *, ...);
 
 struct pair { int first, second; };
@@ -15,9 +16,9 @@ static int surely(int n)
 static int maybe(int n)
 {
     int x;
-    if (n > 3)
+    if (n > 3)              /* note: on the way the test is not taken */
         x = 4;
-    if (n > 2)
+    if (n > 2)              /* note: on the way the test is taken */
         n = x + 1;          /* expect: 'x' may be used before it is set */
     return x + n;           /* note: used here too */
 }

@@ -33,10 +33,27 @@ ONE_REMARK = (
 )
 BROKEN = "int main(void) { return x; }\n"
 LIBRARY = "int f(int n)\n{\n    int gone = n * 2;\n    return n;\n}\n"
+# A local that may be unset, and what is noted of it: the tests on the way, then other uses.
+UNSURE = """int f(int n)
+{
+    int late;
+    if (n > 3)
+        late = 3;
+    if (n)
+        n = late;
+    return n + late;
+}
+"""
+NOTED = [
+    (4, 8, "on the way the test is not taken"),
+    (6, 8, "on the way the test is taken"),
+    (8, 14, "used here too"),
+]
 FILES = {
     "one.c": ONE_REMARK,
     "broken.c": BROKEN,
     "library.c": LIBRARY,
+    "unsure.c": UNSURE,
     "empty.c": "",
     "other.txt": "x",
 }
@@ -150,6 +167,32 @@ def wrong_forms(folder: str) -> Iterator[str]:
         (row["file"], row["line"], row["column"], row["kind"], row["function"]) for row in rows
     ] != [("library.c", 3, 9, "dead", "f"), ("one.c", 4, 6, "dead", "main")]:
         yield f"json: {rows}"
+
+
+def wrong_ways(folder: str) -> Iterator[str]:
+    """What is wrong with the way to what is unset: its notes stand in its order in each format, and
+    tacview is asked for it only where it is told.
+    """
+    words = "--kinds maybe-unset unsure.c --format"
+    rows = [json.loads(line) for line in run(f"{words} json", folder).stdout.splitlines()]
+    noted = [[(at["line"], at["column"], at["message"]) for at in row["notes"]] for row in rows]
+    results = json.loads(run(f"{words} sarif", folder).stdout)["runs"][0]["results"]
+    related = [at["message"]["text"] for at in results[0]["relatedLocations"]]
+    text = run(f"{words} text", folder).stdout
+    if noted != [NOTED] or related != [said for _, _, said in NOTED] or ": note: on" not in text:
+        yield f"ways: {noted} {related} {text}"
+    counting, count = os.path.join(folder, "counting"), os.path.join(folder, "count")
+    with open(counting, "w", encoding="utf-8") as file:
+        file.write(f"#!/bin/sh\necho >>'{count}'\nexec '{analysis.tacview()}' \"$@\"\n")
+    os.chmod(counting, 0o755)
+    for kinds, wanted in (("dead,unset", 1), ("dead,maybe-unset", 2)):
+        env = dict(os.environ, TACVIEW=counting)
+        run(f"--kinds {kinds} unsure.c", folder, env=env)
+        with open(count, encoding="utf-8") as file:
+            starts = len(file.readlines())
+        os.remove(count)
+        if starts != wanted:
+            yield f"{kinds}: {starts} starts of tacview"
 
 
 def wrong_sarif(folder: str) -> Iterator[str]:
@@ -414,6 +457,7 @@ def differences() -> list[list[str]]:
     groups = (
         wrong_cases,
         wrong_forms,
+        wrong_ways,
         wrong_sarif,
         wrong_prints,
         wrong_since,
