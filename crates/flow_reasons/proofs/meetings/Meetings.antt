@@ -1,11 +1,10 @@
 -- What a search finds of a bit that a statement generates, in the program's own terms
-use Rattle.std.proofs.Common.{◌≡◌, ◌<◌, ◌↔◌, ◌||◌, ℕ, Bool, true, false, List, [], ◌∷◌, nat_eq, length, get_or, refl, sym, ◌∙◌, ap, subst}
+use Rattle.std.proofs.Common.{◌≡◌, ◌<◌, ◌↔◌, ◌||◌, ℕ, Bool, true, false, List, [], nat_eq, refl, sym, subst}
 use Rattle.tac_program.specs.Programs.{Program}
 use Rattle.tac_program.specs.Sound.{IsSound}
 use Rattle.flow_graph.specs.Analyses.{shape_of}
-use Rattle.flow_graph.specs.Paths.{Shape, Transfer, IsEdge, SomePathHas, SomeBackwardPathHas}
+use Rattle.flow_graph.specs.Paths.{Shape, IsEdge, SomePathHas, SomeBackwardPathHas}
 use Rattle.flow_graph.specs.Points.{point_count}
-use Rattle.flow_graph.specs.Reversals.{reversed_shape}
 use Rattle.flow_graph.specs.WellFormed.{AgreesOnSteps, HasSameEdges}
 use Rattle.flow_graph.specs.declared.edge.Edge.TheVariants.{Step}
 use Rattle.flow_graph.proofs.edges.EdgeLemmas.{edges_are, source_is}
@@ -14,7 +13,7 @@ use Rattle.flow_graph.proofs.paths.Reversal.{meets_reverse}
 use Rattle.flow_links.specs.Shapes.{LinkedProgram, directed_shape}
 use Rattle.flow_why.specs.PointBits.{StatementBit, point_transfer}
 use Rattle.flow_reasons.specs.Meetings.{meeting, passing}
-use Rattle.flow_reasons.specs.code.Marks.{AreMarks, IsMet, Meets, meeting_bit}
+use Rattle.flow_reasons.specs.code.Marks.{AreMarks, Meets, meeting_bit}
 
 pub same_edges : (shape : Shape) → HasSameEdges shape shape
 same_edges shape = record { same_root = refl; same_final = refl; same_edges = λ edge. (λ at. at, λ at. at) }

@@ -1,5 +1,5 @@
 -- What the marks of a problem's columns say of the statements
-use Rattle.std.proofs.Common.{◌≡◌, ◌<◌, ◌↔◌, ◌+◌, suc, ◌||◌, ◌&&◌, not, ℕ, Bool, true, false, List, length, arith, refl, sym, ◌∙◌, ap, subst}
+use Rattle.std.proofs.Common.{◌≡◌, ◌<◌, ◌↔◌, suc, ◌||◌, ◌&&◌, not, ℕ, Bool, true, false, List, refl, sym, ◌∙◌, subst}
 use Rattle.tac_program.specs.Programs.{Program}
 use Rattle.tac_program.specs.Sound.{IsSound}
 use Rattle.flow_graph.specs.Analyses.{shape_of}
@@ -7,9 +7,8 @@ use Rattle.flow_graph.specs.Paths.{SomeBackwardPathHas}
 use Rattle.flow_graph.specs.Points.{point_count}
 use Rattle.flow_graph.specs.Transfers.{gens, kills, writes}
 use Rattle.flow_graph.specs.declared.analysis.Analysis.TheVariants.{Live, Avail, Busy}
-use Rattle.flow_graph.specs.declared.analysis.Analysis.{Analysis}
 use Rattle.flow_links.specs.Shapes.{LinkedProgram}
-use Rattle.gen_kill.specs.Selections.{Selection, all_bits, column_gens, column_kills}
+use Rattle.gen_kill.specs.Selections.{Selection, all_bits, column_kills}
 use Rattle.flow_reasons.specs.Meetings.{IsLastEvaluation, IsNextEvaluation, IsNextWrite, decides, meeting, renews}
 use Rattle.flow_reasons.specs.code.Marks.{AreMarks, IsMet, touches}
 use Rattle.flow_reasons.proofs.meetings.Meetings.{met_backward, met_forward}

@@ -1,4 +1,3 @@
-use Rattle.gen_kill.specs.Selections.{column_kills}
 use Rattle.flow_reasons.specs.code.Marks.{AreMarks, touches}
 use Rattle.flow_reasons.proofs.marks.touch_marks.Given as goal
 

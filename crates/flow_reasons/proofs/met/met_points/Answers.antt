@@ -1,4 +1,4 @@
-use Rattle.std.proofs.Common.{◌<◌, ◌+◌, ℕ, arith, sym, subst}
+use Rattle.std.proofs.Common.{◌<◌, arith, sym, subst}
 use Rattle.flow_graph.specs.Points.{point_count}
 use Rattle.tac_program.specs.Programs.{Program}
 use Rattle.flow_reasons.specs.code.Marks.{IsMet}

@@ -1,4 +1,4 @@
-use Rattle.std.proofs.Common.{◌≡◌, ◌<◌, ◌≤◌, ◌+◌, ◌↔◌, true, IfOk, ℕ, List, Bool, suc, length, arith, refl, sym, subst, ◌∙◌, ap}
+use Rattle.std.proofs.Common.{◌≡◌, ◌+◌, ◌↔◌, true, IfOk, ℕ, Bool, suc, arith, sym, subst}
 use Rattle.std.proofs.lemmas.Result.{IfOk-weaker}
 use Rattle.tac_program.specs.Programs.{Program}
 use Rattle.flow_graph.specs.Analyses.{shape_of}
@@ -6,8 +6,6 @@ use Rattle.flow_graph.specs.Paths.{SomeBackwardPathHas, SomePathHas}
 use Rattle.flow_graph.specs.Points.{point_count}
 use Rattle.flow_links.specs.Shapes.{directed_shape}
 use Rattle.flow_why.specs.PointBits.{StatementBit, point_transfer}
-use Rattle.gen_kill.specs.Selections.{Selection, column_count}
-use Rattle.flow_reasons.specs.Lists.{AreAll}
 use Rattle.flow_graph.specs.Transfers.{writes}
 use Rattle.flow_reasons.specs.Meetings.{MayEndUnwritten, passing}
 use Rattle.flow_reasons.specs.code.Marks.{AreMarks}

@@ -1,12 +1,9 @@
-use Rattle.std.proofs.Common.{◌≡◌, ◌<◌, ◌≤◌, ◌+◌, ◌↔◌, true, IfOk, List, Bool, suc, length, arith, refl, sym, subst, ◌∙◌, ap}
+use Rattle.std.proofs.Common.{IfOk, sym, subst}
 use Rattle.std.proofs.lemmas.Result.{IfOk-weaker}
 use Rattle.tac_program.specs.Programs.{Program}
 use Rattle.flow_graph.specs.Points.{point_count}
-use Rattle.flow_links.specs.Shapes.{LinkedProgram}
-use Rattle.gen_kill.specs.Selections.{Selection, column_count}
 use Rattle.flow_reasons.specs.Lists.{AreAll}
 use Rattle.flow_graph.specs.Transfers.{gens}
-use Rattle.flow_graph.specs.Universes.{expressions}
 use Rattle.flow_graph.specs.declared.analysis.Analysis.TheVariants.{Busy}
 use Rattle.flow_reasons.specs.Meetings.{IsNextEvaluation, decides}
 use Rattle.flow_reasons.specs.code.Marks.{AreMarks, IsMet}

@@ -1,8 +1,7 @@
-use Rattle.std.proofs.Common.{◌≡◌, ◌<◌, ◌≤◌, ◌+◌, ◌↔◌, true, IfOk, List, Bool, suc, length, arith, refl, sym, subst, ◌∙◌, ap}
+use Rattle.std.proofs.Common.{◌≡◌, ◌<◌, ◌+◌, IfOk, length, arith, sym, subst, ◌∙◌}
 use Rattle.std.proofs.lemmas.Result.{IfOk-weaker}
 use Rattle.tac_program.specs.Programs.{Program}
 use Rattle.flow_graph.specs.Points.{point_count}
-use Rattle.flow_links.specs.Shapes.{LinkedProgram}
 use Rattle.gen_kill.specs.Selections.{Selection, column_count}
 use Rattle.flow_reasons.specs.Lists.{AreAll}
 use Rattle.flow_graph.specs.Transfers.{writes}
