@@ -1,3 +1,4 @@
 pub mod Lists
 pub mod Meetings
+pub mod Reached
 pub mod code

@@ -1,13 +1,15 @@
 // What stands around a remark.
-ghost use Rattle.std.specs.Prelude.{◌≡◌, ◌<◌, ◌↔◌, ◌+◌, true, IfOk, length};
+ghost use Rattle.std.specs.Prelude.{◌≡◌, ◌<◌, ◌↔◌, ◌+◌, true, IfOk, MatchOption, length};
 ghost use Rattle.flow_graph.specs.Points.{point_count};
 ghost use Rattle.flow_graph.specs.Universes.{expressions};
 ghost use Rattle.flow_reasons.specs.Lists.{AreAll};
+ghost use Rattle.flow_reasons.specs.Reached.{IsLastReached, NoneReachedFrom};
 ghost use Rattle.flow_reasons.specs.Meetings.{IsLastEvaluation, IsNextEvaluation, IsNextWrite, MayEndUnwritten};
 
 use crate::OutOfMemory;
 use crate::marks::{kill_marks, touch_marks};
 use crate::met::{Search, met_points, path_has};
+use crate::reached::last_reached;
 use flow_graph::{Analysis, Graph};
 use flow_why::{PointBit, Ways};
 use gen_kill::Problem;
@@ -16,7 +18,8 @@ use std::marker::Model;
 
 /// A program's ways in both directions, and its problems, to be asked what stands around a remark.
 ///
-/// Each question goes over all statements once, and makes one search for each of those that it is about. Memory goes with the program.
+/// Each question goes over all statements once, and makes one search for each of those that it is about, where it says nothing else. Memory
+/// goes with the program.
 pub struct Reasons<'g, 'p> {
     graph: &'g Graph<'p>,
     live: Problem<'g, 'p>,
@@ -162,5 +165,17 @@ impl<'g, 'p> Reasons<'g, 'p> {
             at: point,
         };
         met_points(alloc, &search, evaluates.as_slice())
+    }
+
+    /// The nearest point before a point, in its procedure, to which a valid path leads: the last line before one that is never reached.
+    /// From there control goes along the point's edges instead (`Graph::succ`), or into a call that does not come back. None where no valid
+    /// path leads to any point of the procedure before it.
+    ///
+    /// Time goes with the points of the procedure, without a search.
+    pub fn last_reached(&self, point: u32) -> Option<u32>
+        requires { point < point_count self.now }
+        ensures { MatchOption result (NoneReachedFrom self.now point 0) (λ found. IsLastReached self.now point found) }
+    {
+        last_reached(self.graph, &self.forward, point)
     }
 }

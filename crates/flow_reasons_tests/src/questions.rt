@@ -20,6 +20,8 @@ pub enum Question {
     LastEvaluations(u32, u32),
     /// Those that may be the next from a point on.
     NextEvaluations(u32, u32),
+    /// The nearest point before one to which a path leads.
+    LastReached(u32),
 }
 
 // What is asked of an expression.
@@ -108,6 +110,27 @@ fn write_evaluations(
     }
 }
 
+fn write_number(text: &mut String, number: Option<u32>) -> Result<(), OutOfMemory> {
+    match number {
+        Some(number) => write!(text, "{number}"),
+        None => text.push_str("none"),
+    }
+}
+
+fn write_last_reached(
+    text: &mut String,
+    graph: &Graph<'_>,
+    reasons: &Reasons<'_, '_>,
+    point: u32,
+) -> Result<(), OutOfMemory>
+    requires { reasons.now ≡ graph.now }
+{
+    if point >= graph.points() {
+        return text.push_str("not there");
+    }
+    write_number(text, reasons.last_reached(point))
+}
+
 fn write_answer(
     text: &mut String,
     alloc: Global,
@@ -139,6 +162,7 @@ fn write_answer(
                 Which::Next,
             )
         },
+        Question::LastReached(point) => write_last_reached(text, graph, &reasons, point),
     }
 }
 

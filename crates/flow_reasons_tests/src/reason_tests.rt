@@ -1,6 +1,8 @@
 use crate::questions::{Question, Row, check_rows};
 use std::test::Fail;
-use test_support::worked_programs::{both_branches, call_between, no_end, recursion, two_callees};
+use test_support::worked_programs::{
+    both_branches, call_between, callee_loops, no_end, not_called, recursion, two_callees,
+};
 
 /// An assignment that is overwritten on one branch, and whose variable is not written again on the other. The points are the lines of
 /// `main` from 0 on.
@@ -16,6 +18,9 @@ const TWICE: &str =
 
 /// An endless loop on one side.
 const ENDLESS: &str = "proc main\nx = 1\nif c goto L\nx = 2\nreturn\nL: x = 3\nM: goto M\nend\n";
+
+/// Two lines that a jump passes over.
+const PASSED_OVER: &str = "proc main\ngoto L\nx = 1\ny = 2\nL: print x\nend\n";
 
 /// By hand: variables and expressions are numbered as they come first in the text.
 const ROWS: &[Row] = &[
@@ -43,6 +48,18 @@ const ROWS: &[Row] = &[
     (both_branches::TEXT, Question::NextEvaluations(0, 0), ""),
     (both_branches::TEXT, Question::NextEvaluations(0, 2), "3;6;"),
     (no_end::TEXT, Question::NextWrites(0, 0), "end"),
+    // The two lines, what is behind them, and a line that nothing stands before.
+    (PASSED_OVER, Question::LastReached(1), "0"),
+    (PASSED_OVER, Question::LastReached(2), "0"),
+    (PASSED_OVER, Question::LastReached(3), "0"),
+    (PASSED_OVER, Question::LastReached(4), "3"),
+    (PASSED_OVER, Question::LastReached(0), "none"),
+    // The call does not come back, and the callee goes round. Points of other procedures do not count.
+    (callee_loops::TEXT, Question::LastReached(1), "0"),
+    (callee_loops::TEXT, Question::LastReached(2), "0"),
+    (callee_loops::TEXT, Question::LastReached(3), "none"),
+    (callee_loops::TEXT, Question::LastReached(4), "3"),
+    (not_called::TEXT, Question::LastReached(3), "none"),
 ];
 
 #[test]
