@@ -1,1 +1,2 @@
+pub mod Doubting
 pub mod Reaching

@@ -1,3 +1,4 @@
+pub mod Doubts
 pub mod Lists
 pub mod Meetings
 pub mod Reached

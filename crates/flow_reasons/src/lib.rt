@@ -1,6 +1,8 @@
-//! What stands around a remark: the statements that are met next behind a point or last before it, and where no path leads further.
+//! What stands around a remark: statements that are met next behind a point or last before it, where no path leads further, and why a point is
+//! doubtful.
 #![tactic(auto)]
 
+mod doubts;
 mod marks;
 mod met;
 mod reached;

@@ -1,12 +1,16 @@
 // What stands around a remark.
 ghost use Rattle.std.specs.Prelude.{◌≡◌, ◌<◌, ◌↔◌, ◌+◌, true, IfOk, MatchOption, length};
+ghost use Rattle.flow_graph.specs.Analyses.{shape_of};
 ghost use Rattle.flow_graph.specs.Points.{point_count};
+ghost use Rattle.flow_graph.specs.Runs.{IsDoubtful};
 ghost use Rattle.flow_graph.specs.Universes.{expressions};
+ghost use Rattle.flow_reasons.specs.Doubts.{IsDoubtOrigin};
 ghost use Rattle.flow_reasons.specs.Lists.{AreAll};
 ghost use Rattle.flow_reasons.specs.Reached.{IsLastReached, NoneReachedFrom};
 ghost use Rattle.flow_reasons.specs.Meetings.{IsLastEvaluation, IsNextEvaluation, IsNextWrite, MayEndUnwritten};
 
 use crate::OutOfMemory;
+use crate::doubts::doubt_origin;
 use crate::marks::{kill_marks, touch_marks};
 use crate::met::{Search, met_points, path_has};
 use crate::reached::last_reached;
@@ -177,5 +181,17 @@ impl<'g, 'p> Reasons<'g, 'p> {
         ensures { MatchOption result (NoneReachedFrom self.now point 0) (λ found. IsLastReached self.now point found) }
     {
         last_reached(self.graph, &self.forward, point)
+    }
+
+    /// Why a point is doubtful: a point to which some path from it leads, and from which no valid path leads to the end of `main`. It may be
+    /// the point itself. None exactly where the point is not doubtful.
+    ///
+    /// Edges are followed breadth first and at most once each, whichever call a return belongs to, as doubt spreads. Fails only where memory
+    /// runs out.
+    pub fn doubt_origin(&self, alloc: Global, point: u32) -> Result<Option<u32>, OutOfMemory>
+        requires { point < point_count self.now }
+        ensures { IfOk result (λ found. MatchOption found (¬ (IsDoubtful (shape_of self.now) point)) (λ origin. IsDoubtOrigin self.now point origin)) }
+    {
+        doubt_origin(alloc, self.graph, &self.backward, point)
     }
 }

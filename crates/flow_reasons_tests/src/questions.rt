@@ -22,6 +22,8 @@ pub enum Question {
     NextEvaluations(u32, u32),
     /// The nearest point before one to which a path leads.
     LastReached(u32),
+    /// Why a point is doubtful.
+    DoubtOrigin(u32),
 }
 
 // What is asked of an expression.
@@ -131,6 +133,22 @@ fn write_last_reached(
     write_number(text, reasons.last_reached(point))
 }
 
+fn write_doubt_origin(
+    text: &mut String,
+    alloc: Global,
+    graph: &Graph<'_>,
+    reasons: &Reasons<'_, '_>,
+    point: u32,
+) -> Result<(), OutOfMemory>
+    requires { reasons.now ≡ graph.now }
+{
+    if point >= graph.points() {
+        return text.push_str("not there");
+    }
+    let origin = reasons.doubt_origin(alloc, point)?;
+    write_number(text, origin)
+}
+
 fn write_answer(
     text: &mut String,
     alloc: Global,
@@ -163,6 +181,7 @@ fn write_answer(
             )
         },
         Question::LastReached(point) => write_last_reached(text, graph, &reasons, point),
+        Question::DoubtOrigin(point) => write_doubt_origin(text, alloc, graph, &reasons, point),
     }
 }
 

@@ -22,6 +22,9 @@ const ENDLESS: &str = "proc main\nx = 1\nif c goto L\nx = 2\nreturn\nL: x = 3\nM
 /// Two lines that a jump passes over.
 const PASSED_OVER: &str = "proc main\ngoto L\nx = 1\ny = 2\nL: print x\nend\n";
 
+/// A procedure that nothing calls, and that calls another.
+const CALLS_UNCALLED: &str = "proc main\ncall p\nend\nproc p\nskip\nend\nproc q\ncall p\nend\n";
+
 /// By hand: variables and expressions are numbered as they come first in the text.
 const ROWS: &[Row] = &[
     (BRANCHES, Question::NextWrites(0, 0), "3;7;"),
@@ -60,6 +63,22 @@ const ROWS: &[Row] = &[
     (callee_loops::TEXT, Question::LastReached(3), "none"),
     (callee_loops::TEXT, Question::LastReached(4), "3"),
     (not_called::TEXT, Question::LastReached(3), "none"),
+    // The loop never ends, and the other branch does.
+    (no_end::TEXT, Question::DoubtOrigin(0), "3"),
+    (no_end::TEXT, Question::DoubtOrigin(2), "none"),
+    (no_end::TEXT, Question::DoubtOrigin(4), "4"),
+    (no_end::TEXT, Question::DoubtOrigin(5), "none"),
+    (ENDLESS, Question::DoubtOrigin(0), "4"),
+    // Nothing leads from the call to the end, but from behind it something does.
+    (callee_loops::TEXT, Question::DoubtOrigin(0), "0"),
+    (callee_loops::TEXT, Question::DoubtOrigin(1), "none"),
+    (callee_loops::TEXT, Question::DoubtOrigin(4), "none"),
+    // p returns to q too, which nothing calls: its end leads nowhere.
+    (CALLS_UNCALLED, Question::DoubtOrigin(0), "5"),
+    (CALLS_UNCALLED, Question::DoubtOrigin(1), "none"),
+    (CALLS_UNCALLED, Question::DoubtOrigin(2), "5"),
+    (CALLS_UNCALLED, Question::DoubtOrigin(4), "4"),
+    (recursion::TEXT, Question::DoubtOrigin(0), "none"),
 ];
 
 #[test]
