@@ -1,4 +1,5 @@
 pub mod Doubts
+pub mod Holders
 pub mod Lists
 pub mod Meetings
 pub mod Reached

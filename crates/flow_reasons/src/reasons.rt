@@ -5,12 +5,14 @@ ghost use Rattle.flow_graph.specs.Points.{point_count};
 ghost use Rattle.flow_graph.specs.Runs.{IsDoubtful};
 ghost use Rattle.flow_graph.specs.Universes.{expressions};
 ghost use Rattle.flow_reasons.specs.Doubts.{IsDoubtOrigin};
+ghost use Rattle.flow_reasons.specs.Holders.{HoldsValue};
 ghost use Rattle.flow_reasons.specs.Lists.{AreAll};
 ghost use Rattle.flow_reasons.specs.Reached.{IsLastReached, NoneReachedFrom};
 ghost use Rattle.flow_reasons.specs.Meetings.{IsLastEvaluation, IsNextEvaluation, IsNextWrite, MayEndUnwritten};
 
 use crate::OutOfMemory;
 use crate::doubts::doubt_origin;
+use crate::holders::{Asked, holders_of};
 use crate::marks::{kill_marks, touch_marks};
 use crate::met::{Search, met_points, path_has};
 use crate::reached::last_reached;
@@ -169,6 +171,36 @@ impl<'g, 'p> Reasons<'g, 'p> {
             at: point,
         };
         met_points(alloc, &search, evaluates.as_slice())
+    }
+
+    /// The numbers of all variables that hold the value of an expression at a point: on every valid path to it some statement assigned the
+    /// expression to the variable, and neither the variable nor an operand has been written since. So each may be read there in place of
+    /// computing the expression anew, if no other statement is changed. They rise. None where no valid path leads to the point. A copy of
+    /// such a variable is not among them.
+    ///
+    /// It goes over all statements and makes one search for each variable to which some statement assigns the expression. Fails only where
+    /// memory runs out.
+    pub fn holders(
+        &self,
+        alloc: Global,
+        expression: u32,
+        point: u32,
+    ) -> Result<Vec<u32>, OutOfMemory>
+        requires expression { expression < length (expressions self.now) }
+        requires point { point < point_count self.now }
+        ensures { IfOk result (λ list. AreAll (HoldsValue self.now expression point) list.items) }
+    {
+        // Its contract tells that the program is sound.
+        let _ = self.graph.points();
+        let asked = Asked {
+            graph: self.graph,
+            live: &self.live,
+            available: &self.available,
+            ways: &self.forward,
+            expression,
+            at: point,
+        };
+        holders_of(alloc, &asked)
     }
 
     /// The nearest point before a point, in its procedure, to which a valid path leads: the last line before one that is never reached.

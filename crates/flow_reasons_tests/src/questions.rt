@@ -20,6 +20,8 @@ pub enum Question {
     LastEvaluations(u32, u32),
     /// Those that may be the next from a point on.
     NextEvaluations(u32, u32),
+    /// The variables that hold the value of an expression at a point.
+    Holders(u32, u32),
     /// The nearest point before one to which a path leads.
     LastReached(u32),
     /// Why a point is doubtful.
@@ -31,6 +33,7 @@ pub enum Question {
 enum Which {
     Last,
     Next,
+    Holders,
 }
 
 /// A text, what is asked, and the answer.
@@ -92,6 +95,20 @@ fn write_next(
     write_numbers(text, points.as_slice())
 }
 
+fn write_holders(
+    text: &mut String,
+    alloc: Global,
+    reasons: &Reasons<'_, '_>,
+    expression: u32,
+    point: u32,
+) -> Result<(), OutOfMemory>
+    requires expression { expression < length (expressions reasons.now) }
+    requires point { point < point_count reasons.now }
+{
+    let variables = reasons.holders(alloc, expression, point)?;
+    write_numbers(text, variables.as_slice())
+}
+
 fn write_evaluations(
     text: &mut String,
     alloc: Global,
@@ -109,6 +126,7 @@ fn write_evaluations(
     match which {
         Which::Last => write_last(text, alloc, reasons, expression, point),
         Which::Next => write_next(text, alloc, reasons, expression, point),
+        Which::Holders => write_holders(text, alloc, reasons, expression, point),
     }
 }
 
@@ -178,6 +196,16 @@ fn write_answer(
                 &reasons,
                 (expression, point),
                 Which::Next,
+            )
+        },
+        Question::Holders(expression, point) => {
+            write_evaluations(
+                text,
+                alloc,
+                graph,
+                &reasons,
+                (expression, point),
+                Which::Holders,
             )
         },
         Question::LastReached(point) => write_last_reached(text, graph, &reasons, point),

@@ -19,6 +19,13 @@ const TWICE: &str =
 /// An endless loop on one side.
 const ENDLESS: &str = "proc main\nx = 1\nif c goto L\nx = 2\nreturn\nL: x = 3\nM: goto M\nend\n";
 
+/// An expression that is assigned twice.
+const ANEW: &str = "proc main\nt1 = a + b\nt3 = a + b\nread t1\nprint t3\nend\n";
+
+/// A call of either of two, of which one assigns the expression once more.
+const EITHER: &str =
+    "proc main\nx = a + b\ncall p | q\nprint x\nend\nproc p\nskip\nend\nproc q\ny = a + b\nend\n";
+
 /// Two lines that a jump passes over.
 const PASSED_OVER: &str = "proc main\ngoto L\nx = 1\ny = 2\nL: print x\nend\n";
 
@@ -51,6 +58,29 @@ const ROWS: &[Row] = &[
     (both_branches::TEXT, Question::NextEvaluations(0, 0), ""),
     (both_branches::TEXT, Question::NextEvaluations(0, 2), "3;6;"),
     (no_end::TEXT, Question::NextWrites(0, 0), "end"),
+    // Variables in the order of the text: c, x, a, b, y, z. Behind both branches neither x nor y holds it on every path, and behind
+    // point 4 z does, until a is written.
+    (TWICE, Question::Holders(0, 1), ""),
+    (TWICE, Question::Holders(0, 2), "1;"),
+    (TWICE, Question::Holders(0, 4), ""),
+    (TWICE, Question::Holders(0, 5), "5;"),
+    (TWICE, Question::Holders(0, 6), ""),
+    (TWICE, Question::Holders(0, 7), "5;"),
+    // t1, a, b, t3: t1 holds it until it is read anew.
+    (ANEW, Question::Holders(0, 0), ""),
+    (ANEW, Question::Holders(0, 1), "0;"),
+    (ANEW, Question::Holders(0, 2), "0;3;"),
+    (ANEW, Question::Holders(0, 3), "3;"),
+    // x, a, b, y: only one of the two callees assigns it to y.
+    (EITHER, Question::Holders(0, 2), "0;"),
+    (EITHER, Question::Holders(0, 4), "0;"),
+    (EITHER, Question::Holders(0, 7), "0;3;"),
+    // The callee may write b; no path leads behind a callee that never returns.
+    (call_between::TEXT, Question::Holders(0, 1), "0;"),
+    (call_between::TEXT, Question::Holders(0, 2), ""),
+    (call_between::TEXT, Question::Holders(0, 5), "0;"),
+    (call_between::TEXT, Question::Holders(0, 6), ""),
+    (callee_loops::TEXT, Question::Holders(0, 2), ""),
     // The two lines, what is behind them, and a line that nothing stands before.
     (PASSED_OVER, Question::LastReached(1), "0"),
     (PASSED_OVER, Question::LastReached(2), "0"),

@@ -8,7 +8,7 @@ use Rattle.std.proofs.lemmas.List.{get_or_append_left}
 use Rattle.std.proofs.lemmas.List.Elements.{Contains-append_cases, Contains-append_left, Contains-append_right, Contains-get_or}
 use Rattle.flow_graph.proofs.lists.Membership.{Contains-first, Contains-nil, Contains-one}
 use Rattle.flow_reasons.specs.Lists.{AreAll}
-use Rattle.flow_reasons.specs.code.Marks.{AreAllBelow}
+use Rattle.flow_reasons.specs.code.Marks.{AreAllBelow, AreMarks}
 
 pub none_below : (kind : ℕ → Type 0) → AreAllBelow kind 0 []
 none_below kind = record {
@@ -73,3 +73,15 @@ all_as first second list same are = record {
   rising = are.rising;
   listed = λ m. (λ at. (same m).0 ((are.listed m).0 at), λ is. (are.listed m).1 ((same m).1 is));
 }
+
+-- one mark more
+pub one_mark : (n : ℕ) (of : ℕ → Bool) (old : List Bool) (mark : Bool) (new : List Bool) → AreMarks n of old → mark ≡ of n → new ≡ old ++ mark ∷ []
+    → AreMarks (n + 1) of new
+one_mark n of old mark new are is same = subst (AreMarks (n + 1) of) (sym same) (record {
+  count = omega (arith, length-append old (mark ∷ []), are.count);
+  each = λ x low. elim (cases_eq x n) [
+    | inl here ↦
+        ap (λ k. get_or (old ++ mark ∷ []) k false) (here ∙ sym are.count) ∙ get_or-append_seam old mark [] false ∙ is ∙ ap of (sym here)
+    | inr other ↦ get_or_append_left old (mark ∷ []) false x (omega (arith, low, other, are.count)) ∙ are.each x (omega (arith, low, other))
+  ];
+})
