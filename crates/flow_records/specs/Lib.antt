@@ -10,3 +10,4 @@ pub mod Remarks
 pub mod Rooms
 pub mod Statements
 pub mod Texts
+pub mod Why

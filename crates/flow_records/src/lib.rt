@@ -22,6 +22,7 @@ mod rooms;
 mod statements;
 mod text;
 mod texts;
+mod why;
 
 pub use calls::{
     definitions_of_text, expressions_of_text, facts_of_text, names_of_text, points_of_text,
@@ -42,3 +43,4 @@ pub use rooms::put_list;
 pub use statements::NumberedStatement;
 pub use text::find_limits;
 pub use texts::{listing_of_text, put_listing, report_of_text};
+pub use why::{NumberedFact, NumberedHop, why_of_kept};
