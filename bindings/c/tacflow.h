@@ -8,9 +8,9 @@
  * All memory is the caller's. Texts, names and spans are counted in bytes; lines and columns from 1; all other numbers from 0.
  * A range a..b has the numbers from a up to b - 1.
  * A call that takes room takes a pointer and how many elements it points to, and wants exactly as many as are asked for, but for
- * bytes of names and of texts, edges and remarks, where there may be more. tacflow_sizes tells how many there are. After a status other than TACFLOW_OK
- * nothing was written, but the place of a refusal, and the size of a text, or the number of edges or remarks, for which there was too little
- * room.
+ * bytes of names and of texts, edges, remarks and hops, where there may be more. tacflow_sizes tells how many there are. After a status other
+ * than TACFLOW_OK nothing was written, but the place of a refusal, and the size of a text, or the number of edges, remarks or hops, for which
+ * there was too little room.
  *
  * Each call stands here twice: with its own name it keeps to the standard limits, and with _within at the name's end its first argument
  * says which limits (enum tacflow_limits). A program within the standard limits is answered the same within the large ones. A number of
@@ -144,7 +144,7 @@ typedef struct {
     uint32_t word;
 } tacflow_query;
 
-/* What is told of statements, edges and remarks has this number where there is none. */
+/* What is told of statements, edges, remarks and hops has this number where there is none. */
 #define TACFLOW_NONE UINT32_MAX
 
 /* What a statement is; the variables x, operands y and z, operators op, labels L. */
@@ -205,6 +205,31 @@ typedef struct {
     uint32_t kind; /* enum tacflow_remark_kind */
     uint32_t name; /* or TACFLOW_NONE */
 } tacflow_remark;
+
+enum tacflow_hop_kind {
+    TACFLOW_HOP_STEP = 0,  /* a step inside a procedure */
+    TACFLOW_HOP_ENTER = 1, /* from a call to its callee's first point: the callee is not left again on the way. For live and busy from the
+                            * point behind a call to its callee's last point: the call does not lie on the way */
+    TACFLOW_HOP_PASS = 2   /* from a call to the point behind it, by some path through the callee that has the effect. For live and busy
+                            * from the point behind the call to the call */
+};
+
+/* What a path through a callee does with the bit. */
+enum tacflow_effect {
+    TACFLOW_REACHES = 0,   /* nothing is said of the bit: the path is there */
+    TACFLOW_GENERATES = 1, /* it has the bit at its end, whether the bit was there before or not */
+    TACFLOW_PRESERVES = 2  /* no step of it kills the bit */
+};
+
+/* A hop of a path that tacflow_why tells, in the direction of the analysis: for live and busy that is against the edges. */
+typedef struct {
+    uint32_t kind; /* enum tacflow_hop_kind */
+    uint32_t from;
+    uint32_t to;
+    uint32_t site;   /* the point of the call; or TACFLOW_NO_POINT for a step */
+    uint32_t callee; /* the procedure that is passed; or TACFLOW_NONE for a step and a call that is left open */
+    uint32_t effect; /* enum tacflow_effect, of a call that is passed; or TACFLOW_NONE */
+} tacflow_hop;
 
 /* The longest name has so many bytes. */
 #define TACFLOW_LONGEST_NAME 64
@@ -501,6 +526,8 @@ uint32_t tacflow_c_doubtful(tacflow_handle *handle, uint32_t first_point, uint32
 uint32_t tacflow_c_statements(tacflow_handle *handle, tacflow_statement *statements, size_t count);
 uint32_t tacflow_c_edges(tacflow_handle *handle, uint32_t first_point, uint32_t end_point, tacflow_edge *edges, size_t room, size_t *count);
 uint32_t tacflow_c_remarks(tacflow_handle *handle, tacflow_remark *remarks, size_t room, size_t *count);
+uint32_t tacflow_c_why(tacflow_handle *handle, uint32_t analysis, uint32_t point, uint32_t bit, tacflow_hop *hops, size_t room, size_t *count,
+                       uint32_t *has);
 uint32_t tacflow_c_listing_of(tacflow_handle *handle, uint8_t *bytes, size_t room, size_t *size);
 uint32_t tacflow_c_report_of(tacflow_handle *handle, uint8_t *bytes, size_t room, size_t *size);
 
@@ -680,6 +707,25 @@ static inline int tacflow_remarks(tacflow_handle *handle, tacflow_remark *remark
     remarks = (tacflow_remark *)tacflow_some(remarks, room, &nothing);
     if (!handle || !remarks || !count) return TACFLOW_BAD_POINTER;
     return (int)tacflow_c_remarks(handle, remarks, room, count);
+}
+
+/* Why a bit of an analysis is in the set of a point: *has is 1, and the hops are those of a valid path that brings it there; or *has and *count
+ * are 0, and no valid path does. The first hop begins at the first point of main, for live and busy at its last, each one where the one before
+ * ended, and the last ends at the point. Where *has is 1 and *count is 0, the point is that first one, and has the bit from the beginning.
+ *
+ * For avail and busy the path is one on which the expression is *not* available or anticipated: it shows why the bit is not in the set, and
+ * *has is 0 where it is. A call that is passed as a whole stands for any path through the callee with the effect: whichever is put in its
+ * place, the path brings the bit.
+ *
+ * There are at most twice as many hops as points. Room and count as for tacflow_edges: where there is too little room, *has is not written.
+ * TACFLOW_BAD_ANALYSIS and TACFLOW_BAD_RANGE: there is no such analysis, or else no such point or bit of it. Each call is one search over the
+ * program, which takes time as its points and edges have it. */
+static inline int tacflow_why(tacflow_handle *handle, int analysis, uint32_t point, uint32_t bit, tacflow_hop *hops, size_t room, size_t *count,
+                              uint32_t *has) {
+    uint64_t nothing = 0;
+    hops = (tacflow_hop *)tacflow_some(hops, room, &nothing);
+    if (!handle || !hops || !count || !has) return TACFLOW_BAD_POINTER;
+    return (int)tacflow_c_why(handle, (uint32_t)analysis, point, bit, hops, room, count, has);
 }
 
 static inline int tacflow_listing_of(tacflow_handle *handle, char *bytes, size_t room, size_t *size) {

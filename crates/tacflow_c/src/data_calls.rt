@@ -1,4 +1,4 @@
-// The calls over a handle that tell what stands at its program's points, and the remarks on it, as data.
+// The calls over a handle that tell what stands at its program's points, the remarks on it, and why a bit is in a set, as data.
 
 ghost use Rattle.std.specs.Prelude.{◌≡◌, length};
 ghost use Rattle.flow_graph.specs.Points.{point_count};
@@ -11,12 +11,13 @@ ghost use Rattle.flow_records.specs.Parts.{AreParts};
 ghost use Rattle.flow_records.specs.Remarks.{AreNumberedRemarks};
 ghost use Rattle.flow_records.specs.Statements.{statement_part};
 ghost use Rattle.flow_records.specs.Numbers.{end_of};
+ghost use Rattle.flow_records.specs.Why.{IsWhyFault, IsWhyKept, TellsWhy};
 
 use crate::handle::Handle;
 use crate::statuses::asked_status;
 use flow_records::{
-    NumberedEdge, NumberedRemark, NumberedStatement, doubtful_of_kept, edges_of_kept,
-    paths_of_kept, remarks_of_kept, statements_of_kept,
+    NumberedEdge, NumberedFact, NumberedHop, NumberedRemark, NumberedStatement, doubtful_of_kept,
+    edges_of_kept, paths_of_kept, remarks_of_kept, statements_of_kept, why_of_kept,
 };
 use std::alloc::Global;
 
@@ -139,6 +140,40 @@ pub extern "C" fn tacflow_c_remarks(
     }
     let shared = handle.take(alloc);
     let answer = remarks_of_kept(alloc, shared.kept(), remarks, count);
+    handle.put(shared);
+    asked_status(answer)
+}
+
+/// Why a bit of an analysis is in the set of a point of a handle's program, in the may form: `has` is 1 and there are the hops of a path that
+/// brings it there, and how many they are; or `has` and the count are 0, and no valid path brings it. Where there is too little room the
+/// number of hops alone is told.
+#[unsafe(no_mangle)]
+#[tactic(auto, using(crate::proofs::answers::Asked::closed, crate::proofs::answers::Asked::asked))]
+pub extern "C" fn tacflow_c_why(
+    alloc: Global,
+    handle: &mut Handle,
+    analysis: u32,
+    point: u32,
+    bit: u32,
+    hops: &mut [NumberedHop],
+    count: &mut usize,
+    has: &mut u32,
+) -> u32
+    ensures { IsAsked result handle.old.held.value handle.new.held.value
+        (λ program. TellsWhy program (record { analysis = analysis; point = point; bit = bit }) hops.old hops.new count.new has.new)
+        (IsWhyKept hops.old hops.new count.old count.new has.old has.new)
+        (IsWhyFault (record { analysis = analysis; point = point; bit = bit }) (length hops.old) count.new) }
+{
+    if !handle.is_open {
+        return 8;
+    }
+    let fact = NumberedFact {
+        analysis,
+        point,
+        bit,
+    };
+    let shared = handle.take(alloc);
+    let answer = why_of_kept(alloc, shared.kept(), fact, hops, count, has);
     handle.put(shared);
     asked_status(answer)
 }

@@ -6,7 +6,7 @@
 //! bits in threads of its own, and together they are the table.
 //!
 //! A handle keeps a text's program between calls (`handle_calls`), and a call over it answers the same of that program. Words at single
-//! points, flags of points, statements, edges and remarks are asked of handles alone (`data_calls`).
+//! points, flags of points, statements, edges, remarks, and why a bit is in a set are asked of handles alone (`data_calls`).
 #![tactic(auto)]
 
 mod builds;
