@@ -1,5 +1,5 @@
-/* Points, statements, edges and remarks as data, against what is worked out by hand; bad input; each request for memory refused. Prints one
- * line for each that goes wrong. With a file's name it prints the program's remarks as the lines of its report. Compile with
+/* Points, statements, edges, remarks and the paths of facts as data, against what is worked out by hand; bad input; each request for memory
+ * refused. Prints one line for each that goes wrong. With a file's name it prints the program's remarks as the lines of its report. Compile with
  * -Wl,--wrap=malloc,--wrap=realloc,--wrap=free. */
 #include "counted.h"
 
@@ -39,6 +39,31 @@ static const tacflow_edge edges_by_hand[9] = {
 
 static const tacflow_remark remarks_by_hand[2] = {{0, TACFLOW_UNSET, 1}, {6, TACFLOW_DEAD, 1}};
 
+#define STEP(from, to) {TACFLOW_HOP_STEP, from, to, NO, NO, NO}
+#define ENTER(site, from, to) {TACFLOW_HOP_ENTER, from, to, site, NO, NO}
+#define PASS(site, from, to, effect) {TACFLOW_HOP_PASS, from, to, site, 1, effect}
+
+/* Bits at points, and the hops by which they get there, or none. The definitions are a and b at the beginning, then those of points 0 and 6. */
+static const struct {
+    int analysis;
+    uint32_t point;
+    uint32_t bit;
+    uint32_t has;
+    size_t count;
+    tacflow_hop hops[5];
+} whys_by_hand[10] = {
+    {TACFLOW_REACH, 7, 3, 1, 5, {STEP(0, 1), ENTER(1, 1, 4), STEP(4, 5), PASS(5, 5, 6, TACFLOW_REACHES), STEP(6, 7)}},
+    {TACFLOW_REACH, 7, 2, 1, 3, {STEP(0, 1), ENTER(1, 1, 4), STEP(4, 7)}},
+    {TACFLOW_REACH, 2, 1, 1, 2, {STEP(0, 1), PASS(1, 1, 2, TACFLOW_PRESERVES)}},
+    {TACFLOW_REACH, 2, 3, 1, 2, {STEP(0, 1), PASS(1, 1, 2, TACFLOW_GENERATES)}},
+    {TACFLOW_LIVE, 0, 1, 1, 3, {STEP(3, 2), PASS(1, 2, 1, TACFLOW_REACHES), STEP(1, 0)}},
+    {TACFLOW_LIVE, 6, 0, 1, 3, {STEP(3, 2), ENTER(1, 2, 7), STEP(7, 6)}},
+    {TACFLOW_AVAIL, 2, 0, 1, 2, {STEP(0, 1), PASS(1, 1, 2, TACFLOW_GENERATES)}}, /* p may write b */
+    {TACFLOW_REACH, 0, 0, 1, 0, {STEP(0, 0)}},
+    {TACFLOW_REACH, 0, 2, 0, 0, {STEP(0, 0)}},
+    {TACFLOW_AVAIL, 1, 0, 0, 0, {STEP(0, 0)}}, /* it is available */
+};
+
 /* What the calls write. */
 struct told {
     uint8_t paths[8];
@@ -46,11 +71,14 @@ struct told {
     tacflow_statement statements[8];
     tacflow_edge edges[10];
     tacflow_remark remarks[3];
+    tacflow_hop hops[6];
     size_t edge_count;
     size_t remark_count;
+    size_t hop_count;
+    uint32_t has;
 };
 
-enum { CALLS = 5 };
+enum { CALLS = 6 };
 
 static int call(int number, tacflow_handle *handle, struct told *told) {
     switch (number) {
@@ -58,7 +86,8 @@ static int call(int number, tacflow_handle *handle, struct told *told) {
     case 1: return tacflow_doubtful(handle, 0, TACFLOW_ALL_POINTS, told->doubtful, 8);
     case 2: return tacflow_statements(handle, told->statements, 8);
     case 3: return tacflow_edges(handle, 0, TACFLOW_ALL_POINTS, told->edges, 10, &told->edge_count);
-    default: return tacflow_remarks(handle, told->remarks, 3, &told->remark_count);
+    case 4: return tacflow_remarks(handle, told->remarks, 3, &told->remark_count);
+    default: return tacflow_why(handle, TACFLOW_REACH, 7, 3, told->hops, 6, &told->hop_count, &told->has);
     }
 }
 
@@ -74,6 +103,8 @@ static void by_hand(void) {
     expect_same("behind the edges", &before.edges[9], &told.edges[9], sizeof(tacflow_edge));
     expect_same("remarks", remarks_by_hand, told.remarks, sizeof remarks_by_hand);
     expect_same("behind the remarks", &before.remarks[2], &told.remarks[2], sizeof(tacflow_remark));
+    expect("a path's hops", 5, (int)told.hop_count), expect("a path", 1, (int)told.has);
+    expect_same("a path", whys_by_hand[0].hops, told.hops, sizeof whys_by_hand[0].hops);
     told.edge_count = 7, told.edges[1] = before.edges[0];
     expect("edges of a call", TACFLOW_OK, tacflow_edges(&handle, 1, 2, told.edges, 1, &told.edge_count));
     expect("one edge", 1, (int)told.edge_count);
@@ -85,6 +116,35 @@ static void by_hand(void) {
     expect("blocks", 0, (int)blocks);
 }
 
+/* Each path, in room for one hop more, and where there is one in room for one hop less. */
+static void whys(void) {
+    tacflow_handle handle = opened(calls);
+    tacflow_hop hops[6], before[6];
+    memset(before, 0x33, sizeof before);
+    for (size_t row = 0; row < sizeof whys_by_hand / sizeof *whys_by_hand; row++) {
+        const int analysis = whys_by_hand[row].analysis;
+        const uint32_t point = whys_by_hand[row].point, bit = whys_by_hand[row].bit;
+        const size_t wanted = whys_by_hand[row].count;
+        size_t count = 7;
+        uint32_t has = 7;
+        memcpy(hops, before, sizeof hops);
+        if (wanted) {
+            expect("a path in little room", TACFLOW_BAD_ROOM, tacflow_why(&handle, analysis, point, bit, hops, wanted - 1, &count, &has));
+            expect("hops that are needed", (int)wanted, (int)count), expect("not told", 7, (int)has);
+            expect_same("where room lacked", before, hops, sizeof before);
+        }
+        expect("a path", TACFLOW_OK, tacflow_why(&handle, analysis, point, bit, hops, wanted + 1, &count, &has));
+        expect("whether there is a path", (int)whys_by_hand[row].has, (int)has), expect("hops", (int)wanted, (int)count);
+        expect_same("hops", whys_by_hand[row].hops, hops, wanted * sizeof *hops);
+        expect_same("behind the hops", before, &hops[wanted], (6 - wanted) * sizeof *hops);
+        count = has = 7;
+        expect("a path in exact room", TACFLOW_OK, tacflow_why(&handle, analysis, point, bit, wanted ? hops : NULL, wanted, &count, &has));
+        expect("whether there is one", (int)whys_by_hand[row].has, (int)has), expect("hops in exact room", (int)wanted, (int)count);
+    }
+    expect("closed", TACFLOW_OK, tacflow_close(&handle));
+    expect("blocks after paths", 0, (int)blocks);
+}
+
 /* A procedure that never returns, and a statement that is never reached. */
 static void doubt(void) {
     tacflow_handle handle = opened("proc main\n  read a\n  goto M\n  x = a\nM:\n  if a goto M\n  call q\n  print a\nend\nproc q\nN:\n  goto N\nend\n");
@@ -93,6 +153,7 @@ static void doubt(void) {
     static const tacflow_remark remarks[2] = {{2, TACFLOW_NEVER_REACHED, TACFLOW_NONE}, {5, TACFLOW_NEVER_REACHED, TACFLOW_NONE}};
     tacflow_remark told[2];
     uint8_t flags[9];
+    uint32_t has = 7;
     size_t count;
     for (int analysis = 0; analysis < 4; analysis++) {
         expect("paths", TACFLOW_OK, tacflow_has_path(&handle, analysis, 0, TACFLOW_ALL_POINTS, flags, 9));
@@ -106,10 +167,33 @@ static void doubt(void) {
     expect_same("some doubt", doubtful + 4, flags, 4);
     expect("what is never reached", TACFLOW_OK, tacflow_remarks(&handle, told, 2, &count));
     expect_same("what is never reached", remarks, told, sizeof told);
+    for (int analysis = 0; analysis < 2; analysis++) {
+        expect("where no path leads", TACFLOW_OK, tacflow_why(&handle, analysis, analysis ? 3 : 2, 0, NULL, 0, &count, &has));
+        expect("no path leads there", 0, (int)has), expect("no hops", 0, (int)count);
+    }
     expect("closed", TACFLOW_OK, tacflow_close(&handle));
 }
 
-/* Bad input: nothing is written, but for the number of edges or remarks where room lacks. */
+static void refused_whys(tacflow_handle *handle, struct told *told) {
+    static const struct {
+        int analysis;
+        uint32_t point;
+        uint32_t bit;
+        int status;
+    } rows[] = {
+        {4, 0, 0, TACFLOW_BAD_ANALYSIS},          {-1, 8, 9, TACFLOW_BAD_ANALYSIS},          {TACFLOW_REACH, 8, 0, TACFLOW_BAD_RANGE},
+        {TACFLOW_REACH, NO, 0, TACFLOW_BAD_RANGE}, {TACFLOW_REACH, 0, 4, TACFLOW_BAD_RANGE}, {TACFLOW_LIVE, 0, 2, TACFLOW_BAD_RANGE},
+        {TACFLOW_AVAIL, 0, NO, TACFLOW_BAD_RANGE}, {TACFLOW_BUSY, 0, 2, TACFLOW_BAD_RANGE},
+    };
+    for (size_t row = 0; row < sizeof rows / sizeof *rows; row++)
+        expect("a path of no bit", rows[row].status,
+               tacflow_why(handle, rows[row].analysis, rows[row].point, rows[row].bit, told->hops, 6, &told->hop_count, &told->has));
+    expect("no hops", TACFLOW_BAD_POINTER, tacflow_why(handle, TACFLOW_REACH, 7, 3, NULL, 6, &told->hop_count, &told->has));
+    expect("no number of hops", TACFLOW_BAD_POINTER, tacflow_why(handle, TACFLOW_REACH, 7, 3, told->hops, 6, NULL, &told->has));
+    expect("nowhere to tell whether", TACFLOW_BAD_POINTER, tacflow_why(handle, TACFLOW_REACH, 7, 3, told->hops, 6, &told->hop_count, NULL));
+}
+
+/* Bad input: nothing is written, but for the number of edges, remarks or hops where room lacks. */
 static void faults(void) {
     tacflow_handle handle = opened(calls), closed = TACFLOW_CLOSED;
     struct told told, before;
@@ -132,6 +216,7 @@ static void faults(void) {
     expect("no number of edges", TACFLOW_BAD_POINTER, tacflow_edges(&handle, 0, 8, told.edges, 10, NULL));
     expect("no remarks", TACFLOW_BAD_POINTER, tacflow_remarks(&handle, NULL, 2, &told.remark_count));
     expect("no number of remarks", TACFLOW_BAD_POINTER, tacflow_remarks(&handle, told.remarks, 2, NULL));
+    refused_whys(&handle, &told);
     expect_same("after faults", &before, &told, sizeof told);
     expect("edges in little room", TACFLOW_BAD_ROOM, tacflow_edges(&handle, 0, 8, told.edges, 8, &told.edge_count));
     expect("remarks in no room", TACFLOW_BAD_ROOM, tacflow_remarks(&handle, NULL, 0, &told.remark_count));
@@ -268,6 +353,7 @@ int main(int argc, char **argv) {
         return 0;
     }
     by_hand();
+    whys();
     doubt();
     faults();
     refused();
