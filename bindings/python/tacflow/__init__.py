@@ -34,6 +34,7 @@ from tacflow._program import (
     Definition,
     Edge,
     Expression,
+    Hop,
     Operand,
     Point,
     Program,
@@ -42,7 +43,15 @@ from tacflow._program import (
     Statement,
     open,
 )
-from tacflow._words import Analysis, EdgeKind, Limits, RemarkKind, StatementKind
+from tacflow._words import (
+    Analysis,
+    EdgeKind,
+    Effect,
+    HopKind,
+    Limits,
+    RemarkKind,
+    StatementKind,
+)
 
 __all__ = [
     "Analysis",
@@ -55,9 +64,12 @@ __all__ = [
     "Definition",
     "Edge",
     "EdgeKind",
+    "Effect",
     "Error",
     "Expression",
     "Facts",
+    "Hop",
+    "HopKind",
     "Limits",
     "NotBuilt",
     "Operand",

@@ -139,6 +139,15 @@ class RawRemark(ctypes.Structure):
     _fields_ = [(name, ctypes.c_uint32) for name in ("point", "kind", "name")]
 
 
+class RawHop(ctypes.Structure):
+    """tacflow_hop."""
+
+    _fields_ = [
+        (name, ctypes.c_uint32)
+        for name in ("kind", "source", "target", "site", "callee", "effect")
+    ]
+
+
 class RawHandle(ctypes.Structure):
     """tacflow_handle, closed as it is made."""
 
@@ -234,5 +243,8 @@ DOUBTFUL = call_of("doubtful", NUMBER, NUMBER, BYTES, COUNT)
 STATEMENTS = call_of("statements", ctypes.POINTER(RawStatement), COUNT)
 EDGES = call_of("edges", NUMBER, NUMBER, ctypes.POINTER(RawEdge), COUNT, ctypes.POINTER(COUNT))
 REMARKS = call_of("remarks", ctypes.POINTER(RawRemark), COUNT, ctypes.POINTER(COUNT))
+# analysis, point, bit, hops, room, count, whether there is a path
+HOPS = (ctypes.POINTER(RawHop), COUNT, ctypes.POINTER(COUNT), ctypes.POINTER(NUMBER))
+WHY = call_of("why", NUMBER, NUMBER, NUMBER, *HOPS)
 LISTING = call_of("listing_of", *TEXT)
 REPORT = call_of("report_of", *TEXT)

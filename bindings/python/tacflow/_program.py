@@ -26,6 +26,8 @@ from tacflow._facts import Facts, within
 from tacflow._words import (
     Analysis,
     EdgeKind,
+    Effect,
+    HopKind,
     Limits,
     RemarkKind,
     StatementKind,
@@ -34,8 +36,9 @@ from tacflow._words import (
 )
 
 SIGNS = "+ - * / % & | ^ << >> < <= > >= == != ~ !".split()
-# How much room a text has at first.
+# How much room a text has at first, in bytes, and a path, in hops.
 ROOM = 65536
+HOPS = 4096
 
 Made = TypeVar("Made")
 
@@ -134,6 +137,21 @@ class Remark(NamedTuple):
     number."""
 
 
+class Hop(NamedTuple):
+    """A hop of a path, from the point `source` to the point `target`, in the direction of the
+    analysis: for `live` and `busy` that is against the edges."""
+
+    kind: HopKind
+    source: int
+    target: int
+    site: int | None
+    """The point of the call; None for a step."""
+    callee: int | None
+    """The procedure that is passed, by number; None for a step and a call that is left open."""
+    effect: Effect | None
+    """What the path through the callee does with the bit; None where no callee is passed."""
+
+
 def number_of(raw: int) -> int | None:
     """A number, or None where the library tells that there is none."""
     return None if raw == library.NONE else raw
@@ -174,6 +192,12 @@ def edge_of(raw: Any) -> Edge:
 
 def remark_of(raw: Any) -> Remark:
     return Remark(raw.point, RemarkKind(raw.kind), number_of(raw.name))
+
+
+def hop_of(raw: Any) -> Hop:
+    effect = None if raw.effect == library.NONE else Effect(raw.effect)
+    called = number_of(raw.site), number_of(raw.callee)
+    return Hop(HopKind(raw.kind), raw.source, raw.target, *called, effect)
 
 
 def close_handle(handle: library.RawHandle) -> None:
@@ -537,6 +561,49 @@ class Program:
         if word not in range((self.bit_count(which) + 63) // 64):
             raise BadRange(f"the analysis {which.name.lower()} has no word {word!r}")
         return library.RawQuery(int(which), point, word)
+
+    def why(self, analysis: Analysis | str | int, point: int, bit: int) -> list[Hop] | None:
+        """Why a bit is in the set of a point: the hops of a valid path that brings it there.
+
+        The first hop begins at the first point of `main`, for `live` and `busy` at its last, each
+        one where the one before ended, and the last ends at the point. There are none where the
+        point is that first one and has the bit from the beginning. For `avail` and `busy` the path
+        is one on which the expression is *not* available or anticipated: it shows why the bit is
+        not in the set.
+
+        Args:
+            analysis: the analysis, or its word.
+            point: at which point.
+            bit: which bit of the analysis.
+
+        Returns:
+            The hops, at most twice as many as points; or None where no valid path brings the bit:
+            for `reach` and `live` where it is not in the set, for `avail` and `busy` where it is.
+            It is searched for anew each time.
+
+        Raises:
+            BadAnalysis: there is no such analysis.
+            BadRange: the program has no such point, or the analysis no such bit.
+            ClosedProgram: the program is closed.
+            OutOfMemory: memory was refused.
+        """
+        fact, has = self._fact_of(analysis, point, bit), ctypes.c_uint32()
+
+        def call(handle: library.RawHandle, *words: Any) -> int:
+            status: int = library.WHY(handle, *words, has)
+            return status
+
+        most = min(2 * self.sizes.points, HOPS)
+        hops = self._ask_list(call, library.RawHop, most, hop_of, *fact)
+        return list(hops) if has.value else None
+
+    def _fact_of(self, analysis: Analysis | str | int, point: int, bit: int) -> tuple[int, ...]:
+        which = analysis_of(analysis)
+        if point not in range(self.sizes.points):
+            raise BadRange(f"the program has no point {point!r}")
+        if bit not in range(self.bit_count(which)):
+            raise BadRange(f"the analysis {which.name.lower()} has no bit {bit!r}")
+        return int(which), point, bit
 
     def _ask_text(self, call: Any) -> str:
         size = ctypes.c_size_t(ROOM)

@@ -78,6 +78,31 @@ class RemarkKind(enum.IntEnum):
     """No execution reads what it assigns to the variable: it can be deleted."""
 
 
+class HopKind(enum.IntEnum):
+    """What a hop of a path is."""
+
+    STEP = 0
+    """A step inside a procedure."""
+    ENTER = 1
+    """From a call to its callee's first point: the callee is not left again on the way. For `live`
+    and `busy` from the point behind a call to its callee's last point: the call does not lie on the
+    way."""
+    PASS = 2
+    """From a call to the point behind it, by some path through the callee that has the effect. For
+    `live` and `busy` from the point behind the call to the call."""
+
+
+class Effect(enum.IntEnum):
+    """What a path through a callee does with the bit."""
+
+    REACHES = 0
+    """Nothing is said of the bit: the path is there."""
+    GENERATES = 1
+    """It has the bit at its end, whether the bit was there before or not."""
+    PRESERVES = 2
+    """No step of it kills the bit."""
+
+
 Word = TypeVar("Word", Analysis, Limits)
 
 
