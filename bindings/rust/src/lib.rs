@@ -354,6 +354,65 @@ fn remark(raw: raw::RawRemark) -> Remark {
     Remark { point: raw.point, says }
 }
 
+/// What a path through a callee does with the bit.
+#[derive(Clone, Copy, Debug, PartialEq, Eq, Hash)]
+pub enum Effect {
+    /// Nothing is said of the bit: the path is there.
+    Reaches,
+    /// It has the bit at its end, whether the bit was there before or not.
+    Generates,
+    /// No step of it kills the bit.
+    Preserves,
+}
+
+/// What a hop is.
+#[derive(Clone, Copy, Debug, PartialEq, Eq, Hash)]
+pub enum HopKind {
+    /// A step inside a procedure.
+    Step,
+    /// From the call at this point to its callee's first point: the callee is not left again on the way. For live variables and very busy
+    /// expressions from the point behind the call to the callee's last point: the call does not lie on the way.
+    Enter {
+        /// The point of the call.
+        site: u32,
+    },
+    /// From the call at this point to the point behind it, by some path through the callee that has the effect. For live variables and
+    /// very busy expressions from the point behind the call to the call.
+    Pass {
+        /// The point of the call.
+        site: u32,
+        /// The procedure, by number.
+        callee: u32,
+        /// What the path does with the bit.
+        effect: Effect,
+    },
+}
+
+/// A hop of a path, in the direction of the analysis: for live variables and very busy expressions that is against the edges.
+#[derive(Clone, Copy, Debug, PartialEq, Eq, Hash)]
+pub struct Hop {
+    /// What it is.
+    pub kind: HopKind,
+    /// The point where it begins.
+    pub from: u32,
+    /// The point where it ends.
+    pub to: u32,
+}
+
+fn hop(raw: raw::RawHop) -> Hop {
+    let effect = match raw.effect {
+        0 => Effect::Reaches,
+        1 => Effect::Generates,
+        _ => Effect::Preserves,
+    };
+    let kind = match raw.kind {
+        0 => HopKind::Step,
+        1 => HopKind::Enter { site: raw.site },
+        _ => HopKind::Pass { site: raw.site, callee: raw.callee, effect },
+    };
+    Hop { kind, from: raw.from, to: raw.to }
+}
+
 /// A program that was read: its text, its points, and what the bits of its analyses are. The library keeps it, so nothing is read anew
 /// when it is asked, also by several threads at once. A clone is the same program, and copies nothing.
 ///
@@ -618,6 +677,23 @@ impl Program {
     pub fn doubtful(&self, points: Range<u32>) -> Result<Vec<bool>, Error> {
         let points = self.some(points)?;
         Ok(self.kept.handles.ask(|handle| handle.doubtful(points))?.into_iter().map(|flag| flag == 1).collect())
+    }
+
+    /// Why a bit of an analysis is in the set of a point: the hops of a valid path that brings it there, or none where no valid path does.
+    /// The first hop begins at the first point of `main`, for live variables and very busy expressions at its last, each one where the one
+    /// before ended, and the last ends at the point. There are no hops where the point is that first one and has the bit from the
+    /// beginning, and at most twice as many as points. The path is searched for anew each time.
+    ///
+    /// For available and very busy expressions the path is one on which the expression is *not* available or anticipated: it shows why the
+    /// bit is not in the set, and there is none where it is.
+    ///
+    /// # Errors
+    ///
+    /// `BadRange` where the program has no such point or the analysis no such bit; `OutOfMemory` where memory was refused.
+    pub fn why(&self, analysis: Analysis, point: u32, bit: u32) -> Result<Option<Vec<Hop>>, Error> {
+        let points = self.kept.sizes.points;
+        let hops = self.kept.handles.ask(|handle| handle.why(points, analysis, point, bit))?;
+        Ok(hops.map(|hops| hops.into_iter().map(hop).collect()))
     }
 
     /// The facts of an analysis.

@@ -142,6 +142,17 @@ pub(crate) struct RawRemark {
 }
 
 #[repr(C)]
+#[derive(Clone, Copy, Default)]
+pub(crate) struct RawHop {
+    pub kind: u32,
+    pub from: u32,
+    pub to: u32,
+    pub site: u32,
+    pub callee: u32,
+    pub effect: u32,
+}
+
+#[repr(C)]
 struct RawHandle {
     is_open: bool,
     at: *mut c_void,
@@ -200,6 +211,16 @@ extern "C" {
         count: *mut usize,
     ) -> u32;
     fn tacflow_c_remarks(handle: *mut RawHandle, remarks: *mut RawRemark, room: usize, count: *mut usize) -> u32;
+    fn tacflow_c_why(
+        handle: *mut RawHandle,
+        analysis: u32,
+        point: u32,
+        bit: u32,
+        hops: *mut RawHop,
+        room: usize,
+        count: *mut usize,
+        has: *mut u32,
+    ) -> u32;
     fn tacflow_c_ask(handle: *mut RawHandle, queries: *const Query, count: usize, words: *mut u64, word_count: usize) -> u32;
     fn tacflow_c_listing_of(handle: *mut RawHandle, bytes: *mut u8, room: usize, size: *mut usize) -> u32;
     fn tacflow_c_report_of(handle: *mut RawHandle, bytes: *mut u8, room: usize, size: *mut usize) -> u32;
@@ -223,8 +244,9 @@ const BAD_ROOM: u32 = 5;
 /// The status that tells that arrays stand for no program.
 const NOT_BUILT: u32 = 9;
 
-/// How much room a text has at first.
+/// How much room a text has at first, in bytes, and a path, in hops.
 const ROOM: usize = 65_536;
+const HOPS: usize = 4_096;
 
 fn answered(status: u32) -> Result<(), Error> {
     match status {
@@ -418,7 +440,7 @@ impl Handle {
     fn made<T: Clone + Default>(
         &mut self,
         room: usize,
-        call: impl Fn(&mut RawHandle, &mut [T], &mut usize) -> u32,
+        mut call: impl FnMut(&mut RawHandle, &mut [T], &mut usize) -> u32,
     ) -> Result<Vec<T>, Error> {
         let mut size = room;
         loop {
@@ -443,6 +465,16 @@ impl Handle {
             // SAFETY: the pointers and lengths are of slices and values that outlive the call.
             unsafe { tacflow_c_remarks(handle, remarks.as_mut_ptr(), remarks.len(), count) }
         })
+    }
+
+    /// The hops of a path, or none; `points` is how many the program has.
+    pub fn why(&mut self, points: u32, analysis: Analysis, point: u32, bit: u32) -> Result<Option<Vec<RawHop>>, Error> {
+        let mut has = 0;
+        let hops = self.made(HOPS.min(2 * points as usize), |handle, hops: &mut [RawHop], count| {
+            // SAFETY: the pointers and lengths are of slices and values that outlive the call.
+            unsafe { tacflow_c_why(handle, analysis as u32, point, bit, hops.as_mut_ptr(), hops.len(), count, &mut has) }
+        })?;
+        Ok((has == 1).then_some(hops))
     }
 
     fn text(&mut self, call: TextCall) -> Result<Vec<u8>, Error> {

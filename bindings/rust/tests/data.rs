@@ -1,7 +1,8 @@
-//! Points, statements, edges and remarks as data, by hand.
+//! Points, statements, edges, remarks and the paths of facts as data, by hand.
 
 use tacflow::{
-    Analysis, Built, BuiltProcedure, Edge, EdgeKind, Error, Limits, Operand, Program, Remark, Says, Statement, StatementKind,
+    Analysis, Built, BuiltProcedure, Edge, EdgeKind, Effect, Error, Hop, HopKind, Limits, Operand, Program, Remark, Says, Statement,
+    StatementKind,
 };
 
 const CALLS: &str =
@@ -82,6 +83,33 @@ fn remarks() {
     let again = Program::read("proc main\n  read a\n  if a goto L\n  b = a * a\n  print b\nL:\n  c = a * a\n  d = a * a\n  print d\nend\n");
     let wanted = vec![remark(1, Says::VeryBusy(0)), remark(4, Says::Dead(2)), remark(5, Says::AlreadyComputed(0))];
     assert_eq!(again.expect("a program").remarks(), Ok(wanted));
+}
+
+#[test]
+fn whys() {
+    let program = Program::read(CALLS).expect("a program");
+    let step = |from, to| Hop { kind: HopKind::Step, from, to };
+    let enter = |site, from, to| Hop { kind: HopKind::Enter { site }, from, to };
+    let pass = |site, from, to, effect| Hop { kind: HopKind::Pass { site, callee: 1, effect }, from, to };
+    use Effect::{Generates, Preserves, Reaches};
+    let rows = [
+        (Analysis::Reach, 7, 3, Some(vec![step(0, 1), enter(1, 1, 4), step(4, 5), pass(5, 5, 6, Reaches), step(6, 7)])),
+        (Analysis::Reach, 2, 1, Some(vec![step(0, 1), pass(1, 1, 2, Preserves)])),
+        (Analysis::Live, 0, 1, Some(vec![step(3, 2), pass(1, 2, 1, Reaches), step(1, 0)])),
+        (Analysis::Live, 6, 0, Some(vec![step(3, 2), enter(1, 2, 7), step(7, 6)])),
+        (Analysis::Avail, 2, 0, Some(vec![step(0, 1), pass(1, 1, 2, Generates)])),
+        (Analysis::Avail, 1, 0, None),
+        (Analysis::Reach, 0, 0, Some(vec![])),
+        (Analysis::Reach, 0, 2, None),
+    ];
+    for (analysis, point, bit, wanted) in rows {
+        assert_eq!(program.why(analysis, point, bit), Ok(wanted), "{analysis:?} {point} {bit}");
+    }
+    assert_eq!(program.why(Analysis::Reach, 8, 0), Err(Error::BadRange));
+    assert_eq!(program.why(Analysis::Busy, 0, 2), Err(Error::BadRange));
+    let long = Program::read(format!("proc main\n  read x\n{}  print x\nend\n", "  skip\n".repeat(5_000))).expect("a program");
+    let hops = long.why(Analysis::Reach, 5_001, 1).expect("an answer").expect("a path");
+    assert!(hops.iter().copied().eq((0..5_001).map(|point| step(point, point + 1))));
 }
 
 // The program of `CALLS` without a text.
