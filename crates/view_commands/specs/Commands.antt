@@ -24,10 +24,12 @@ abbrev pub flag_rule : Text → Rule
 flag_rule name = record (new_rule name) { long = Some name; action = Some SetTrue }
 
 -- `tacview [--format KIND] [--facts LIST] [--procedure NAME] [--paths]`, and behind them `[--limits SIZE] [--workers N] [--cut N]`
+abbrev pub form_command : Bor (List PossibleValue) → App
+form_command values =
+    with_rule (with_rule (new_app (codes "tacview")) (kind_rule (codes "format") (codes "dot") values)) (text_rule (codes "facts"))
+
 abbrev pub view_command : Bor (List PossibleValue) → App
-view_command values =
-    with_rule (with_rule (with_rule (with_rule (new_app (codes "tacview"))
-    (kind_rule (codes "format") (codes "dot") values)) (text_rule (codes "facts"))) (text_rule (codes "procedure"))) (flag_rule (codes "paths"))
+view_command values = with_rule (with_rule (form_command values) (text_rule (codes "procedure"))) (flag_rule (codes "paths"))
 
 abbrev pub tacview_command : Bor (List PossibleValue) → Bor (List PossibleValue) → App
 tacview_command values bounds =

@@ -6,7 +6,7 @@ ghost use Rattle.clap.specs.Words.{FailsBy, app_of, first_of, found_of, rows_of,
 ghost use Rattle.flow_runs.specs.Words.{AreKindsOf, kind_rule};
 ghost use Rattle.flow_runs.specs.code.Matches.{HoldsKind};
 ghost use Rattle.view_commands.specs.Commands.{AnswersWords, NamesOptions, flag_rule, format_queried, has_paths, knows_facts};
-ghost use Rattle.view_commands.specs.Commands.{option_kinds, tacview_command, text_rule, view_command};
+ghost use Rattle.view_commands.specs.Commands.{form_command, option_kinds, tacview_command, text_rule, view_command};
 ghost use Rattle.view_commands.specs.Kinds.{with_paths, facts_queried, format_named, formats as known_formats, limits_named, sizes as known_sizes};
 ghost use Rattle.view_commands.specs.code.Matches.{HoldsOptions};
 
@@ -146,6 +146,20 @@ fn limits_option<'a>(alloc: Global, sizes: &'a [PossibleValue<'a>]) -> Arg<'a>
         .help("How large the text and its program may be")
 }
 
+// The command with the options that say in which form facts are shown, and which.
+fn form_command<'a>(
+    alloc: Global,
+    formats: &'a [PossibleValue<'a>],
+) -> Result<Command<'a>, OutOfMemory>
+    ensures { IfOk result (λ c. app_of c ≡ form_command formats.entry) }
+{
+    Command::new(alloc, "tacview")
+        .about(ABOUT)
+        .after_help(AFTER_HELP)
+        .arg(format_option(alloc, formats))?
+        .arg(facts_option(alloc))
+}
+
 // The command with the options that say what is shown.
 fn view_command<'a>(
     alloc: Global,
@@ -153,11 +167,7 @@ fn view_command<'a>(
 ) -> Result<Command<'a>, OutOfMemory>
     ensures { IfOk result (λ c. app_of c ≡ view_command formats.entry) }
 {
-    Command::new(alloc, "tacview")
-        .about(ABOUT)
-        .after_help(AFTER_HELP)
-        .arg(format_option(alloc, formats))?
-        .arg(facts_option(alloc))?
+    form_command(alloc, formats)?
         .arg(procedure_option(alloc))?
         .arg(paths_option(alloc))
 }

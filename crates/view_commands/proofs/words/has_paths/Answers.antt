@@ -11,3 +11,10 @@ returns-in-None c =
     let found : first_of (codes "paths") rows ≡ None =
     sym (first_value-rows (found_of c.args.matches.now) (codes "paths")) ∙ sym c.get_str.ensures ∙ ap (option_map (λ s. s.now)) c.in-None.is in
     sym (ap (λ o. option_map_or (λ word. bytes_eq word (codes "true")) o false) found)
+
+pub returns-in-Some : goal.returns-in-Some
+returns-in-Some c =
+    let rows = rows_of (found_of c.args.matches.now) in
+    let found : first_of (codes "paths") rows ≡ Some c.in-Some.word.now =
+    sym (first_value-rows (found_of c.args.matches.now) (codes "paths")) ∙ sym c.get_str.ensures ∙ ap (option_map (λ s. s.now)) c.in-Some.is in
+    c.eq.ensures ∙ sym (ap (λ o. option_map_or (λ word. bytes_eq word (codes "true")) o false) found)
