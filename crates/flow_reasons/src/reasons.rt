@@ -222,7 +222,8 @@ impl<'g, 'p> Reasons<'g, 'p> {
     /// runs out.
     pub fn doubt_origin(&self, alloc: Global, point: u32) -> Result<Option<u32>, OutOfMemory>
         requires { point < point_count self.now }
-        ensures { IfOk result (λ found. MatchOption found (¬ (IsDoubtful (shape_of self.now) point)) (λ origin. IsDoubtOrigin self.now point origin)) }
+        ensures { IfOk result (λ found. MatchOption found (¬ (IsDoubtful (shape_of self.now) point))
+            (λ origin. IsDoubtOrigin self.now point origin)) }
     {
         doubt_origin(alloc, self.graph, &self.backward, point)
     }
