@@ -8,3 +8,4 @@ pub mod Listed
 pub mod Packed
 pub mod Told
 pub mod Gathered
+pub mod Splitting

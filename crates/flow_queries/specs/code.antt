@@ -3,3 +3,4 @@ pub mod Cuts
 pub mod Directions
 pub mod Packing
 pub mod Solving
+pub mod Splits

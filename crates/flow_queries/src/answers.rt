@@ -38,8 +38,8 @@ impl Model for Answers {
     ghost view = { λ a. record { queries = a.queries.items; words = a.words.items; forward = a.forward.items; backward = a.backward.items } };
 }
 
-// The query of a number.
-fn query_at(queries: &[Query], q: usize) -> Query
+/// The query of a number.
+pub(crate) fn query_at(queries: &[Query], q: usize) -> Query
     requires { q < length queries.now }
     ensures { slice_get queries.now q ≡ Some result }
 {

@@ -5,24 +5,26 @@ ghost use Rattle.bit_rows.specs.RowTable.{set_at};
 ghost use Rattle.gen_kill.specs.Selections.{may_form};
 ghost use Rattle.gk_solve.specs.Solved.{HasPathFlags};
 ghost use Rattle.slice_board.specs.Boards.{IsOf};
-ghost use Rattle.flow_queries.specs.Queries.{AreQueriesOf, IsAnswerTo};
+ghost use Rattle.flow_queries.specs.Queries.{AreQueriesOf, IsAnswerTo, IsQueryOf};
 ghost use Rattle.slice_board.specs.Teams.{PostsMore};
 ghost use Rattle.flow_queries.specs.code.Boards.{AreDone, Arranges, IsQueryBoard, IsWanted, ordered};
 ghost use Rattle.flow_queries.specs.code.Cuts.{AreAlike};
 ghost use Rattle.flow_queries.specs.code.Directions.{selection_of};
 ghost use Rattle.flow_queries.specs.code.Packing.{ArePacked, HasAsked, HasColumns};
 ghost use Rattle.flow_queries.specs.code.Solving.{IsAskedWord};
+ghost use Rattle.flow_queries.specs.code.Splits.{AreSplit, IsSplit};
 ghost use Rattle.flow_queries.specs.declared.query.Query.{Query as QueryValue};
+ghost use Rattle.tac_program.specs.Programs.{Program};
 
 use crate::OutOfMemory;
 use crate::packing::solver_among;
-use crate::plan::SlicePlan;
 use crate::query::Query;
 use crate::solved_words::SolvedWords;
 use crate::solvers::GraphSolvers;
+use crate::splitting::Split;
 use bit_rows::words_for;
 use flow_graph::Analysis;
-use flow_team::complement_mask;
+use flow_team::{SlicePlan, complement_mask};
 use gen_kill::Problem;
 use gk_solve::Solver;
 use slice_board::{Pass, PostedWords, Solve, Wanted, WordBoard};
@@ -32,21 +34,26 @@ use std::marker::Model;
 /// What is asked of a graph, and the solvers of its analyses.
 pub(crate) struct QueriedWords<'g, 'p> {
     solvers: GraphSolvers<'g, 'p>,
-    // By the analyses' numbers: of the bits that are asked alone, where these are solved side by side.
+    // By the analyses' numbers: of the bits that are left alone, where these are solved side by side.
     packed: Vec<Option<Solver<'g, 'p>>>,
     queries: Vec<Query>,
+    // Of each query the bits that are left to be solved, and the word of the others.
+    split: Split,
     places: Vec<u32>,
 }
 
 impl<'g, 'p> Model for QueriedWords<'g, 'p> {
-    ghost use Rattle.flow_queries.specs.code.Boards.{Queried, IsArranged, queried_in};
+    ghost use Rattle.flow_queries.specs.code.Boards.{Queried, IsArranged, left_in};
     ghost use Rattle.flow_queries.specs.code.Packing.{ArePacked};
+    ghost use Rattle.flow_queries.specs.code.Splits.{AreSplit};
 
     ghost Value = { Queried };
 
-    ghost view = { λ s. queried_in s.solvers s.queries.items s.places.items };
+    ghost view = { λ s. left_in s.solvers s.queries.items s.split.left.items s.places.items };
 
-    ghost invariant = { λ s. IsArranged (queried_in s.solvers s.queries.items s.places.items) × ArePacked s.solvers s.queries.items s.packed.items };
+    ghost invariant = { λ s. IsArranged (left_in s.solvers s.queries.items s.split.left.items s.places.items)
+        × ArePacked s.solvers s.split.left.items s.packed.items
+        × AreSplit s.solvers s.queries.items s.split.left.items s.split.found.items };
 }
 
 impl Drop for QueriedWords<'_, '_> {
@@ -56,6 +63,7 @@ impl Drop for QueriedWords<'_, '_> {
             solvers: _,
             packed: _,
             queries: _,
+            split: _,
             places: _,
         } = self;
     }
@@ -74,17 +82,27 @@ pub(crate) fn first_word(problem: &Problem<'_, '_>, query: Query) -> u32 {
     problem.column(bit).unwrap_or(0) / 64
 }
 
+// What was found of a query, and what was solved of the rest of it.
+fn joined(found: u64, solved: u64) -> u64
+    ensures { (program : Program) (query rest : QueryValue) → IsSplit program query rest found → IsAskedWord program rest solved
+        → IsAskedWord program query result }
+{
+    found | solved
+}
+
 impl<'g, 'p> QueriedWords<'g, 'p> {
     /// What is asked of a graph, with the solvers of the bits that are asked alone, and the order in which the queries are solved.
     pub(crate) fn of(
         solvers: GraphSolvers<'g, 'p>,
         packed: Vec<Option<Solver<'g, 'p>>>,
         queries: Vec<Query>,
+        split: Split,
         places: Vec<u32>,
     ) -> Self
         requires queries { AreQueriesOf solvers queries.items }
         requires few { 64 * length queries.items < 2 ^ 32 }
-        requires packed { ArePacked solvers queries.items packed.items }
+        requires packed { ArePacked solvers split.left.items packed.items }
+        requires split { AreSplit solvers queries.items split.left.items split.found.items }
         requires arranged { Arranges queries.items (ordered queries.items places.items) places.items }
         ensures program { result.program ≡ solvers.entry }
         ensures queries { result.queries ≡ queries.items }
@@ -94,6 +112,7 @@ impl<'g, 'p> QueriedWords<'g, 'p> {
             solvers,
             packed,
             queries,
+            split,
             places,
         }
     }
@@ -116,10 +135,10 @@ impl<'g, 'p> QueriedWords<'g, 'p> {
         self.places.len() as u32
     }
 
-    // The solver of the bits of an analysis that are asked.
+    // The solver of the bits of an analysis that are left.
     fn solver(&self, analysis: Analysis) -> &Solver<'g, 'p>
         ensures program { result.now.program ≡ self.now.program }
-        ensures asked { HasAsked self.now.order analysis result.now }
+        ensures asked { HasAsked self.now.left analysis result.now }
     {
         solver_among(&self.solvers, self.packed.as_slice(), analysis)
     }
@@ -187,6 +206,7 @@ impl<'g, 'p> QueriedWords<'g, 'p> {
             solvers,
             packed: _,
             queries,
+            split: _,
             places: _,
         } = self;
         (queries, solvers)
@@ -214,6 +234,32 @@ impl<'g, 'p> QueriedWords<'g, 'p> {
         board.post(pass, 0, j, word);
     }
 
+    // What is left of the query of a number in the order, and the word that was found.
+    fn left(&self, j: u32) -> (Query, u64)
+        requires { j < length self.now.order }
+        ensures left { slice_get self.now.left (slice_index self.now.places j) ≡ Some result.0 }
+        ensures of { IsQueryOf self.now.program result.0 }
+        ensures split { (query : QueryValue) → slice_get self.now.order j ≡ Some query → IsSplit self.now.program query result.0 result.1 }
+    {
+        let place = self.places[j as usize] as usize;
+        let rest = self.split.left[place];
+        let found = self.split.found[place];
+        (rest, found)
+    }
+
+    // The word of what is wanted of the query of a number in the order: of what is left, and of what was found.
+    fn wanted_word(&self, words: &mut SolvedWords<'_, 'g, 'p>, j: u32) -> u64
+        requires there { j < length self.now.order }
+        requires program { words.old.program ≡ self.now.program }
+        requires asked { (rest : QueryValue) → slice_get self.now.left (slice_index self.now.places j) ≡ Some rest → HasColumns words.old rest }
+        ensures same { words.new ≡ words.old }
+        ensures tells { (query : QueryValue) → slice_get self.now.order j ≡ Some query → IsAskedWord self.now.program query result }
+    {
+        let (rest, found) = self.left(j);
+        let solved = words.asked(rest);
+        joined(found, solved)
+    }
+
     // Posts what is wanted of the query of a number in the order, of whose analysis the words are.
     fn post_query(
         &self,
@@ -226,13 +272,13 @@ impl<'g, 'p> QueriedWords<'g, 'p> {
         requires of { IsOf board.now pass.old }
         requires there { j < length self.now.order }
         requires program { words.old.program ≡ self.now.program }
-        requires asked { (query : QueryValue) → slice_get self.now.order j ≡ Some query → HasColumns words.old query }
+        requires asked { (rest : QueryValue) → slice_get self.now.left (slice_index self.now.places j) ≡ Some rest → HasColumns words.old rest }
         ensures same { words.new ≡ words.old }
         ensures more { PostsMore pass.old pass.new }
         ensures done { AreDone self.now (λ q. q ≡ j) pass.new.posted }
     {
         let query = self.query(j);
-        let word = words.asked(query);
+        let word = self.wanted_word(words, j);
         self.post_word(board, pass, j, query, word);
     }
 

@@ -11,11 +11,12 @@ use crate::OutOfMemory;
 use crate::answers::Answers;
 use crate::arrange::places_by;
 use crate::packing::{packed_solvers, solver_among};
-use crate::plan::SlicePlan;
 use crate::queried::{QueriedWords, first_word};
 use crate::query::Query;
 use crate::solvers::GraphSolvers;
+use crate::splitting::split_queries;
 use bit_rows::{Cut, CutFault};
+use flow_team::SlicePlan;
 use gk_solve::Solver;
 use slice_board::{Pass, SliceJob, WordBoard};
 use std::alloc::Global;
@@ -126,10 +127,11 @@ pub(crate) fn queried_job<'g, 'p>(
     ensures queries { IfOk result (λ r. r.0.wanted.queries ≡ queries.items) }
     ensures pass { IfOk result (λ r. r.1 ≡ fresh_pass r.0) }
 {
-    let packed = packed_solvers(alloc, solvers.graph(), queries.as_slice())?;
+    let split = split_queries(alloc, &solvers, queries.as_slice())?;
+    let packed = packed_solvers(alloc, solvers.graph(), split.left.as_slice())?;
     let places = places_of(alloc, &solvers, packed.as_slice(), queries.as_slice())?;
     let plan = SlicePlan::of(solvers.points(), cut);
-    let queried = QueriedWords::of(solvers, packed, queries, places);
+    let queried = QueriedWords::of(solvers, packed, queries, split, places);
     let cut = cut_of(alloc, &queried, plan)?;
     on_board(alloc, queried, cut)
 }

@@ -59,8 +59,8 @@ pub(crate) fn is_one(word: u64, place: u32) -> bool
     (word >> place) & 1 == 1
 }
 
-// A word with one bit more, if there is one.
-fn with_bit_if(word: u64, place: u32, there: bool) -> u64
+/// A word with one bit more, if there is one.
+pub(crate) fn with_bit_if(word: u64, place: u32, there: bool) -> u64
     requires { place < 64 }
     ensures { (k : ℕ) → k < 64 → has_bit result k ≡ (has_bit word k || (nat_eq k place && there)) }
 {
@@ -181,6 +181,9 @@ impl<'a, 'g, 'p> SolvedWords<'a, 'g, 'p> {
         ensures same { self.new ≡ self.old }
         ensures tells { IsAskedWord self.old.program query result }
     {
+        if query.bits == 0 {
+            return 0;
+        }
         if self.solver.problem().is_whole() {
             return self.word(query.point, query.word) & query.bits;
         }

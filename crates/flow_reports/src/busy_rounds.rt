@@ -9,15 +9,16 @@ ghost use Rattle.flow_reports.specs.code.Querying.{Queries};
 ghost use Rattle.flow_reports.specs.code.Busy.{ArePoints, AreRounds, QueriesRound, round_start};
 
 use crate::OutOfMemory;
-use crate::busy_words::BusyWords;
+use crate::busy_words::{BusyWords, Round};
 use bit_rows::words_for;
 use flow_graph::{Analysis, Graph};
-use flow_queries::{Answers, Query, SlicePlan};
+use flow_queries::{Answers, Query};
+use flow_team::SlicePlan;
 use std::alloc::Global;
 
 // For each worker, of which two are taken to be there at least, a round asks for so many words: more than two such shares no program within
 // the standard limits has.
-const WORKER_WORDS: u32 = 1 << 19;
+const WORKER_WORDS: u32 = 7 << 16;
 
 // At most so many words are solved at once: a round that cut them would solve the same words again.
 const SOLVED_WORDS: u32 = 8;
@@ -169,10 +170,13 @@ impl BusyRounds {
         ensures less { IfOk result (λ _. 0 < self.old.until → self.new.until < self.old.until) }
     {
         let from = self.start();
-        let width = self.until - from;
+        let round = Round {
+            before,
+            from,
+            width: self.until - from,
+        };
         let tests = self.tests.as_slice();
-        self.busy
-            .put_round(graph, answers, tests, before, from, width)?;
+        self.busy.put_round(graph, answers, tests, round)?;
         self.until = from;
         Ok(())
     }

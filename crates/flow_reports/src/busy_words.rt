@@ -23,6 +23,17 @@ pub(crate) struct BusyWord {
     pub(crate) mask: u64,
 }
 
+/// A round of queries: the words from one on, so many of each test's set, behind so many other queries.
+#[derive(Clone, Copy)]
+pub(crate) struct Round {
+    /// How many other queries stand before them.
+    pub(crate) before: u32,
+    /// The first word.
+    pub(crate) from: u32,
+    /// How many words.
+    pub(crate) width: u32,
+}
+
 /// The words with a bit of the tests' sets of very busy expressions, in a list for each test: most words of most sets have none.
 #[derive(Drop)]
 pub(crate) struct BusyWords {
@@ -90,53 +101,49 @@ impl BusyWords {
         answers: &Answers,
         tests: &[u32],
         test: u32,
-        before: u32,
-        from: u32,
-        width: u32,
+        round: Round,
     ) -> Result<(), OutOfMemory>
         requires firsts { length self.old.firsts.items ≡ length tests.now }
         requires test { test < length tests.now }
         requires answers { AreAnswers graph.now answers.now }
-        requires queries { QueriesRound tests.now from width before answers.now.queries }
-        requires within { 64 * (from + width) < bits graph.now Busy + 64 }
-        requires few { before + length tests.now * width < 2 ^ 32 }
-        requires answered { AreBusy graph.now self.old.words.items (slice_index tests.now test) (from + width)
+        requires queries { QueriesRound tests.now round.from round.width round.before answers.now.queries }
+        requires within { 64 * (round.from + round.width) < bits graph.now Busy + 64 }
+        requires few { round.before + length tests.now * round.width < 2 ^ 32 }
+        requires answered { AreBusy graph.now self.old.words.items (slice_index tests.now test) (round.from + round.width)
             (slice_index self.old.firsts.items test) }
         ensures keeps { IfOk result (λ _. Keeps (busy_lists self.old) (busy_lists self.new) test) }
         ensures answered { IfOk result
-            (λ _. AreBusy graph.now self.new.words.items (slice_index tests.now test) from (slice_index self.new.firsts.items test)) }
+            (λ _. AreBusy graph.now self.new.words.items (slice_index tests.now test) round.from (slice_index self.new.firsts.items test)) }
     {
-        let first = before + test * width;
-        for behind in 0..width {
-            let number = (first + (width - 1 - behind)) as usize;
+        let first = round.before + test * round.width;
+        for behind in 0..round.width {
+            let number = (first + (round.width - 1 - behind)) as usize;
             self.put(test, answers.query(number), answers.word(number))?;
         }
         Ok(())
     }
 
-    /// Puts what a round asked for, behind so many other queries, before what is there: the words from one on, so many of each test's set.
+    /// Puts what a round asked for before what is there.
     pub(crate) fn put_round(
         &mut self,
         graph: &Graph<'_>,
         answers: &Answers,
         tests: &[u32],
-        before: u32,
-        from: u32,
-        width: u32,
+        round: Round,
     ) -> Result<(), OutOfMemory>
         requires tests { length tests.now < 2 ^ 32 }
         requires firsts { length self.old.firsts.items ≡ length tests.now }
         requires answers { AreAnswers graph.now answers.now }
-        requires queries { QueriesRound tests.now from width before answers.now.queries }
-        requires within { 64 * (from + width) < bits graph.now Busy + 64 }
-        requires few { before + length tests.now * width < 2 ^ 32 }
-        requires answered { TellBusy graph.now tests.now (busy_lists self.old) (from + width) }
+        requires queries { QueriesRound tests.now round.from round.width round.before answers.now.queries }
+        requires within { 64 * (round.from + round.width) < bits graph.now Busy + 64 }
+        requires few { round.before + length tests.now * round.width < 2 ^ 32 }
+        requires answered { TellBusy graph.now tests.now (busy_lists self.old) (round.from + round.width) }
         ensures firsts { IfOk result (λ _. length self.new.firsts.items ≡ length tests.now) }
-        ensures answered { IfOk result (λ _. TellBusy graph.now tests.now (busy_lists self.new) from) }
+        ensures answered { IfOk result (λ _. TellBusy graph.now tests.now (busy_lists self.new) round.from) }
     {
-        self.words.reserve(with_bits(answers, before))?;
+        self.words.reserve(with_bits(answers, round.before))?;
         for test in 0..tests.len() {
-            self.put_test(graph, answers, tests, test as u32, before, from, width)?;
+            self.put_test(graph, answers, tests, test as u32, round)?;
         }
         Ok(())
     }

@@ -9,7 +9,8 @@ use crate::busy_rounds::BusyRounds;
 use crate::report_answers::ReportAnswers;
 use crate::report_queries::{PointQueries, ReportQueries, report_queries};
 use flow_graph::Graph;
-use flow_queries::{Answers, Query, SlicePlan};
+use flow_queries::{Answers, Query};
+use flow_team::SlicePlan;
 use std::alloc::Global;
 
 /// What becomes of the answers to the first queries: those of all but very busy expressions are kept, and those behind them are the first round of

@@ -184,10 +184,22 @@ const SUMS_OF_TWO_GROUPS: Querying = Querying {
     pathless: ALL_PATHS,
 };
 
-// Of the same words the first bit and the last one: few bits of many words are solved side by side.
+// Of the same words the first eight bits and the last one: few bits of many words are solved side by side.
 const SUMS_SIDE_BY_SIDE: Querying = Querying {
+    bits: 1 << 63 | 255,
+    ..SUMS_OF_TWO_GROUPS
+};
+
+// Of the same words the first bit and the last one: so few are asked for one by one, and bounds may settle them.
+const SUMS_ONE_BY_ONE: Querying = Querying {
     bits: 1 << 63 | 1,
     ..SUMS_OF_TWO_GROUPS
+};
+
+// So it is of all bits of a program with few.
+const CALLEE_LOOPS_ONE_BY_ONE: Querying = Querying {
+    bits: 7,
+    ..CALLEE_LOOPS_ASKING
 };
 
 // The order in which the rows are asked.
@@ -711,4 +723,22 @@ fn answers_of_few_bits(rt: HostRuntime) -> Result<(), Fail> {
     // The bits of each analysis stand in one word, so its queries are in one slice.
     let text = sums(rt.alloc(), BITS_OF_TWO_GROUPS)?;
     check_answers(&rt, text.as_str(), SUMS_SIDE_BY_SIDE, TWO_SLICES)
+}
+
+#[test]
+fn answers_of_bits_one_by_one(rt: HostRuntime) -> Result<(), Fail> {
+    check_answers(
+        &rt,
+        callee_loops::TEXT,
+        CALLEE_LOOPS_ONE_BY_ONE,
+        FOUR_SLICES,
+    )
+}
+
+#[test]
+fn answers_of_few_bits_one_by_one(rt: HostRuntime) -> Result<(), Fail> {
+    let text = sums(rt.alloc(), BITS_OF_TWO_GROUPS)?;
+    let queried = (SUMS_ONE_BY_ONE, Order::Shuffled);
+    let want = wanted_lines(rt.alloc(), SUMS_ONE_BY_ONE, Order::Shuffled)?;
+    check(&rt, text.as_str(), queried, Way::Here, want.as_str())
 }

@@ -4,12 +4,14 @@ ghost use Rattle.gen_kill.specs.code.KeptEffects.{number_if};
 
 use std::marker::Model;
 
-/// What the statement at a point does with the bits of an analysis: its own bits, and the variable that it writes.
+/// What the statement at a point does with the bits of an analysis.
 #[derive(Debug, Clone, Copy, PartialEq, Eq)]
-pub(crate) struct Effect {
-    pub(crate) first: Option<u32>,
-    pub(crate) second: Option<u32>,
-    pub(crate) written: Option<u32>,
+pub struct Effect {
+    /// The columns of its own, two at most.
+    pub first: Option<u32>,
+    pub second: Option<u32>,
+    /// The variable that it writes.
+    pub written: Option<u32>,
 }
 
 /// An effect in 16 bytes, where an [`Effect`] takes 24: there is one for each point and analysis.

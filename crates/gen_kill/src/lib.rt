@@ -10,6 +10,7 @@ mod problem;
 mod words;
 
 pub use bit_table::BitTable;
+pub use effect::Effect;
 pub use marks::marked_numbers;
 pub use problem::Problem;
 pub use std::alloc::AllocError as OutOfMemory;

@@ -9,7 +9,7 @@ ghost use Rattle.gen_kill.specs.Selections.{AreChosen, IsColumnAffected, IsColum
 ghost use Rattle.gen_kill.specs.Selections.{all_bits, bit_of, column_boundary, column_count, column_gens, column_kills};
 ghost use Rattle.gen_kill.specs.Selections.{some_bits};
 ghost use Rattle.gen_kill.specs.code.Columns.{IsChosenOf};
-ghost use Rattle.gen_kill.specs.code.Effects.{IsColumnEffect, IsDependence, column_depends, marks};
+ghost use Rattle.gen_kill.specs.code.Effects.{IsColumnEffect, IsDependence, column_depends, effect_owns, marks};
 ghost use Rattle.flow_graph.specs.Limits.{HasFewBits, HasFewPoints};
 ghost use Rattle.flow_graph.specs.WellFormed.{IsWellFormed};
 ghost use Rattle.flow_graph.specs.Points.{end_point, point_count, procedure_at};
@@ -282,8 +282,8 @@ impl<'g, 'p> Problem<'g, 'p> {
         }
     }
 
-    // The variables that a column's bit depends on.
-    fn variables_of(&self, column: u32) -> (Option<u32>, Option<u32>)
+    /// The variables that a column's bit depends on: two at most.
+    pub fn variables_of(&self, column: u32) -> (Option<u32>, Option<u32>)
         requires { column < column_count self.now }
         ensures { (x : ℕ) → (marks result.0 x || marks result.1 x) ≡ column_depends self.now x column }
     {
@@ -321,6 +321,17 @@ impl<'g, 'p> Problem<'g, 'p> {
         ensures { IsColumnEffect self.now point result }
     {
         self.effects[point as usize].effect()
+    }
+
+    /// What the step of the statement at a point may touch: it generates or kills bits of its own columns, and of those that depend on the variable that
+    /// it writes, and no others.
+    pub fn touched(&self, point: u32) -> Effect
+        requires { point < point_count self.now.program }
+        ensures written { IfSome result.written (λ x. x < length self.now.program.variable_names) }
+        ensures affected { (column : ℕ) → column < column_count self.now → IsColumnAffected self.now point column
+            → (effect_owns result column || unwrap_or (option_map (λ x. column_depends self.now x column) result.written) false) ≡ true }
+    {
+        self.effect(point)
     }
 
     /// The words of 64 columns in which the step of the statement at a point may generate or kill a bit: where place `p` is 0, it does so

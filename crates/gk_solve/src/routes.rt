@@ -146,8 +146,8 @@ impl Routes {
         self.paths[point as usize]
     }
 
-    /// The edges.
-    pub(crate) fn links(&self) -> &Links
+    /// The edges in the direction.
+    pub fn links(&self) -> &Links
         ensures { result.now ≡ self.now }
     {
         &self.links

@@ -1,9 +1,11 @@
 -- Bits that are gathered one after the other.
 use Rattle.std.proofs.Common.{◌≡◌, ◌↔◌, ◌∙◌, ◌⊎◌, ℕ, ◌+◌, ◌*◌, ◌%◌, ◌^◌, ◌<◌, Bool, true, false, ◌&&◌, ◌||◌, nat_eq, inl, inr, refl, sym, ap, ap₂, subst, arith}
-use Rattle.std.proofs.Common.{bit_or, true≢false, ne_eqb, eq-eqb}
+use Rattle.std.proofs.Common.{bit_and, bit_or, not, true≢false, ne_eqb, eq-eqb}
+use Rattle.std.proofs.Common.{w64}
+use Rattle.std.specs.Int.{bit_not}
 use native.Mathlib.Decide.{ℕ_discrete}
 use mathlib.Core.Logic.{dite}
-use Rattle.bit_rows.proofs.words.WordBits.{has_bit-or, has_bit-shifted_other, has_bit-shifted_same}
+use Rattle.bit_rows.proofs.words.WordBits.{has_bit-and, has_bit-not, has_bit-or, has_bit-shifted_other, has_bit-shifted_same}
 use Rattle.bit_rows.specs.Words.{has_bit}
 
 one_bit : (place k : ℕ) → place < 64 → has_bit (1 * 2 ^ place % 2 ^ 64) k ≡ nat_eq k place
@@ -28,6 +30,14 @@ or_false false = refl
 pub bit_added : (word place k : ℕ) → place < 64 → has_bit (bit_or word (1 * 2 ^ place % 2 ^ 64)) k ≡ (has_bit word k || (nat_eq k place && true))
 bit_added word place k small =
     has_bit-or word (1 * 2 ^ place % 2 ^ 64) k ∙ ap (λ b. has_bit word k || b) (one_bit place k small ∙ sym (and_true (nat_eq k place)))
+
+-- one bit less
+pub bit_removed : (word place k : ℕ) → place < 64 → k < 64
+    → has_bit (bit_and word (bit_not w64 (1 * 2 ^ place % 2 ^ 64))) k ≡ (has_bit word k && not (nat_eq k place))
+bit_removed word place k small below =
+    let one : ℕ = 1 * 2 ^ place % 2 ^ 64 in
+    has_bit-and word (bit_not w64 one) k
+    ∙ ap (λ b. has_bit word k && b) (has_bit-not one k (omega arith) below ∙ ap not (one_bit place k small))
 
 pub bit_not_added : (word place k : ℕ) → has_bit word k ≡ (has_bit word k || (nat_eq k place && false))
 bit_not_added word place k = sym (ap (λ b. has_bit word k || b) (and_false (nat_eq k place)) ∙ or_false (has_bit word k))

@@ -1,8 +1,8 @@
 -- What the words of a problem tell that were solved last.
-use Rattle.std.proofs.Common.{◌≡◌, ◌↔◌, ◌∙◌, ℕ, ◌+◌, ◌*◌, ◌<◌, ◌≤◌, ◌&&◌, true, sym, ap, ap₂, subst, arith}
+use Rattle.std.proofs.Common.{◌≡◌, ◌↔◌, ◌∙◌, ℕ, ◌+◌, ◌*◌, ◌<◌, ◌≤◌, ◌&&◌, true, true≢false, sym, ap, ap₂, subst, arith}
 use Rattle.std.specs.Prelude.{bit_and}
 use Rattle.std.proofs.lemmas.Bool.{and_parts}
-use Rattle.bit_rows.proofs.words.WordBits.{has_bit-and}
+use Rattle.bit_rows.proofs.words.WordBits.{has_bit-and, has_bit-zero}
 use Rattle.bit_rows.specs.Words.{has_bit}
 use Rattle.flow_graph.specs.Points.{point_count}
 use Rattle.flow_graph.specs.Paths.{SomePathHas}
@@ -14,6 +14,7 @@ use Rattle.flow_queries.specs.declared.query.Query.{Query}
 use Rattle.flow_team.specs.Sets.{IsInColumns}
 use Rattle.gen_kill.specs.Selections.{IsColumnOf, Selection, all_bits}
 use Rattle.gk_solve.specs.Solved.{SliceTable, word_at}
+use Rattle.tac_program.specs.Programs.{Program}
 
 pub word_told : (selection : Selection) (slice : SliceTable) (from until point word k value : ℕ) → AreWordsOf selection from until slice → from ≤ word
     → word < until → point < point_count selection.program → k < 64 → value ≡ word_at slice point word
@@ -34,6 +35,13 @@ same_bit selection analysis point bit column goes is below =
       (λ has. (has.0, below, subst (λ (a : Analysis). at a bit) (sym goes) (subst (at selection.analysis) is.1 has.2))),
       (λ has. (has.0, is.0, subst (at selection.analysis) (sym is.1) (subst (λ (a : Analysis). at a bit) goes has.2))),
     )
+
+-- where nothing is asked nothing is told
+pub none_asked : (program : Program) (query : Query) → query.bits ≡ 0 → IsAskedWord program query 0
+none_asked program query none k small = (
+  (λ has. absurd (true≢false (sym has ∙ has_bit-zero k))),
+  (λ found. absurd (true≢false (sym found.0 ∙ ap (λ (n : ℕ). has_bit n k) none ∙ has_bit-zero k))),
+)
 
 -- where all bits are solved a word's own places tell its bits
 pub whole_asked : (selection : Selection) (query : Query) (value : ℕ) → query.analysis ≡ selection.analysis

@@ -13,10 +13,12 @@ use Rattle.slice_board.specs.Passes.{IsLogged}
 use Rattle.slice_board.specs.declared.view.LoggedWord.{LoggedWord}
 use Rattle.tac_program.specs.Programs.{Program}
 
--- a program, what is asked of it, the same queries in the order in which they are solved, and the number of each of these
+-- a program, what is asked of it, what of that is left to be solved, the same queries in the order in which they are solved, and the number of
+-- each of these
 pub record Queried : Type 0 where
   pub program : Program
   pub queries : List Query
+  pub left : List Query
   pub order : List Query
   pub places : List ℕ
 
@@ -36,9 +38,14 @@ pub record Arranges (queries order : List Query) (places : List ℕ) : Type 0 wh
   pub each : (j : ℕ) → j < length queries → slice_get order j ≡ slice_get queries (slice_index places j)
   pub all : (q : ℕ) → q < length queries → (j : ℕ) × (j < length queries) × (slice_index places j ≡ q)
 
--- what is asked of a program, in the order of these numbers
+-- what is asked of a program, in the order of these numbers, and what of it is left
+abbrev pub left_in : Program → List Query → List Query → List ℕ → Queried
+left_in program queries left places =
+    record { program = program; queries = queries; left = left; order = ordered queries places; places = places }
+
+-- all of it
 abbrev pub queried_in : Program → List Query → List ℕ → Queried
-queried_in program queries places = record { program = program; queries = queries; order = ordered queries places; places = places }
+queried_in program queries places = left_in program queries queries places
 
 -- What is asked is of the program, also in that order, and its words have numbers.
 pub record IsArranged (queried : Queried) : Type 0 where

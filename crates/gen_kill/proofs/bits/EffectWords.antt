@@ -2,12 +2,12 @@
 use Rattle.std.proofs.Common.{◌≡◌, ◌∙◌, ◌⊎◌, ℕ, ◌+◌, ◌*◌, ◌/◌, ◌%◌, ◌<◌, Bool, true, false, ◌||◌, option_map, unwrap_or, List, length, inl, inr, refl}
 use Rattle.std.proofs.Common.{sym, ap, bit_or, arith}
 use Rattle.std.proofs.Math.Bool.{or-true}
-use Rattle.std.proofs.lemmas.Bool.{or_cases}
+use Rattle.std.proofs.lemmas.Bool.{or_cases, or_left, or_right}
 use Rattle.bit_rows.specs.Words.{has_bit}
 use Rattle.bit_rows.proofs.words.WordBits.{has_bit-or}
 use Rattle.gen_kill.specs.code.BitTables.{table_has}
 use Rattle.gen_kill.specs.Selections.{IsColumnAffected, Selection, bit_of, column_count}
-use Rattle.gen_kill.specs.code.Effects.{AreDependentWords, IsColumnEffect, column_depends, depends, gen_from, kill_from, marks, owns, touches}
+use Rattle.gen_kill.specs.code.Effects.{AreDependentWords, IsColumnEffect, column_depends, depends, effect_owns, gen_from, kill_from, marks, owns, touches}
 use Rattle.flow_graph.specs.declared.analysis.Analysis.TheVariants.{Reach, Live, Avail, Busy}
 use Rattle.flow_graph.specs.declared.analysis.Analysis.{Analysis}
 use Rattle.gen_kill.specs.declared.effect.Effect.{Effect}
@@ -58,6 +58,14 @@ pub touched_column : (s : Selection) (point column : ℕ) (e : Effect) → IsCol
     → unwrap_or (option_map (λ x. column_depends s x column) e.written) false ≡ touches s.program s.analysis point (bit_of s column)
 unfolding column_depends
 touched_column s point column e known = ap (λ o. unwrap_or (option_map (λ x. depends s.program s.analysis x (bit_of s column)) o) false) known.written
+
+-- what is generated or killed is among a statement's own columns, and those that depend on what it writes
+pub affected_among : (s : Selection) (point column : ℕ) (e : Effect) → IsColumnEffect s point e → column < column_count s → IsColumnAffected s point column
+    → (effect_owns e column || unwrap_or (option_map (λ x. column_depends s x column) e.written) false) ≡ true
+affected_among s point column e effect below affected = elim (affected_from s point column affected) [
+  | inl own ↦ or_left (effect_owns e column) _ (effect.own column below ∙ own)
+  | inr is ↦ or_right (effect_owns e column) _ (touched_column s point column e effect ∙ is)
+]
 
 -- so is the word of a column that the statement generates or kills
 pub affected_word : (s : Selection) (point column : ℕ) (e : Effect) (first second touched : ℕ)

@@ -13,4 +13,5 @@ invariant_of-result c =
         arranged = r.arranged;
       },
       r.packed,
+      r.split,
     )

@@ -1,8 +1,11 @@
-use Rattle.std.proofs.Common.{◌∙◌, refl, sym, subst, arith}
+use Rattle.std.proofs.Common.{◌∙◌, slice_index, refl, sym, subst, arith}
+use Rattle.flow_queries.specs.code.Boards.{IsArranged, Queried}
 use Rattle.flow_queries.specs.code.Packing.{HasColumns}
+use Rattle.flow_queries.specs.code.Splits.{AreSplit}
 use Rattle.gen_kill.specs.Selections.{Selection}
 use Rattle.flow_team.proofs.posts.Posts.{of_still, posts_more, posts_none}
 use Rattle.flow_queries.proofs.queries.Done.{done_more}
+use Rattle.flow_queries.proofs.queries.Splitting.{left_goes}
 use Rattle.flow_queries.proofs.queried.QueriedWords.post_range.Goals as goal
 
 pub queries-init : goal.queries-init
@@ -15,11 +18,16 @@ queries-init c =
     }
 
 pub post_query-requires-clause-asked : goal.post_query-requires-clause-asked
-post_query-requires-clause-asked c = λ query there.
-    let alike = c.requires.one c.queries.j (omega (arith, c.queries.auto.j)) (omega (arith, c.queries-test.true)) c.query-first.result query
-    c.query-first.ensures.query there in
-    subst (λ (selection : Selection). HasColumns selection query) (sym (c.queries.invariant.solves ∙ c.in_ok-words.ensures))
-    (c.solver-solver.ensures.asked.each c.queries.j query there (sym alike))
+post_query-requires-clause-asked c = λ rest there.
+    let queried = c.args.self.now in
+    let found = c.self.inside.split.found.items in
+    let arranged = (subst IsArranged c.self.view_is c.self.invariant.0).arranged in
+    let split = subst (λ (a : Queried). AreSplit a.program a.queries a.left found) c.self.view_is c.self.invariant.2 in
+    let goes = left_goes queried found arranged split c.args.from c.queries.j c.query-first.result rest
+    (omega (arith, c.queries-test.true, c.requires.until))
+    (c.requires.one c.queries.j (omega (arith, c.queries.auto.j)) (omega (arith, c.queries-test.true))) c.query-first.ensures.query there in
+    subst (λ (selection : Selection). HasColumns selection rest) (sym (c.queries.invariant.solves ∙ c.in_ok-words.ensures))
+    (c.solver-solver.ensures.asked.each (slice_index queried.places c.queries.j) rest there goes)
 
 pub queries-preserved : goal.queries-preserved
 queries-preserved c =

@@ -13,13 +13,13 @@ loop-behind-preserved c =
     let program : Program = c.args.graph.now in
     let points = c.args.tests.now in
     let point : ℕ = slice_index points c.args.test in
-    let from : ℕ = c.args.from in
-    let width : ℕ = c.args.width in
+    let from : ℕ = c.args.round.from in
+    let width : ℕ = c.args.round.width in
     let k : ℕ = width - 1 - c.loop-behind.behind in
     let inside : k < width = omega (arith, c.loop-behind-test.true) in
     let place : ℕ = c.args.test * width + k in
-    let number : ℕ = c.args.before + c.args.test * width + k in
-    let at : c.args.before + place ≡ number = omega arith in
+    let number : ℕ = c.args.round.before + c.args.test * width + k in
+    let at : c.args.round.before + place ≡ number = omega arith in
     let queried : slice_get c.args.answers.now.queries number ≡ Some (round_query points from width place) =
     subst (λ (q : ℕ). slice_get c.args.answers.now.queries q ≡ Some (round_query points from width place)) at
     (c.requires.queries place (omega (arith, mul-add-lt c.args.test width k (length points) c.requires.test inside))) in

@@ -7,7 +7,7 @@ use std::alloc::Global;
 use std::thread::{Threads, join};
 
 /// A half of a work: a closure that goes to a thread cannot name the two lifetimes of a graph.
-pub(crate) trait Half<T>: Drop {
+pub trait Half<T>: Drop {
     // what it finds
     ghost gives: { Self → T → Type 0 };
 
@@ -36,7 +36,7 @@ fn find_on_thread<R: Threads + Sync, T: Send, F: Half<T> + Send>(
 
 /// Both halves, each on a new thread. This one waits: where it went on with a half, the thread that it started could be kept waiting, on
 /// the same processor, for as long as the system lets one run.
-pub(crate) fn side_by_side<R: Threads + Sync, T: Send, F: Half<T> + Send, S: Half<T> + Send>(
+pub fn side_by_side<R: Threads + Sync, T: Send, F: Half<T> + Send, S: Half<T> + Send>(
     rt: &R,
     alloc: Global,
     first: F,

@@ -1,0 +1,4 @@
+pub mod bounds
+pub mod paths
+pub mod rules
+pub mod telling

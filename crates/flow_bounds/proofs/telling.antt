@@ -1,0 +1,5 @@
+pub mod Adding
+pub mod Links
+pub mod Points
+pub mod Statements
+pub mod Telling

@@ -1,0 +1,3 @@
+pub mod listed
+pub mod witnesses
+pub mod words_put

@@ -1,0 +1,7 @@
+pub mod Effects
+pub mod Lists
+pub mod Outside
+pub mod Ranks
+pub mod Regions
+pub mod Touches
+pub mod Ways
