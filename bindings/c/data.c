@@ -1,6 +1,6 @@
-/* Points, statements, edges, remarks and the paths of facts as data, against what is worked out by hand; bad input; each request for memory
- * refused. Prints one line for each that goes wrong. With a file's name it prints the program's remarks as the lines of its report. Compile with
- * -Wl,--wrap=malloc,--wrap=realloc,--wrap=free. */
+/* Points, statements, edges, remarks, what stands around these and the paths of facts as data, against what is worked out by hand; bad
+ * input; each request for memory refused. Prints one line for each that goes wrong. With a file's name it prints the program's remarks as the
+ * lines of its report. Compile with -Wl,--wrap=malloc,--wrap=realloc,--wrap=free. */
 #include "counted.h"
 
 #include <inttypes.h>
@@ -64,6 +64,38 @@ static const struct {
     {TACFLOW_AVAIL, 1, 0, 0, 0, {STEP(0, 0)}}, /* it is available */
 };
 
+#define WRITE(point) {TACFLOW_NEXT_WRITE, point, NO}
+#define END {TACFLOW_END_UNWRITTEN, NO, NO}
+#define LAST(point) {TACFLOW_LAST_EVALUATION, point, NO}
+#define HOLDER(variable) {TACFLOW_HOLDER, NO, variable}
+#define NEXT(point) {TACFLOW_NEXT_EVALUATION, point, NO}
+#define REACHED(point) {TACFLOW_LAST_REACHED, point, NO}
+
+/* The variables are a, b, t, s, x and y, the expressions a + b and a * b; the statements are the points 0 to 12, L is 8, M is 10, N is 13. */
+static const char remarked[] = "proc main\n  read a\n  read b\n  t = a + b\n  s = a + b\n  x = 1\n  if s goto L\n  x = a * b\n  goto M\nL:\n"
+                               "  y = a * b\n  x = 2\nM:\n  print x\n  goto N\n  print t\nN:\nend\n";
+
+/* The remarks on it in their order, then others; what stands around them. */
+static const struct {
+    tacflow_remark remark;
+    size_t count;
+    tacflow_nearby nearby[2];
+} arounds_by_hand[12] = {
+    {{2, TACFLOW_DEAD, 2}, 1, {END}},
+    {{3, TACFLOW_ALREADY_COMPUTED, 0}, 2, {LAST(2), HOLDER(2)}},
+    {{4, TACFLOW_DEAD, 4}, 2, {WRITE(6), WRITE(9)}},
+    {{5, TACFLOW_VERY_BUSY, 1}, 2, {NEXT(6), NEXT(8)}},
+    {{8, TACFLOW_DEAD, 5}, 1, {END}},
+    {{12, TACFLOW_NEVER_REACHED, NO}, 1, {REACHED(11)}},
+    {{0, TACFLOW_NEVER_REACHED, 7}, 0, {END}}, /* nothing stands before it */
+    {{10, TACFLOW_UNSET, 4}, 0, {END}},
+    {{7, TACFLOW_ALREADY_COMPUTED, 1}, 2, {LAST(6), HOLDER(4)}},
+    {{10, TACFLOW_ALREADY_COMPUTED, 1}, 2, {LAST(6), LAST(8)}}, /* x or y holds it, as the way is */
+    {{6, TACFLOW_VERY_BUSY, 0}, 0, {END}},
+    {{0, TACFLOW_DEAD, 4}, 1, {WRITE(4)}},
+};
+enum { REMARKS = 6 };
+
 /* What the calls write. */
 struct told {
     uint8_t paths[8];
@@ -72,13 +104,16 @@ struct told {
     tacflow_edge edges[10];
     tacflow_remark remarks[3];
     tacflow_hop hops[6];
+    tacflow_nearby nearby[3];
     size_t edge_count;
     size_t remark_count;
     size_t hop_count;
+    size_t nearby_count;
     uint32_t has;
+    uint32_t origin;
 };
 
-enum { CALLS = 6 };
+enum { CALLS = 8 };
 
 static int call(int number, tacflow_handle *handle, struct told *told) {
     switch (number) {
@@ -87,9 +122,14 @@ static int call(int number, tacflow_handle *handle, struct told *told) {
     case 2: return tacflow_statements(handle, told->statements, 8);
     case 3: return tacflow_edges(handle, 0, TACFLOW_ALL_POINTS, told->edges, 10, &told->edge_count);
     case 4: return tacflow_remarks(handle, told->remarks, 3, &told->remark_count);
+    case 5: return tacflow_around(handle, &remarks_by_hand[1], told->nearby, 3, &told->nearby_count);
+    case 6: return tacflow_doubt_origin(handle, 0, &told->origin);
     default: return tacflow_why(handle, TACFLOW_REACH, 7, 3, told->hops, 6, &told->hop_count, &told->has);
     }
 }
+
+/* Around the dead assignment in p: p may be called by itself, and then b is written once more. */
+static const tacflow_nearby nearby_by_hand[2] = {WRITE(6), END};
 
 static void by_hand(void) {
     tacflow_handle handle = opened(calls);
@@ -103,6 +143,9 @@ static void by_hand(void) {
     expect_same("behind the edges", &before.edges[9], &told.edges[9], sizeof(tacflow_edge));
     expect_same("remarks", remarks_by_hand, told.remarks, sizeof remarks_by_hand);
     expect_same("behind the remarks", &before.remarks[2], &told.remarks[2], sizeof(tacflow_remark));
+    expect("around", 2, (int)told.nearby_count), expect_same("around", nearby_by_hand, told.nearby, sizeof nearby_by_hand);
+    expect_same("behind what is around", &before.nearby[2], &told.nearby[2], sizeof(tacflow_nearby));
+    expect("no origin of doubt", 1, told.origin == TACFLOW_NO_POINT);
     expect("a path's hops", 5, (int)told.hop_count), expect("a path", 1, (int)told.has);
     expect_same("a path", whys_by_hand[0].hops, told.hops, sizeof whys_by_hand[0].hops);
     told.edge_count = 7, told.edges[1] = before.edges[0];
@@ -143,6 +186,64 @@ static void whys(void) {
     }
     expect("closed", TACFLOW_OK, tacflow_close(&handle));
     expect("blocks after paths", 0, (int)blocks);
+}
+
+/* What stands around each remark, in room for one more, and where something does in room for one less. */
+static void arounds(void) {
+    tacflow_handle handle = opened(remarked);
+    tacflow_remark listed[REMARKS];
+    tacflow_nearby nearby[3], before[3];
+    size_t count;
+    memset(before, 0x33, sizeof before);
+    expect("remarks", TACFLOW_OK, tacflow_remarks(&handle, listed, REMARKS, &count));
+    expect("as many remarks", REMARKS, (int)count);
+    for (size_t row = 0; row < sizeof arounds_by_hand / sizeof *arounds_by_hand; row++) {
+        const tacflow_remark *remark = &arounds_by_hand[row].remark;
+        const size_t wanted = arounds_by_hand[row].count;
+        if (row < REMARKS) expect_same("a remark", remark, &listed[row], sizeof *remark);
+        memcpy(nearby, before, sizeof nearby);
+        count = 7;
+        if (wanted) {
+            expect("around in little room", TACFLOW_BAD_ROOM, tacflow_around(&handle, remark, nearby, wanted - 1, &count));
+            expect("how much is around", (int)wanted, (int)count), expect_same("where room lacked", before, nearby, sizeof before);
+        }
+        expect("around", TACFLOW_OK, tacflow_around(&handle, remark, nearby, wanted + 1, &count));
+        expect("so much is around", (int)wanted, (int)count);
+        expect_same("what is around", arounds_by_hand[row].nearby, nearby, wanted * sizeof *nearby);
+        expect_same("behind it", before, &nearby[wanted], (3 - wanted) * sizeof *nearby);
+        expect("around in exact room", TACFLOW_OK, tacflow_around(&handle, remark, wanted ? nearby : NULL, wanted, &count));
+        expect("so much in exact room", (int)wanted, (int)count);
+    }
+    expect("closed", TACFLOW_OK, tacflow_close(&handle));
+    expect("blocks after what is around", 0, (int)blocks);
+}
+
+/* Where doubt comes from: of a loop that never ends on one side of a test. L is 4, K is 5. */
+static void origins(void) {
+    tacflow_handle handle = opened("proc main\n  read c\n  if c goto L\n  print c\n  return\nL:\n  skip\nK:\n  goto K\nend\n");
+    static const uint32_t wanted[7] = {4, 4, TACFLOW_NO_POINT, TACFLOW_NO_POINT, 4, 5, TACFLOW_NO_POINT};
+    for (uint32_t point = 0; point < 7; point++) {
+        uint32_t origin = 7;
+        expect("an origin", TACFLOW_OK, tacflow_doubt_origin(&handle, point, &origin));
+        expect("the origin of doubt", (int)wanted[point], (int)origin);
+    }
+    expect("closed", TACFLOW_OK, tacflow_close(&handle));
+}
+
+static void refused_arounds(tacflow_handle *handle, struct told *told) {
+    static const tacflow_remark rows[] = {
+        {0, 5, 0},  {0, NO, 0}, {8, TACFLOW_NEVER_REACHED, NO}, {NO, TACFLOW_NEVER_REACHED, 0}, {8, TACFLOW_UNSET, 0}, {0, TACFLOW_UNSET, 2},
+        {8, TACFLOW_ALREADY_COMPUTED, 0}, {0, TACFLOW_ALREADY_COMPUTED, 2}, {8, TACFLOW_VERY_BUSY, 0}, {0, TACFLOW_VERY_BUSY, NO},
+        {7, TACFLOW_DEAD, 0}, {NO, TACFLOW_DEAD, 0}, {0, TACFLOW_DEAD, 2},
+    };
+    for (size_t row = 0; row < sizeof rows / sizeof *rows; row++)
+        expect("around no remark", TACFLOW_BAD_RANGE, tacflow_around(handle, &rows[row], told->nearby, 3, &told->nearby_count));
+    expect("no remark", TACFLOW_BAD_POINTER, tacflow_around(handle, NULL, told->nearby, 3, &told->nearby_count));
+    expect("nothing around", TACFLOW_BAD_POINTER, tacflow_around(handle, &remarks_by_hand[1], NULL, 3, &told->nearby_count));
+    expect("no number of these", TACFLOW_BAD_POINTER, tacflow_around(handle, &remarks_by_hand[1], told->nearby, 3, NULL));
+    expect("doubt of no point", TACFLOW_BAD_RANGE, tacflow_doubt_origin(handle, 8, &told->origin));
+    expect("doubt of none", TACFLOW_BAD_RANGE, tacflow_doubt_origin(handle, NO, &told->origin));
+    expect("no origin", TACFLOW_BAD_POINTER, tacflow_doubt_origin(handle, 0, NULL));
 }
 
 /* A procedure that never returns, and a statement that is never reached. */
@@ -193,7 +294,7 @@ static void refused_whys(tacflow_handle *handle, struct told *told) {
     expect("nowhere to tell whether", TACFLOW_BAD_POINTER, tacflow_why(handle, TACFLOW_REACH, 7, 3, told->hops, 6, &told->hop_count, NULL));
 }
 
-/* Bad input: nothing is written, but for the number of edges, remarks or hops where room lacks. */
+/* Bad input: nothing is written, but for the number of what a list has where room lacks. */
 static void faults(void) {
     tacflow_handle handle = opened(calls), closed = TACFLOW_CLOSED;
     struct told told, before;
@@ -217,11 +318,14 @@ static void faults(void) {
     expect("no remarks", TACFLOW_BAD_POINTER, tacflow_remarks(&handle, NULL, 2, &told.remark_count));
     expect("no number of remarks", TACFLOW_BAD_POINTER, tacflow_remarks(&handle, told.remarks, 2, NULL));
     refused_whys(&handle, &told);
+    refused_arounds(&handle, &told);
     expect_same("after faults", &before, &told, sizeof told);
     expect("edges in little room", TACFLOW_BAD_ROOM, tacflow_edges(&handle, 0, 8, told.edges, 8, &told.edge_count));
     expect("remarks in no room", TACFLOW_BAD_ROOM, tacflow_remarks(&handle, NULL, 0, &told.remark_count));
+    expect("around in no room", TACFLOW_BAD_ROOM, tacflow_around(&handle, &remarks_by_hand[1], NULL, 0, &told.nearby_count));
     expect("edges that are needed", 9, (int)told.edge_count), expect("remarks that are needed", 2, (int)told.remark_count);
-    told.edge_count = before.edge_count, told.remark_count = before.remark_count;
+    expect("what is around", 2, (int)told.nearby_count);
+    told.edge_count = before.edge_count, told.remark_count = before.remark_count, told.nearby_count = before.nearby_count;
     expect_same("where room lacked", &before, &told, sizeof told);
     expect("closed", TACFLOW_OK, tacflow_close(&handle));
     expect("blocks after faults", 0, (int)blocks);
@@ -354,6 +458,8 @@ int main(int argc, char **argv) {
     }
     by_hand();
     whys();
+    arounds();
+    origins();
     doubt();
     faults();
     refused();

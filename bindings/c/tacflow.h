@@ -7,10 +7,10 @@
  *
  * All memory is the caller's. Texts, names and spans are counted in bytes; lines and columns from 1; all other numbers from 0.
  * A range a..b has the numbers from a up to b - 1.
- * A call that takes room takes a pointer and how many elements it points to, and wants exactly as many as are asked for, but for
- * bytes of names and of texts, edges, remarks and hops, where there may be more. tacflow_sizes tells how many there are. After a status other
- * than TACFLOW_OK nothing was written, but the place of a refusal, and the size of a text, or the number of edges, remarks or hops, for which
- * there was too little room.
+ * A call that takes room takes a pointer and how many elements it points to, and wants exactly as many as are asked for, but for bytes of names
+ * and of texts, edges, remarks, what stands around these, and hops, where there may be more. tacflow_sizes tells how many there are. After a
+ * status other than TACFLOW_OK nothing was written, but the place of a refusal, and the size of a text, or the number of what a list has, for
+ * which there was too little room.
  *
  * Each call stands here twice: with its own name it keeps to the standard limits, and with _within at the name's end its first argument
  * says which limits (enum tacflow_limits). A program within the standard limits is answered the same within the large ones. A number of
@@ -54,7 +54,7 @@ enum tacflow_status {
     TACFLOW_REFUSED = 1,          /* the text is no program: the place says why and where */
     TACFLOW_OUT_OF_MEMORY = 2,    /* memory was refused */
     TACFLOW_BAD_ANALYSIS = 3,     /* there is no analysis of this number */
-    TACFLOW_BAD_RANGE = 4,        /* lo..hi are no bits of the analysis, or the points none of the program */
+    TACFLOW_BAD_RANGE = 4,        /* lo..hi are no bits of the analysis, or points, variables or expressions none of the program */
     TACFLOW_BAD_ROOM = 5,         /* the room is not as large as the answer */
     TACFLOW_BAD_POINTER = 6,      /* a pointer is null */
     TACFLOW_BAD_LIMITS = 7,       /* there are no limits of this number */
@@ -144,7 +144,7 @@ typedef struct {
     uint32_t word;
 } tacflow_query;
 
-/* What is told of statements, edges, remarks and hops has this number where there is none. */
+/* What is told of statements, edges, remarks, what stands around these, and hops has this number where there is none. */
 #define TACFLOW_NONE UINT32_MAX
 
 /* What a statement is; the variables x, operands y and z, operators op, labels L. */
@@ -205,6 +205,23 @@ typedef struct {
     uint32_t kind; /* enum tacflow_remark_kind */
     uint32_t name; /* or TACFLOW_NONE */
 } tacflow_remark;
+
+/* What stands around a remark, by what the remark says. A way goes on to the end of main; ways that never get there are left out. */
+enum tacflow_nearby_kind {
+    TACFLOW_NEXT_WRITE = 0,      /* of a dead assignment: the statement at the point may write the variable next */
+    TACFLOW_END_UNWRITTEN = 1,   /* of a dead assignment: on some way nothing writes the variable any more */
+    TACFLOW_LAST_EVALUATION = 2, /* of an expression that is computed already: the statement at the point may have evaluated it last */
+    TACFLOW_HOLDER = 3,          /* of such a one: the variable was assigned it and holds its value, on every valid path */
+    TACFLOW_NEXT_EVALUATION = 4, /* of a very busy expression: the statement at the point may evaluate it next */
+    TACFLOW_LAST_REACHED = 5     /* of what is never reached: the nearest point before it in its procedure to which a valid path leads */
+};
+
+/* A statement or a variable that stands around a remark. */
+typedef struct {
+    uint32_t kind;     /* enum tacflow_nearby_kind */
+    uint32_t point;    /* or TACFLOW_NO_POINT for a variable, and for the end of main */
+    uint32_t variable; /* of TACFLOW_HOLDER; or TACFLOW_NONE */
+} tacflow_nearby;
 
 enum tacflow_hop_kind {
     TACFLOW_HOP_STEP = 0,  /* a step inside a procedure */
@@ -526,6 +543,8 @@ uint32_t tacflow_c_doubtful(tacflow_handle *handle, uint32_t first_point, uint32
 uint32_t tacflow_c_statements(tacflow_handle *handle, tacflow_statement *statements, size_t count);
 uint32_t tacflow_c_edges(tacflow_handle *handle, uint32_t first_point, uint32_t end_point, tacflow_edge *edges, size_t room, size_t *count);
 uint32_t tacflow_c_remarks(tacflow_handle *handle, tacflow_remark *remarks, size_t room, size_t *count);
+uint32_t tacflow_c_around(tacflow_handle *handle, const tacflow_remark *remark, tacflow_nearby *nearby, size_t room, size_t *count);
+uint32_t tacflow_c_doubt_origin(tacflow_handle *handle, uint32_t point, uint32_t *origin);
 uint32_t tacflow_c_why(tacflow_handle *handle, uint32_t analysis, uint32_t point, uint32_t bit, tacflow_hop *hops, size_t room, size_t *count,
                        uint32_t *has);
 uint32_t tacflow_c_listing_of(tacflow_handle *handle, uint8_t *bytes, size_t room, size_t *size);
@@ -707,6 +726,28 @@ static inline int tacflow_remarks(tacflow_handle *handle, tacflow_remark *remark
     remarks = (tacflow_remark *)tacflow_some(remarks, room, &nothing);
     if (!handle || !remarks || !count) return TACFLOW_BAD_POINTER;
     return (int)tacflow_c_remarks(handle, remarks, room, count);
+}
+
+/* What stands around a remark, and how much that is: kind by kind in the order of tacflow_nearby_kind, points and variables of a kind rising.
+ * Each list is whole: what is not told is not there. Around a variable that may be used before it is set nothing is told; tacflow_why has a
+ * path for TACFLOW_REACH, the remark's point, and the variable's number as the bit. Room and count as for tacflow_edges.
+ *
+ * The remark need not be one of tacflow_remarks: at any point its numbers are answered as they say. TACFLOW_BAD_RANGE: there is no such kind of
+ * remark, or the program has no such point, variable or expression, or for TACFLOW_DEAD no point behind it. Each call makes one search over the
+ * program for each statement that writes the variable or evaluates the expression, and one for each variable that is assigned it. */
+static inline int tacflow_around(tacflow_handle *handle, const tacflow_remark *remark, tacflow_nearby *nearby, size_t room, size_t *count) {
+    uint64_t nothing = 0;
+    nearby = (tacflow_nearby *)tacflow_some(nearby, room, &nothing);
+    if (!handle || !remark || !nearby || !count) return TACFLOW_BAD_POINTER;
+    return (int)tacflow_c_around(handle, remark, nearby, room, count);
+}
+
+/* Why a point is doubtful, so that no dead assignment and no very busy expression is told there: *origin is a point to which some path from it
+ * leads, and which has no valid path to the end of main. It may be the point itself. TACFLOW_NO_POINT: the point is not doubtful.
+ * TACFLOW_BAD_RANGE: there is no such point. Each call goes over each edge at most once. */
+static inline int tacflow_doubt_origin(tacflow_handle *handle, uint32_t point, uint32_t *origin) {
+    if (!handle || !origin) return TACFLOW_BAD_POINTER;
+    return (int)tacflow_c_doubt_origin(handle, point, origin);
 }
 
 /* Why a bit of an analysis is in the set of a point: *has is 1, and the hops are those of a valid path that brings it there; or *has and *count

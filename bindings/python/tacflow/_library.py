@@ -19,6 +19,7 @@ STARTED = f"{FILE}.{VERSION.split('.')[0]}"
 OK = 0
 REFUSED = 1
 OUT_OF_MEMORY = 2
+BAD_RANGE = 4
 BAD_ROOM = 5
 BAD_HANDLE = 8
 NOT_BUILT = 9
@@ -139,6 +140,12 @@ class RawRemark(ctypes.Structure):
     _fields_ = [(name, ctypes.c_uint32) for name in ("point", "kind", "name")]
 
 
+class RawNearby(ctypes.Structure):
+    """tacflow_nearby."""
+
+    _fields_ = [(name, ctypes.c_uint32) for name in ("kind", "point", "variable")]
+
+
 class RawHop(ctypes.Structure):
     """tacflow_hop."""
 
@@ -243,6 +250,9 @@ DOUBTFUL = call_of("doubtful", NUMBER, NUMBER, BYTES, COUNT)
 STATEMENTS = call_of("statements", ctypes.POINTER(RawStatement), COUNT)
 EDGES = call_of("edges", NUMBER, NUMBER, ctypes.POINTER(RawEdge), COUNT, ctypes.POINTER(COUNT))
 REMARKS = call_of("remarks", ctypes.POINTER(RawRemark), COUNT, ctypes.POINTER(COUNT))
+NEARBY = (ctypes.POINTER(RawNearby), COUNT, ctypes.POINTER(COUNT))
+AROUND = call_of("around", ctypes.POINTER(RawRemark), *NEARBY)
+DOUBT_ORIGIN = call_of("doubt_origin", NUMBER, ctypes.POINTER(NUMBER))
 # analysis, point, bit, hops, room, count, whether there is a path
 HOPS = (ctypes.POINTER(RawHop), COUNT, ctypes.POINTER(COUNT), ctypes.POINTER(NUMBER))
 WHY = call_of("why", NUMBER, NUMBER, NUMBER, *HOPS)

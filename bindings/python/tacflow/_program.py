@@ -29,6 +29,7 @@ from tacflow._words import (
     Effect,
     HopKind,
     Limits,
+    NearbyKind,
     RemarkKind,
     StatementKind,
     member_of,
@@ -36,9 +37,10 @@ from tacflow._words import (
 )
 
 SIGNS = "+ - * / % & | ^ << >> < <= > >= == != ~ !".split()
-# How much room a text has at first, in bytes, and a path, in hops.
+# How much room a text has at first, in bytes, a path, in hops, and what stands around a remark.
 ROOM = 65536
 HOPS = 4096
+NEARBY = 64
 
 Made = TypeVar("Made")
 
@@ -137,6 +139,16 @@ class Remark(NamedTuple):
     number."""
 
 
+class Nearby(NamedTuple):
+    """A statement or a variable that stands around a remark."""
+
+    kind: NearbyKind
+    point: int | None
+    """None for a variable, and for the end of `main`."""
+    variable: int | None
+    """The variable of `HOLDER`, by number."""
+
+
 class Hop(NamedTuple):
     """A hop of a path, from the point `source` to the point `target`, in the direction of the
     analysis: for `live` and `busy` that is against the edges."""
@@ -192,6 +204,10 @@ def edge_of(raw: Any) -> Edge:
 
 def remark_of(raw: Any) -> Remark:
     return Remark(raw.point, RemarkKind(raw.kind), number_of(raw.name))
+
+
+def nearby_of(raw: Any) -> Nearby:
+    return Nearby(NearbyKind(raw.kind), number_of(raw.point), number_of(raw.variable))
 
 
 def hop_of(raw: Any) -> Hop:
@@ -278,6 +294,8 @@ class Program:
             raise ClosedProgram("the program is closed")
         if status == library.OUT_OF_MEMORY:
             raise OutOfMemory("out of memory")
+        if status == library.BAD_RANGE:
+            raise BadRange("the program has no such point, variable or expression")
         assert status in (library.OK, library.BAD_ROOM), f"status {status}"
         return status == library.OK
 
@@ -370,6 +388,64 @@ class Program:
         """The remarks, in the order of the report's lines. They are found anew each time."""
         most = self.sizes.points
         return self._ask_list(library.REMARKS, library.RawRemark, most, remark_of)
+
+    def around(self, remark: Remark) -> Rows[Nearby]:
+        """What stands around a remark, kind by kind, points and variables of a kind rising. Each
+        list is whole: what is not told is not there.
+
+        - `DEAD`: the statements that may write the variable next, and whether `main` may end with
+          no such write.
+        - `ALREADY_COMPUTED`: the statements that may have evaluated the expression last, and the
+          variables that hold its value on every valid path.
+        - `VERY_BUSY`: the statements that may evaluate the expression next.
+        - `NEVER_REACHED`: the nearest point before, in its procedure, to which a valid path leads,
+          if there is one.
+        - `UNSET`: nothing. `why("reach", remark.point, remark.name)` has a path.
+
+        Args:
+            remark: one of `remarks()`, or another one: it is answered at any point.
+
+        Returns:
+            Statements by their points, and variables. They are searched for anew each time.
+
+        Raises:
+            BadRange: the program has no such point, variable or expression; or no point behind
+                that of a `DEAD` one.
+            ClosedProgram: the program is closed.
+            OutOfMemory: memory was refused.
+        """
+        raw = self._remark_of(remark)
+        return self._ask_list(library.AROUND, library.RawNearby, NEARBY, nearby_of, raw)
+
+    def _remark_of(self, remark: Remark) -> library.RawRemark:
+        kind = RemarkKind(remark.kind)
+        name = library.NONE if remark.name is None else remark.name
+        for number in (remark.point, name):
+            if number not in range(2**32):
+                raise BadRange(f"the program has no point, variable or expression {number!r}")
+        return library.RawRemark(remark.point, int(kind), name)
+
+    def doubt_origin(self, point: int) -> int | None:
+        """Why a point is doubtful, so that no dead assignment and no very busy expression is told
+        there.
+
+        Args:
+            point: which point.
+
+        Returns:
+            A point to which some path from it leads, and which has no valid path to the end of
+            `main`; it may be the point itself. None where the point is not doubtful.
+
+        Raises:
+            BadRange: the program has no such point.
+            ClosedProgram: the program is closed.
+            OutOfMemory: memory was refused.
+        """
+        if point not in range(self.sizes.points):
+            raise BadRange(f"the program has no point {point!r}")
+        origin = ctypes.c_uint32()
+        self._ask(library.DOUBT_ORIGIN, point, origin)
+        return number_of(origin.value)
 
     def has_path(
         self, analysis: Analysis | str | int, points: range | slice | None = None

@@ -78,6 +78,26 @@ class RemarkKind(enum.IntEnum):
     """No execution reads what it assigns to the variable: it can be deleted."""
 
 
+class NearbyKind(enum.IntEnum):
+    """What stands around a remark. A way goes on to the end of `main`; ways that never get there
+    are left out."""
+
+    NEXT_WRITE = 0
+    """Of a dead assignment: the statement at the point may write the variable next."""
+    END_UNWRITTEN = 1
+    """Of a dead assignment: on some way nothing writes the variable any more."""
+    LAST_EVALUATION = 2
+    """Of an expression that is already computed: the statement at the point may have evaluated it
+    last."""
+    HOLDER = 3
+    """Of such a one: the variable was assigned it and holds its value, on every valid path."""
+    NEXT_EVALUATION = 4
+    """Of a very busy expression: the statement at the point may evaluate it next."""
+    LAST_REACHED = 5
+    """Of what is never reached: the nearest point before it in its procedure to which a valid path
+    leads."""
+
+
 class HopKind(enum.IntEnum):
     """What a hop of a path is."""
 

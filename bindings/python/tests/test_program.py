@@ -136,7 +136,8 @@ class WhatHolds(unittest.TestCase):
             self.assertRaises(tacflow.BadAnalysis, program.ask, [("alive", 0, 0)])
         with tacflow.open(wide_text()) as program:
             # at the end of the sets all that is printed is live: of word 2 the first two bits
-            self.assertEqual(program.ask([("live", 130, 2), ("live", 131, 0)]).tolist(), [3, 2**64 - 2])
+            answers = program.ask([("live", 130, 2), ("live", 131, 0)])
+            self.assertEqual(answers.tolist(), [3, 2**64 - 2])
 
     def test_nothing(self) -> None:
         with tacflow.open("proc main\nend\n") as program:

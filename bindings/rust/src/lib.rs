@@ -354,6 +354,47 @@ fn remark(raw: raw::RawRemark) -> Remark {
     Remark { point: raw.point, says }
 }
 
+// The numbers of a remark.
+fn raw_remark(remark: Remark) -> raw::RawRemark {
+    let (kind, name) = match remark.says {
+        Says::NeverReached => (0, raw::NONE),
+        Says::Unset(variable) => (1, variable),
+        Says::AlreadyComputed(expression) => (2, expression),
+        Says::VeryBusy(expression) => (3, expression),
+        Says::Dead(variable) => (4, variable),
+    };
+    raw::RawRemark { point: remark.point, kind, name }
+}
+
+/// A statement, by its point, or a variable that stands around a remark. A way goes on to the end of `main`; ways that never get there are
+/// left out.
+#[derive(Clone, Copy, Debug, PartialEq, Eq, Hash)]
+pub enum Nearby {
+    /// Of a dead assignment: the statement at the point may write the variable next.
+    NextWrite(u32),
+    /// Of a dead assignment: on some way nothing writes the variable any more.
+    EndUnwritten,
+    /// Of an expression that is already computed: the statement at the point may have evaluated it last.
+    LastEvaluation(u32),
+    /// Of such a one: the variable was assigned it and holds its value, on every valid path.
+    Holder(u32),
+    /// Of a very busy expression: the statement at the point may evaluate it next.
+    NextEvaluation(u32),
+    /// Of what is never reached: the nearest point before it in its procedure to which a valid path leads.
+    LastReached(u32),
+}
+
+fn nearby(raw: raw::RawNearby) -> Nearby {
+    match raw.kind {
+        0 => Nearby::NextWrite(raw.point),
+        1 => Nearby::EndUnwritten,
+        2 => Nearby::LastEvaluation(raw.point),
+        3 => Nearby::Holder(raw.variable),
+        4 => Nearby::NextEvaluation(raw.point),
+        _ => Nearby::LastReached(raw.point),
+    }
+}
+
 /// What a path through a callee does with the bit.
 #[derive(Clone, Copy, Debug, PartialEq, Eq, Hash)]
 pub enum Effect {
@@ -636,6 +677,29 @@ impl Program {
     pub fn remarks(&self) -> Result<Vec<Remark>, Error> {
         let room = self.kept.sizes.points;
         Ok(self.kept.handles.ask(|handle| handle.remarks(room))?.into_iter().map(remark).collect())
+    }
+
+    /// What stands around a remark, kind by kind in the order of [`Nearby`], points and variables of a kind rising. Each list is whole: what
+    /// is not told is not there. Around [`Says::Unset`] nothing is told; [`Program::why`] has a path for it. The remark need not be one of
+    /// [`Program::remarks`]: it is answered at any point. It is searched for anew each time.
+    ///
+    /// # Errors
+    ///
+    /// `BadRange` where the program has no such point, variable or expression, or no point behind that of [`Says::Dead`]; `OutOfMemory`
+    /// where memory was refused.
+    pub fn around(&self, remark: Remark) -> Result<Vec<Nearby>, Error> {
+        let raw = raw_remark(remark);
+        Ok(self.kept.handles.ask(|handle| handle.around(&raw))?.into_iter().map(nearby).collect())
+    }
+
+    /// Why a point is doubtful: a point to which some path from it leads, and which has no valid path to the end of `main`; it may be the
+    /// point itself. None where the point is not doubtful.
+    ///
+    /// # Errors
+    ///
+    /// `BadRange` where the program has no such point; `OutOfMemory` where memory was refused.
+    pub fn doubt_origin(&self, point: u32) -> Result<Option<u32>, Error> {
+        self.kept.handles.ask(|handle| handle.doubt_origin(point))
     }
 
     // Some of the points.

@@ -143,6 +143,14 @@ pub(crate) struct RawRemark {
 
 #[repr(C)]
 #[derive(Clone, Copy, Default)]
+pub(crate) struct RawNearby {
+    pub kind: u32,
+    pub point: u32,
+    pub variable: u32,
+}
+
+#[repr(C)]
+#[derive(Clone, Copy, Default)]
 pub(crate) struct RawHop {
     pub kind: u32,
     pub from: u32,
@@ -211,6 +219,14 @@ extern "C" {
         count: *mut usize,
     ) -> u32;
     fn tacflow_c_remarks(handle: *mut RawHandle, remarks: *mut RawRemark, room: usize, count: *mut usize) -> u32;
+    fn tacflow_c_around(
+        handle: *mut RawHandle,
+        remark: *const RawRemark,
+        nearby: *mut RawNearby,
+        room: usize,
+        count: *mut usize,
+    ) -> u32;
+    fn tacflow_c_doubt_origin(handle: *mut RawHandle, point: u32, origin: *mut u32) -> u32;
     fn tacflow_c_why(
         handle: *mut RawHandle,
         analysis: u32,
@@ -244,9 +260,13 @@ const BAD_ROOM: u32 = 5;
 /// The status that tells that arrays stand for no program.
 const NOT_BUILT: u32 = 9;
 
-/// How much room a text has at first, in bytes, and a path, in hops.
+/// How much room a text has at first, in bytes, a path, in hops, and what stands around a remark.
 const ROOM: usize = 65_536;
 const HOPS: usize = 4_096;
+const NEARBY: usize = 64;
+
+/// Stands for what is not there.
+pub(crate) const NONE: u32 = u32::MAX;
 
 fn answered(status: u32) -> Result<(), Error> {
     match status {
@@ -465,6 +485,20 @@ impl Handle {
             // SAFETY: the pointers and lengths are of slices and values that outlive the call.
             unsafe { tacflow_c_remarks(handle, remarks.as_mut_ptr(), remarks.len(), count) }
         })
+    }
+
+    pub fn around(&mut self, remark: &RawRemark) -> Result<Vec<RawNearby>, Error> {
+        self.made(NEARBY, |handle, nearby, count| {
+            // SAFETY: the pointers and lengths are of slices and values that outlive the call.
+            unsafe { tacflow_c_around(handle, remark, nearby.as_mut_ptr(), nearby.len(), count) }
+        })
+    }
+
+    pub fn doubt_origin(&mut self, point: u32) -> Result<Option<u32>, Error> {
+        let mut origin = NONE;
+        // SAFETY: the pointers are of two values that outlive the call.
+        let status = unsafe { tacflow_c_doubt_origin(&mut self.raw, point, &mut origin) };
+        answered(status).map(|()| (origin != NONE).then_some(origin))
     }
 
     /// The hops of a path, or none; `points` is how many the program has.

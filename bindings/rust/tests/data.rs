@@ -1,8 +1,8 @@
-//! Points, statements, edges, remarks and the paths of facts as data, by hand.
+//! Points, statements, edges, remarks, what stands around these and the paths of facts as data, by hand.
 
 use tacflow::{
-    Analysis, Built, BuiltProcedure, Edge, EdgeKind, Effect, Error, Hop, HopKind, Limits, Operand, Program, Remark, Says, Statement,
-    StatementKind,
+    Analysis, Built, BuiltProcedure, Edge, EdgeKind, Effect, Error, Hop, HopKind, Limits, Nearby, Operand, Program, Remark, Says,
+    Statement, StatementKind,
 };
 
 const CALLS: &str =
@@ -83,6 +83,46 @@ fn remarks() {
     let again = Program::read("proc main\n  read a\n  if a goto L\n  b = a * a\n  print b\nL:\n  c = a * a\n  d = a * a\n  print d\nend\n");
     let wanted = vec![remark(1, Says::VeryBusy(0)), remark(4, Says::Dead(2)), remark(5, Says::AlreadyComputed(0))];
     assert_eq!(again.expect("a program").remarks(), Ok(wanted));
+}
+
+// The variables are a, b, t, s, x and y, the expressions a + b and a * b; L is point 8, M 10, N 13.
+const REMARKED: &str = "proc main\n  read a\n  read b\n  t = a + b\n  s = a + b\n  x = 1\n  if s goto L\n  x = a * b\n\
+  goto M\nL:\n  y = a * b\n  x = 2\nM:\n  print x\n  goto N\n  print t\nN:\nend\n";
+
+// An endless loop on one side: L is point 4, K 5.
+const ONE_SIDE: &str = "proc main\n  read c\n  if c goto L\n  print c\n  return\nL:\n  skip\nK:\n  goto K\nend\n";
+
+#[test]
+fn arounds() {
+    let program = Program::read(REMARKED).expect("a program");
+    use Nearby::{EndUnwritten, Holder, LastEvaluation, LastReached, NextEvaluation, NextWrite};
+    let rows = [
+        (2, Says::Dead(2), vec![EndUnwritten]),
+        (3, Says::AlreadyComputed(0), vec![LastEvaluation(2), Holder(2)]),
+        (4, Says::Dead(4), vec![NextWrite(6), NextWrite(9)]),
+        (5, Says::VeryBusy(1), vec![NextEvaluation(6), NextEvaluation(8)]),
+        (8, Says::Dead(5), vec![EndUnwritten]),
+        (12, Says::NeverReached, vec![LastReached(11)]),
+        (0, Says::NeverReached, vec![]),
+        (10, Says::Unset(4), vec![]),
+        (10, Says::AlreadyComputed(1), vec![LastEvaluation(6), LastEvaluation(8)]),
+    ];
+    let remarks: Vec<Remark> = rows.iter().map(|&(point, says, _)| Remark { point, says }).collect();
+    assert_eq!(program.remarks().as_deref(), Ok(&remarks[..6]));
+    for (remark, (_, _, wanted)) in remarks.into_iter().zip(rows) {
+        assert_eq!(program.around(remark), Ok(wanted), "{remark:?}");
+    }
+    for (point, says) in [(14, Says::NeverReached), (13, Says::Dead(0)), (0, Says::Dead(6)), (0, Says::VeryBusy(2))] {
+        assert_eq!(program.around(Remark { point, says }), Err(Error::BadRange), "{point} {says:?}");
+    }
+}
+
+#[test]
+fn origins_of_doubt() {
+    let program = Program::read(ONE_SIDE).expect("a program");
+    let origins: Vec<_> = (0..7).map(|point| program.doubt_origin(point).expect("an answer")).collect();
+    assert_eq!(origins, [Some(4), Some(4), None, None, Some(4), Some(5), None]);
+    assert_eq!(program.doubt_origin(7), Err(Error::BadRange));
 }
 
 #[test]

@@ -5,7 +5,7 @@ ghost use Rattle.flow_graph.specs.Analyses.{HasPathAt, is_backward, shape_of};
 ghost use Rattle.flow_graph.specs.Limits.{HasFewBits, HasFewPoints, HasManyBits, HasManyPoints};
 ghost use Rattle.flow_graph.specs.declared.fault.GraphFault.TheVariants.{TooManyBits, TooManyPoints};
 ghost use Rattle.flow_graph.specs.Runs.{IsDoubtful};
-ghost use Rattle.flow_kept.specs.Facts.{AreFactsOf, AreFlagsOf, AreInRange, ArePointsOf, HasRoom};
+ghost use Rattle.flow_kept.specs.Facts.{AreFlagsOf, ArePointsOf};
 ghost use Rattle.flow_kept.specs.Kept.{IsUnkept};
 ghost use Rattle.flow_kept.specs.Words.{AreWordsAsked};
 ghost use Rattle.flow_queries.specs.Queries.{AreQueriesOf};
@@ -17,7 +17,7 @@ use crate::OutOfMemory;
 use crate::asking::{ask_run, run_at};
 use crate::fault::KeepFault;
 use crate::points::complement;
-use crate::table::{put_facts, put_flags};
+use crate::table::put_flags;
 use flow_graph::{Analysis, Direction, Graph, GraphFault};
 use flow_queries::{Query, arranged_places};
 use flow_reports::{PlacedRemark, remarks_here};
@@ -221,35 +221,6 @@ impl Kept {
         Ok(())
     }
 
-    /// Puts the facts of an analysis at the points `points.0..points.1` and on the bits `bits.0..bits.1` into flags and words: for each of
-    /// these points a flag, 1 where it has a valid path, and the words `bits.0 / 64` to `(bits.1 + 63) / 64` of its set. Fails only where
-    /// memory runs out, and has written nothing then.
-    pub fn put_facts(
-        &self,
-        alloc: Global,
-        analysis: Analysis,
-        points: (u32, u32),
-        bits: (u32, u32),
-        flags: &mut [u8],
-        words: &mut [u64],
-    ) -> Result<(), OutOfMemory>
-        requires in_range { AreInRange self.now.program analysis points.0 points.1 bits.0 bits.1 }
-        requires room { HasRoom points.0 points.1 bits.0 bits.1 (length flags.old) (length words.old) }
-        ensures facts { OnOk result (AreFactsOf self.now.program analysis points.0 points.1 bits.0 bits.1 flags.new words.new) }
-        ensures kept { OnErr result ((flags.new ≡ flags.old) × (words.new ≡ words.old)) }
-    {
-        let graph = self.graph(alloc)?;
-        let problem = Problem::of(alloc, &graph, analysis)?;
-        put_facts(
-            alloc,
-            problem,
-            self.routes(analysis),
-            points,
-            bits,
-            flags,
-            words,
-        )
-    }
     /// Puts for each of the points `points.0..points.1` whether it has a valid path in the direction of an analysis, 1 or 0. It takes no
     /// memory.
     pub fn put_paths(&self, analysis: Analysis, points: (u32, u32), flags: &mut [u8])

@@ -16,4 +16,4 @@ pub use fault::KeepFault;
 pub use kept::Kept;
 pub use shared::Shared;
 pub use std::alloc::AllocError as OutOfMemory;
-pub use table::put_facts;
+pub use table::{Ranges, put_facts};

@@ -162,25 +162,32 @@ pub(crate) fn put_flags(values: &[bool], from: u32, flags: &mut [u8])
     }
 }
 
+/// Which facts are asked for: at the points `points.0..points.1`, on the bits `bits.0..bits.1`.
+#[derive(Clone, Copy)]
+pub struct Ranges {
+    pub points: (u32, u32),
+    pub bits: (u32, u32),
+}
+
 // Puts the facts of a solver's problem. The solver and its routes are not owned here, so that no way out drops them.
 fn put_solved<'a, 'g, 'p>(
     alloc: Global,
     solver: &'a Solver<'g, 'p>,
     routes: &'a Routes,
-    points: (u32, u32),
-    bits: (u32, u32),
+    ranges: Ranges,
     flags: &mut [u8],
     words: &mut [u64],
 ) -> Result<(), OutOfMemory>
     requires routes { routes.now ≡ direction_of solver.now }
     requires whole { solver.now ≡ all_bits solver.now.program solver.now.analysis }
-    requires in_range { AreInRange solver.now.program solver.now.analysis points.0 points.1 bits.0 bits.1 }
-    requires room { HasRoom points.0 points.1 bits.0 bits.1 (length flags.old) (length words.old) }
-    ensures facts { OnOk result (AreFactsOf solver.now.program solver.now.analysis points.0 points.1 bits.0 bits.1 flags.new words.new) }
+    requires in_range { AreInRange solver.now.program solver.now.analysis ranges.points.0 ranges.points.1 ranges.bits.0 ranges.bits.1 }
+    requires room { HasRoom ranges.points.0 ranges.points.1 ranges.bits.0 ranges.bits.1 (length flags.old) (length words.old) }
+    ensures facts { OnOk result (AreFactsOf solver.now.program solver.now.analysis
+        ranges.points.0 ranges.points.1 ranges.bits.0 ranges.bits.1 flags.new words.new) }
     ensures kept { OnErr result ((flags.new ≡ flags.old) × (words.new ≡ words.old)) }
 {
-    let (from, until) = points;
-    let (lo, hi) = bits;
+    let (from, until) = ranges.points;
+    let (lo, hi) = ranges.bits;
     let paths = solver.flags(alloc, routes)?;
     let mut slice = solver.slice(alloc, routes, lo, hi)?;
     put_flags(&paths, from, flags);
@@ -199,26 +206,25 @@ fn put_solved<'a, 'g, 'p>(
     Ok(())
 }
 
-/// Puts the facts of a problem's analysis at the points `points.0..points.1` and on the bits `bits.0..bits.1` into flags and words, by the
-/// routes of its direction: for each of these points a flag, 1 where it has a valid path, and the words `bits.0 / 64` to
-/// `(bits.1 + 63) / 64` of its set. The condition: the problem has all bits of the analysis. Fails only where memory runs out, and has written
-/// nothing then.
+/// Puts the facts of a problem's analysis at some points and on some bits into flags and words, by the routes of its direction: for each of
+/// these points a flag, 1 where it has a valid path, and the words `bits.0 / 64` to `(bits.1 + 63) / 64` of its set. The condition: the problem
+/// has all bits of the analysis. Fails only where memory runs out, and has written nothing then.
 pub fn put_facts(
     alloc: Global,
     problem: Problem<'_, '_>,
     routes: &Routes,
-    points: (u32, u32),
-    bits: (u32, u32),
+    ranges: Ranges,
     flags: &mut [u8],
     words: &mut [u64],
 ) -> Result<(), OutOfMemory>
     requires routes { routes.now ≡ direction_of problem }
     requires whole { problem ≡ all_bits problem.program problem.analysis }
-    requires in_range { AreInRange problem.program problem.analysis points.0 points.1 bits.0 bits.1 }
-    requires room { HasRoom points.0 points.1 bits.0 bits.1 (length flags.old) (length words.old) }
-    ensures facts { OnOk result (AreFactsOf problem.entry.program problem.entry.analysis points.0 points.1 bits.0 bits.1 flags.new words.new) }
+    requires in_range { AreInRange problem.program problem.analysis ranges.points.0 ranges.points.1 ranges.bits.0 ranges.bits.1 }
+    requires room { HasRoom ranges.points.0 ranges.points.1 ranges.bits.0 ranges.bits.1 (length flags.old) (length words.old) }
+    ensures facts { OnOk result (AreFactsOf problem.entry.program problem.entry.analysis
+        ranges.points.0 ranges.points.1 ranges.bits.0 ranges.bits.1 flags.new words.new) }
     ensures kept { OnErr result ((flags.new ≡ flags.old) × (words.new ≡ words.old)) }
 {
     let solver = Solver::of(alloc, problem)?;
-    put_solved(alloc, &solver, routes, points, bits, flags, words)
+    put_solved(alloc, &solver, routes, ranges, flags, words)
 }

@@ -1,3 +1,4 @@
+pub mod Around
 pub mod Edges
 pub mod Facts
 pub mod Faults

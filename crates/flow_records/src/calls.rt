@@ -21,7 +21,7 @@ use crate::parts::{
 use crate::text::{graph_of, program_of};
 use bit_rows::words_for;
 use flow_graph::{Analysis, Graph, OutOfMemory};
-use flow_kept::put_facts;
+use flow_kept::{Ranges, put_facts};
 use gen_kill::Problem;
 use gk_solve::Routes;
 use std::alloc::Global;
@@ -96,6 +96,14 @@ pub fn expressions_of_text(
     fill_expressions(&graph, expressions)
 }
 
+/// Facts that are asked for: the number of an analysis, and ranges of points and of its bits, of which the first is in it and the second not.
+#[derive(Clone, Copy)]
+pub struct NumberedFacts {
+    pub analysis: u32,
+    pub points: (u32, u32),
+    pub bits: (u32, u32),
+}
+
 /// The analysis of a number.
 pub(crate) fn find_analysis(number: u32) -> Option<Analysis>
     ensures { result ≡ analysis_of number }
@@ -124,17 +132,16 @@ pub(crate) fn find_end(graph: &Graph<'_>, until: u32) -> u32
 pub(crate) fn check_table(
     graph: &Graph<'_>,
     analysis: Analysis,
-    points: (u32, u32),
-    bits: (u32, u32),
+    ranges: Ranges,
     flags: usize,
     words: usize,
 ) -> Result<(), Fault>
-    ensures in_range { OnOk result (AreInRange graph.now analysis points.0 points.1 bits.0 bits.1) }
-    ensures room { OnOk result (HasRoom points.0 points.1 bits.0 bits.1 flags words) }
-    ensures fault { IfErr result (IsBadTable graph.now analysis points.0 points.1 bits.0 bits.1 flags words) }
+    ensures in_range { OnOk result (AreInRange graph.now analysis ranges.points.0 ranges.points.1 ranges.bits.0 ranges.bits.1) }
+    ensures room { OnOk result (HasRoom ranges.points.0 ranges.points.1 ranges.bits.0 ranges.bits.1 flags words) }
+    ensures fault { IfErr result (IsBadTable graph.now analysis ranges.points.0 ranges.points.1 ranges.bits.0 ranges.bits.1 flags words) }
 {
-    let (from, until) = points;
-    let (lo, hi) = bits;
+    let (from, until) = ranges.points;
+    let (lo, hi) = ranges.bits;
     if until < from || graph.points() < until || hi < lo || graph.bits(analysis) < hi {
         return Err(Fault::BadRange);
     }
@@ -151,19 +158,18 @@ fn put_facts_of(
     alloc: Global,
     graph: &Graph<'_>,
     analysis: Analysis,
-    points: (u32, u32),
-    bits: (u32, u32),
+    ranges: Ranges,
     flags: &mut [u8],
     words: &mut [u64],
 ) -> Result<(), OutOfMemory>
-    requires in_range { AreInRange graph.now analysis points.0 points.1 bits.0 bits.1 }
-    requires room { HasRoom points.0 points.1 bits.0 bits.1 (length flags.old) (length words.old) }
-    ensures facts { OnOk result (AreFactsOf graph.now analysis points.0 points.1 bits.0 bits.1 flags.new words.new) }
+    requires in_range { AreInRange graph.now analysis ranges.points.0 ranges.points.1 ranges.bits.0 ranges.bits.1 }
+    requires room { HasRoom ranges.points.0 ranges.points.1 ranges.bits.0 ranges.bits.1 (length flags.old) (length words.old) }
+    ensures facts { OnOk result (AreFactsOf graph.now analysis ranges.points.0 ranges.points.1 ranges.bits.0 ranges.bits.1 flags.new words.new) }
     ensures kept { OnErr result ((flags.new ≡ flags.old) × (words.new ≡ words.old)) }
 {
     let problem = Problem::of(alloc, graph, analysis)?;
     let routes = Routes::of(alloc, &problem)?;
-    put_facts(alloc, problem, &routes, points, bits, flags, words)
+    put_facts(alloc, problem, &routes, ranges, flags, words)
 }
 
 /// The facts of an analysis of a text's program within limits, at a range of its points and on a range of the analysis's bits: for each point a
@@ -172,24 +178,27 @@ pub fn facts_of_text(
     alloc: Global,
     text: &[u8],
     limits: Limits,
-    number: u32,
-    points: (u32, u32),
-    bits: (u32, u32),
+    asked: NumberedFacts,
     flags: &mut [u8],
     words: &mut [u64],
 ) -> Result<(), Fault>
-    ensures facts { OnOk result (AreFactsOfText limits text.now number points.0 points.1 bits.0 bits.1 flags.new words.new) }
+    ensures facts { OnOk result (AreFactsOfText limits text.now
+        asked.analysis asked.points.0 asked.points.1 asked.bits.0 asked.bits.1 flags.new words.new) }
     ensures kept { OnErr result ((flags.new ≡ flags.old) × (words.new ≡ words.old)) }
-    ensures fault { IfErr result (IsTableFault limits text.now number points.0 points.1 bits.0 bits.1 (length flags.old) (length words.old)) }
+    ensures fault { IfErr result (IsTableFault limits text.now
+        asked.analysis asked.points.0 asked.points.1 asked.bits.0 asked.bits.1 (length flags.old) (length words.old)) }
 {
-    let Some(analysis) = find_analysis(number) else {
+    let Some(analysis) = find_analysis(asked.analysis) else {
         return Err(Fault::BadAnalysis);
     };
     let program = program_of(alloc, text, limits)?;
     let graph = graph_of(alloc, &program, limits)?;
-    let points = (points.0, find_end(&graph, points.1));
-    check_table(&graph, analysis, points, bits, flags.len(), words.len())?;
-    put_facts_of(alloc, &graph, analysis, points, bits, flags, words)?;
+    let ranges = Ranges {
+        points: (asked.points.0, find_end(&graph, asked.points.1)),
+        bits: asked.bits,
+    };
+    check_table(&graph, analysis, ranges, flags.len(), words.len())?;
+    put_facts_of(alloc, &graph, analysis, ranges, flags, words)?;
     Ok(())
 }
 

@@ -10,7 +10,7 @@ ghost use Rattle.flow_records.specs.Rooms.{IsListFault, HoldsList, IsListKept};
 ghost use Rattle.flow_records.specs.Parts.{AreParts, ArePartsOf, definition_part, expression_part, point_part, sizes_of};
 ghost use Rattle.flow_records.specs.Statements.{statement_part};
 
-use crate::calls::{check_table, find_analysis, find_end};
+use crate::calls::{NumberedFacts, check_table, find_analysis, find_end};
 use crate::fault::Fault;
 use crate::parts::{
     Definition, Expression, Point, Sizes, fill_definitions, fill_expressions, fill_points,
@@ -18,7 +18,7 @@ use crate::parts::{
 };
 use crate::statements::{NumberedStatement, fill_statements};
 use crate::texts::put_report;
-use flow_kept::{Kept, put_facts};
+use flow_kept::{Kept, Ranges, put_facts};
 use gen_kill::Problem;
 use std::alloc::Global;
 
@@ -89,33 +89,28 @@ pub fn statements_of_kept(
 pub fn facts_of_kept(
     alloc: Global,
     kept: &Kept,
-    number: u32,
-    points: (u32, u32),
-    bits: (u32, u32),
+    asked: NumberedFacts,
     flags: &mut [u8],
     words: &mut [u64],
 ) -> Result<(), Fault>
-    ensures facts { OnOk result (AreFactsOfNumber kept.now.program number points.0 points.1 bits.0 bits.1 flags.new words.new) }
+    ensures facts { OnOk result (AreFactsOfNumber kept.now.program
+        asked.analysis asked.points.0 asked.points.1 asked.bits.0 asked.bits.1 flags.new words.new) }
     ensures kept { OnErr result ((flags.new ≡ flags.old) × (words.new ≡ words.old)) }
     ensures fault { IfErr result
-        (IsNumberFault number points.0 points.1 bits.0 bits.1 (length flags.old) (length words.old) kept.now.program) }
+        (IsNumberFault asked.analysis asked.points.0 asked.points.1 asked.bits.0 asked.bits.1
+        (length flags.old) (length words.old) kept.now.program) }
 {
-    let Some(analysis) = find_analysis(number) else {
+    let Some(analysis) = find_analysis(asked.analysis) else {
         return Err(Fault::BadAnalysis);
     };
     let graph = kept.graph(alloc)?;
-    let points = (points.0, find_end(&graph, points.1));
-    check_table(&graph, analysis, points, bits, flags.len(), words.len())?;
+    let ranges = Ranges {
+        points: (asked.points.0, find_end(&graph, asked.points.1)),
+        bits: asked.bits,
+    };
+    check_table(&graph, analysis, ranges, flags.len(), words.len())?;
     let problem = Problem::of(alloc, &graph, analysis)?;
-    put_facts(
-        alloc,
-        problem,
-        kept.routes(analysis),
-        points,
-        bits,
-        flags,
-        words,
-    )?;
+    put_facts(alloc, problem, kept.routes(analysis), ranges, flags, words)?;
     Ok(())
 }
 

@@ -9,6 +9,7 @@
 //! - `BadRoom`, where the room is not for as many as there are, or is too small for a list. `OutOfMemory` only where memory was refused.
 #![tactic(auto)]
 
+mod around;
 mod calls;
 mod edges;
 mod fault;
@@ -24,9 +25,10 @@ mod text;
 mod texts;
 mod why;
 
+pub use around::{NumberedNearby, around_of_kept, doubt_origin_of_kept};
 pub use calls::{
-    definitions_of_text, expressions_of_text, facts_of_text, names_of_text, points_of_text,
-    sizes_of_text,
+    NumberedFacts, definitions_of_text, expressions_of_text, facts_of_text, names_of_text,
+    points_of_text, sizes_of_text,
 };
 pub use edges::{NumberedEdge, edges_of_kept};
 pub use fault::Fault;

@@ -1,7 +1,9 @@
-// The calls over a handle that tell what stands at its program's points, the remarks on it, and why a bit is in a set, as data.
+// The calls over a handle that tell what stands at its program's points, the remarks on it and what stands around them, and why a bit is in a
+// set, as data.
 
 ghost use Rattle.std.specs.Prelude.{◌≡◌, length};
 ghost use Rattle.flow_graph.specs.Points.{point_count};
+ghost use Rattle.flow_records.specs.Around.{AreAround, IsAroundFault, IsPointFault, TellsDoubt};
 ghost use Rattle.flow_records.specs.Edges.{IsEdgesFault, edges_between};
 ghost use Rattle.flow_records.specs.Flags.{AreDoubts, ArePathsOfNumber, IsFlagsFault, IsPathsFault};
 ghost use Rattle.tacflow_c.specs.Handles.{IsAsked};
@@ -16,8 +18,9 @@ ghost use Rattle.flow_records.specs.Why.{IsWhyFault, IsWhyKept, TellsWhy};
 use crate::handle::Handle;
 use crate::statuses::asked_status;
 use flow_records::{
-    NumberedEdge, NumberedFact, NumberedHop, NumberedRemark, NumberedStatement, doubtful_of_kept,
-    edges_of_kept, paths_of_kept, remarks_of_kept, statements_of_kept, why_of_kept,
+    NumberedEdge, NumberedFact, NumberedHop, NumberedNearby, NumberedRemark, NumberedStatement,
+    around_of_kept, doubt_origin_of_kept, doubtful_of_kept, edges_of_kept, paths_of_kept,
+    remarks_of_kept, statements_of_kept, why_of_kept,
 };
 use std::alloc::Global;
 
@@ -140,6 +143,57 @@ pub extern "C" fn tacflow_c_remarks(
     }
     let shared = handle.take(alloc);
     let answer = remarks_of_kept(alloc, shared.kept(), remarks, count);
+    handle.put(shared);
+    asked_status(answer)
+}
+
+/// What stands around a remark of a handle's program, and how much that is, kind by kind: the statements that may write the variable of a dead
+/// assignment next, and whether `main` may end without one; those that may have evaluated an expression last that is already computed, and the
+/// variables that hold its value; those that may evaluate a very busy one next; the nearest point before a statement that is never reached to
+/// which a valid path leads. The numbers of a remark at any point are taken. Where there is too little room it is told how much is needed.
+#[unsafe(no_mangle)]
+#[tactic(auto, using(crate::proofs::answers::Asked::closed, crate::proofs::answers::Asked::asked))]
+pub extern "C" fn tacflow_c_around(
+    alloc: Global,
+    handle: &mut Handle,
+    remark: &NumberedRemark,
+    nearby: &mut [NumberedNearby],
+    count: &mut usize,
+) -> u32
+    ensures { IsAsked result handle.old.held.value handle.new.held.value
+        (λ program. HoldsList (AreAround program remark.now) nearby.old nearby.new count.new)
+        (IsListKept nearby.old nearby.new count.old count.new)
+        (IsAroundFault remark.now (length nearby.old) count.new) }
+{
+    if !handle.is_open {
+        return 8;
+    }
+    let shared = handle.take(alloc);
+    let answer = around_of_kept(alloc, shared.kept(), *remark, nearby, count);
+    handle.put(shared);
+    asked_status(answer)
+}
+
+/// Why a point of a handle's program is doubtful: a point to which some path from it leads, and which has no valid path to the end of `main`;
+/// 4294967295 where the point is not doubtful.
+#[unsafe(no_mangle)]
+#[tactic(auto, using(crate::proofs::answers::Asked::closed, crate::proofs::answers::Asked::asked))]
+pub extern "C" fn tacflow_c_doubt_origin(
+    alloc: Global,
+    handle: &mut Handle,
+    point: u32,
+    origin: &mut u32,
+) -> u32
+    ensures { IsAsked result handle.old.held.value handle.new.held.value
+        (λ program. TellsDoubt program point origin.new)
+        (λ _. origin.new ≡ origin.old)
+        (IsPointFault point) }
+{
+    if !handle.is_open {
+        return 8;
+    }
+    let shared = handle.take(alloc);
+    let answer = doubt_origin_of_kept(alloc, shared.kept(), point, origin);
     handle.put(shared);
     asked_status(answer)
 }

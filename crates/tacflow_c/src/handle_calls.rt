@@ -19,9 +19,9 @@ ghost use Rattle.flow_records.specs.declared.names.Named.TheVariants.{Procedures
 use crate::handle::{Handle, open_text, put_shared};
 use crate::statuses::{Place, answer_status, asked_status, fault_status};
 use flow_records::{
-    Definition, Expression, Named, NumberedQuery, Point, Sizes, ask_kept, definitions_of_kept,
-    expressions_of_kept, facts_of_kept, fill_names, find_limits, points_of_kept, put_listing,
-    report_of_kept, sizes_of_kept,
+    Definition, Expression, Named, NumberedFacts, NumberedQuery, Point, Sizes, ask_kept,
+    definitions_of_kept, expressions_of_kept, facts_of_kept, fill_names, find_limits,
+    points_of_kept, put_listing, report_of_kept, sizes_of_kept,
 };
 use std::alloc::Global;
 
@@ -240,16 +240,13 @@ pub extern "C" fn tacflow_c_facts_of(
     if !handle.is_open {
         return 8;
     }
-    let shared = handle.take(alloc);
-    let answer = facts_of_kept(
-        alloc,
-        shared.kept(),
+    let asked = NumberedFacts {
         analysis,
-        (from, until),
-        (lo, hi),
-        flags,
-        words,
-    );
+        points: (from, until),
+        bits: (lo, hi),
+    };
+    let shared = handle.take(alloc);
+    let answer = facts_of_kept(alloc, shared.kept(), asked, flags, words);
     handle.put(shared);
     asked_status(answer)
 }

@@ -6,7 +6,8 @@
 //! bits in threads of its own, and together they are the table.
 //!
 //! A handle keeps a text's program between calls (`handle_calls`), and a call over it answers the same of that program. Words at single
-//! points, flags of points, statements, edges, remarks, and why a bit is in a set are asked of handles alone (`data_calls`).
+//! points, flags of points, statements, edges, remarks, what stands around them, and why a bit is in a set are asked of handles alone
+//! (`data_calls`).
 #![tactic(auto)]
 
 mod builds;
@@ -33,9 +34,9 @@ ghost use Rattle.tacflow_c.specs.Statuses.{IsAnswered};
 
 pub use builds::BuildPlace;
 use flow_records::{
-    Definition, Expression, Named, Point, Sizes, definitions_of_text, expressions_of_text,
-    facts_of_text, find_limits, listing_of_text, names_of_text, points_of_text, report_of_text,
-    sizes_of_text,
+    Definition, Expression, Named, NumberedFacts, Point, Sizes, definitions_of_text,
+    expressions_of_text, facts_of_text, find_limits, listing_of_text, names_of_text,
+    points_of_text, report_of_text, sizes_of_text,
 };
 pub use handle::Handle;
 pub use held::{Held, Opaque};
@@ -196,18 +197,14 @@ pub extern "C" fn tacflow_c_facts(
         (λ _. (flags.new ≡ flags.old) × (words.new ≡ words.old))
         (λ l. IsTableFault l text.now analysis from until lo hi (length flags.old) (length words.old)) }
 {
+    let asked = NumberedFacts {
+        analysis,
+        points: (from, until),
+        bits: (lo, hi),
+    };
     match find_limits(limits) {
         Ok(within) => answer_status(
-            facts_of_text(
-                alloc,
-                text,
-                within,
-                analysis,
-                (from, until),
-                (lo, hi),
-                flags,
-                words,
-            ),
+            facts_of_text(alloc, text, within, asked, flags, words),
             place,
         ),
         Err(fault) => fault_status(fault, place),

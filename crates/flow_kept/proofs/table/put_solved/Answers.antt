@@ -12,10 +12,10 @@ pub returns-clause-facts : goal.returns-clause-facts
 returns-clause-facts c =
     let form : Selection = c.args.solver.now in
     let slice = c.in_ok-slice.slice in
-    let from = c.args.points.0 in
-    let until = c.args.points.1 in
-    let lo = c.args.bits.0 in
-    let hi = c.args.bits.1 in
+    let from = c.args.ranges.points.0 in
+    let until = c.args.ranges.points.1 in
+    let lo = c.args.ranges.bits.0 in
+    let hi = c.args.ranges.bits.1 in
     let end = c.words_for-end.result in
     let count = end - lo / 64 in
     let count_is : count ≡ word_count lo hi = omega (arith, c.words_for-end.ensures) in
