@@ -1,10 +1,12 @@
-"""Tries `tacview --format json --paths` on random programs. Each remark that a variable may be used
-before it is set has a path, which is walked over the edges that the points' own lines tell: it begins
-at the entry of main, each hop begins where the one before ended, it ends at the remark's point, and
-no step on it sets the variable. A call that is passed leads into its callee and back behind the call,
-and a search of this script's own finds a way through the callee that does not set the variable. But
-for the paths the lines are those without --paths. The word N tries N programs (200). TACVIEW=PROGRAM
-takes another program than ./tacview. Prints `N passed, M failed`."""
+"""Tries `tacview --format json --paths` on random programs. Each remark that a variable may be
+used before it is set has a path, which is walked over the edges that the points' own lines tell:
+it begins at the entry of main, each hop begins where the one before ended, it ends at the remark's
+point, and no step on it sets the variable. A call that is passed leads into its callee and back
+behind the call, and a search of this script's own finds a way through the callee that does not set
+the variable. What stands around each other remark is compared with what sets.py finds over the
+same edges, and so are the lines of doubts. But for these fields and lines all is as without
+--paths. The word N tries N programs (200). TACVIEW=PROGRAM takes another program than ./tacview.
+Prints `N passed, M failed`."""
 
 from __future__ import annotations
 
@@ -15,9 +17,8 @@ import re
 import subprocess
 import sys
 from collections import Counter
-from typing import Any
 
-Row = dict[str, Any]  # an object of a line of JSON
+from sets import Graph, Row
 
 HERE = os.path.dirname(os.path.realpath(__file__))
 ROOT = os.path.join(HERE, "..")
@@ -27,9 +28,40 @@ sys.path.insert(0, os.path.join(ROOT, "bench"))
 from tacbench import generators  # noqa: E402
 
 
+def statement(draw: random.Random, place: int, last: int, callees: list[str]) -> str:
+    """A statement of few variables and two expressions, so that much of it is said of the same."""
+    kind = draw.random()
+    if kind < 0.45:
+        expression = draw.choice(["v0 + v1", "v0 + v1", "v1 * v2"])
+        return f"v{draw.randrange(6)} = {expression}"
+    if kind < 0.65:
+        behind = draw.random() < 0.85 and place < last
+        return f"if v3 goto L{draw.randint(place + 1 if behind else 0, last)}"
+    if kind < 0.75 and callees:
+        return "call " + " | ".join(draw.sample(callees, draw.randint(1, len(callees))))
+    word = draw.choice(["print", "read"])
+    return f"{word} v{draw.randrange(6)}" if kind < 0.9 else f"v{draw.randrange(6)} = 1"
+
+
+def expressions_of(draw: random.Random) -> bytes:
+    """A program of one to three procedures that evaluate two expressions again and again."""
+    names = ["main", "f", "g"][: draw.randint(1, 3)]
+    lines = []
+    for number, name in enumerate(names):
+        last = draw.randint(4, 14)
+        callees = names if draw.random() < 0.2 else names[number + 1 :]
+        lines.append(f"proc {name}")
+        for place in range(last):
+            lines.append(f"L{place}: {statement(draw, place, last, callees)}")
+        lines += [f"L{last}:", "end"]
+    return "\n".join([*lines, ""]).encode()
+
+
 def text_of(seed: int) -> bytes:
     """A program of a few procedures that call each other, up to some hundred points."""
     draw = random.Random(seed)
+    if seed % 2:
+        return expressions_of(draw)
     keys = {
         "procedures": draw.choice([1, 2, 4, 8]),
         "statements": draw.choice([4, 12, 30]),
@@ -80,7 +112,7 @@ class Program:
         }
 
     def is_kept(self, name: str, variable: str, keeping: set[str]) -> bool:
-        """Whether some way through a procedure does not set a variable, its calls by some callees."""
+        """Whether some way through a procedure does not set a variable, calls taking any callee."""
         seen = {self.entry[name]}
         left = [self.entry[name]]
         while left:
@@ -126,18 +158,76 @@ class Program:
         assert here == remark["point"], remark
 
 
+# The fields that a remark of a kind has with --paths alone.
+FIELDS = {
+    "unset": ["path"],
+    "computed": ["last_evaluations", "holders"],
+    "busy": ["next_evaluations"],
+    "dead": ["next_writes", "may_end_unwritten"],
+    "never_reached": ["last_reached", "edges"],
+}
+
+
+def sets_of(graph: Graph, remark: Row) -> Row:
+    """What is to stand around a remark, but for its path."""
+    point, kind = remark["point"], remark["kind"]
+    if kind == "computed":
+        e = remark["expression"]
+        last = graph.last_evaluations(e, point)
+        return {"last_evaluations": last, "holders": graph.holders(e, point)}
+    if kind == "busy":
+        return {"next_evaluations": graph.next_evaluations(remark["expression"], point)}
+    if kind == "dead":
+        v = remark["variable"]
+        ends = graph.may_end_unwritten(v, point)
+        return {"next_writes": graph.next_writes(v, point), "may_end_unwritten": ends}
+    if kind == "never_reached":
+        found = graph.last_reached(point)
+        edges = graph.points[found]["edges"] if found is not None else []
+        return {"last_reached": found, "edges": edges}
+    return {}
+
+
+def check_remark(program: Program, graph: Graph, remark: Row, counts: Counter[str]) -> None:
+    """Checks what stands around a remark, and takes it away."""
+    kind = remark["kind"]
+    if kind == "unset":
+        program.check_path(remark)
+        counts.update(hop["kind"] for hop in remark["path"])
+    told = {field: remark.pop(field) for field in FIELDS[kind]}
+    expected = sets_of(graph, remark)
+    told.pop("path", None)
+    assert told == expected, (remark, told, expected)
+    counts[kind] += 1
+    counts.update(field for field, what in told.items() if what)
+
+
+def check_doubts(graph: Graph, doubts: list[Row], counts: Counter[str]) -> None:
+    """Checks that the doubts are of all assignments that doubt holds back, each with an origin."""
+    assert [(row["point"], row["variable"]) for row in doubts] == graph.doubted(), doubts
+    for row in doubts:
+        assert row["line"] == graph.points[row["point"]]["line"], row
+        assert row["doubt"] in graph.endless(row["point"] + 1), row
+        counts["doubt"] += 1
+
+
 def check(seed: int, counts: Counter[str]) -> None:
-    """Checks each path of a program."""
+    """Checks each path of a program, and what stands around its remarks."""
     source = text_of(seed)
     rows = rows_of(source, "--paths")
-    program = Program(rows)
+    program, graph = Program(rows), Graph(rows)
+    doubts = [row for row in rows if row["type"] == "doubt"]
+    rows = rows[: len(rows) - len(doubts)]
+    assert all(row["type"] != "doubt" for row in rows), "doubts stand behind all else"
     for row in rows:
-        assert ("path" in row) == (row["type"] == "remark" and row["kind"] == "unset"), row
-        if "path" in row:
-            program.check_path(row)
-            counts["path"] += 1
-            counts.update(hop["kind"] for hop in row.pop("path"))
-    assert rows == rows_of(source), "the lines but for the paths"
+        if row["type"] == "remark":
+            check_remark(program, graph, row, counts)
+    check_doubts(graph, doubts, counts)
+    assert rows == rows_of(source), "the lines but for what --paths adds"
+
+
+# What the programs have to have tried.
+TRIED = ["step", "enter", "pass", *FIELDS, "doubt", "next_writes", "may_end_unwritten", "holders"]
 
 
 def main(words: list[str]) -> int:
@@ -150,10 +240,11 @@ def main(words: list[str]) -> int:
         except AssertionError as error:
             failed += 1
             print(f"the program of seed {seed}: {error}")
-    if min(counts[kind] for kind in ("path", "step", "enter", "pass")) == 0:
+    if min(counts[what] for what in TRIED) == 0:
         failed += 1
-        print(f"too few programs to try each hop: {dict(counts)}")
-    print(f"{count - failed} passed, {failed} failed ({counts['path']} paths)")
+        print(f"too few programs to try all of it: {dict(counts)}")
+    tried = ", ".join(f"{counts[what]} {what}" for what in [*FIELDS, "doubt"])
+    print(f"{count - failed} passed, {failed} failed ({tried})")
     return 1 if failed else 0
 
 

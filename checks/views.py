@@ -203,8 +203,8 @@ def check_memory(source: bytes) -> None:
 
 def check_rounds(source: bytes) -> None:
     """Of 20,003 expressions three are very busy at each of 30,000 tests. One worker asks for them
-    in ten rounds, three in seven. A block of all words of all tests would take 75 MB by itself, and
-    350 with what is asked for each."""
+    in fourteen rounds, three in eight. A block of all words of all tests would take 75 MB by
+    itself, and 350 with what is asked for each."""
     wanted = [
         f"{line}: {name} is very busy"
         for line in range(4, 30004)

@@ -1,6 +1,11 @@
+pub mod Askable
 pub mod Between
+pub mod Doubting
+pub mod Keyed
 pub mod Placed
 pub mod Putting
 pub mod Reaching
 pub mod Searched
 pub mod Shown
+pub mod Surrounding
+pub mod Telling

@@ -1,2 +1,4 @@
+pub mod Doubts
 pub mod Paths
+pub mod Sets
 pub mod code

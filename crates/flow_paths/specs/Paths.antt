@@ -1,7 +1,7 @@
 -- Lines of JSON in which a path shows each variable that may be used before it is set: the hops of a witness of reaching definitions
 -- (interprocedurally valid paths: Reps, Horwitz, Sagiv 1995). The bit is the variable's value at the beginning, its dummy definition, which
--- has the variable's number.
-use Rattle.std.specs.Prelude.{◌≡◌, ℕ, List, [], ◌++◌, map, Contains, codes, decimal}
+-- has the variable's number. Each other remark has what stands around it, and behind the remarks the doubts of assignments have a line each.
+use Rattle.std.specs.Prelude.{◌≡◌, ℕ, List, [], ◌++◌, map, flat_map, Contains, codes, decimal}
 use Rattle.flow_graph.specs.Analyses.{shape_of, transfer_of}
 use Rattle.flow_graph.specs.declared.analysis.Analysis.TheVariants.{Reach}
 use Rattle.flow_reports.specs.Reports.{IsKnowledge, Knowledge, remarks_at}
@@ -14,6 +14,9 @@ use Rattle.flow_why.specs.Witnesses.{IsWitness}
 use Rattle.flow_why.specs.declared.hop.Hop.{Hop}
 use Rattle.flow_why.specs.declared.hop.Hop.TheVariants as hop
 use Rattle.tac_program.specs.Programs.{Program}
+use Rattle.flow_paths.specs.Doubts.{AreDoubts, doubt_line}
+use Rattle.flow_paths.specs.Sets.{AreExact, Sets, set_fields}
+use Rattle.flow_paths.specs.declared.doubts.Doubt.{Doubt}
 
 -- a hop: a step, a call that is left open, or a call that is passed as a whole, to the point behind it
 abbrev pub hop_object : Hop → List ℕ
@@ -32,8 +35,14 @@ path_field hops point (Computed bit) = []
 path_field hops point (VeryBusy bit) = []
 path_field hops point (Dead variable) = []
 
-abbrev pub remark_with_path : (ℕ → ℕ → List Hop) → Program → ℕ → Remark → List ℕ
-remark_with_path hops program point remark = remark_head program point remark ++ path_field hops point remark ++ codes "}\n"
+-- a remark with its path, or with its sets
+abbrev pub remark_with_path : (ℕ → ℕ → List Hop) → Sets → Program → ℕ → Remark → List ℕ
+remark_with_path hops sets program point remark =
+    remark_head program point remark ++ path_field hops point remark ++ set_fields sets program point remark ++ codes "}\n"
+
+abbrev pub json_with_paths : (ℕ → ℕ → List Hop) → Sets → List Doubt → Program → Knowledge → View → List ℕ
+json_with_paths hops sets doubts program known view =
+    json_with (remark_with_path hops sets) program known view ++ flat_map (doubt_line program) doubts
 
 -- For each such remark that is shown, the hops are a witness: some valid path brings the value at the beginning to the point, and each path
 -- to which they unfold does.
@@ -42,10 +51,15 @@ AreWitnesses program known view hops =
     (point variable : ℕ) → Contains (shown_points program view) point → Contains (remarks_at program known point) (Unset variable)
     → IsWitness (shape_of program) (transfer_of program Reach variable) point (hops point variable)
 
--- The text tells the meets over all valid paths, and witnesses of what it says may be used before it is set.
+-- The text tells the meets over all valid paths, witnesses of what it says may be used before it is set, what stands around each other remark,
+-- and where doubt comes from.
 pub record IsJsonWithPaths (program : Program) (view : View) (text : List ℕ) : Type 0 where
   pub known : Knowledge
   pub is_known : IsKnowledge program known
   pub hops : ℕ → ℕ → List Hop
   pub are_witnesses : AreWitnesses program known view hops
-  pub is_text : text ≡ json_with (remark_with_path hops) program known view
+  pub sets : Sets
+  pub are_exact : AreExact program known view sets
+  pub doubts : List Doubt
+  pub are_doubts : AreDoubts program known view doubts
+  pub is_text : text ≡ json_with_paths hops sets doubts program known view

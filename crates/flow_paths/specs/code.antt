@@ -1,2 +1,4 @@
--- How the code's own tables stand for the paths of uses.
+-- How the code's own tables stand for the paths of uses, and for what stands around remarks.
+pub mod Arounds
+pub mod Doubted
 pub mod UnsetPaths

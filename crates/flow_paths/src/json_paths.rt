@@ -1,28 +1,88 @@
-// Lines of JSON with paths.
+// Lines of JSON with paths and with what stands around remarks.
 
-ghost use Rattle.std.specs.Prelude.{◌≡◌, ◌<◌, ◌++◌, codes, length, map, IfOk, IfSome};
+ghost use Rattle.std.specs.Prelude.{◌≡◌, ◌<◌, ◌++◌, All, codes, flat_map, length, map, IfOk, IfSome};
+ghost use Rattle.flow_graph.specs.Points.{point_count};
 ghost use Rattle.flow_reports.specs.code.Reported.{TellReport};
 ghost use Rattle.flow_views.specs.ViewTables.{AreViewTables};
 ghost use Rattle.flow_views.specs.code.ViewProgram.{AreShown};
-ghost use Rattle.flow_views.specs.Json.{array};
+ghost use Rattle.flow_views.specs.Json.{array, boolean, edge_object};
+ghost use Rattle.flow_paths.specs.Doubts.{doubt_line};
 ghost use Rattle.flow_paths.specs.Paths.{IsJsonWithPaths, hop_object, path_field, remark_with_path};
+ghost use Rattle.flow_paths.specs.Sets.{names, number_or_null, numbers, set_fields};
+ghost use Rattle.flow_paths.specs.code.Arounds.{around_at, sets_of};
 ghost use Rattle.flow_paths.specs.code.UnsetPaths.{AreWitnessesOf, hops_at};
 ghost use Rattle.text_pieces.specs.Pieces.{CanWrite, Writes};
 
 use crate::OutOfMemory;
+use crate::arounds::Arounds;
+use crate::doubts::Doubt;
+use crate::facts::Facts;
 use crate::hop_objects::write_hops;
+use crate::set_fields::{
+    write_boolean, write_edges, write_number_or_null, write_numbers, write_variable,
+    write_variables,
+};
+use crate::surroundings::{Surroundings, surroundings_of};
 use crate::unset_paths::UnsetPaths;
 use flow_graph::Graph;
 use flow_reports::{Findings, Remark, RemarkForm, ReportAnswers};
+use flow_texts::{line, write_number};
 use flow_views::{NameForm, View, ViewProgram, ViewTables, write_remark_head};
 use std::alloc::Global;
 use std::marker::Model;
+use tac_program::Program;
 use text_pieces::{Pieces, Sink, Text};
 
-// A remark as an object with its path.
+// Writes what stands around a line that is never reached.
+fn write_last_reached<K: Sink>(out: &mut Pieces<'_, K>, facts: &Facts<'_>)
+    requires { CanWrite K.Sink out.old }
+    ensures { Writes K.Sink out.old out.new (codes ",\"last_reached\":" ++ number_or_null facts.now.last
+        ++ codes ",\"edges\":" ++ array (map edge_object facts.now.edges.now)) }
+{
+    out.write(b",\"last_reached\":");
+    write_number_or_null(out, facts.last);
+    out.write(b",\"edges\":");
+    write_edges(out, facts.edges);
+}
+
+// Writes what stands around an expression that is computed already.
+fn write_last_evaluations<K: Sink>(out: &mut Pieces<'_, K>, program: &Program, facts: &Facts<'_>)
+    requires { CanWrite K.Sink out.old }
+    ensures { Writes K.Sink out.old out.new (codes ",\"last_evaluations\":" ++ numbers facts.now.met.now
+        ++ codes ",\"holders\":" ++ names program.now facts.now.holders.now) }
+{
+    out.write(b",\"last_evaluations\":");
+    write_numbers(out, facts.met);
+    out.write(b",\"holders\":");
+    write_variables(out, program, facts.holders);
+}
+
+// Writes what stands around a very busy expression.
+fn write_next_evaluations<K: Sink>(out: &mut Pieces<'_, K>, facts: &Facts<'_>)
+    requires { CanWrite K.Sink out.old }
+    ensures { Writes K.Sink out.old out.new (codes ",\"next_evaluations\":" ++ numbers facts.now.met.now) }
+{
+    out.write(b",\"next_evaluations\":");
+    write_numbers(out, facts.met);
+}
+
+// Writes what stands around a dead assignment.
+fn write_next_writes<K: Sink>(out: &mut Pieces<'_, K>, facts: &Facts<'_>)
+    requires { CanWrite K.Sink out.old }
+    ensures { Writes K.Sink out.old out.new (codes ",\"next_writes\":" ++ numbers facts.now.met.now
+        ++ codes ",\"may_end_unwritten\":" ++ boolean facts.now.may_end) }
+{
+    out.write(b",\"next_writes\":");
+    write_numbers(out, facts.met);
+    out.write(b",\"may_end_unwritten\":");
+    write_boolean(out, facts.may_end);
+}
+
+// A remark as an object with its path and what stands around it.
 #[derive(Clone, Copy)]
 struct PathLine<'a> {
     paths: &'a UnsetPaths,
+    arounds: &'a Arounds,
 }
 
 impl PathLine<'_> {
@@ -48,10 +108,32 @@ impl PathLine<'_> {
             Remark::Dead { .. } => {}
         }
     }
+
+    // Writes what stands around a remark.
+    fn write_sets<K: Sink>(
+        &self,
+        out: &mut Pieces<'_, K>,
+        program: &Program,
+        point: u32,
+        remark: Remark,
+    )
+        requires { CanWrite K.Sink out.old }
+        ensures { Writes K.Sink out.old out.new (set_fields (sets_of (around_at self.now.arounds.now)) program.now point remark) }
+    {
+        let facts = self.arounds.facts(point, remark);
+        match remark {
+            Remark::NeverReached => write_last_reached(out, &facts),
+            Remark::Unset { .. } => {}
+            Remark::Computed { .. } => write_last_evaluations(out, program, &facts),
+            Remark::VeryBusy { .. } => write_next_evaluations(out, &facts),
+            Remark::Dead { .. } => write_next_writes(out, &facts),
+        }
+    }
 }
 
 impl RemarkForm for PathLine<'_> {
-    ghost text = { λ line program point remark. remark_with_path (hops_at line.paths.now) program point remark };
+    ghost text = { λ line program point remark.
+        remark_with_path (hops_at line.paths.now) (sets_of (around_at line.arounds.now)) program point remark };
 
     fn write_remark<K: Sink>(
         &self,
@@ -62,42 +144,87 @@ impl RemarkForm for PathLine<'_> {
     ) {
         write_remark_head(out, found, point, remark);
         self.write_path_if(out, point, remark);
+        self.write_sets(out, found.graph.program(), point, remark);
         out.write(b"}\n");
     }
 }
 
-/// The lines of JSON of [`JsonText`](flow_views::JsonText), in which each remark that a variable may be used before it is set has a field
-/// more, `path`: the hops of a way on which some execution's beginning may bring the variable's value at the beginning there.
+/// The lines of JSON of [`JsonText`](flow_views::JsonText), in which each remark has what stands around it, behind its other fields:
 ///
 ///     {"type":"remark","point":3,"line":5,"first":29,"last":35,"kind":"unset","variable":"x",
 ///      "path":[{"kind":"pass","site":0,"callee":1,"from":0,"to":1},..]}
 ///
-/// - A hop is a `step`, a call that is left open (`enter`), or a call that is passed as a whole (`pass`), with the points where it begins,
-///   `from`, and ends, `to`; calls have the point of the call, `site`, and a passed one the number of the procedure that is passed, `callee`.
-/// - The first hop begins at the entry of `main`, each at the end of the one before, and the last ends at the remark's point. No step on the
-///   way sets the variable, and some path through each procedure that is passed does not.
+/// - `unset`: `path`, the hops of a way on which some execution's beginning may bring the variable's value at the beginning there. A hop is a
+///   `step`, a call that is left open (`enter`), or a call that is passed as a whole (`pass`), with the points where it begins, `from`, and
+///   ends, `to`; calls have the point of the call, `site`, and a passed one the number of the procedure that is passed, `callee`. The first hop
+///   begins at the entry of `main`, each at the end of the one before, and the last ends at the remark's point. No step on the way sets the
+///   variable, and some path through each procedure that is passed does not.
+/// - `dead`: `next_writes`, the points that write the variable first behind it, and `may_end_unwritten`, whether some way ends without one.
+/// - `computed`: `last_evaluations`, the points that evaluated the expression last, and `holders`, the variables that hold its value.
+/// - `busy`: `next_evaluations`, the points that evaluate the expression first.
+/// - `never_reached`: `last_reached`, the nearest point before it in its procedure that is reached, or null, and the `edges` out of that.
 ///
-/// It takes one search for each variable of such a remark that is shown, each linear in the program and its edges. The hops are kept: some 24
-/// bytes each, at most two for each point and such remark.
+/// Behind the remarks stands a line for each assignment that no path reads and that is not called dead since what follows may never end:
+///
+///     {"type":"doubt","point":0,"line":2,"variable":"x","doubt":4}
+///
+/// `doubt` is a point from which no valid path leads to the end of `main`, and to which some path from behind the assignment leads.
+///
+/// It takes one search for each variable of an `unset` remark that is shown. The hops are kept: some 24 bytes each, at most two for each point
+/// and such remark. Each other remark takes a search for each statement that its sets may have, each linear in the program and its edges, and
+/// some 150 bytes.
 #[derive(Drop)]
 pub struct JsonPathsText<'a> {
+    graph: &'a Graph<'a>,
     shown: ViewProgram<'a>,
     paths: UnsetPaths,
+    around: Surroundings,
 }
 
 impl<'a> Model for JsonPathsText<'a> {
-    ghost use Rattle.std.specs.Prelude.{◌≡◌, List, ℕ};
-    ghost use Rattle.flow_views.specs.Json.{json_with};
+    ghost use Rattle.std.specs.Prelude.{◌≡◌, ◌<◌, All, List, ℕ};
+    ghost use Rattle.flow_graph.specs.Points.{point_count};
     ghost use Rattle.flow_views.specs.code.ViewProgram.{AreShown, known_of};
     ghost use Rattle.flow_views.specs.declared.names.NameForm.TheVariants.{Quoted};
-    ghost use Rattle.flow_paths.specs.Paths.{remark_with_path};
+    ghost use Rattle.flow_paths.specs.Paths.{json_with_paths};
+    ghost use Rattle.flow_paths.specs.code.Arounds.{around_at, sets_of};
     ghost use Rattle.flow_paths.specs.code.UnsetPaths.{hops_at};
 
     ghost Value = { List ℕ };
 
-    ghost view = { λ text. json_with (remark_with_path (hops_at text.paths)) text.shown.found.graph.now (known_of text.shown) text.shown.view };
+    ghost view = { λ text. json_with_paths (hops_at text.paths) (sets_of (around_at text.around.arounds)) text.around.doubts.items
+        text.shown.found.graph.now (known_of text.shown) text.shown.view };
 
-    ghost invariant = { λ text. AreShown text.shown × (text.shown.names.form ≡ Quoted) };
+    ghost invariant = { λ text. AreShown text.shown × (text.shown.names.form ≡ Quoted) × (text.shown.found.graph.now ≡ text.graph.now)
+        × All (λ doubt. doubt.point < point_count text.graph.now) text.around.doubts.items };
+}
+
+// Writes the doubt of an assignment.
+fn write_doubt<K: Sink>(out: &mut Pieces<'_, K>, graph: &Graph<'_>, doubt: Doubt)
+    requires ready { CanWrite K.Sink out.old }
+    requires point { doubt.point < point_count graph.now }
+    ensures { Writes K.Sink out.old out.new (doubt_line graph.now doubt) }
+{
+    out.write(b"{\"type\":\"doubt\",\"point\":");
+    write_number(out, doubt.point);
+    out.write(b",\"line\":");
+    write_number(out, line(graph, doubt.point));
+    out.write(b",\"variable\":");
+    write_variable(out, graph.program(), doubt.variable);
+    out.write(b",\"doubt\":");
+    write_number(out, doubt.origin);
+    out.write(b"}\n");
+}
+
+// Writes doubts, one a line.
+fn write_doubts<K: Sink>(out: &mut Pieces<'_, K>, graph: &Graph<'_>, doubts: &[Doubt])
+    requires ready { CanWrite K.Sink out.old }
+    requires points { All (λ doubt. doubt.point < point_count graph.now) doubts.now }
+    ensures { Writes K.Sink out.old out.new (flat_map (doubt_line graph.now) doubts.now) }
+{
+    for doubt in doubts {
+        write_doubt(out, graph, *doubt);
+    }
 }
 
 // The paths of what is shown.
@@ -133,7 +260,13 @@ impl<'a> JsonPathsText<'a> {
     {
         let shown = ViewProgram::of(alloc, graph, tables, answers, view, NameForm::Quoted)?;
         let paths = paths_shown(alloc, graph, &shown)?;
-        Ok(JsonPathsText { shown, paths })
+        let around = surroundings_of(alloc, graph, answers, view)?;
+        Ok(JsonPathsText {
+            graph,
+            shown,
+            paths,
+            around,
+        })
     }
 }
 
@@ -141,6 +274,11 @@ impl<'a> Text for JsonPathsText<'a> {
     ghost bytes = { λ text. text };
 
     fn write<K: Sink>(&self, out: &mut Pieces<'_, K>) {
-        self.shown.write_json(&PathLine { paths: &self.paths }, out);
+        let form = PathLine {
+            paths: &self.paths,
+            arounds: &self.around.arounds,
+        };
+        self.shown.write_json(&form, out);
+        write_doubts(out, self.graph, &self.around.doubts);
     }
 }

@@ -1,8 +1,15 @@
-//! Paths that show why a variable may be used before it is set, in the texts of `tacview`.
+//! Paths that show why a variable may be used before it is set, and what stands around other remarks, in the texts of `tacview`.
 #![tactic(auto)]
 
+mod around;
+mod arounds;
+mod doubts;
+mod facts;
 mod hop_objects;
 mod json_paths;
+mod set_fields;
+mod shown;
+mod surroundings;
 mod unset_path;
 mod unset_paths;
 

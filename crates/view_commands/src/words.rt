@@ -129,7 +129,7 @@ fn paths_option<'a>(alloc: Global) -> Arg<'a>
         .long("paths")
         .action(ArgAction::SetTrue)
         .help(
-            "With --format json: for each variable that may be used before it is set, a path that shows it",
+            "With --format json: what stands around each remark, and a path for each variable that may be unset",
         )
 }
 

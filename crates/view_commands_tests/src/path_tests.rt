@@ -1,4 +1,4 @@
-// Paths of small programs, by hand.
+// Paths of small programs, and what stands around their remarks, by hand.
 
 use crate::tacview_tests::{NONE, Queried, options, run_to_page};
 use std::process::Abort;
@@ -23,7 +23,7 @@ const PATHS_OF_F: Queried<'static> = Queried {
     procedure: Some("f"),
 };
 
-// Texts, and how their lines end: the edges of the last point, and all remarks.
+// Texts, and how their lines end: the edges of the last point, all remarks, and the doubts.
 const ENDS: &[(&str, Queried<'static>, &str)] = &[
     // A procedure that calls itself: it is passed as a whole, and it is entered.
     (
@@ -63,6 +63,49 @@ const ENDS: &[(&str, Queried<'static>, &str)] = &[
         {\"type\":\"remark\",\"point\":7,\"line\":13,\"first\":83,\"last\":89,\"kind\":\"unset\",\"variable\":\"x\",\
         \"path\":[{\"kind\":\"pass\",\"site\":0,\"callee\":2,\"from\":0,\"to\":1},{\"kind\":\"enter\",\"site\":1,\"from\":1,\
         \"to\":6},{\"kind\":\"step\",\"from\":6,\"to\":7}]}\n",
+    ),
+    // The writes that overwrite a dead assignment.
+    (
+        "proc main\nx = 1\nif y goto L\nx = 2\ngoto M\nL:\nx = 3\nM:\nprint x\nend\n",
+        PATHS,
+        "\"edges\":[]}\n\
+        {\"type\":\"remark\",\"point\":0,\"line\":2,\"first\":11,\"last\":15,\"kind\":\"dead\",\"variable\":\"x\",\
+        \"next_writes\":[2,4],\"may_end_unwritten\":false}\n\
+        {\"type\":\"remark\",\"point\":1,\"line\":3,\"first\":17,\"last\":27,\"kind\":\"unset\",\"variable\":\"y\",\
+        \"path\":[{\"kind\":\"step\",\"from\":0,\"to\":1}]}\n",
+    ),
+    // Evaluations that are met first and last, and who holds the value: `x` on both ways, `y` on one.
+    (
+        "proc main\nread a\nread b\nif a goto L\nx = a + b\ngoto M\nL:\ny = a + b\nx = a + b\nM:\nz = a + b\nprint z\nprint x\nend\n",
+        PATHS,
+        "\"edges\":[]}\n\
+        {\"type\":\"remark\",\"point\":2,\"line\":4,\"first\":25,\"last\":35,\"kind\":\"busy\",\"expression\":\"a + b\",\
+        \"next_evaluations\":[3,5]}\n\
+        {\"type\":\"remark\",\"point\":5,\"line\":8,\"first\":57,\"last\":65,\"kind\":\"dead\",\"variable\":\"y\",\
+        \"next_writes\":[],\"may_end_unwritten\":true}\n\
+        {\"type\":\"remark\",\"point\":6,\"line\":9,\"first\":67,\"last\":75,\"kind\":\"computed\",\"expression\":\"a + b\",\
+        \"last_evaluations\":[5],\"holders\":[\"y\"]}\n\
+        {\"type\":\"remark\",\"point\":7,\"line\":11,\"first\":80,\"last\":88,\"kind\":\"computed\",\
+        \"expression\":\"a + b\",\"last_evaluations\":[3,6],\"holders\":[\"x\"]}\n",
+    ),
+    // A call that never comes back: lines behind it are never reached, and doubt begins at it.
+    (
+        "proc main\nx = 1\ncall f\ngoto E\ny = 2\nE:\nend\nproc f\nL:\ngoto L\nend\n",
+        PATHS,
+        "\"edges\":[{\"kind\":\"return\",\"site\":1,\"to\":2}]}\n\
+        {\"type\":\"remark\",\"point\":2,\"line\":4,\"first\":24,\"last\":29,\"kind\":\"never_reached\",\"last_reached\":1,\
+        \"edges\":[{\"kind\":\"call\",\"site\":1,\"to\":5}]}\n\
+        {\"type\":\"remark\",\"point\":3,\"line\":5,\"first\":31,\"last\":35,\"kind\":\"never_reached\",\"last_reached\":1,\
+        \"edges\":[{\"kind\":\"call\",\"site\":1,\"to\":5}]}\n\
+        {\"type\":\"doubt\",\"point\":0,\"line\":2,\"variable\":\"x\",\"doubt\":1}\n",
+    ),
+    // A procedure that nothing calls: no line before it is reached.
+    (
+        "proc main\nend\nproc g\nprint 1\nend\n",
+        PATHS,
+        "\"edges\":[]}\n\
+        {\"type\":\"remark\",\"point\":1,\"line\":4,\"first\":22,\"last\":28,\"kind\":\"never_reached\",\
+        \"last_reached\":null,\"edges\":[]}\n",
     ),
     // Of one procedure, the remarks on it.
     (

@@ -1,6 +1,6 @@
 -- Uses and paths by their numbers
 use Rattle.std.proofs.Common.{◌≡◌, ◌∙◌, ℕ, ◌+◌, ◌-◌, ◌<◌, ◌≤◌, Bool, true, false, List, [], ◌∷◌, ◌++◌, length, map, get_or, nat_eq, slice_index}
-use Rattle.std.proofs.Common.{slice_index_or, if◌then◌else◌, cond, refl, sym, ap, subst, take, arith}
+use Rattle.std.proofs.Common.{if◌then◌else◌, refl, sym, ap, subst, take, arith}
 use Rattle.std.specs.Prelude.{All, Contains}
 use Rattle.std.proofs.lemmas.List.{get_or-map, length-map, map-append, take_more}
 use Rattle.std.proofs.lemmas.List.{get_or_default}

@@ -1,17 +1,14 @@
 -- Which uses are told, and that each has its path
-use Rattle.std.proofs.Common.{◌≡◌, ◌⊎◌, ◌∙◌, ℕ, zero, suc, ◌+◌, ◌-◌, ◌<◌, ◌≤◌, Bool, true, false, ◌&&◌, List, [], ◌∷◌, ◌++◌, length, map, flat_map}
-use Rattle.std.proofs.Common.{Option, Some, None, if◌then◌else◌, inl, inr, sym, ap, subst, arith}
+use Rattle.std.proofs.Common.{◌≡◌, ◌⊎◌, ◌∙◌, ℕ, zero, suc, ◌+◌, ◌<◌, ◌≤◌, Bool, true, false, ◌&&◌, List, [], ◌∷◌, ◌++◌, length, map, flat_map}
+use Rattle.std.proofs.Common.{Option, Some, None, if◌then◌else◌, inl, inr, sym, subst, arith}
 use Rattle.std.specs.Prelude.{All, Contains}
 use Rattle.std.specs.List.{filter, range_with_len}
 use Rattle.std.proofs.lemmas.Bool.{and_parts, cases_lt}
 use Rattle.std.proofs.lemmas.List.Concat.{flat_map-cons}
-use Rattle.std.proofs.lemmas.List.Elements.{All-append, All-cons, All-contains, All-contains_itself, All-filter, All-from_get_or, All-map, All-nil, All-weaker}
+use Rattle.std.proofs.lemmas.List.Elements.{All-append, All-cons, All-contains, All-contains_itself, All-filter, All-map, All-nil, All-weaker}
 use Rattle.std.proofs.lemmas.List.Elements.{Contains-append_left, Contains-append_right, filter_passes}
-use Rattle.std.proofs.lemmas.List.FromFn.{get_or-range_with_len, length-range_with_len}
-use Rattle.flow_graph.specs.Analyses.{shape_of, transfer_of}
 use Rattle.flow_graph.specs.Points.{kind_at, point_count}
 use Rattle.flow_graph.specs.Transfers.{reads}
-use Rattle.flow_graph.specs.declared.analysis.Analysis.TheVariants.{Reach}
 use Rattle.flow_reports.specs.Reports.{IsKnowledge, Knowledge, busy_at, computed_at, dead_at, remarks_at, remarks_when_reached, unset_at}
 use Rattle.flow_reports.specs.Uses.{unset_uses, unset_uses_at, uses_of}
 use Rattle.flow_reports.specs.code.Findings.{AreFindings, TellDoubtful, knowledge_of}
@@ -22,7 +19,6 @@ use Rattle.flow_reports.specs.declared.unset.UnsetUse.{UnsetUse}
 use Rattle.flow_reports.proofs.knowledge.KnownReports.{Agree, agrees, same_unset}
 use Rattle.flow_reports.proofs.knowledge.RemarkLines.{variables_have_dummies}
 use Rattle.tac_program.specs.Programs.{Program}
-use Rattle.tac_program.specs.Sound.{IsSound}
 use Rattle.tac_program.specs.declared.program.StmtKind.{StmtKind}
 use Rattle.flow_paths.specs.code.UnsetPaths.{IsUnsetUse}
 use Rattle.flow_paths.proofs.lists.Placed.{contained}
@@ -52,7 +48,7 @@ part_of_range f a (suc n) k x low high has =
         Contains-append_left (f a) (flat_map f (range_with_len (a + 1) n)) x (subst (λ (m : ℕ). Contains (f m) x) same has)
 
 -- the numbers of a range are below its end
-all_below : (a n limit : ℕ) → a + n ≤ limit → All (λ k. k < limit) (range_with_len a n)
+pub all_below : (a n limit : ℕ) → a + n ≤ limit → All (λ k. k < limit) (range_with_len a n)
 all_below a zero limit less = All-nil (λ k. k < limit)
 all_below a (suc n) limit less =
     All-cons (λ k. k < limit) a (range_with_len (a + 1) n) (omega (arith, less)) (all_below (a + 1) n limit (omega (arith, less)))

@@ -20,7 +20,7 @@ use Rattle.flow_paths.proofs.lists.Placed.{witness_found}
 use Rattle.flow_paths.proofs.lists.Reaching.{all_of_range, use_is_told, uses_are}
 
 -- the points that are shown are points of the program, from one on and before another
-inside : (program : Program) (procedure : Option ℕ) → IfSome procedure (λ p. p < length program.procedures)
+pub inside : (program : Program) (procedure : Option ℕ) → IfSome procedure (λ p. p < length program.procedures)
     → (first_shown program procedure ≤ end_shown program procedure) × (end_shown program procedure ≤ point_count program)
 inside program None there = (omega arith, omega arith)
 inside program (Some procedure) there = (omega arith, omega (arith, ends_below program procedure there))
@@ -40,7 +40,7 @@ all_points program procedure number there is =
     all_between (first_shown program procedure) (end_shown program procedure) (entry_point program number) (suc (end_place program number))
     bounds.0 bounds.1
 
-each_shown : (program : Program) (facts : Chosen) (procedure : Option ℕ) → IfSome procedure (λ p. p < length program.procedures)
+pub each_shown : (program : Program) (facts : Chosen) (procedure : Option ℕ) → IfSome procedure (λ p. p < length program.procedures)
     → All (λ k. (first_shown program procedure ≤ k) × (k < end_shown program procedure))
     (shown_points program (record { facts = facts; procedure = procedure }))
 each_shown program facts None there =

@@ -1,4 +1,4 @@
-use Rattle.std.proofs.Common.{◌+◌, ◌≤◌, arith, slice_index}
+use Rattle.std.proofs.Common.{◌+◌, arith, slice_index}
 use Rattle.flow_paths.proofs.lists.Putting.{put_next}
 use Rattle.flow_paths.proofs.unset_paths.paths_by_variable.Goals as goal
 

@@ -1,11 +1,9 @@
-use Rattle.std.proofs.Common.{◌≡◌, ◌∙◌, ℕ, List, length, map, slice_index, refl, sym, ap, subst}
+use Rattle.std.proofs.Common.{◌≡◌, ℕ, List, length, map, slice_index, refl, sym, ap, subst}
 use Rattle.std.specs.Prelude.{All}
 use Rattle.std.proofs.lemmas.Result.{IfOk-weaker}
-use Rattle.flow_graph.specs.declared.analysis.Analysis.TheVariants.{Reach}
-use Rattle.gen_kill.specs.Selections.{Selection, all_bits}
+use Rattle.gen_kill.specs.Selections.{Selection}
 use Rattle.tac_program.specs.Programs.{Program}
 use Rattle.flow_paths.specs.code.UnsetPaths.{IsUnsetUse, IsWitnessed, between, use_at, uses_in}
-use Rattle.flow_paths.specs.declared.unset_path.UnsetPath.{UnsetPath}
 use Rattle.flow_paths.proofs.lists.Putting.{at_points, each_has, few_paths}
 use Rattle.flow_paths.proofs.unset_paths.paths_of.Goals as goal
 

@@ -1,4 +1,4 @@
-use Rattle.std.proofs.Common.{◌≡◌, ◌∙◌, ℕ, ◌+◌, ◌<◌, ◌≤◌, List, length, slice_index, sym, ap, arith}
+use Rattle.std.proofs.Common.{◌≡◌, ◌∙◌, ℕ, List, sym, ap}
 use Rattle.std.proofs.lemmas.List.Elements.{All-get_or}
 use Rattle.gen_kill.specs.Selections.{Selection}
 use Rattle.flow_reports.specs.declared.unset.UnsetUse.{UnsetUse}

@@ -1,14 +1,12 @@
-use Rattle.std.proofs.Common.{◌≡◌, ◌+◌, ◌<◌, ◌≤◌, ℕ, List, length, sym, ap, subst, arith}
+use Rattle.std.proofs.Common.{◌≡◌, ◌<◌, sym, ap, subst, arith}
 use Rattle.std.specs.Prelude.{All}
 use Rattle.std.proofs.lemmas.Result.{on_ok_weaker}
 use Rattle.flow_graph.specs.declared.analysis.Analysis.TheVariants.{Reach}
 use Rattle.flow_graph.specs.Universes.{bits}
-use Rattle.flow_reports.specs.declared.unset.UnsetUse.{UnsetUse}
 use Rattle.flow_reports.proofs.knowledge.RemarkLines.{variables_have_dummies}
 use Rattle.gen_kill.specs.Selections.{Selection, column_count}
 use Rattle.tac_program.specs.Programs.{Program}
 use Rattle.flow_paths.specs.code.UnsetPaths.{IsUnsetUse, IsWitnessed}
-use Rattle.flow_paths.specs.declared.unset_path.UnsetPath.{UnsetPath}
 use Rattle.flow_paths.proofs.unset_paths.put_variable.Goals as goal
 
 pub of-requires-clause-column : goal.of-requires-clause-column

@@ -1,6 +1,19 @@
-use Rattle.text_pieces.proofs.sinks.Taking.{takes_as}
+use Rattle.std.proofs.Common.{◌∙◌, ℕ, List}
+use Rattle.text_pieces.proofs.sinks.Taking.{takes_as, takes_then}
+use Rattle.flow_views.specs.Json.{json_with}
+use Rattle.flow_views.specs.code.ViewProgram.{known_of}
+use Rattle.flow_paths.specs.Paths.{remark_with_path}
+use Rattle.flow_paths.specs.code.Arounds.{around_at, sets_of}
+use Rattle.flow_paths.specs.code.UnsetPaths.{hops_at}
+use Rattle.flow_paths.proofs.lists.Telling.{same_lines}
 use Rattle.flow_paths.proofs.json_paths.JsonPathsTextText.write.Goals as goal
 
 pub returns : goal.returns
 returns g c =
-    takes_as _ _ _ _ c.write_json.ensures c.self.view_is
+    let shown = c.self.inside.shown in
+    let json : List ℕ =
+    json_with (remark_with_path (hops_at c.self.inside.paths) (sets_of (around_at c.self.inside.around.arounds))) shown.found.graph.now
+    (known_of shown) shown.view in
+    takes_as _ _ _ _ (takes_then _ _ _ _ _ c.write_json.ensures c.write_doubts.ensures)
+    (same_lines json c.self.inside.graph.now shown.found.graph.now c.deref.result.now c.self.inside.around.doubts.items
+    c.self.invariant.2 c.deref.ensures.value ∙ c.self.view_is)

@@ -1,5 +1,5 @@
 use Rattle.std.proofs.Common.{ap, sym}
-use Rattle.text_pieces.proofs.sinks.Taking.{takes_as, takes_nothing}
+use Rattle.text_pieces.proofs.sinks.Taking.{takes_as}
 use Rattle.flow_paths.specs.Paths.{path_field}
 use Rattle.flow_paths.specs.code.UnsetPaths.{hops_at}
 use Rattle.flow_paths.proofs.json_paths.PathLine.write_path_if.Goals as goal

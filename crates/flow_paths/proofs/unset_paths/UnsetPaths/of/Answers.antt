@@ -1,4 +1,4 @@
-use Rattle.std.proofs.Common.{◌≡◌, ◌+◌, ◌-◌, ℕ, List, length, map, sym, subst, arith}
+use Rattle.std.proofs.Common.{◌≡◌, ◌-◌, ℕ, List, length, map, subst, arith}
 use Rattle.flow_graph.specs.Points.{point_count}
 use Rattle.flow_reports.specs.declared.unset.UnsetUse.{UnsetUse}
 use Rattle.worklist.specs.Groups.{AreGroups}
