@@ -106,25 +106,32 @@ fn asked_word(
     table_word(bits, range.0, range.1, query.word, query.analysis.join()) & query.bits
 }
 
-/// Puts the answers to a run of queries at their places. Fails only where memory runs out.
+/// Queries, and their numbers in the order in which they are solved.
+#[derive(Clone, Copy)]
+pub(crate) struct InOrder<'a> {
+    pub(crate) queries: &'a [Query],
+    pub(crate) places: &'a [u32],
+}
+
+/// Puts the answers to a run of queries, from a number in their order on, at their places. Fails only where memory runs out.
 pub(crate) fn ask_run(
     alloc: Global,
     graph: &Graph<'_>,
     routes: &Routes,
-    queries: &[Query],
-    places: &[u32],
+    asked: InOrder<'_>,
     from: u32,
     run: Run,
     answers: &mut [u64],
 ) -> Result<(), OutOfMemory>
     requires routes { routes.now ≡ record { program = graph.now; backward = is_backward run.analysis } }
-    requires queries { AreQueriesOf graph.now queries.now }
-    requires arranged { Arranges queries.now (ordered queries.now places.now) places.now }
-    requires run { AreInRun queries.now places.now from run }
-    requires room { length answers.old ≡ length queries.now }
-    requires before { AreAnswered (queried_in graph.now queries.now places.now) from answers.old }
-    ensures answered { IfOk result (λ _. AreAnswered (queried_in graph.now queries.now places.now) run.until answers.new) }
+    requires queries { AreQueriesOf graph.now asked.queries.now }
+    requires arranged { Arranges asked.queries.now (ordered asked.queries.now asked.places.now) asked.places.now }
+    requires run { AreInRun asked.queries.now asked.places.now from run }
+    requires room { length answers.old ≡ length asked.queries.now }
+    requires before { AreAnswered (queried_in graph.now asked.queries.now asked.places.now) from answers.old }
+    ensures answered { IfOk result (λ _. AreAnswered (queried_in graph.now asked.entry.queries.now asked.entry.places.now) run.until answers.new) }
 {
+    let InOrder { queries, places } = asked;
     let problem = Problem::of(alloc, graph, run.analysis)?;
     let range = bits_of_run(run, problem.bits());
     let solver = Solver::of(alloc, problem)?;

@@ -14,7 +14,7 @@ ghost use Rattle.tac_reader.specs.Faults.{refusal_within};
 ghost use Rattle.tac_reader.specs.Parses.{program_of};
 
 use crate::OutOfMemory;
-use crate::asking::{ask_run, run_at};
+use crate::asking::{InOrder, ask_run, run_at};
 use crate::fault::KeepFault;
 use crate::points::complement;
 use crate::table::put_flags;
@@ -209,8 +209,10 @@ impl Kept {
                 alloc,
                 graph,
                 routes,
-                queries,
-                places.as_slice(),
+                InOrder {
+                    queries,
+                    places: places.as_slice(),
+                },
                 done,
                 run,
                 answers.as_mut_slice(),

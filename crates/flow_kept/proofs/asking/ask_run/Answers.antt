@@ -20,8 +20,8 @@ query_at queries places j arranged inside =
 
 pub solve_to-solved-requires-clause-word : goal.solve_to-solved-requires-clause-word
 solve_to-solved-requires-clause-word c =
-    let queries = c.args.queries.now in
-    let places = c.args.places.now in
+    let queries = c.args.asked.queries.now in
+    let places = c.args.asked.places.now in
     let j = c.queries.j in
     let query : Query = get_or queries (get_or places j 0) no_query in
     let there = query_at queries places j c.requires.arranged (omega (arith, c.queries-test.true, c.requires.run.most)) in
@@ -33,8 +33,8 @@ solve_to-solved-requires-clause-word c =
 
 pub asked_word-requires-clause-asked : goal.asked_word-requires-clause-asked
 asked_word-requires-clause-asked c =
-    let queries = c.args.queries.now in
-    let places = c.args.places.now in
+    let queries = c.args.asked.queries.now in
+    let places = c.args.asked.places.now in
     let j = c.queries.j in
     let query : Query = get_or queries (get_or places j 0) no_query in
     let there = query_at queries places j c.requires.arranged (omega (arith, c.queries-test.true, c.requires.run.most)) in
@@ -46,8 +46,8 @@ asked_word-requires-clause-asked c =
 
 pub queries-preserved : goal.queries-preserved
 queries-preserved c =
-    let queries = c.args.queries.now in
-    let places = c.args.places.now in
+    let queries = c.args.asked.queries.now in
+    let places = c.args.asked.places.now in
     let j = c.queries.j in
     let query : Query = get_or queries (get_or places j 0) no_query in
     let before = c.queries.invariant in
