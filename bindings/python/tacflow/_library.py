@@ -216,8 +216,8 @@ def building() -> Any:
     call = LIBRARY["tacflow_c_build"]
     procedures, statements = ctypes.POINTER(RawBuiltProcedure), ctypes.POINTER(RawBuiltStatement)
     numbers = ctypes.POINTER(ctypes.c_uint32)
-    names = [ctypes.POINTER(COUNT), COUNT, ctypes.c_char_p, COUNT]
-    arrays = [procedures, COUNT, statements, COUNT, numbers, COUNT, numbers, COUNT, *names * 3]
+    names: list[Any] = [ctypes.POINTER(COUNT), COUNT, ctypes.c_char_p, COUNT]
+    arrays: list[Any] = [procedures, COUNT, statements, COUNT, numbers, COUNT, numbers, COUNT, *names * 3]
     handle, place = ctypes.POINTER(RawHandle), ctypes.POINTER(RawBuildPlace)
     call.argtypes = [*arrays, ctypes.c_uint32, handle, place]
     call.restype = ctypes.c_uint32

@@ -193,9 +193,16 @@ def expression_of(raw: Any) -> Expression:
 
 def statement_of(raw: Any) -> Statement:
     operator = None if raw.operator == library.NONE else SIGNS[raw.operator]
-    numbers = (number_of(it) for it in (raw.label, raw.goes_to, raw.expression))
-    operands = operand_if(raw.left), operand_if(raw.right)
-    return Statement(StatementKind(raw.kind), number_of(raw.target), operator, *numbers, *operands)
+    return Statement(
+        StatementKind(raw.kind),
+        number_of(raw.target),
+        operator,
+        number_of(raw.label),
+        number_of(raw.goes_to),
+        number_of(raw.expression),
+        operand_if(raw.left),
+        operand_if(raw.right),
+    )
 
 
 def edge_of(raw: Any) -> Edge:

@@ -17,7 +17,7 @@ from tests.test_data import CALLS, ENDLESS
 
 DEAD, COMPUTED, BUSY = RemarkKind.DEAD, RemarkKind.ALREADY_COMPUTED, RemarkKind.VERY_BUSY
 UNSET, NEVER = RemarkKind.UNSET, RemarkKind.NEVER_REACHED
-WRITE, END, LAST, HOLDER, NEXT, REACHED = NearbyKind
+WRITE, END, LAST, HOLDER, NEXT, REACHED = tuple(NearbyKind)
 TESTS = (StatementKind.IF, StatementKind.IF_FALSE, StatementKind.IF_COMPARE)
 CONTROL = (StatementKind.GOTO, StatementKind.CALL, StatementKind.RETURN)
 
@@ -257,7 +257,9 @@ class ByHand(unittest.TestCase):
             for point in (8, -1, None):
                 with self.assertRaisesRegex(tacflow.BadRange, "the program has no point"):
                     program.doubt_origin(point)  # type: ignore[arg-type]
-        for ask in (lambda: program.around(wrong[0]), lambda: program.doubt_origin(0)):
+        asks: list[Callable[[], object]] = [lambda: program.around(wrong[0])]
+        asks.append(lambda: program.doubt_origin(0))
+        for ask in asks:
             with self.assertRaises(tacflow.ClosedProgram):
                 ask()
 
@@ -293,7 +295,7 @@ class AsFactsSay(unittest.TestCase):
             self.assertGreater(count, 5, kind)
 
     def test_doubt(self) -> None:
-        texts = [text_of(seed) for seed in range(1, 60) if seed % 10]
+        texts: list[bytes | str] = [text_of(seed) for seed in range(1, 60) if seed % 10]
         for text in [*texts, ENDLESS]:
             with tacflow.open(text) as program:
                 doubtful, ends = list(program.doubtful()), list(program.has_path("live"))

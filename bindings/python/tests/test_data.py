@@ -3,6 +3,7 @@
 from __future__ import annotations
 
 import unittest
+from collections.abc import Callable
 
 import tacflow
 from tacflow import EdgeKind, Operand, Remark, RemarkKind, Statement, StatementKind
@@ -134,7 +135,9 @@ class ByHand(unittest.TestCase):
     def test_closed(self) -> None:
         program = tacflow.open(CALLS)
         program.close()
-        for ask in (program.remarks, program.edges, program.doubtful, lambda: program.statements):
+        asks: list[Callable[[], object]] = [program.remarks, program.edges, program.doubtful]
+        asks.append(lambda: program.statements)
+        for ask in asks:
             with self.assertRaises(tacflow.ClosedProgram):
                 ask()
 

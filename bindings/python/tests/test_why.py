@@ -11,7 +11,7 @@ from tacflow import Analysis, EdgeKind, Effect, Expression, Hop, HopKind, Operan
 from tests.tables import text_of
 from tests.test_data import CALLS, ENDLESS
 
-REACHES, GENERATES, PRESERVES = Effect
+REACHES, GENERATES, PRESERVES = tuple(Effect)
 
 
 def step(source: int, target: int) -> Hop:
