@@ -5,8 +5,9 @@ point, and no step on it sets the variable. A call that is passed leads into its
 behind the call, and a search of this script's own finds a way through the callee that does not set
 the variable. What stands around each other remark is compared with what sets.py finds over the
 same edges, and so are the lines of doubts. But for these fields and lines all is as without
---paths. The word N tries N programs (200). TACVIEW=PROGRAM takes another program than ./tacview.
-Prints `N passed, M failed`."""
+--paths. One path of each program is looked for in the picture that marks it. The word N tries N
+programs (200). TACVIEW=PROGRAM takes another program than ./tacview. Prints `N passed, M failed`.
+"""
 
 from __future__ import annotations
 
@@ -71,15 +72,17 @@ def text_of(seed: int) -> bytes:
     return generators.generate("small", keys)
 
 
-def rows_of(source: bytes, *words: str) -> list[Row]:
-    """The objects of the lines that tacview writes; it has to end well and say nothing else."""
-    done = subprocess.run(
-        [TACVIEW, "--format", "json", "--facts", "none", *words],
-        input=source,
-        capture_output=True,
-    )
+def written(source: bytes, *words: str) -> str:
+    """What tacview writes; it has to end well and say nothing else."""
+    done = subprocess.run([TACVIEW, *words], input=source, capture_output=True)
     assert not done.returncode and not done.stderr, (done.returncode, done.stderr.decode())
-    return [json.loads(line) for line in done.stdout.decode().splitlines()]
+    return done.stdout.decode()
+
+
+def rows_of(source: bytes, *words: str) -> list[Row]:
+    """The objects of the lines that tacview writes."""
+    told = written(source, "--format", "json", "--facts", "none", *words)
+    return [json.loads(line) for line in told.splitlines()]
 
 
 def variable_set(statement: str | None) -> str | None:
@@ -222,8 +225,29 @@ def check(seed: int, counts: Counter[str]) -> None:
     for row in rows:
         if row["type"] == "remark":
             check_remark(program, graph, row, counts)
+    unset = [row for row in rows if row.get("kind") == "unset"]
+    if unset:
+        check_picture(source, unset[seed % len(unset)])
     check_doubts(graph, doubts, counts)
     assert rows == rows_of(source), "the lines but for what --paths adds"
+
+
+def marks_of(remark: Row) -> str:
+    """The lines by which a picture marks the path of a remark."""
+    marks = ""
+    for hop in remark["path"]:
+        dashed = ", style=dashed" if hop["kind"] == "pass" else ""
+        marks += f"  {hop['from']} [color=blue, penwidth=3];\n"
+        marks += f"  {hop['from']} -> {hop['to']} [color=blue, penwidth=3{dashed}];\n"
+    return marks + f"  {remark['point']} [color=blue, penwidth=3];\n"
+
+
+def check_picture(source: bytes, remark: Row) -> None:
+    """The picture with the path of a remark is the plain one, with marks before its end."""
+    plain = written(source).removesuffix("}\n")
+    place = f"{remark['line']}:{remark['variable']}"
+    got = written(source, "--because", place)
+    assert got == "strict " + plain + marks_of(remark) + "}\n", (place, got)
 
 
 # What the programs have to have tried.

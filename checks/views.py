@@ -169,6 +169,8 @@ def check_dot(source: bytes) -> None:
     names = objects(source)[0]["procedures"]
     pictures: list[list[str]] = [[], ["--facts", "all"]]
     pictures += (["--procedure", name, "--facts", "reach,busy"] for name in names)
+    unset = [row for row in objects(source)[2] if row["kind"] == "unset"]
+    pictures += (["--because", f"{row['line']}:{row['variable']}"] for row in unset[:1])
     for words in pictures:
         done = subprocess.run(
             ["dot", "-Tsvg"], input=run(TACVIEW, words, source), capture_output=True

@@ -43,7 +43,7 @@ fn push_table<K: Sink>(
     requires below { K.faults sink.old < 2 ^ 32 - 1 }
     ensures delivers { Delivers (IsTableText graph.now table.now.analysis) (K.contents sink.old) (K.contents sink.new) result }
     ensures flushed { OnOk result (K.flushed sink.new ≡ true) }
-    ensures fault { IfErr result (OfProgram (λ _. ⊥) ⊥) }
+    ensures fault { IfErr result (OfProgram (λ _. ⊥) ⊥ ⊥) }
     ensures faults { K.faults sink.new ≡ K.faults sink.old + write_faults_in result }
 {
     let text = TableText::of(alloc, graph, table)?;
@@ -63,7 +63,7 @@ fn table_of_graph<R: Threads + Sync, K: Sink>(
     requires below { K.faults sink.old < 2 ^ 32 - 1 }
     ensures delivers { Delivers (IsTableText graph.now analysis) (K.contents sink.old) (K.contents sink.new) result }
     ensures flushed { OnOk result (K.flushed sink.new ≡ true) }
-    ensures fault { IfErr result (OfProgram (λ _. ⊥) ⊥) }
+    ensures fault { IfErr result (OfProgram (λ _. ⊥) ⊥ ⊥) }
     ensures faults { K.faults sink.new ≡ K.faults sink.old + write_faults_in result }
 {
     let team = team_of(rt, options);
@@ -85,7 +85,7 @@ fn write_table_of<R: Threads + Sync, K: Sink>(
     ensures delivers { Delivers (λ out. HasFewPoints Standard program.now × HasFewBits Standard program.now × IsTableText program.now analysis out)
         (K.contents sink.old) (K.contents sink.new) result }
     ensures flushed { OnOk result (K.flushed sink.new ≡ true) }
-    ensures fault { IfErr result (OfProgram (IsOverLimit Standard program.now) ⊥) }
+    ensures fault { IfErr result (OfProgram (IsOverLimit Standard program.now) ⊥ ⊥) }
     ensures faults { K.faults sink.new ≡ K.faults sink.old + write_faults_in result }
 {
     let graph = graph_of(alloc, program, Limits::Standard)?;
@@ -105,7 +105,7 @@ fn write_report<R: Threads + Sync, K: Sink>(
     ensures delivers { Delivers (λ out. HasFewPoints Standard program.now × HasFewBits Standard program.now × IsReport program.now out
         × ListsSafely program.now out) (K.contents sink.old) (K.contents sink.new) result }
     ensures flushed { OnOk result (K.flushed sink.new ≡ true) }
-    ensures fault { IfErr result (OfProgram (IsOverLimit Standard program.now) ⊥) }
+    ensures fault { IfErr result (OfProgram (IsOverLimit Standard program.now) ⊥ ⊥) }
     ensures faults { K.faults sink.new ≡ K.faults sink.old + write_faults_in result }
 {
     let graph = graph_of(alloc, program, Limits::Standard)?;
@@ -120,6 +120,8 @@ impl Output for Options {
     ghost is_output = { λ options. IsShown options.show };
 
     ghost lacks = { λ _ _. ⊥ };
+
+    ghost lacks_remark = { λ _ _. ⊥ };
 
     fn limits(&self) -> Limits {
         Limits::Standard

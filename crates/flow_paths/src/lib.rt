@@ -3,10 +3,12 @@
 
 mod around;
 mod arounds;
+mod asked_use;
 mod doubts;
 mod facts;
 mod hop_objects;
 mod json_paths;
+mod path_picture;
 mod set_fields;
 mod shown;
 mod surroundings;
@@ -14,4 +16,5 @@ mod unset_path;
 mod unset_paths;
 
 pub use json_paths::JsonPathsText;
+pub use path_picture::PathDotText;
 pub use std::alloc::AllocError as OutOfMemory;

@@ -5,7 +5,7 @@ ghost use Rattle.std.specs.List.{filter};
 ghost use Rattle.flow_graph.specs.Points.{end_place, entry_point, point_count};
 ghost use Rattle.flow_reports.specs.Listed.{remarks_of};
 ghost use Rattle.flow_reports.specs.code.Findings.{AreFindings, knowledge_of};
-ghost use Rattle.flow_views.specs.ViewTables.{end_shown, first_shown};
+ghost use Rattle.flow_views.specs.Views.{end_shown, first_shown};
 ghost use Rattle.flow_paths.specs.code.Doubted.{has_shown, is_shown};
 
 use crate::OutOfMemory;
@@ -57,8 +57,8 @@ pub(crate) fn points_shown(graph: &Graph<'_>, procedure: Option<u32>) -> Shown
     }
 }
 
-// Whether a point is shown.
-fn is_within(shown: Shown, point: u32) -> bool
+/// Whether a point is shown.
+pub(crate) fn is_within(shown: Shown, point: u32) -> bool
     ensures { result ≡ is_shown shown point }
 {
     shown.first <= point && point < shown.end

@@ -22,6 +22,11 @@ abbrev pub WhereNoProcedure : Type 0 → Fault → Type 0
 WhereNoProcedure P fault.NoProcedure = P
 WhereNoProcedure P _ = Unit {0}
 
+-- A fact where the fault is that a remark is not there.
+abbrev pub WhereNoRemark : Type 0 → Fault → Type 0
+WhereNoRemark P fault.NoRemark = P
+WhereNoRemark P _ = Unit {0}
+
 -- A fact where the fault is the sink's.
 abbrev pub WhereWrite : Type 0 → Fault → Type 0
 WhereWrite P fault.Write = P
@@ -42,13 +47,14 @@ write_faults_in (Err fault.Write) = 1
 write_faults_in _ = 0
 
 -- The fault tells of no text and no source: memory was refused, a fact of the cause holds for which there is no graph, a fact where a
--- procedure is not there, or the sink had a fault.
-abbrev pub OfProgram : (GraphFault → Type 0) → Type 0 → Fault → Type 0
-OfProgram P Q (fault.Graph f) = P f
-OfProgram P Q fault.NoProcedure = Q
-OfProgram P Q fault.OutOfMemory = Unit {0}
-OfProgram P Q fault.Write = Unit {0}
-OfProgram P Q _ = ⊥
+-- procedure is not there, another where a remark is not, or the sink had a fault.
+abbrev pub OfProgram : (GraphFault → Type 0) → Type 0 → Type 0 → Fault → Type 0
+OfProgram P Q R (fault.Graph f) = P f
+OfProgram P Q R fault.NoProcedure = Q
+OfProgram P Q R fault.NoRemark = R
+OfProgram P Q R fault.OutOfMemory = Unit {0}
+OfProgram P Q R fault.Write = Unit {0}
+OfProgram P Q R _ = ⊥
 
 -- Of an answer to the wish to write a text of a kind: at Ok such a text was written, at a fault of the sink a beginning of one, and
 -- at every other fault nothing.

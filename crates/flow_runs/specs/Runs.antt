@@ -40,8 +40,8 @@ pub record HasNoGraph (limits : Limits) (is_needed : Bool) (text : List ℕ) (ca
   pub needed : is_needed ≡ true
   pub over : IsOverLimit limits (program_of text) cause
 
--- The text is a program that has not the procedure that is asked for.
-pub record LacksProcedure (limits : Limits) (Lacks : Program → Type 0) (text : List ℕ) : Type 0 where
+-- The text is a program that has not what is asked for: a procedure, or a remark.
+pub record Lacking (limits : Limits) (Lacks : Program → Type 0) (text : List ℕ) : Type 0 where
   pub faultless : refusal_within limits text ≡ None
   pub lacks : Lacks (program_of text)
 
@@ -75,8 +75,8 @@ pub record PullsOverLimit (limits : Limits) (is_needed : Bool) (before after : O
   pub pulls : PullsAll limits before after ended text
   pub refuses : HasNoGraph limits is_needed text cause
 
--- The whole text was pulled, and it is a program, but has not the procedure that is asked for.
-pub record PullsNoProcedure (limits : Limits) (Lacks : Program → Type 0) (before after : Option (List ℕ)) (ended : Bool) : Type 0 where
+-- The whole text was pulled, and it is a program, but has not what is asked for.
+pub record PullsLacking (limits : Limits) (Lacks : Program → Type 0) (before after : Option (List ℕ)) (ended : Bool) : Type 0 where
   pub text : List ℕ
   pub pulls : PullsAll limits before after ended text
-  pub lacks : LacksProcedure limits Lacks text
+  pub lacks : Lacking limits Lacks text

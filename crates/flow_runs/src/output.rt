@@ -27,6 +27,9 @@ pub trait Output {
     // The program has not the procedure that is asked for.
     ghost lacks: { Self → SourceProgram → Type 0 };
 
+    // The program has not the remark that is asked for.
+    ghost lacks_remark: { Self → SourceProgram → Type 0 };
+
     /// How large a text and its program may be.
     fn limits(&self) -> Limits
         ensures { result ≡ limits self.now };
@@ -36,7 +39,7 @@ pub trait Output {
     /// The condition: the sink's count of faults is below `u32::MAX`.
     ///
     /// - `Graph`: a graph is needed, and the program has too many points or bits.
-    /// - `NoProcedure`: the program has not the procedure that is asked for.
+    /// - `NoProcedure`: the program has not the procedure that is asked for. `NoRemark`: it has not the remark that is.
     /// - `OutOfMemory`: memory was refused.
     /// - `Write`: a push or the flush was answered by a fault; a beginning of what is to be shown was pushed. After every other
     ///   fault nothing was.
@@ -52,7 +55,8 @@ pub trait Output {
         ensures delivers { Delivers (λ out. HasItsGraph (limits self.now) (needs_graph self.now) program.now × is_output self.now program.now out)
             (K.contents sink.old) (K.contents sink.new) result }
         ensures flushed { OnOk result (K.flushed sink.new ≡ true) }
-        ensures fault { IfErr result (OfProgram (IsOverLimit (limits self.now) program.now) (lacks self.now program.now)) }
+        ensures fault { IfErr result (OfProgram (IsOverLimit (limits self.now) program.now) (lacks self.now program.now)
+            (lacks_remark self.now program.now)) }
         ensures needed { IfErr result (WhereNoGraph (λ _. needs_graph self.now ≡ true)) }
         ensures faults { K.faults sink.new ≡ K.faults sink.old + write_faults_in result };
 }

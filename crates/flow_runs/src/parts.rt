@@ -39,7 +39,7 @@ pub fn graph_of<'p>(alloc: Global, program: &'p Program, limits: Limits) -> Resu
     ensures graph { IfOk result (λ graph. graph ≡ program.now) }
     ensures few_points { OnOk result (HasFewPoints limits program.now) }
     ensures few_bits { OnOk result (HasFewBits limits program.now) }
-    ensures fault { IfErr result (OfProgram (IsOverLimit limits program.now) ⊥) }
+    ensures fault { IfErr result (OfProgram (IsOverLimit limits program.now) ⊥ ⊥) }
     ensures no_write { write_faults_in result ≡ 0 }
 {
     match Graph::build_within(alloc, program, limits) {
@@ -60,7 +60,7 @@ pub fn push_text<T: Text, K: Sink>(alloc: Global, text: &T, sink: &mut K) -> Res
     requires { K.faults sink.old < 2 ^ 32 - 1 }
     ensures delivers { Delivers (λ out. out ≡ T.bytes text.now) (K.contents sink.old) (K.contents sink.new) result }
     ensures flushed { OnOk result (K.flushed sink.new ≡ true) }
-    ensures fault { IfErr result (OfProgram (λ _. ⊥) ⊥) }
+    ensures fault { IfErr result (OfProgram (λ _. ⊥) ⊥ ⊥) }
     ensures faults { K.faults sink.new ≡ K.faults sink.old + write_faults_in result }
 {
     match deliver(alloc, text, sink) {

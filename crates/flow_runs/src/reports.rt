@@ -26,7 +26,7 @@ fn push_answers<K: Sink>(
     requires below { K.faults sink.old < 2 ^ 32 - 1 }
     ensures delivers { Delivers (λ out. IsReport graph.now out × ListsSafely graph.now out) (K.contents sink.old) (K.contents sink.new) result }
     ensures flushed { OnOk result (K.flushed sink.new ≡ true) }
-    ensures fault { IfErr result (OfProgram (λ _. ⊥) ⊥) }
+    ensures fault { IfErr result (OfProgram (λ _. ⊥) ⊥ ⊥) }
     ensures faults { K.faults sink.new ≡ K.faults sink.old + write_faults_in result }
 {
     let text = ReportText::of(alloc, graph, answers)?;
@@ -50,7 +50,7 @@ pub fn push_report<R: Threads + Sync, G: Gate, K: Sink>(
     requires below { K.faults sink.old < 2 ^ 32 - 1 }
     ensures delivers { Delivers (λ out. IsReport graph.now out × ListsSafely graph.now out) (K.contents sink.old) (K.contents sink.new) result }
     ensures flushed { OnOk result (K.flushed sink.new ≡ true) }
-    ensures fault { IfErr result (OfProgram (λ _. ⊥) ⊥) }
+    ensures fault { IfErr result (OfProgram (λ _. ⊥) ⊥ ⊥) }
     ensures faults { K.faults sink.new ≡ K.faults sink.old + write_faults_in result }
 {
     let answers = ReportAnswers::of(team, alloc, graph)?;

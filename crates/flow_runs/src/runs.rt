@@ -2,8 +2,8 @@
 
 ghost use Rattle.std.specs.Prelude.{◌≡◌, ◌<◌, ◌+◌, ◌-◌, ◌^◌, true, false, IfErr, OnOk};
 ghost use Rattle.std.specs.Io.KnownBytes.{Keeps};
-ghost use Rattle.flow_runs.specs.Faults.{UnlessWrite, WhereNoGraph, WhereNoProcedure, WhereRefused, WhereWrite, read_faults_in, write_faults_in};
-ghost use Rattle.flow_runs.specs.Runs.{PullsNoProcedure, PullsOverLimit, PullsRefused, WritesAnswer, WritesBeginning};
+ghost use Rattle.flow_runs.specs.Faults.{UnlessWrite, WhereNoGraph, WhereNoProcedure, WhereNoRemark, WhereRefused, WhereWrite, read_faults_in, write_faults_in};
+ghost use Rattle.flow_runs.specs.Runs.{PullsLacking, PullsOverLimit, PullsRefused, WritesAnswer, WritesBeginning};
 
 use crate::answer::answer;
 use crate::fault::Fault;
@@ -19,7 +19,7 @@ use text_pieces::{Sink, Source};
 /// The condition: the source has not ended, and both counts of faults are below `u32::MAX`.
 ///
 /// - `Refused`: the text is no program. `Graph`: it is one, but has too many points (21) or bits (22) for what is to be shown.
-///   `NoProcedure`: it is one, but has not the procedure that is asked for.
+///   `NoProcedure`: it is one, but has not the procedure that is asked for. `NoRemark`: it has not the remark that is.
 /// - `OutOfMemory`: memory was refused.
 /// - `Read`: a pull was answered by a fault. `Write`: a push or the flush was; a beginning of what
 ///   is to be shown was pushed. After every other fault nothing was.
@@ -40,7 +40,9 @@ pub fn run<R: Threads + Sync, S: Source, K: Sink, W: Output>(
         (WhereRefused (PullsRefused (W.limits output.now) (S.remaining source.old) (S.remaining source.new) (S.ended source.new))) }
     ensures no_graph { IfErr result (WhereNoGraph (PullsOverLimit (W.limits output.now) (W.needs_graph output.now)
         (S.remaining source.old) (S.remaining source.new) (S.ended source.new))) }
-    ensures no_procedure { IfErr result (WhereNoProcedure (PullsNoProcedure (W.limits output.now) (W.lacks output.now)
+    ensures no_procedure { IfErr result (WhereNoProcedure (PullsLacking (W.limits output.now) (W.lacks output.now)
+        (S.remaining source.old) (S.remaining source.new) (S.ended source.new))) }
+    ensures no_remark { IfErr result (WhereNoRemark (PullsLacking (W.limits output.now) (W.lacks_remark output.now)
         (S.remaining source.old) (S.remaining source.new) (S.ended source.new))) }
     ensures beginning { IfErr result (WhereWrite (WritesBeginning (W.limits output.now) (W.needs_graph output.now) (W.is_output output.now)
         (S.remaining source.old) (S.remaining source.new) (S.ended source.new) (K.contents sink.old) (K.contents sink.new))) }

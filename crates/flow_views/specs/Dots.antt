@@ -124,11 +124,14 @@ passed_call program view point = elim view.procedure [
 abbrev pub edge_lines : Program → View → ℕ → List ℕ
 edge_lines program view point = flat_map (shown_edge program view) (edges_from program point) ++ passed_call program view point
 
-abbrev pub dot_of : Program → Knowledge → View → List ℕ
-dot_of program known view =
+-- the picture, with and without the line that ends it
+abbrev pub open_dot : Program → Knowledge → View → List ℕ
+open_dot program known view =
     head ++ flat_map (cluster program known view.facts) (shown_procedures program view)
     ++ flat_map (edge_lines program view) (shown_points program view)
-    ++ codes "}\n"
+
+abbrev pub dot_of : Program → Knowledge → View → List ℕ
+dot_of program known view = open_dot program known view ++ codes "}\n"
 
 -- The text is the picture of the meets over all valid paths.
 pub record IsDot (program : Program) (view : View) (text : List ℕ) : Type 0 where

@@ -1,23 +1,12 @@
 -- The tables of what is shown.
-use Rattle.std.specs.Prelude.{◌≡◌, ℕ, suc, ◌+◌, Bool, List, Option, Some, None, IfSome, is_some, slice_index_or}
+use Rattle.std.specs.Prelude.{◌≡◌, ℕ, Bool, List, Option, None, IfSome, is_some, slice_index_or}
 use Rattle.flow_graph.specs.AnalysisNumbers.{analysis_number}
-use Rattle.flow_graph.specs.Points.{end_place, entry_point, point_count}
 use Rattle.flow_graph.specs.declared.analysis.Analysis.{Analysis}
 use Rattle.flow_team.specs.Excerpts.{IsTableAt}
 use Rattle.flow_team.specs.Tables.{TableFacts}
-use Rattle.flow_views.specs.Views.{is_chosen}
+use Rattle.flow_views.specs.Views.{is_chosen, end_shown, first_shown}
 use Rattle.flow_views.specs.declared.view.View.{View}
 use Rattle.tac_program.specs.Programs.{Program}
-
--- the first point that is shown, of one procedure or of all
-abbrev pub first_shown : Program → Option ℕ → ℕ
-first_shown program (Some procedure) = entry_point program procedure
-first_shown program None = 0
-
--- and the point behind the last
-abbrev pub end_shown : Program → Option ℕ → ℕ
-end_shown program (Some procedure) = entry_point program procedure + suc (end_place program procedure)
-end_shown program None = point_count program
 
 -- There is a table exactly where the analysis is chosen, and it is this program's table of that analysis, at the points from one on and before
 -- another.

@@ -1,8 +1,8 @@
 -- What is shown of a program, in both texts: which procedures and points, which analyses, and what a statement is called.
-use Rattle.std.specs.Prelude.{ℕ, suc, Bool, List, [], ◌∷◌, flat_map, length, Some, None, if◌then◌else◌, codes}
+use Rattle.std.specs.Prelude.{ℕ, suc, ◌+◌, Bool, List, [], ◌∷◌, flat_map, length, Option, Some, None, if◌then◌else◌, codes}
 use Rattle.std.specs.List.{filter, range_with_len}
 use Rattle.flow_graph.specs.declared.analysis.TheConstants.Analysis as all
-use Rattle.flow_graph.specs.Points.{end_place, entry_point, procedure_at}
+use Rattle.flow_graph.specs.Points.{end_place, entry_point, point_count, procedure_at}
 use Rattle.flow_graph.specs.declared.analysis.Analysis.{Analysis}
 use Rattle.flow_graph.specs.declared.analysis.Analysis.TheVariants.{Reach, Live, Avail, Busy}
 use Rattle.flow_team.specs.Tables.{Facts}
@@ -27,6 +27,16 @@ points_in program procedure = range_with_len (entry_point program procedure) (su
 -- the points that are shown
 abbrev pub shown_points : Program → View → List ℕ
 shown_points program view = flat_map (points_in program) (shown_procedures program view)
+
+-- the first point that is shown, of one procedure or of all
+abbrev pub first_shown : Program → Option ℕ → ℕ
+first_shown program (Some procedure) = entry_point program procedure
+first_shown program None = 0
+
+-- and the point behind the last
+abbrev pub end_shown : Program → Option ℕ → ℕ
+end_shown program (Some procedure) = entry_point program procedure + suc (end_place program procedure)
+end_shown program None = point_count program
 
 -- whether an analysis's facts are shown
 abbrev pub is_chosen : Chosen → Analysis → Bool

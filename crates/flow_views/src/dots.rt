@@ -13,7 +13,7 @@ ghost use Rattle.flow_views.specs.ViewTables.{AreViewTables};
 ghost use Rattle.flow_views.specs.code.ViewProgram.{AreShown, AreShownProcedures, IsShownPoint, IsShownProcedure, IsSiteIn, TellSame};
 ghost use Rattle.flow_views.specs.code.ViewProgram.{known_of, numbers_of};
 ghost use Rattle.flow_views.specs.declared.names.NameForm.TheVariants.{Escaped};
-ghost use Rattle.flow_views.specs.Dots.{IsDot, arrow, calls_at, cluster, dot_of, edge_line, edge_lines, fact_line, head, is_call, is_edge_shown};
+ghost use Rattle.flow_views.specs.Dots.{IsDot, arrow, calls_at, cluster, edge_line, edge_lines, fact_line, head, is_call, is_edge_shown, open_dot};
 ghost use Rattle.flow_views.specs.Dots.{label_line, label_lines, marks, node, passed_call, path_marks, shown_edge, text_if_some, title};
 ghost use Rattle.text_pieces.specs.Strings.{escaped};
 ghost use Rattle.flow_views.specs.Views.{analysis_if, chosen_analyses, names_at, procedure_name, known_facts, is_chosen};
@@ -412,17 +412,18 @@ impl ViewProgram<'_> {
         out.write(b" [style=dashed, label=\"call\"];\n");
     }
 
-    // Writes the whole text.
-    fn write_dot<K: Sink>(&self, out: &mut Pieces<'_, K>)
+    /// Writes the picture, but for the line that ends it.
+    ///
+    /// The conditions: it is one program that is shown, with names as a picture has them.
+    pub fn write_open_dot<K: Sink>(&self, out: &mut Pieces<'_, K>)
         requires ready { CanWrite K.Sink out.old }
         requires shown { AreShown self.now }
         requires form { self.now.names.form ≡ Escaped }
-        ensures { Writes K.Sink out.old out.new (dot_of self.now.found.graph.now (known_of self.now) self.now.view) }
+        ensures { Writes K.Sink out.old out.new (open_dot self.now.found.graph.now (known_of self.now) self.now.view) }
     {
         write_head(out);
         self.write_clusters(out, self.procedures());
         self.write_all_points(&DotEdges, out);
-        out.write(b"}\n");
     }
 }
 
@@ -526,6 +527,7 @@ impl<'a> Text for DotText<'a> {
     ghost bytes = { λ text. text };
 
     fn write<K: Sink>(&self, out: &mut Pieces<'_, K>) {
-        self.shown.write_dot(out);
+        self.shown.write_open_dot(out);
+        out.write(b"}\n");
     }
 }

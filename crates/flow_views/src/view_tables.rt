@@ -2,8 +2,8 @@
 
 ghost use Rattle.std.specs.Prelude.{◌≡◌, ◌<◌, ◌≤◌, None, Some, length, IfOk, IfSome, MatchOption};
 ghost use Rattle.flow_graph.specs.Points.{point_count};
-ghost use Rattle.flow_views.specs.ViewTables.{AreViewTables, IsTableShown, end_shown, first_shown, shown_table};
-ghost use Rattle.flow_views.specs.Views.{is_chosen};
+ghost use Rattle.flow_views.specs.ViewTables.{AreViewTables, IsTableShown, shown_table};
+ghost use Rattle.flow_views.specs.Views.{end_shown, first_shown, is_chosen};
 
 use crate::OutOfMemory;
 use crate::view::View;

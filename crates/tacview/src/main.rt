@@ -26,10 +26,7 @@ fn run_by<R: Threads + Sync>(rt: &HostRuntime, threads: &R, options: &Options) -
         &progress,
     ) {
         Ok(()) => ExitCode::SUCCESS,
-        Err(fault) => {
-            let procedure = options.procedure.as_ref().map(|name| name.as_str());
-            tell_line(rt, NAME, line_of(rt.alloc(), procedure, &fault))
-        }
+        Err(fault) => tell_line(rt, NAME, line_of(rt.alloc(), &options.asked, &fault)),
     }
 }
 

@@ -26,6 +26,14 @@ with_paths true format.Json = Some format.JsonPaths
 with_paths true format.JsonPaths = Some format.JsonPaths
 with_paths true format.Report = None
 
+-- The format, where it fits to what is asked for: a path is marked in a picture alone.
+abbrev pub with_because : Bool → Format → Option Format
+with_because false format = Some format
+with_because true format.Dot = Some format.Dot
+with_because true format.Json = None
+with_because true format.JsonPaths = None
+with_because true format.Report = None
+
 -- The limits with their words.
 abbrev pub sizes : List (List ℕ × Limits)
 sizes = (codes "standard", Standard) ∷ (codes "large", Large) ∷ []

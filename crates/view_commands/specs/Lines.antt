@@ -1,5 +1,5 @@
 -- The line on standard error for each fault.
-use Rattle.std.specs.Prelude.{ℕ, ◌+◌, ◌/◌, ◌%◌, ◌&&◌, ◌==◌, Bool, not, List, [], ◌∷◌, ◌++◌, flat_map, Option, Some, codes, nat_lt, if◌then◌else◌}
+use Rattle.std.specs.Prelude.{ℕ, ◌+◌, ◌/◌, ◌%◌, ◌&&◌, ◌==◌, Bool, not, List, [], ◌∷◌, ◌++◌, flat_map, Option, None, Some, codes, nat_lt, if◌then◌else◌}
 use Rattle.flow_runs.specs.FaultLines.{line_of_fault}
 use Rattle.flow_runs.specs.declared.fault.Fault.{Fault}
 use Rattle.flow_runs.specs.declared.fault.Fault.TheVariants as fault
@@ -18,7 +18,21 @@ escaped_byte b = if is_plain b then b ∷ [] else 92 ∷ 120 ∷ hex_digit (b / 
 abbrev pub escaped : List ℕ → List ℕ
 escaped name = flat_map escaped_byte name
 
--- The whole line, with its line feed; where a procedure is not there, its name.
-abbrev pub fault_line : Option (List ℕ) → Fault → List ℕ
-fault_line (Some name) fault.NoProcedure = codes "tacview" ++ (codes ": the program has no procedure " ++ escaped name ++ codes "\n")
-fault_line name f = line_of_fault (codes "tacview") f
+-- the line of what is not there, by the words for it and its name
+abbrev pub missing_line : List ℕ → List ℕ → List ℕ
+missing_line words name = codes "tacview" ++ (words ++ escaped name ++ codes "\n")
+
+-- that a procedure is not there, and that a remark is not, with what was asked for
+abbrev pub no_procedure_line : Option (List ℕ) → List ℕ
+no_procedure_line (Some name) = missing_line (codes ": the program has no procedure ") name
+no_procedure_line None = line_of_fault (codes "tacview") fault.NoProcedure
+
+abbrev pub no_remark_line : Option (List ℕ) → List ℕ
+no_remark_line (Some place) = missing_line (codes ": no variable may be used before it is set at ") place
+no_remark_line None = line_of_fault (codes "tacview") fault.NoRemark
+
+-- The whole line, with its line feed, where this procedure and this place were asked for.
+abbrev pub fault_line : Option (List ℕ) → Option (List ℕ) → Fault → List ℕ
+fault_line procedure place fault.NoProcedure = no_procedure_line procedure
+fault_line procedure place fault.NoRemark = no_remark_line place
+fault_line procedure place f = line_of_fault (codes "tacview") f

@@ -2,6 +2,7 @@
 use Rattle.std.specs.Prelude.{◌≡◌, ℕ, List, Option, None, Some, slice_get}
 use Rattle.tac_program.specs.Programs.{Program}
 use Rattle.flow_paths.specs.Paths.{IsJsonWithPaths}
+use Rattle.flow_paths.specs.Pictures.{IsDotWithPath, LacksUse}
 use Rattle.flow_reports.specs.Reports.{IsReport, ListsSafely}
 use Rattle.flow_views.specs.Dots.{IsDot}
 use Rattle.flow_views.specs.Json.{IsJson}
@@ -24,15 +25,37 @@ abbrev pub LacksProcedure : Option (List ℕ) → Program → Type 0
 LacksProcedure None program = ⊥
 LacksProcedure (Some name) program = (number : ℕ) → ¬ (HasProcedure program name number)
 
+-- The picture, with the path of a use where a text names one.
+abbrev pub IsPicture : Option (List ℕ) → Program → View → List ℕ → Type 0
+IsPicture None program view out = IsDot program view out
+IsPicture (Some place) program view out = IsDotWithPath program view place out
+
 -- The text of each format. A report is of the whole program whatever the view, and its dead assignments are safe to delete.
-abbrev pub IsText : Format → Program → View → List ℕ → Type 0
-IsText format.Dot program view out = IsDot program view out
-IsText format.Json program view out = IsJson program view out
-IsText format.JsonPaths program view out = IsJsonWithPaths program view out
-IsText format.Report program view out = IsReport program out × ListsSafely program out
+abbrev pub IsText : Format → Option (List ℕ) → Program → View → List ℕ → Type 0
+IsText format.Dot because program view out = IsPicture because program view out
+IsText format.Json because program view out = IsJson program view out
+IsText format.JsonPaths because program view out = IsJsonWithPaths program view out
+IsText format.Report because program view out = IsReport program out × ListsSafely program out
+
+-- What is asked for of a program: which text, with the facts of which analyses, of which procedure, and with the path of which use.
+pub record Request : Type 0 where
+  pub format : Format
+  pub facts : Chosen
+  pub name : Option (List ℕ)
+  pub because : Option (List ℕ)
 
 -- What is written of a program: the text of this format, with these facts, of the procedures that are asked for.
-pub record IsShown (format : Format) (facts : Chosen) (name : Option (List ℕ)) (program : Program) (out : List ℕ) : Type 0 where
+pub record IsShown (request : Request) (program : Program) (out : List ℕ) : Type 0 where
   pub procedure : Option ℕ
-  pub queried : ShowsProcedure program name procedure
-  pub text : IsText format program (record { facts = facts; procedure = procedure }) out
+  pub queried : ShowsProcedure program request.name procedure
+  pub text : IsText request.format request.because program (record { facts = request.facts; procedure = procedure }) out
+
+-- The path of a use is asked for, by a text that names none of what is shown.
+abbrev pub LacksNamed : Option (List ℕ) → Program → View → Type 0
+LacksNamed None program view = ⊥
+LacksNamed (Some place) program view = LacksUse program view place
+
+pub record LacksRemark (request : Request) (program : Program) : Type 0 where
+  pub procedure : Option ℕ
+  pub queried : ShowsProcedure program request.name procedure
+  pub none : LacksNamed request.because program (record { facts = request.facts; procedure = procedure })

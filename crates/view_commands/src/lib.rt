@@ -12,7 +12,7 @@ mod views;
 mod words;
 
 pub use lines::line_of;
-pub use options::{Format, Options};
+pub use options::{Asked, Format, Options};
 pub use progress::{Count, Progress, progress_words};
 pub use runs::run;
 pub use terminal::Terminal;

@@ -1,9 +1,10 @@
 // The line on standard error that tells a fault.
 
-ghost use Rattle.std.specs.Prelude.{◌≡◌, ◌<◌, ◌++◌, IfOk, OnOk, Some, option_map};
-ghost use Rattle.flow_runs.specs.declared.fault.Fault.TheVariants as fault;
-ghost use Rattle.view_commands.specs.Lines.{escaped, escaped_byte, hex_digit, is_plain, fault_line};
+ghost use Rattle.std.specs.Prelude.{◌≡◌, ◌<◌, ◌++◌, IfOk, OnOk, option_map};
+ghost use Rattle.std.specs.String.{string_bytes};
+ghost use Rattle.view_commands.specs.Lines.{escaped, escaped_byte, hex_digit, is_plain, fault_line, missing_line, no_procedure_line, no_remark_line};
 
+use crate::options::Asked;
 use flow_runs::{Fault, OutOfMemory, fault_line, line_with};
 use std::alloc::Global;
 
@@ -40,27 +41,50 @@ fn push_escaped(text: &mut Vec<u8>, bytes: &[u8]) -> Result<(), OutOfMemory>
     Ok(())
 }
 
-fn no_procedure_line(alloc: Global, name: &str) -> Result<Vec<u8>, OutOfMemory>
-    ensures { IfOk result (λ line. line.items ≡ fault_line (Some name.now) fault.NoProcedure) }
+// The line that tells of something that is not there, by its name.
+fn missing_line(alloc: Global, words: &[u8], name: &str) -> Result<Vec<u8>, OutOfMemory>
+    ensures { IfOk result (λ line. line.items ≡ missing_line words.now name.now) }
 {
-    let mut rest = b": the program has no procedure ".to_vec(alloc)?;
+    let mut rest = words.to_vec(alloc)?;
     push_escaped(&mut rest, name.as_bytes())?;
     rest.extend_from_slice(b"\n")?;
     line_with(alloc, "tacview", &rest)
 }
 
-/// The line on standard error that tells a fault, with its line feed; where a procedure of this name is not there, with the name,
-/// in which each byte that is no printed sign of ASCII, or is a backslash, is told as `\x` and two hexadecimal digits. Fails only
-/// where memory runs out.
-pub fn line_of(
-    alloc: Global,
-    procedure: Option<&str>,
-    fault: &Fault,
-) -> Result<Vec<u8>, OutOfMemory>
-    ensures { IfOk result (λ line. line.items ≡ fault_line (option_map (λ name. name.now) procedure.entry) fault.now) }
+// The line that tells that a procedure is not there, with its name where there is one.
+fn no_procedure_line(alloc: Global, name: Option<&String>) -> Result<Vec<u8>, OutOfMemory>
+    ensures { IfOk result (λ line. line.items ≡ no_procedure_line (option_map (λ n. string_bytes n.now) name.entry)) }
 {
-    match (procedure, fault) {
-        (Some(name), Fault::NoProcedure) => no_procedure_line(alloc, name),
+    match name {
+        Some(name) => missing_line(alloc, b": the program has no procedure ", name.as_str()),
+        None => fault_line(alloc, "tacview", &Fault::NoProcedure),
+    }
+}
+
+// The line that tells that a remark is not there, with its place where there is one.
+fn no_remark_line(alloc: Global, place: Option<&String>) -> Result<Vec<u8>, OutOfMemory>
+    ensures { IfOk result (λ line. line.items ≡ no_remark_line (option_map (λ n. string_bytes n.now) place.entry)) }
+{
+    match place {
+        Some(place) => missing_line(
+            alloc,
+            b": no variable may be used before it is set at ",
+            place.as_str(),
+        ),
+        None => fault_line(alloc, "tacview", &Fault::NoRemark),
+    }
+}
+
+/// The line on standard error that tells a fault, with its line feed; where a procedure or a remark is not there, with the name that was asked
+/// for, in which each byte that is no printed sign of ASCII, or is a backslash, is told as `\x` and two hexadecimal digits. Fails only
+/// where memory runs out.
+pub fn line_of(alloc: Global, asked: &Asked, fault: &Fault) -> Result<Vec<u8>, OutOfMemory>
+    ensures { IfOk result (λ line. line.items ≡ fault_line (option_map string_bytes asked.now.procedure) (option_map string_bytes asked.now.because)
+        fault.now) }
+{
+    match fault {
+        Fault::NoProcedure => no_procedure_line(alloc, asked.procedure.as_ref()),
+        Fault::NoRemark => no_remark_line(alloc, asked.because.as_ref()),
         _ => fault_line(alloc, "tacview", fault),
     }
 }

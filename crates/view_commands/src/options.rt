@@ -20,6 +20,15 @@ pub enum Format {
     Report,
 }
 
+/// What is asked for by its name.
+#[derive(Drop)]
+pub struct Asked {
+    /// The name of the one procedure that is shown; without it all are. A report is of all anyway.
+    pub procedure: Option<String>,
+    /// The place of the use whose path a picture marks, `LINE` or `LINE:NAME`; without it none is. Other texts are the same for all of these.
+    pub because: Option<String>,
+}
+
 /// What to show, by how many workers, in slices of how many bits.
 #[derive(Drop)]
 pub struct Options {
@@ -33,8 +42,8 @@ pub struct Options {
     pub format: Format,
     /// Which analyses' facts stand in it. A report is the same for all of them.
     pub facts: Chosen,
-    /// The name of the one procedure that is shown; without it all are. A report is of all anyway.
-    pub procedure: Option<String>,
+    /// What is asked for by its name.
+    pub asked: Asked,
     pub ghost in_range: { AreInRange workers cut },
 }
 
@@ -47,11 +56,11 @@ impl Options {
         limits: Limits,
         format: Format,
         facts: Chosen,
-        procedure: Option<String>,
+        asked: Asked,
     ) -> Option<Options>
         ensures answered { IsSome result ↔ AreInRange workers cut }
         ensures options { IfSome result (λ options. (options.workers ≡ workers) × (options.cut ≡ cut) × (options.limits ≡ limits)
-            × (options.format ≡ format) × (options.facts ≡ facts) × (options.procedure ≡ procedure)) }
+            × (options.format ≡ format) × (options.facts ≡ facts) × (options.asked ≡ asked)) }
     {
         if are_in_range(workers, cut) {
             Some(Options {
@@ -60,7 +69,7 @@ impl Options {
                 limits,
                 format,
                 facts,
-                procedure,
+                asked,
             })
         } else {
             None

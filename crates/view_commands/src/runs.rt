@@ -2,10 +2,10 @@
 
 ghost use Rattle.std.specs.Prelude.{◌≡◌, ◌<◌, ◌+◌, ◌-◌, ◌^◌, true, false, IfErr, OnOk};
 ghost use Rattle.std.specs.Io.KnownBytes.{Keeps};
-ghost use Rattle.flow_runs.specs.Faults.{UnlessWrite, WhereNoGraph, WhereNoProcedure, WhereRefused, WhereWrite, read_faults_in, write_faults_in};
-ghost use Rattle.flow_runs.specs.Runs.{PullsNoProcedure, PullsOverLimit, PullsRefused, WritesAnswer, WritesBeginning};
-ghost use Rattle.view_commands.specs.Commands.{name_queried};
-ghost use Rattle.view_commands.specs.Views.{IsShown, LacksProcedure};
+ghost use Rattle.flow_runs.specs.Faults.{UnlessWrite, WhereNoGraph, WhereNoProcedure, WhereNoRemark, WhereRefused, WhereWrite, read_faults_in, write_faults_in};
+ghost use Rattle.flow_runs.specs.Runs.{PullsLacking, PullsOverLimit, PullsRefused, WritesAnswer, WritesBeginning};
+ghost use Rattle.view_commands.specs.Commands.{name_queried, request_of};
+ghost use Rattle.view_commands.specs.Views.{IsShown, LacksProcedure, LacksRemark};
 
 use crate::options::Options;
 use crate::progress::Progress;
@@ -23,7 +23,8 @@ use text_pieces::{Sink, Source};
 /// The condition: the source has not ended, and both counts of faults are below `u32::MAX`.
 ///
 /// - `Refused`: the text is no program within the limits. `Graph`: it is one, but has too many points (21) or bits (22) for them.
-///   `NoProcedure`: it is one, but no procedure of it has the name that the options ask for.
+///   `NoProcedure`: it is one, but no procedure of it has the name that the options ask for. `NoRemark`: at the place whose path they ask
+///   for no variable that is shown may be used before it is set.
 /// - `OutOfMemory`: memory was refused.
 /// - `Read`: a pull was answered by a fault. `Write`: a push or the flush was; a beginning of what
 ///   is to be shown was pushed. After every other fault nothing was.
@@ -38,17 +39,19 @@ pub fn run<R: Threads + Sync, S: Source, K: Sink>(
     requires running { S.ended source.old ≡ false }
     requires source_below { S.faults source.old < 2 ^ 32 - 1 }
     requires sink_below { K.faults sink.old < 2 ^ 32 - 1 }
-    ensures written { OnOk result (WritesAnswer options.now.limits true (IsShown options.now.format options.now.facts (name_queried options.now))
+    ensures written { OnOk result (WritesAnswer options.now.limits true (IsShown (request_of options.now))
         (S.remaining source.old) (S.remaining source.new) (S.ended source.new) (K.contents sink.old) (K.contents sink.new)) }
     ensures flushed { OnOk result (K.flushed sink.new ≡ true) }
     ensures refused { IfErr result (WhereRefused (PullsRefused options.now.limits
         (S.remaining source.old) (S.remaining source.new) (S.ended source.new))) }
     ensures no_graph { IfErr result (WhereNoGraph (PullsOverLimit options.now.limits true
         (S.remaining source.old) (S.remaining source.new) (S.ended source.new))) }
-    ensures no_procedure { IfErr result (WhereNoProcedure (PullsNoProcedure options.now.limits (LacksProcedure (name_queried options.now))
+    ensures no_procedure { IfErr result (WhereNoProcedure (PullsLacking options.now.limits (LacksProcedure (name_queried options.now))
+        (S.remaining source.old) (S.remaining source.new) (S.ended source.new))) }
+    ensures no_remark { IfErr result (WhereNoRemark (PullsLacking options.now.limits (LacksRemark (request_of options.now))
         (S.remaining source.old) (S.remaining source.new) (S.ended source.new))) }
     ensures beginning { IfErr result (WhereWrite (WritesBeginning options.now.limits true
-        (IsShown options.now.format options.now.facts (name_queried options.now))
+        (IsShown (request_of options.now))
         (S.remaining source.old) (S.remaining source.new) (S.ended source.new) (K.contents sink.old) (K.contents sink.new))) }
     ensures unwritten { IfErr result (UnlessWrite (Keeps (K.contents sink.old) (K.contents sink.new))) }
     ensures source_faults { S.faults source.new ≡ S.faults source.old + read_faults_in result }

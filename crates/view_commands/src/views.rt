@@ -4,19 +4,20 @@ ghost use Rattle.std.specs.Prelude.{◌≡◌, ◌+◌, ◌-◌, ◌^◌, ◌<�
 ghost use Rattle.std.specs.Thread.{IsSync};
 ghost use Rattle.flow_graph.specs.Limits.{HasFewBits, HasFewPoints};
 ghost use Rattle.flow_paths.specs.Paths.{IsJsonWithPaths};
+ghost use Rattle.flow_paths.specs.Pictures.{IsDotWithPath, LacksUse};
 ghost use Rattle.flow_runs.specs.Faults.{Delivers, OfProgram, write_faults_in};
 ghost use Rattle.flow_runs.specs.Runs.{IsOverLimit};
 ghost use Rattle.flow_reports.specs.code.Reported.{TellReport};
 ghost use Rattle.flow_views.specs.Dots.{IsDot};
 ghost use Rattle.flow_views.specs.Json.{IsJson};
 ghost use Rattle.flow_views.specs.ViewTables.{AreViewTables};
-ghost use Rattle.view_commands.specs.Commands.{name_queried};
-ghost use Rattle.view_commands.specs.Views.{HasProcedure, IsShown, IsText, LacksProcedure, ShowsProcedure};
+ghost use Rattle.view_commands.specs.Commands.{because_queried, name_queried, request_of};
+ghost use Rattle.view_commands.specs.Views.{HasProcedure, IsPicture, IsShown, IsText, LacksNamed, LacksProcedure, LacksRemark, ShowsProcedure};
 
 use crate::options::{Format, Options};
 use crate::progress::Progress;
 use flow_graph::Graph;
-use flow_paths::JsonPathsText;
+use flow_paths::{JsonPathsText, PathDotText};
 use flow_reports::ReportAnswers;
 use flow_runs::{Fault, OutOfMemory, Output, graph_of, push_report, push_text};
 use flow_team::Team;
@@ -46,7 +47,7 @@ fn view_of(program: &Program, options: &Options) -> Result<View, Fault>
     ensures lacks { IfErr result (λ fault. (fault ≡ Fault.NoProcedure) × LacksProcedure (name_queried options.now) program.now) }
 {
     let facts = options.facts;
-    let Some(name) = &options.procedure else {
+    let Some(name) = &options.asked.procedure else {
         return Ok(View {
             facts,
             procedure: None,
@@ -90,12 +91,59 @@ fn push_dot<R: Threads + Sync, K: Sink>(
     requires there { IfSome view.procedure (λ number. number < length graph.now.procedure_names) }
     ensures delivers { Delivers (λ out. IsDot graph.now view out) (K.contents sink.old) (K.contents sink.new) result }
     ensures flushed { OnOk result (K.flushed sink.new ≡ true) }
-    ensures fault { IfErr result (OfProgram (λ _. ⊥) ⊥) }
+    ensures fault { IfErr result (OfProgram (λ _. ⊥) ⊥ ⊥) }
     ensures faults { K.faults sink.new ≡ K.faults sink.old + write_faults_in result }
 {
     let (tables, answers) = tables_and_answers(team, alloc, graph, view)?;
     let text = DotText::of(alloc, graph, &tables, &answers, view)?;
     push_text(alloc, &text, sink)
+}
+
+// Writes it with the path of the use that a text names.
+fn push_path_dot<R: Threads + Sync, K: Sink>(
+    team: &Team<'_, R, Progress>,
+    alloc: Global,
+    graph: &Graph<'_>,
+    view: View,
+    place: &[u8],
+    sink: &mut K,
+) -> Result<(), Fault>
+    requires threads { IsSync R.row }
+    requires below { K.faults sink.old < 2 ^ 32 - 1 }
+    requires there { IfSome view.procedure (λ number. number < length graph.now.procedure_names) }
+    ensures delivers { Delivers (λ out. IsDotWithPath graph.now view place.now out) (K.contents sink.old) (K.contents sink.new) result }
+    ensures flushed { OnOk result (K.flushed sink.new ≡ true) }
+    ensures fault { IfErr result (OfProgram (λ _. ⊥) ⊥ (LacksUse graph.now view place.now)) }
+    ensures faults { K.faults sink.new ≡ K.faults sink.old + write_faults_in result }
+{
+    let (tables, answers) = tables_and_answers(team, alloc, graph, view)?;
+    let Some(text) = PathDotText::of(alloc, graph, &tables, &answers, view, place)? else {
+        return Err(Fault::NoRemark);
+    };
+    push_text(alloc, &text, sink)
+}
+
+// Writes it with the path of a use, where one is asked for.
+fn push_picture<R: Threads + Sync, K: Sink>(
+    team: &Team<'_, R, Progress>,
+    alloc: Global,
+    graph: &Graph<'_>,
+    view: View,
+    options: &Options,
+    sink: &mut K,
+) -> Result<(), Fault>
+    requires threads { IsSync R.row }
+    requires below { K.faults sink.old < 2 ^ 32 - 1 }
+    requires there { IfSome view.procedure (λ number. number < length graph.now.procedure_names) }
+    ensures delivers { Delivers (IsPicture (because_queried options.now) graph.now view) (K.contents sink.old) (K.contents sink.new) result }
+    ensures flushed { OnOk result (K.flushed sink.new ≡ true) }
+    ensures fault { IfErr result (OfProgram (λ _. ⊥) ⊥ (LacksNamed (because_queried options.now) graph.now view)) }
+    ensures faults { K.faults sink.new ≡ K.faults sink.old + write_faults_in result }
+{
+    match &options.asked.because {
+        Some(place) => push_path_dot(team, alloc, graph, view, place.as_bytes(), sink),
+        None => push_dot(team, alloc, graph, view, sink),
+    }
 }
 
 // Writes the lines of JSON.
@@ -111,7 +159,7 @@ fn push_json<R: Threads + Sync, K: Sink>(
     requires there { IfSome view.procedure (λ number. number < length graph.now.procedure_names) }
     ensures delivers { Delivers (λ out. IsJson graph.now view out) (K.contents sink.old) (K.contents sink.new) result }
     ensures flushed { OnOk result (K.flushed sink.new ≡ true) }
-    ensures fault { IfErr result (OfProgram (λ _. ⊥) ⊥) }
+    ensures fault { IfErr result (OfProgram (λ _. ⊥) ⊥ ⊥) }
     ensures faults { K.faults sink.new ≡ K.faults sink.old + write_faults_in result }
 {
     let (tables, answers) = tables_and_answers(team, alloc, graph, view)?;
@@ -132,7 +180,7 @@ fn push_json_paths<R: Threads + Sync, K: Sink>(
     requires there { IfSome view.procedure (λ number. number < length graph.now.procedure_names) }
     ensures delivers { Delivers (λ out. IsJsonWithPaths graph.now view out) (K.contents sink.old) (K.contents sink.new) result }
     ensures flushed { OnOk result (K.flushed sink.new ≡ true) }
-    ensures fault { IfErr result (OfProgram (λ _. ⊥) ⊥) }
+    ensures fault { IfErr result (OfProgram (λ _. ⊥) ⊥ ⊥) }
     ensures faults { K.faults sink.new ≡ K.faults sink.old + write_faults_in result }
 {
     let (tables, answers) = tables_and_answers(team, alloc, graph, view)?;
@@ -152,13 +200,14 @@ fn view_of_graph<R: Threads + Sync, K: Sink>(
     requires threads { IsSync R.row }
     requires below { K.faults sink.old < 2 ^ 32 - 1 }
     requires there { IfSome view.procedure (λ number. number < length graph.now.procedure_names) }
-    ensures delivers { Delivers (IsText options.now.format graph.now view) (K.contents sink.old) (K.contents sink.new) result }
+    ensures delivers { Delivers (IsText options.now.format (because_queried options.now) graph.now view) (K.contents sink.old) (K.contents sink.new)
+        result }
     ensures flushed { OnOk result (K.flushed sink.new ≡ true) }
-    ensures fault { IfErr result (OfProgram (λ _. ⊥) ⊥) }
+    ensures fault { IfErr result (OfProgram (λ _. ⊥) ⊥ (LacksNamed (because_queried options.now) graph.now view)) }
     ensures faults { K.faults sink.new ≡ K.faults sink.old + write_faults_in result }
 {
     match options.format {
-        Format::Dot => push_dot(team, alloc, graph, view, sink),
+        Format::Dot => push_picture(team, alloc, graph, view, options, sink),
         Format::Json => push_json(team, alloc, graph, view, sink),
         Format::JsonPaths => push_json_paths(team, alloc, graph, view, sink),
         Format::Report => push_report(team, alloc, graph, sink),
@@ -185,10 +234,12 @@ fn write_view<R: Threads + Sync, K: Sink>(
     requires below { K.faults sink.old < 2 ^ 32 - 1 }
     requires there { IfSome view.procedure (λ number. number < length program.now.procedure_names) }
     ensures delivers { Delivers (λ out. HasFewPoints gated.now.options.now.limits program.now
-        × HasFewBits gated.now.options.now.limits program.now × IsText gated.now.options.now.format program.now view out)
+        × HasFewBits gated.now.options.now.limits program.now
+        × IsText gated.now.options.now.format (because_queried gated.now.options.now) program.now view out)
         (K.contents sink.old) (K.contents sink.new) result }
     ensures flushed { OnOk result (K.flushed sink.new ≡ true) }
-    ensures fault { IfErr result (OfProgram (IsOverLimit gated.now.options.now.limits program.now) ⊥) }
+    ensures fault { IfErr result (OfProgram (IsOverLimit gated.now.options.now.limits program.now) ⊥
+        (LacksNamed (because_queried gated.now.options.now) program.now view)) }
     ensures faults { K.faults sink.new ≡ K.faults sink.old + write_faults_in result }
 {
     let options = gated.options;
@@ -207,9 +258,11 @@ impl Output for GatedOptions<'_> {
 
     ghost needs_graph = { λ _. true };
 
-    ghost is_output = { λ gated. IsShown gated.options.now.format gated.options.now.facts (name_queried gated.options.now) };
+    ghost is_output = { λ gated. IsShown (request_of gated.options.now) };
 
     ghost lacks = { λ gated. LacksProcedure (name_queried gated.options.now) };
+
+    ghost lacks_remark = { λ gated. LacksRemark (request_of gated.options.now) };
 
     fn limits(&self) -> Limits {
         self.options.limits

@@ -5,13 +5,13 @@ ghost use Rattle.std.specs.String.{string_bytes};
 ghost use Rattle.clap.specs.Words.{FailsBy, app_of, first_of, found_of, rows_of, rule_of};
 ghost use Rattle.flow_runs.specs.Words.{AreKindsOf, kind_rule};
 ghost use Rattle.flow_runs.specs.code.Matches.{HoldsKind};
-ghost use Rattle.view_commands.specs.Commands.{AnswersWords, NamesOptions, flag_rule, format_queried, has_paths, knows_facts};
-ghost use Rattle.view_commands.specs.Commands.{form_command, option_kinds, tacview_command, text_rule, view_command};
-ghost use Rattle.view_commands.specs.Kinds.{with_paths, facts_queried, format_named, formats as known_formats, limits_named, sizes as known_sizes};
+ghost use Rattle.view_commands.specs.Commands.{AnswersWords, NamesOptions, flag_rule, format_queried, has_because, has_paths, knows_facts};
+ghost use Rattle.view_commands.specs.Commands.{form_command, marking_command, option_kinds, tacview_command, text_rule, view_command};
+ghost use Rattle.view_commands.specs.Kinds.{with_because, with_paths, facts_queried, format_named, formats as known_formats, limits_named, sizes as known_sizes};
 ghost use Rattle.view_commands.specs.code.Matches.{HoldsOptions};
 
 use crate::facts::{facts_by, facts_of};
-use crate::options::{Format, Options};
+use crate::options::{Asked, Format, Options};
 use clap::builder::PossibleValue;
 use clap::error::ErrorKind;
 use clap::{Arg, ArgAction, ArgMatches, Command, Error};
@@ -26,16 +26,18 @@ const ABOUT: &str =
 
 const AFTER_HELP: &str = "Examples:\n  tacview < program.tac | dot -Tsvg > program.svg\n  \
     tacview --format json --facts reach,live --procedure main < program.tac\n  \
+    tacview --because 12:x < program.tac | dot -Tsvg > path.svg\n  \
     tacview --format json --facts none --paths < program.tac\n  \
     tacview --format report --limits large < program.tac\n\nExit status:\n  \
     0  it was written, or help was asked for\n  \
-    1  the text was refused, the procedure is not there, or reading, writing or memory failed; standard error has one line on it\n  \
+    1  the text was refused, the procedure or the remark is not there, or reading, writing or memory failed; standard error has one line on it\n  \
     2  the words were refused";
 
 const NO_FACTS: &str =
     "the value of '--facts <LIST>' is none, all, or words of reach, live, avail and busy with commas between them";
 
-const NO_PATHS: &str = "'--paths' goes with '--format json' alone";
+const NO_PATHS: &str =
+    "'--paths' goes with '--format json' alone, and '--because' with '--format dot'";
 
 fn format_of(word: &str) -> Option<Format>
     ensures { result ≡ format_named word.now }
@@ -133,6 +135,19 @@ fn paths_option<'a>(alloc: Global) -> Arg<'a>
         )
 }
 
+fn because_option<'a>(alloc: Global) -> Arg<'a>
+    ensures rule { rule_of result ≡ text_rule (codes "because") }
+    ensures own { result.global ≡ false }
+{
+    Arg::new(alloc, "because")
+        .long("because")
+        .value_name("PLACE")
+        .action(ArgAction::Set)
+        .help(
+            "With --format dot: mark a path on which a variable is not set before it is used at LINE, or at LINE:NAME the one of this name",
+        )
+}
+
 fn limits_option<'a>(alloc: Global, sizes: &'a [PossibleValue<'a>]) -> Arg<'a>
     ensures rule { rule_of result ≡ kind_rule (codes "limits") (codes "standard") sizes.entry }
     ensures own { result.global ≡ false }
@@ -172,6 +187,19 @@ fn view_command<'a>(
         .arg(paths_option(alloc))
 }
 
+// The command with the option of the path that is marked, and that of limits.
+fn marking_command<'a>(
+    alloc: Global,
+    formats: &'a [PossibleValue<'a>],
+    sizes: &'a [PossibleValue<'a>],
+) -> Result<Command<'a>, OutOfMemory>
+    ensures { IfOk result (λ c. app_of c ≡ marking_command formats.entry sizes.entry) }
+{
+    view_command(alloc, formats)?
+        .arg(because_option(alloc))?
+        .arg(limits_option(alloc, sizes))
+}
+
 fn command<'a>(
     alloc: Global,
     formats: &'a [PossibleValue<'a>],
@@ -179,8 +207,7 @@ fn command<'a>(
 ) -> Result<Command<'a>, OutOfMemory>
     ensures { IfOk result (λ c. app_of c ≡ tacview_command formats.entry sizes.entry) }
 {
-    view_command(alloc, formats)?
-        .arg(limits_option(alloc, sizes))?
+    marking_command(alloc, formats, sizes)?
         .arg(workers_option(alloc))?
         .arg(cut_option(alloc))
 }
@@ -218,12 +245,49 @@ fn with_paths(is: bool, format: Format) -> Option<Format>
     }
 }
 
-// The format that was asked for. None where it has no paths, and they were asked for.
+// Whether the path of a use is to be marked.
+fn has_because(matches: &ArgMatches<'_>) -> bool
+    ensures { result ≡ has_because (rows_of (found_of matches.now)) }
+{
+    match matches.get_str("because") {
+        Some(_) => true,
+        None => false,
+    }
+}
+
+// The format, where it fits to that. None where no path can be marked in it.
+fn with_because(is: bool, format: Format) -> Option<Format>
+    ensures { result ≡ with_because is format }
+{
+    if !is {
+        return Some(format);
+    }
+    match format {
+        Format::Dot => Some(Format::Dot),
+        Format::Json => None,
+        Format::JsonPaths => None,
+        Format::Report => None,
+    }
+}
+
+// The format with paths or without, as it was asked for. None where it has none, and they were asked for.
+fn format_with_paths(matches: &ArgMatches<'_>) -> Option<Format>
+    requires { HoldsKind known_formats (rows_of (found_of matches.now)) (codes "format") }
+    ensures { result ≡ option_and_then (with_paths (has_paths (rows_of (found_of matches.now))))
+        (option_and_then format_named (first_of (codes "format") (rows_of (found_of matches.now)))) }
+{
+    with_paths(has_paths(matches), format_by(matches))
+}
+
+// The format that was asked for. None where it has no paths, or no path can be marked in it, and that was asked for.
 fn format_found(matches: &ArgMatches<'_>) -> Option<Format>
     requires { HoldsKind known_formats (rows_of (found_of matches.now)) (codes "format") }
     ensures { result ≡ format_queried (rows_of (found_of matches.now)) }
 {
-    with_paths(has_paths(matches), format_by(matches))
+    match format_with_paths(matches) {
+        Some(format) => with_because(has_because(matches), format),
+        None => None,
+    }
 }
 
 // The limits that were found.
@@ -254,6 +318,27 @@ fn procedure_found(alloc: Global, matches: &ArgMatches<'_>) -> Result<Option<Str
     }
 }
 
+// A copy of the place that was found.
+fn because_found(alloc: Global, matches: &ArgMatches<'_>) -> Result<Option<String>, OutOfMemory>
+    ensures { IfOk result (λ place. option_map string_bytes place ≡ first_of (codes "because") (rows_of (found_of matches.now))) }
+{
+    match matches.get_str("because") {
+        Some(place) => Ok(Some(String::from_str(alloc, place)?)),
+        None => Ok(None),
+    }
+}
+
+// What is asked for by its name.
+fn asked_by(alloc: Global, matches: &ArgMatches<'_>) -> Result<Asked, OutOfMemory>
+    ensures procedure { IfOk result (λ asked. option_map string_bytes asked.procedure
+        ≡ first_of (codes "procedure") (rows_of (found_of matches.now))) }
+    ensures because { IfOk result (λ asked. option_map string_bytes asked.because ≡ first_of (codes "because") (rows_of (found_of matches.now))) }
+{
+    let procedure = procedure_found(alloc, matches)?;
+    let because = because_found(alloc, matches)?;
+    Ok(Asked { procedure, because })
+}
+
 // The options that the matches name, of which the format is found. None where the list of facts names no facts.
 fn options_of(
     alloc: Global,
@@ -271,12 +356,12 @@ fn options_of(
     let Some(facts) = facts_found(matches, format) else {
         return Ok(None);
     };
-    let procedure = procedure_found(alloc, matches)?;
-    Ok(Options::new(workers, cut, limits, format, facts, procedure))
+    let asked = asked_by(alloc, matches)?;
+    Ok(Options::new(workers, cut, limits, format, facts, asked))
 }
 
-// The options that the matches name, or an error of the command where the format has no paths and they were asked for, or where the list of
-// facts names no facts.
+// The options that the matches name, or an error of the command where the format has no paths, or no path that is marked, and that was asked
+// for, or where the list of facts names no facts.
 fn named_options(
     alloc: Global,
     command: &mut Command<'_>,
@@ -297,11 +382,13 @@ fn named_options(
 
 impl Options {
     /// The options that the program's words name, of which the first is the program's own name:
-    /// `tacview [--format KIND] [--facts LIST] [--procedure NAME] [--paths] [--limits SIZE] [--workers N] [--cut N]`. Without an option
-    /// stands its default: `dot`, no facts for it and all for `json`, all procedures, no paths, `standard`, 1 and 64.
+    /// `tacview [--format KIND] [--facts LIST] [--procedure NAME] [--paths] [--because PLACE] [--limits SIZE] [--workers N] [--cut N]`.
+    /// Without an option stands its default: `dot`, no facts for it and all for `json`, all procedures, no paths, no path that is marked,
+    /// `standard`, 1 and 64.
     ///
     /// Refuses words that the command does not take, a number outside its range, a word that is no format or no limits, paths with a
-    /// format other than `json` and a list that names no facts among them, and a call for help; or memory was refused.
+    /// format other than `json`, a path that is marked with one other than `dot`, and a list that names no facts among them, and a call for
+    /// help; or memory was refused.
     pub fn from_words<'a>(alloc: Global, words: &'a [&'a str]) -> Result<Options, Error>
         ensures { AnswersWords (map (λ w. w.now) words.entry.now) result }
     {

@@ -7,6 +7,8 @@ mod limit_tests;
 #[cfg(test)]
 mod path_tests;
 #[cfg(test)]
+mod picture_tests;
+#[cfg(test)]
 mod progress_tests;
 #[cfg(test)]
 mod refusal_tests;

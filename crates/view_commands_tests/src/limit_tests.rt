@@ -18,6 +18,7 @@ const LARGE_REPORT: Queried<'static> = Queried {
     format: Format::Report,
     facts: NONE,
     procedure: None,
+    because: None,
 };
 
 const LARGE_LINES: Queried<'static> = Queried {
@@ -25,6 +26,7 @@ const LARGE_LINES: Queried<'static> = Queried {
     format: Format::Json,
     facts: NONE,
     procedure: None,
+    because: None,
 };
 
 // Within the standard limits the text is refused in each format.

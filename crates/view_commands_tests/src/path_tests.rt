@@ -14,6 +14,7 @@ const PATHS: Queried<'static> = Queried {
     format: Format::JsonPaths,
     facts: NONE,
     procedure: None,
+    because: None,
 };
 
 const PATHS_OF_F: Queried<'static> = Queried {
@@ -21,6 +22,7 @@ const PATHS_OF_F: Queried<'static> = Queried {
     format: Format::JsonPaths,
     facts: NONE,
     procedure: Some("f"),
+    because: None,
 };
 
 // Texts, and how their lines end: the edges of the last point, all remarks, and the doubts.

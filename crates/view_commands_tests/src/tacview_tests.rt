@@ -13,7 +13,7 @@ use tac_program::Limits;
 use test_support::failing_streams::{Page, Pieces, blank_page};
 use test_support::worked_programs::{ALONE, TEAMS, call_between, recursion, small};
 use text_pieces::{FromRead, ToWrite};
-use view_commands::{Format, Options, Progress, Terminal, line_of, run};
+use view_commands::{Asked, Format, Options, Progress, Terminal, line_of, run};
 
 pub(crate) const NONE: Chosen = Chosen {
     reach: false,
@@ -43,6 +43,7 @@ pub(crate) struct Queried<'a> {
     pub(crate) format: Format,
     pub(crate) facts: Chosen,
     pub(crate) procedure: Option<&'a str>,
+    pub(crate) because: Option<&'a str>,
 }
 
 pub(crate) const GRAPH: Queried<'static> = Queried {
@@ -50,6 +51,7 @@ pub(crate) const GRAPH: Queried<'static> = Queried {
     format: Format::Dot,
     facts: NONE,
     procedure: None,
+    because: None,
 };
 
 pub(crate) const LINES: Queried<'static> = Queried {
@@ -57,6 +59,7 @@ pub(crate) const LINES: Queried<'static> = Queried {
     format: Format::Json,
     facts: ALL,
     procedure: None,
+    because: None,
 };
 
 pub(crate) const REPORT: Queried<'static> = Queried {
@@ -64,21 +67,39 @@ pub(crate) const REPORT: Queried<'static> = Queried {
     format: Format::Report,
     facts: NONE,
     procedure: None,
+    because: None,
 };
+
+// A copy of a text, if there is one. None where memory is refused.
+fn copied(alloc: Global, text: Option<&str>) -> Option<Option<String>> {
+    match text {
+        Some(text) => Some(Some(String::from_str(alloc, text).ok()?)),
+        None => Some(None),
+    }
+}
+
+// None where memory is refused.
+pub(crate) fn asked(
+    alloc: Global,
+    procedure: Option<&str>,
+    because: Option<&str>,
+) -> Option<Asked> {
+    Some(Asked {
+        procedure: copied(alloc, procedure)?,
+        because: copied(alloc, because)?,
+    })
+}
 
 // None where memory is refused.
 pub(crate) fn options(alloc: Global, queried: Queried<'_>, team: (u32, u32)) -> Option<Options> {
-    let procedure = match queried.procedure {
-        Some(name) => Some(String::from_str(alloc, name).ok()?),
-        None => None,
-    };
+    let asked = asked(alloc, queried.procedure, queried.because)?;
     Options::new(
         team.0,
         team.1,
         queried.limits,
         queried.format,
         queried.facts,
-        procedure,
+        asked,
     )
 }
 
@@ -98,13 +119,13 @@ pub(crate) fn run_to_page<R: Threads + Sync + AllocGlobal, D: Read + Drop>(
 // The line of the fault, if there was one, and behind it what was written.
 fn line_and_text(
     alloc: Global,
-    procedure: Option<&str>,
+    options: &Options,
     answered: Result<(), Fault>,
     written: &[u8],
 ) -> Result<Vec<u8>, Fail> {
     let mut line = match answered {
         Ok(()) => Vec::new(alloc),
-        Err(fault) => line_of(alloc, procedure, &fault)?,
+        Err(fault) => line_of(alloc, &options.asked, &fault)?,
     };
     line.extend_from_slice(written)?;
     Ok(line)
@@ -120,7 +141,7 @@ fn output_of<R: Threads + Sync + AllocGlobal, D: Read + Drop>(
 ) -> Result<Vec<u8>, Fail> {
     let options = options(rt.alloc(), queried, team).ok_or("options")?;
     let answered = run_to_page(rt, reader, &mut *page, &options);
-    line_and_text(rt.alloc(), queried.procedure, answered, &page.taken)
+    line_and_text(rt.alloc(), &options, answered, &page.taken)
 }
 
 // What this team answered.
@@ -145,7 +166,7 @@ pub(crate) fn check_by<R: Threads + Sync + Abort + AllocGlobal, D: Read + Drop>(
 }
 
 // The text is answered so, whole or byte by byte, and by each team.
-fn check<R: Threads + Sync + Abort + AllocGlobal>(
+pub(crate) fn check<R: Threads + Sync + Abort + AllocGlobal>(
     rt: &R,
     text: &str,
     queried: Queried<'_>,
@@ -247,6 +268,7 @@ pub(crate) const GRAPH_OF_F: Queried<'static> = Queried {
     format: Format::Dot,
     facts: REACH,
     procedure: Some("f"),
+    because: None,
 };
 
 const LINES_OF_F: Queried<'static> = Queried {
@@ -254,6 +276,7 @@ const LINES_OF_F: Queried<'static> = Queried {
     format: Format::Json,
     facts: NONE,
     procedure: Some("f"),
+    because: None,
 };
 
 const GRAPH_OF_MAIN: Queried<'static> = Queried {
@@ -261,6 +284,7 @@ const GRAPH_OF_MAIN: Queried<'static> = Queried {
     format: Format::Dot,
     facts: NONE,
     procedure: Some("main"),
+    because: None,
 };
 
 // A report is of the whole program all the same.
@@ -269,6 +293,7 @@ const REPORT_OF_P: Queried<'static> = Queried {
     format: Format::Report,
     facts: ALL,
     procedure: Some("p"),
+    because: None,
 };
 
 const ONE_PROCEDURE: &[(&str, Queried<'static>, &str)] = &[
@@ -304,6 +329,7 @@ fn procedures_that_are_not_there(rt: HostRuntime) -> Result<(), Fail> {
                 format: *format,
                 facts: NONE,
                 procedure: Some(name),
+                because: None,
             };
             check(&rt, recursion::TEXT, queried, line)?;
         }
@@ -396,18 +422,42 @@ fn faults_of_writers(rt: HostRuntime) -> Result<(), Fail> {
     Ok(())
 }
 
-const FAULTS: &[(Option<&str>, Fault, &str)] = &[
+const FAULTS: &[(Option<&str>, Option<&str>, Fault, &str)] = &[
     (
+        None,
         None,
         Fault::Graph(GraphFault::TooManyBits),
         "tacview: refusal 22: TooManyBits\n",
     ),
-    (Some("f"), Fault::OutOfMemory, "tacview: out of memory\n"),
-    (Some("f"), Fault::Read, "tacview: read fault\n"),
-    (None, Fault::Write, "tacview: write fault\n"),
-    (None, Fault::NoProcedure, "tacview: no such procedure\n"),
+    (
+        Some("f"),
+        Some("3"),
+        Fault::OutOfMemory,
+        "tacview: out of memory\n",
+    ),
+    (Some("f"), None, Fault::Read, "tacview: read fault\n"),
+    (None, None, Fault::Write, "tacview: write fault\n"),
+    (
+        None,
+        Some("3"),
+        Fault::NoProcedure,
+        "tacview: no such procedure\n",
+    ),
+    (
+        Some("f"),
+        None,
+        Fault::NoRemark,
+        "tacview: no such remark\n",
+    ),
+    (
+        Some("f"),
+        Some("3:\n"),
+        Fault::NoRemark,
+        "tacview: no variable may be used before it is set at 3:\\x0a\n",
+    ),
     (
         Some(" ~\u{7f}\t"),
+        None,
         Fault::NoProcedure,
         "tacview: the program has no procedure  ~\\x7f\\x09\n",
     ),
@@ -415,8 +465,9 @@ const FAULTS: &[(Option<&str>, Fault, &str)] = &[
 
 #[test]
 fn lines_of_faults(rt: HostRuntime) -> Result<(), Fail> {
-    for (name, fault, wanted) in FAULTS {
-        let line = line_of(rt.alloc(), *name, fault)?;
+    for (procedure, because, fault, wanted) in FAULTS {
+        let asked = asked(rt.alloc(), *procedure, *because).ok_or("memory")?;
+        let line = line_of(rt.alloc(), &asked, fault)?;
         assert_eq!(rt; line.as_slice(), wanted.as_bytes());
     }
     Ok(())
@@ -429,13 +480,11 @@ const OUT_OF_RANGE: &[(u32, u32)] = &[(0, 64), (65, 64), (1, 0), (1, 4097), (u32
 
 #[test]
 fn ranges_of_options(rt: HostRuntime) {
-    for (workers, cut) in IN_RANGE {
-        let options = Options::new(*workers, *cut, Limits::Large, Format::Dot, NONE, None);
-        assert!(rt; options.is_some());
+    for team in IN_RANGE {
+        assert!(rt; options(rt.alloc(), GRAPH, *team).is_some());
     }
-    for (workers, cut) in OUT_OF_RANGE {
-        let options = Options::new(*workers, *cut, Limits::Large, Format::Dot, NONE, None);
-        assert!(rt; options.is_none());
+    for team in OUT_OF_RANGE {
+        assert!(rt; options(rt.alloc(), GRAPH, *team).is_none());
     }
 }
 
@@ -447,10 +496,10 @@ fn named_by(alloc: Global, words: &[&str]) -> Result<(u32, u32, Format, Chosen),
     }
 }
 
-// The procedure that the words name, or the kind of the error.
-fn procedure_by(alloc: Global, words: &[&str]) -> Result<Option<String>, error::ErrorKind> {
+// What the words ask for by its name, or the kind of the error.
+fn asked_by(alloc: Global, words: &[&str]) -> Result<Asked, error::ErrorKind> {
     match Options::from_words(alloc, words) {
-        Ok(options) => Ok(options.procedure),
+        Ok(options) => Ok(options.asked),
         Err(error) => Err(error.kind()),
     }
 }
@@ -473,6 +522,7 @@ const ALL_WORDS: &[&str] = &[
     "f",
     "--facts=all",
     "--limits=large",
+    "--because=3:x",
 ];
 
 #[test]
@@ -487,9 +537,11 @@ fn words_that_are_taken(rt: HostRuntime) -> Result<(), Fail> {
     assert!(rt; facts == NONE && format == Format::Report);
     let (workers, cut, _, facts) = named_by(rt.alloc(), ALL_WORDS)?;
     assert!(rt; workers == 64 && cut == 4096 && facts == ALL);
-    assert!(rt; procedure_by(rt.alloc(), &["tacview"])?.is_none());
-    let name = procedure_by(rt.alloc(), ALL_WORDS)?.ok_or("a name")?;
-    assert_eq!(rt; name.as_str(), "f");
+    let none = asked_by(rt.alloc(), &["tacview"])?;
+    assert!(rt; none.procedure.is_none() && none.because.is_none());
+    let asked = asked_by(rt.alloc(), ALL_WORDS)?;
+    assert_eq!(rt; asked.procedure.ok_or("a name")?.as_str(), "f");
+    assert_eq!(rt; asked.because.ok_or("a place")?.as_str(), "3:x");
     Ok(())
 }
 
@@ -560,6 +612,10 @@ const REFUSED_WORDS: &[[&str; 3]] = &[
     ["tacview", "--paths", "--format=dot"],
     ["tacview", "--format=report", "--paths"],
     ["tacview", "--format=json", "--paths=yes"],
+    ["tacview", "--because=3", "--format=json"],
+    ["tacview", "--format=report", "--because=3"],
+    ["tacview", "--because=3", "--because=3"],
+    ["tacview", "--facts=all", "--because"],
 ];
 
 #[test]

@@ -144,7 +144,7 @@ module _ (found : Findings) (are : AreFindings found) (doubts : TellDoubtful fou
       let none : Tells point [] NeverReached = tt {0} in
       All-cons (Tells point []) NeverReached [] none (All-nil (Tells point []))
 
-  same_uses : (point : ℕ) → point < point_count found.graph.now
+  pub same_uses : (point : ℕ) → point < point_count found.graph.now
       → unset_uses_at found.graph.now (knowledge_of found) point ≡ unset_uses_at found.graph.now known point
   same_uses point below = λ i. elim (kind_at found.graph.now point) [
     | Some statement ↦ if agree.flags point below i

@@ -7,8 +7,7 @@ use Rattle.flow_graph.specs.Points.{end_place, entry_point, point_count}
 use Rattle.flow_reports.specs.Uses.{unset_uses}
 use Rattle.flow_reports.specs.code.Findings.{knowledge_of}
 use Rattle.flow_reports.specs.declared.unset.UnsetUse.{UnsetUse}
-use Rattle.flow_views.specs.ViewTables.{end_shown, first_shown}
-use Rattle.flow_views.specs.Views.{points_in, shown_points}
+use Rattle.flow_views.specs.Views.{end_shown, first_shown, points_in, shown_points}
 use Rattle.flow_views.specs.code.ViewProgram.{AreShown, IsShownProcedure}
 use Rattle.flow_views.specs.declared.view.Chosen.{Chosen}
 use Rattle.flow_views.specs.declared.view_program.ViewProgram.{ViewProgram}

@@ -19,8 +19,7 @@ use Rattle.flow_reports.specs.declared.listed.PlacedRemark.{PlacedRemark}
 use Rattle.flow_reports.specs.declared.remark.Remark.{Remark}
 use Rattle.flow_reports.proofs.knowledge.KnownReports.{Agree, agrees, same_remarks}
 use Rattle.flow_reports.proofs.knowledge.RemarkLines.{next_below}
-use Rattle.flow_views.specs.ViewTables.{end_shown, first_shown}
-use Rattle.flow_views.specs.Views.{shown_points}
+use Rattle.flow_views.specs.Views.{end_shown, first_shown, shown_points}
 use Rattle.flow_views.specs.declared.view.View.{View}
 use Rattle.tac_program.specs.Programs.{Program}
 use Rattle.tac_program.specs.Sound.{IsSound}

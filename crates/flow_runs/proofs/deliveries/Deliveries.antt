@@ -1,7 +1,7 @@
 -- What an answer tells of a text that was to be written
 use Rattle.std.proofs.Common.{List, ℕ, Option, Result, Ok, Err, IfErr}
 use Rattle.flow_graph.specs.declared.fault.GraphFault.{GraphFault}
-use Rattle.flow_runs.specs.Faults.{Delivers, OfProgram, WhereNoProcedure}
+use Rattle.flow_runs.specs.Faults.{Delivers, OfProgram}
 use Rattle.flow_runs.specs.declared.fault.Fault.{Fault}
 use Rattle.flow_runs.specs.declared.fault.Fault.TheVariants as fault
 
@@ -14,26 +14,18 @@ delivers_as IsText IsOther held holds (Err fault.Write) is told = (told.0, is to
 delivers_as IsText IsOther held holds (Err (fault.Refused f)) is told = told
 delivers_as IsText IsOther held holds (Err (fault.Graph f)) is told = told
 delivers_as IsText IsOther held holds (Err fault.NoProcedure) is told = told
+delivers_as IsText IsOther held holds (Err fault.NoRemark) is told = told
 delivers_as IsText IsOther held holds (Err fault.OutOfMemory) is told = told
 delivers_as IsText IsOther held holds (Err fault.Read) is told = told
 
--- a fault that is none of the graph or a procedure is one of any program
-pub no_graph_fault : {T : Type 0} (P : GraphFault → Type 0) (Q : Type 0) (r : Result T Fault) → IfErr r (OfProgram (λ _. ⊥) ⊥)
-    → IfErr r (OfProgram P Q)
-no_graph_fault P Q (Ok x) told = tt
-no_graph_fault P Q (Err fault.Write) told = told
-no_graph_fault P Q (Err (fault.Refused f)) told = told
-no_graph_fault P Q (Err (fault.Graph f)) told = absurd told
-no_graph_fault P Q (Err fault.NoProcedure) told = absurd told
-no_graph_fault P Q (Err fault.OutOfMemory) told = told
-no_graph_fault P Q (Err fault.Read) told = told
-
--- of a run that lacks no procedure, no fault tells of one
-pub lacks_none : {T : Type 0} (P Q : Type 0) (r : Result T Fault) → (P → Q) → IfErr r (WhereNoProcedure P) → IfErr r (WhereNoProcedure Q)
-lacks_none P Q (Ok x) of told = tt
-lacks_none P Q (Err fault.NoProcedure) of told = of told
-lacks_none P Q (Err fault.Write) of told = tt
-lacks_none P Q (Err (fault.Refused f)) of told = tt
-lacks_none P Q (Err (fault.Graph f)) of told = tt
-lacks_none P Q (Err fault.OutOfMemory) of told = tt
-lacks_none P Q (Err fault.Read) of told = tt
+-- a fault that is none of the graph or a procedure is one of any program, with what it tells of a remark
+pub no_graph_fault : {T : Type 0} (P : GraphFault → Type 0) (Q R S : Type 0) (r : Result T Fault) → (S → R) → IfErr r (OfProgram (λ _. ⊥) ⊥ S)
+    → IfErr r (OfProgram P Q R)
+no_graph_fault P Q R S (Ok x) of told = tt
+no_graph_fault P Q R S (Err fault.Write) of told = told
+no_graph_fault P Q R S (Err (fault.Refused f)) of told = told
+no_graph_fault P Q R S (Err (fault.Graph f)) of told = absurd told
+no_graph_fault P Q R S (Err fault.NoProcedure) of told = absurd told
+no_graph_fault P Q R S (Err fault.NoRemark) of told = of told
+no_graph_fault P Q R S (Err fault.OutOfMemory) of told = told
+no_graph_fault P Q R S (Err fault.Read) of told = told

@@ -13,8 +13,8 @@ use Rattle.tac_program.specs.Programs.{Program}
 use Rattle.flow_reports.specs.Reports.{IsKnowledge, Knowledge, dead_at, remarks_at, unset_at}
 use Rattle.flow_reports.specs.code.Findings.{knowledge_of}
 use Rattle.flow_reports.proofs.knowledge.KnownReports.{Agree, agrees, all_is_known, all_known, same_dead, same_remarks, same_unset}
-use Rattle.flow_views.specs.ViewTables.{IsTableIfChosen, end_shown, first_shown, shown_table}
-use Rattle.flow_views.specs.Views.{known_facts, is_chosen}
+use Rattle.flow_views.specs.ViewTables.{IsTableIfChosen, shown_table}
+use Rattle.flow_views.specs.Views.{end_shown, first_shown, known_facts, is_chosen}
 use Rattle.flow_views.specs.code.ViewProgram.{AreShown, IsShownPoint, TellSame, facts_between, facts_or, is_between, known_by, known_of}
 use Rattle.flow_views.specs.declared.view_program.ViewProgram.{ViewProgram}
 

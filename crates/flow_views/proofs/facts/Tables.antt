@@ -26,8 +26,8 @@ use Rattle.text_pieces.specs.code.Lists.{some_stand}
 use Rattle.flow_texts.proofs.sets.ListTexts.{map-members}
 use Rattle.flow_views.specs.Dots.{arrow, calls_at, passed_call, text_if_some}
 use Rattle.flow_views.specs.Json.{array, boolean, span_fields}
-use Rattle.flow_views.specs.ViewTables.{AreViewTables, end_shown, first_shown}
-use Rattle.flow_views.specs.Views.{analysis_if}
+use Rattle.flow_views.specs.ViewTables.{AreViewTables}
+use Rattle.flow_views.specs.Views.{end_shown, first_shown, analysis_if}
 use Rattle.flow_views.specs.code.Names.{AreNames, numbered}
 use Rattle.flow_views.specs.code.ViewProgram.{AreShown, IsShownProcedure, IsSiteIn, contents}
 use Rattle.flow_views.specs.declared.names.NameForm.TheVariants.{Quoted}

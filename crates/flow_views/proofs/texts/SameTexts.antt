@@ -15,12 +15,12 @@ use Rattle.flow_texts.specs.Tables.{bit_text, listed}
 use Rattle.flow_reports.proofs.knowledge.KnownReports.{Agree, same_dead, same_remarks, same_texts, same_unset}
 use Rattle.tac_program.specs.Programs.{Program}
 use Rattle.tac_program.specs.Sound.{IsSound}
-use Rattle.flow_views.specs.Dots.{cluster, dot_of, edge_lines, fact_line, head, label_line, label_lines, marks, node, path_marks, text_if_some, title}
+use Rattle.flow_views.specs.Dots.{cluster, dot_of, edge_lines, fact_line, head, label_line, label_lines, marks, node, open_dot, path_marks, text_if_some, title}
 use Rattle.flow_views.specs.Json.{array, boolean, edge_object, facts_field, json_of, json_with, point_line, program_line, remark_object}
 use Rattle.flow_views.specs.Json.{span_fields, statement_field}
 use Rattle.text_pieces.specs.Strings.{quoted}
 use Rattle.flow_views.specs.Views.{analysis_name, chosen_analyses, points_in, procedure_name, shown_points, shown_procedures, known_facts, is_chosen}
-use Rattle.flow_views.specs.ViewTables.{end_shown, first_shown}
+use Rattle.flow_views.specs.Views.{end_shown, first_shown}
 use Rattle.flow_views.specs.code.ViewProgram.{IsShownProcedure, TellSame}
 use Rattle.flow_views.specs.declared.view.Chosen.{Chosen}
 use Rattle.flow_views.specs.declared.view.View.{View}
@@ -191,10 +191,14 @@ module _ (program : Program) (sound : IsSound program) (one other : Knowledge) (
       ++ nodes ++ codes "  }\n")
       (same_points program procedure (node program one chosen) (node program other chosen) same_node number below is)
 
-  -- the picture
+  -- the picture, without its last line and with it
+  pub same_open : open_dot program one (record { facts = chosen; procedure = procedure })
+      ≡ open_dot program other (record { facts = chosen; procedure = procedure })
+  same_open =
+      let view : View = record { facts = chosen; procedure = procedure } in
+      ap (λ clusters. head ++ clusters ++ flat_map (edge_lines program view) (shown_points program view))
+      (same_clusters program procedure there (cluster program one chosen) (cluster program other chosen) same_cluster chosen)
+
   pub same_dot : dot_of program one (record { facts = chosen; procedure = procedure })
       ≡ dot_of program other (record { facts = chosen; procedure = procedure })
-  same_dot =
-      let view : View = record { facts = chosen; procedure = procedure } in
-      ap (λ clusters. head ++ clusters ++ flat_map (edge_lines program view) (shown_points program view) ++ codes "}\n")
-      (same_clusters program procedure there (cluster program one chosen) (cluster program other chosen) same_cluster chosen)
+  same_dot = ap (λ text. text ++ codes "}\n") same_open

@@ -14,7 +14,8 @@ use Rattle.flow_reports.specs.code.Findings.{AreFindings, TellDoubtful, knowledg
 use Rattle.tac_program.specs.Programs.{Program}
 use Rattle.flow_views.specs.code.Names.{AreNames}
 use Rattle.flow_views.specs.declared.view_program.Numbers.{Numbers}
-use Rattle.flow_views.specs.ViewTables.{AreViewTables, end_shown, first_shown, shown_table}
+use Rattle.flow_views.specs.ViewTables.{AreViewTables, shown_table}
+use Rattle.flow_views.specs.Views.{end_shown, first_shown}
 use Rattle.flow_views.specs.declared.view_program.ViewProgram.{ViewProgram}
 
 -- the edges that a table holds for each point

@@ -19,4 +19,4 @@ returns-clause-delivers g c =
     c.push_report.ensures.delivers
 
 pub returns-clause-fault : goal.returns-clause-fault
-returns-clause-fault g c = no_graph_fault (IsOverLimit Standard c.args.program.now) ⊥ c.push_report.result c.push_report.ensures.fault
+returns-clause-fault g c = no_graph_fault (IsOverLimit Standard c.args.program.now) ⊥ ⊥ ⊥ c.push_report.result (λ no. no) c.push_report.ensures.fault

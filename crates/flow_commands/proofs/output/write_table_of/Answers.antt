@@ -14,4 +14,4 @@ returns-clause-delivers g c =
     c.table_of_graph.ensures.delivers
 
 pub returns-clause-fault : goal.returns-clause-fault
-returns-clause-fault g c = no_graph_fault (IsOverLimit Standard c.args.program.now) ⊥ c.table_of_graph.result c.table_of_graph.ensures.fault
+returns-clause-fault g c = no_graph_fault (IsOverLimit Standard c.args.program.now) ⊥ ⊥ ⊥ c.table_of_graph.result (λ no. no) c.table_of_graph.ensures.fault

@@ -4,7 +4,7 @@ use Rattle.flow_graph.specs.Points.{point_count}
 use Rattle.flow_reports.specs.Reports.{IsKnowledge, Knowledge}
 use Rattle.flow_reports.specs.code.Findings.{knowledge_of}
 use Rattle.flow_reports.specs.declared.findings.Findings.{Findings}
-use Rattle.flow_views.specs.ViewTables.{end_shown, first_shown}
+use Rattle.flow_views.specs.Views.{end_shown, first_shown}
 use Rattle.flow_views.proofs.facts.Tables.{named_there}
 use Rattle.tac_program.specs.Programs.{Program}
 use Rattle.flow_paths.specs.Doubts.{AreDoubts, HasOrigin, assignment_of, assignments_from}

@@ -1,0 +1,5 @@
+use Rattle.text_pieces.proofs.sinks.Taking.{takes_then}
+use Rattle.flow_paths.proofs.path_picture.write_marked_point.Goals as goal
+
+pub returns : goal.returns
+returns g c = takes_then _ _ _ _ _ (takes_then _ _ _ _ _ c.write.ensures c.write_number.ensures) c.write-2.ensures
