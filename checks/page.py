@@ -1,0 +1,639 @@
+"""Tries page/make and page/frame.html: the page of each program of examples/, and of some whose
+lines are made here, is opened in a headless Chromium (browser.py) and gone through by keyboard,
+line by line. What it shows is compared with what the lines of JSON say (shown.py): rows, remarks
+and what stands around them, ways step by step, facts before and behind each line, marks, the
+graph. Then filters, searching, links, sizes of windows, contrast, and names that try to be markup.
+A page may log nothing and ask nothing of a network. TACVIEW=/path/to/program takes another program
+than ./tacview, and words are the names of pages that are tried alone.
+Prints `N passed, M failed`."""
+
+from __future__ import annotations
+
+import json
+import os
+import shutil
+import subprocess
+import sys
+import tempfile
+from collections.abc import Callable
+from functools import partial
+
+import browser
+from browser import Browser, Row
+from shown import FORWARD, KINDS, Lines
+
+HERE = os.path.dirname(os.path.realpath(__file__))
+ROOT = os.path.join(HERE, "..")
+EXAMPLES = os.path.join(ROOT, "examples")
+MAKE = os.path.join(ROOT, "page", "make")
+FRAME = os.path.join(ROOT, "page", "frame.html")
+TACVIEW = os.environ.get("TACVIEW", os.path.join(ROOT, "tacview"))
+
+WIDE = (1400, 3000, 0.1)  # so high that each row of an example is in view
+
+# What the page shows of the chosen line, all of it unfolded.
+SEEN = """(() => {
+  document.querySelectorAll(".more:not([aria-expanded])").forEach(more => more.click());
+  const all = (from, selector) => [...from.querySelectorAll(selector)];
+  const texts = (from, selector) => all(from, selector).map(each => each.textContent);
+  const chips = box => texts(box, ".chips > :not(.more)");
+  const chosen = document.querySelector("[role=option][aria-selected=true]");
+  const list = document.getElementById("listing");
+  return {
+    chosen: Number(chosen.dataset.point),
+    active: list.getAttribute("aria-activedescendant") === chosen.id,
+    label: chosen.getAttribute("aria-label"),
+    place: document.getElementById("place").textContent,
+    statement: document.getElementById("statement").textContent,
+    node: Number(document.querySelector("#graph .chosen").dataset.point),
+    edges: all(document, "#graph [data-edge]").map(edge => edge.dataset.edge).sort(),
+    remarks: all(document, ".remark").map(box => ({
+      kind: box.dataset.kind,
+      sentence: box.querySelector(".sentence").textContent,
+      steps: Number(box.querySelector("[data-way]")?.dataset.way ?? -1),
+      sets: Object.fromEntries(all(box, "[data-set]").map(set =>
+        [set.dataset.set, set.matches("p") ? [set.textContent] : chips(set)])),
+    })),
+    control: Object.fromEntries(all(document, "[data-control]").map(line =>
+      [line.dataset.control, chips(line)])),
+    marks: all(document, "[role=option]").map(row => row.querySelector(".mark").textContent),
+    facts: Object.fromEntries(all(document, ".analysis").map(box => [box.dataset.analysis, {
+      path: !box.querySelector(".no-path"),
+      lines: Object.fromEntries(all(box, ".change").map(line =>
+        [line.classList[1], chips(line).filter(name => name !== "nothing")])) }])),
+  };
+})()"""
+
+ROWS = """[...document.querySelectorAll("[role=option]")].map(row => ({
+  point: Number(row.dataset.point), line: row.querySelector(".number").textContent,
+  text: row.querySelector("code").textContent.trim(), kinds: [...row.classList],
+  said: row.querySelector(".said").textContent }))"""
+
+WAY = """(() => {
+  const all = selector => [...document.querySelectorAll(selector)];
+  const numbers = selector => all(selector).map(each => Number(each.dataset.point));
+  return {
+    shown: !document.getElementById("way").hidden,
+    title: document.getElementById("way-title").textContent,
+    now: document.getElementById("way-now").textContent,
+    chosen: numbers("[role=option][aria-selected=true]")[0],
+    margin: Object.fromEntries(all("[role=option].way").map(row =>
+      [row.dataset.point, row.querySelector(".stations").textContent])),
+    current: numbers("[role=option].current"),
+    listed: document.querySelector("#way-steps [aria-current]")?.dataset.station,
+    nodes: numbers("#graph .node.way"),
+    edges: all("#graph path.way").map(edge => edge.dataset.edge).sort(),
+  };
+})()"""
+
+# Texts whose contrast with what is behind them is below what WCAG 2 asks at AA.
+FAINT = """(() => {
+  const canvas = document.createElement("canvas").getContext("2d", { willReadFrequently: true });
+  const rgb = colour => { canvas.clearRect(0, 0, 1, 1); canvas.fillStyle = colour;
+    canvas.fillRect(0, 0, 1, 1); return [...canvas.getImageData(0, 0, 1, 1).data]; };
+  const light = ([r, g, b]) => [r, g, b].map(each => each / 255)
+    .map(each => each <= 0.04045 ? each / 12.92 : ((each + 0.055) / 1.055) ** 2.4)
+    .reduce((sum, each, at) => sum + each * [0.2126, 0.7152, 0.0722][at], 0);
+  const behind = node => {
+    if (node.matches("svg text"))
+      for (let at = node; at; at = at.previousElementSibling)
+        if (at.matches("rect")) return rgb(getComputedStyle(at).fill);
+    for (let at = node; at; at = at.parentElement) {
+      const colour = rgb(getComputedStyle(at).backgroundColor);
+      if (colour[3] === 255) return colour;
+    }
+    return [255, 255, 255, 255];
+  };
+  const faint = [];
+  for (const node of document.querySelectorAll("body *")) {
+    const own = [...node.childNodes].some(each => each.nodeType === 3 && each.data.trim());
+    if (!own || !node.checkVisibility()) continue;
+    if (node.matches("script, style, title, :disabled")) continue;
+    const style = getComputedStyle(node), svg = node.matches("svg text");
+    const [one, other] = [rgb(svg ? style.fill : style.color), behind(node)].map(light);
+    const ratio = (Math.max(one, other) + 0.05) / (Math.min(one, other) + 0.05);
+    const name = `${node.tagName}.${node.getAttribute("class")} ${node.textContent}`;
+    if (ratio < 4.5) faint.push(`${name} ${ratio}`);
+  }
+  return faint;
+})()"""
+
+
+def same(what: str, got: object, wanted: object) -> None:
+    if got != wanted:
+        raise AssertionError(f"{what}: {str(got)[:300]}, and not {str(wanted)[:300]}")
+
+
+def seen(page: Browser) -> Row:
+    """What is seen of the chosen line, with names in an order of their own."""
+    row: Row = page.evaluate(SEEN)
+    for facts in row["facts"].values():
+        facts["lines"] = {kind: sorted(names) for kind, names in facts["lines"].items()}
+    return row
+
+
+def check_rows(page: Browser, lines: Lines) -> None:
+    """Each point has a row with its line, text, colour, and some words on its remarks."""
+    rows = page.evaluate(ROWS)
+    same("points", [row["point"] for row in rows], list(lines.points))
+    for row in rows:
+        point, remarks = lines.points[row["point"]], lines.remarks[row["point"]]
+        wanted = [str(point["line"] or ""), point["statement"] or "end"]
+        same("a row", [row["line"], row["text"]], wanted)
+        weightiest = remarks[0]["kind"] if remarks else "plain"
+        assert weightiest in row["kinds"], (row, weightiest)
+        for remark in remarks[:3]:
+            about = remark.get("variable") or remark.get("expression") or "never reached"
+            assert about in row["said"], (row, remark)
+        assert remarks or not row["said"], row
+
+
+def check_points(page: Browser, lines: Lines) -> None:
+    """All of each point, gone to by keyboard, and the ways from it."""
+    page.press("e")
+    page.press("Home")
+    for number in lines.points:
+        got, wanted = seen(page), lines.expected(number)
+        assert lines.place(number) in got.pop("label"), number
+        for what, value in wanted.items():
+            same(f"{what} of point {number}", got[what], value)
+        same("the focus", page.evaluate("document.activeElement.id"), "listing")
+        ways = [each for each in lines.remarks[number] if "path" in each]
+        for remark in ways:
+            check_way(page, lines, remark)
+        if ways:
+            page.press("w")
+            way = page.evaluate(WAY)
+            left = [way["shown"], way["chosen"], way["margin"]]
+            same("a way that is left", left, [False, number, {}])
+        page.press("j")
+    same("the last line", seen(page)["chosen"], max(lines.points))
+
+
+def words_of_hop(lines: Lines, hop: Row | None, remark: Row) -> str:
+    """What is told of a hop, or of where the way ends."""
+    name = remark["variable"]
+    if hop is None:
+        return f"{name} is used here"
+    to = lines.points.get(hop["to"])
+    if hop["kind"] == "pass":
+        callee = lines.head["procedures"][hop["callee"]]
+        return f"passes {callee} as a whole, which may leave {name} unset"
+    if hop["kind"] == "enter":
+        return f"enters {to['procedure'] if to else 'a procedure that is not shown'}"
+    on = hop["to"] == hop["from"] + 1 and to is not None and to["line"] is not None
+    place = lines.place(hop["to"]) if to else f"point {hop['to']}"
+    outcome = lines.outcome(hop["from"], hop["to"]) if hop["from"] in lines.points else None
+    test = {None: "", True: "the test holds: ", False: "the test fails: "}[outcome]
+    return test + ("goes on" if on else f"goes to {place}")
+
+
+def check_way(page: Browser, lines: Lines, remark: Row) -> None:
+    """The way of a variable that may be unset, step by step."""
+    hops: list[Row] = remark["path"]
+    stations = [hop["from"] for hop in hops] + [remark["point"]]
+    numbers: dict[str, list[int]] = {}
+    for at, point in enumerate(stations, 1):
+        numbers.setdefault(str(point), []).append(at)
+    margin = {
+        point: " ".join(map(str, each)) if len(each) < 3 else f"{each[0]} …"
+        for point, each in numbers.items()
+        if int(point) in lines.points
+    }
+    drawn = {f"{hop['from']}>{hop['to']}" for hop in hops if hop["kind"] != "enter"}
+    page.press("w")
+    title = f"Way: {KINDS['unset'].format(**remark)}, line {remark['line']}"
+    for at, point in enumerate(stations):
+        way = page.evaluate(WAY)
+        words = words_of_hop(lines, hops[at] if at < len(hops) else None, remark)
+        same("the way", way["title"], title)
+        same("a step", way["now"], f"Step {at + 1} of {len(stations)}: {words}")
+        same("the margin", way["margin"], margin)
+        same("the list of steps", way["listed"], str(at + 1))
+        if point in lines.points:
+            same("the step's point", [way["chosen"], way["current"]], [point, [point]])
+            name = lines.points[point]["procedure"]
+            inside = {each for each, row in lines.points.items() if row["procedure"] == name}
+            same("nodes on the way", set(way["nodes"]), inside & set(stations))
+            edges = sorted(each for each in drawn if int(each.split(">")[0]) in inside)
+            same("edges on the way", way["edges"], edges)
+        page.press("ArrowRight" if at % 2 else "l")
+    page.press("h")
+    if len(stations) > 1:
+        same("a step back", page.evaluate(WAY)["listed"], str(len(stations) - 1))
+
+
+LINKS = """[...document.querySelectorAll("#remarks button[data-to]")].map(
+  each => Number(each.dataset.to))"""
+COUNTS = """[...document.querySelectorAll("#kinds [data-kind]")].map(
+  each => [each.dataset.kind, Number(/\\d+$/.exec(each.textContent)[0])])"""
+FOUND = "document.getElementById('found').textContent"
+NAMELESS = """[...document.querySelectorAll("button, input, select, [role=option], section")]
+  .filter(each => !(each.getAttribute("aria-label") ?? each.textContent).trim()).length"""
+
+
+def chosen(page: Browser) -> int:
+    number: int = page.evaluate(
+        'Number(document.querySelector("[role=option][aria-selected=true]").dataset.point)'
+    )
+    return number
+
+
+def check_moves(page: Browser, lines: Lines) -> None:
+    """From remark to remark, to what stands around one and back."""
+    told = [number for number, remarks in lines.remarks.items() if remarks]
+    last = max(lines.points)
+    page.press("End")
+    same("the end", chosen(page), last)
+    wanted = [each for each in told if each != last] + [each for each in told if each == last]
+    for number in wanted:
+        page.press("n")
+        same("the next remark", chosen(page), number)
+    page.press("Home")
+    for number in reversed(told):
+        if number != min(lines.points):
+            page.press("p")
+            same("the remark before", chosen(page), number)
+    for number in told:
+        sets = [lines.around(remark) for remark in lines.remarks[number]]
+        page.evaluate(f"location.hash = '#{lines.points[number]['line']}'")
+        page.evaluate("new Promise(done => setTimeout(() => done(1)))")
+        links = page.evaluate(LINKS)
+        if any(sets) and links and not any("path" in each for each in lines.remarks[number]):
+            page.press("a")
+            page.press("Enter")
+            same("a link around a remark", chosen(page), links[0])
+            page.press("b")
+            same("and back", chosen(page), number)
+
+
+def check_kinds(page: Browser, lines: Lines) -> None:
+    """The counts of each kind; each is hidden and shown by keyboard."""
+    counts = {
+        kind: sum(each["kind"] == kind for told in lines.remarks.values() for each in told)
+        for kind in KINDS
+    }
+    counts = {kind: count for kind, count in counts.items() if count}
+    same("counts", dict(page.evaluate(COUNTS)), counts)
+    said = "[...document.querySelectorAll('.said')].filter(each => each.textContent).length"
+    before = page.evaluate(said)
+    for hidden in (True, False):
+        page.press("r")
+        for kind in counts:
+            same("the focus", page.evaluate("document.activeElement.dataset.kind"), kind)
+            page.press(" ")
+            rows = page.evaluate(f"document.querySelectorAll('.row.point.{kind}').length")
+            assert not (hidden and rows), kind
+            page.press("Tab")
+        same("rows of which something is said", page.evaluate(said), 0 if hidden else before)
+    page.evaluate("document.getElementById('listing').focus()")
+
+
+def check_search(page: Browser, lines: Lines) -> None:
+    """A text is found in all statements that have it."""
+    word = next(row["statement"] for row in lines.points.values() if row["statement"]).split()[0]
+    found = [each for each in lines.points if word in lines.searched(each)]
+    page.press("Home")
+    page.press("/")
+    page.write(word)
+    same("found", page.evaluate(FOUND), f"{len(found)} found")
+    marked = "[...document.querySelectorAll('.row.match')].map(row => +row.dataset.point)"
+    same("rows found", page.evaluate(marked), found)
+    page.press("Enter")
+    here = min(lines.points)
+    onward = [each for each in found if each > here] or found
+    same("Enter", chosen(page), onward[0])
+    page.press("Escape")
+    state = page.evaluate(f"[document.activeElement.id, {marked}.length]")
+    same("Escape", state, ["listing", 0])
+
+
+def check_analyses(page: Browser, lines: Lines) -> None:
+    """A digit shows one analysis, 0 all."""
+    names = [name for name in FORWARD if name in next(iter(lines.points.values()))]
+    shown = "[...document.querySelectorAll('.analysis')].map(each => each.dataset.analysis)"
+    for at, name in enumerate(names, 1):
+        page.press(str(at))
+        same("an analysis", page.evaluate(shown), [name])
+    page.press("0")
+    same("all analyses", page.evaluate(shown), names)
+
+
+def check_looks(page: Browser, lines: Lines) -> None:
+    """Nothing is wider than the window, faint, or without a name; in a narrow one the graph has its
+    turn; on paper each row is there."""
+    unset = [row for told in lines.remarks.values() for row in told if "path" in row]
+    if unset:
+        page.evaluate(f"location.hash = '#{unset[0]['line']}'")
+        page.evaluate("new Promise(done => setTimeout(() => done(1)))")
+        page.press("w")
+    for dark in (False, True):
+        page.dark(dark)
+        same("faint texts", page.evaluate(FAINT), [])
+    page.press("t")
+    same("the other theme", page.evaluate("document.documentElement.dataset.theme"), "light")
+    same("faint texts", page.evaluate(FAINT), [])
+    same("what has no name", page.evaluate(NAMELESS), 0)
+    page.size(420, 800)
+    for pane in ("line", "graph"):
+        wide = page.evaluate("[document.documentElement.scrollWidth, document.body.scrollWidth]")
+        same("the width", wide, [420, 420])
+        both = "['line', 'graph'].filter(id => document.getElementById(id).checkVisibility())"
+        same("the pane", page.evaluate(both), [pane])
+        page.press("g")
+    page.evaluate("dispatchEvent(new Event('beforeprint'))")
+    printed = page.evaluate("document.querySelectorAll('[role=option]').length")
+    same("rows on paper", printed, len(lines.points))
+    page.size(*WIDE)
+
+
+CHECKS: list[Callable[[Browser, Lines], None]] = [
+    check_rows,
+    check_points,
+    check_moves,
+    check_kinds,
+    check_search,
+    check_analyses,
+    check_looks,
+]
+
+
+def made(folder: str, name: str, text: bytes, *words: str) -> str:
+    """The page of some lines."""
+    path = os.path.join(folder, name + ".html")
+    with open(path, "wb") as out:
+        subprocess.run([MAKE, *words], input=text, stdout=out, check=True)
+    return path
+
+
+def lines_of(source: bytes, *words: str) -> bytes:
+    """What tacview writes of a program; where it is not proved, it says so on standard error."""
+    done = subprocess.run(
+        [TACVIEW, "--format", "json", *words], input=source, capture_output=True
+    )
+    assert done.returncode == 0, done.stderr.decode()
+    return done.stdout
+
+
+def check_page(page: Browser, path: str, text: bytes) -> None:
+    """All that is to be seen of a program."""
+    lines = Lines([json.loads(line) for line in text.splitlines()])
+    page.faults.clear()
+    page.size(*WIDE)
+    page.dark(False)
+    page.open(path)
+    for check in CHECKS:
+        check(page, lines)
+    same("what the page logged or asked for", page.faults, [])
+
+
+PASSES = b"""proc main
+call f | g
+call h
+call f
+end
+proc f
+x = 1
+end
+proc g
+end
+proc h
+L:
+if y goto L
+print x
+ifFalse y goto M
+goto L
+M:
+print y
+end
+"""
+# One line; no remark; what is never reached in a procedure of its own; doubt behind a loop.
+ONE = b"proc main\nskip\nend\n"
+ODD = b"""proc main
+x = 1
+L: goto L
+end
+proc lonely
+x = y + 1
+x = y + 1
+end
+"""
+
+
+class Page:
+    """One try: its name, its lines, and how it is checked."""
+
+    def __init__(self, name: str, text: Callable[[], bytes], check: Callable[..., None]) -> None:
+        self.name = name
+        self.text = text
+        self.check = check
+
+
+def example(name: str) -> bytes:
+    with open(os.path.join(EXAMPLES, name + ".tac"), "rb") as file:
+        return file.read()
+
+
+def programs() -> list[Page]:
+    """Pages of whole programs."""
+    names = [name[:-4] for name in sorted(os.listdir(EXAMPLES)) if name.endswith(".tac")]
+    sources = {name: example(name) for name in names} | {"passes": PASSES, "one": ONE, "odd": ODD}
+    tried: list[tuple[str, bytes, list[str]]] = [
+        *((name, source, ["--paths"]) for name, source in sources.items()),
+        ("one procedure", PASSES, ["--procedure", "h", "--paths"]),
+        ("some facts", example("remarks"), ["--facts", "live,avail"]),
+        ("no facts", example("recursion"), ["--facts", "none"]),
+    ]
+    return [Page(name, partial(lines_of, text, *words), check_page) for name, text, words in tried]
+
+
+HOSTILE = [
+    "</script><script>bad()</script>",
+    "<img src=x onerror=bad()>",
+    "<!--<script>",
+    "a&amp;\"'`<b>",
+    "__proto__",
+    "</SCRIPT >",
+]
+
+
+def hostile_lines() -> bytes:
+    """Lines whose names try to be markup."""
+    names = HOSTILE
+    rows: list[Row] = [
+        {"type": "program", "points": len(names) + 1, "procedures": [names[0]], "variables": names}
+        | {"definitions": 2, "expressions": 1}
+    ]
+    for at, name in enumerate([*names, ""]):
+        end = at == len(names)
+        facts = {"path": True, "bits": [0], "names": [name, name + "@entry", f"{name}@1"]}
+        row: Row = {"type": "point", "point": at, "procedure": names[0], "place": at}
+        row |= {"line": None if end else at + 1, "statement": None if end else f"{name} = {name}"}
+        row |= {"edges": [] if end else [{"kind": "step", "to": at + 1}], "reach": facts}
+        rows.append(row | {"live": facts, "avail": facts, "busy": facts})
+    for at, name in enumerate(names):
+        base = {"type": "remark", "point": at, "line": at + 1}
+        hops = [{"kind": "step", "from": each, "to": each + 1} for each in range(at)]
+        rows.append(base | {"kind": "unset", "variable": name, "path": hops})
+        dead: Row = {"kind": "dead", "variable": name, "next_writes": [0]}
+        rows.append(base | dead | {"may_end_unwritten": True})
+        computed: Row = {"kind": "computed", "expression": name, "last_evaluations": [at]}
+        rows.append(base | computed | {"holders": names})
+        rows.append({"type": "doubt", "point": at, "line": at + 1, "variable": name, "doubt": 0})
+    return "".join(json.dumps(row, separators=(",", ":")) + "\n" for row in rows).encode()
+
+
+def check_hostile(page: Browser, path: str, text: bytes) -> None:
+    """Names that try to be markup are texts."""
+    with open(path, encoding="utf-8") as file:
+        source = file.read()
+    assert source.count("</script") == 2 and "<!--" not in source, "the page's source"
+    page.faults.clear()
+    page.size(*WIDE)
+    page.open(path)
+    page.evaluate("window.bad = () => { window.worse = true; }")
+    page.press("Home")
+    for at, name in enumerate(HOSTILE):
+        got = seen(page)
+        same("a statement", got["statement"], f"{name} = {name}")
+        same("remarks", [each["sentence"] for each in got["remarks"]][:2],
+             [f"{name} may be used before it is set", f"assignment to {name} is dead"])
+        live = [each for names in got["facts"]["live"]["lines"].values() for each in names]
+        assert name in got["label"] and name in live, name
+        page.press("w")
+        assert name in page.evaluate(WAY)["title"], name
+        page.press("Escape")
+        page.press("j")
+    same("markup", page.evaluate("document.querySelectorAll('img, b, script script').length"), 0)
+    same("scripts", page.evaluate("[document.scripts.length, 'worse' in window]"), [2, False])
+    same("the title", page.evaluate("document.title"), "</title> – tacview")
+    same("what the page logged or asked for", page.faults, [])
+
+
+MANY = 16000
+
+
+def many_lines() -> bytes:
+    """One procedure of very many points, with some of each remark."""
+    head: Row = {"type": "program", "points": MANY, "procedures": ["main"], "variables": ["x"]}
+    rows = [head | {"definitions": MANY, "expressions": 1}]
+    for at in range(MANY):
+        end = at == MANY - 1
+        row: Row = {"type": "point", "point": at, "procedure": "main", "place": at}
+        row |= {"line": None if end else at + 2, "statement": None if end else f"x = x + {at}"}
+        rows.append(row | {"edges": [] if end else [{"kind": "step", "to": at + 1}]})
+    hops = [{"kind": "step", "from": at, "to": at + 1} for at in range(MANY // 2)]
+    unset = {"kind": "unset", "variable": "x", "path": hops}
+    rows.append({"type": "remark", "point": MANY // 2, "line": MANY // 2 + 2} | unset)
+    return "".join(json.dumps(row, separators=(",", ":")) + "\n" for row in rows).encode()
+
+
+def check_many(page: Browser, path: str, text: bytes) -> None:
+    """Of many points only the rows in view are there, and a long way is told in parts."""
+    page.faults.clear()
+    page.size(1400, 900)
+    page.open(path)
+    page.press("n")
+    page.press("w")
+    for key in ("l", "l", "PageDown", "End", "Home"):
+        page.press(key)
+        rows = page.evaluate("document.querySelectorAll('.row').length")
+        steps = page.evaluate("document.querySelectorAll('#way-steps li').length")
+        assert rows < 100 and steps < 200, (rows, steps)
+    same("the first line", chosen(page), 0)
+    nodes = page.evaluate("document.querySelectorAll('#graph .node').length")
+    assert nodes <= 300, nodes
+    same("what the page logged or asked for", page.faults, [])
+
+
+def refused(text: bytes, *words: str) -> str:
+    """What page/make says of lines that it refuses, with nothing written."""
+    done = subprocess.run([MAKE, *words], input=text, capture_output=True)
+    wanted = 2 if words else 1
+    assert done.returncode == wanted and not done.stdout, (text, done.returncode)
+    return done.stderr.decode()
+
+
+def check_make() -> None:
+    """page/make refuses what is no program's lines, in one line, and warns of large pages."""
+    good = b'{"type":"program","points":1}\n'
+    for text, said in [
+        (b"", "standard input is empty"),
+        (b"digraph {\n", "line 1 is not as tacview --format json writes it"),
+        (good + b"{}\n", "line 2 is not as tacview --format json writes it"),
+        (good + b'{"type":"point"', "line 2 was cut short"),
+        (good + b'{"type":"\xff"}\n', "line 2 is not UTF-8"),
+    ]:
+        same("a refusal", refused(text), f"page/make: {said}\n")
+    assert "--title TEXT" in refused(good, "--no-such-word")
+    large = good + b'{"type":"point","x":"' + b"x" * 15_000_000 + b'"}\n'
+    done = subprocess.run([MAKE], input=large, capture_output=True)
+    assert done.returncode == 0 and len(done.stdout) > len(large), done.returncode
+    warned = done.stderr
+    assert warned.startswith(b"page/make: 15 MB") and warned.count(b"\n") == 1, warned
+    with open("/dev/full", "wb") as full:
+        done = subprocess.run([MAKE], input=good, stdout=full, stderr=subprocess.PIPE)
+    assert done.returncode == 1 and done.stderr.count(b"\n") == 1, done.stderr
+
+
+def check_script(folder: str) -> None:
+    """The frame's script is one that node reads, in strict mode, and writes no markup."""
+    with open(FRAME, encoding="utf-8") as file:
+        script = file.read().rpartition("<script>")[2].partition("</script>")[0]
+    assert script.lstrip().startswith('"use strict";')
+    for word in ("innerHTML", "outerHTML", "insertAdjacentHTML", "document.write", "eval("):
+        assert word not in script, word
+    path = os.path.join(folder, "frame.js")
+    with open(path, "w", encoding="utf-8") as file:
+        file.write(script)
+    node = shutil.which("node")
+    if node:
+        done = subprocess.run([node, "--check", path], capture_output=True)
+        assert done.returncode == 0, done.stderr.decode()
+
+
+def attempt(name: str, check: Callable[[], None]) -> bool:
+    try:
+        check()
+    except (AssertionError, KeyError, ValueError, OSError, browser.Broken) as fault:
+        print(f"{name}: {type(fault).__name__} {str(fault)[:700]}")
+        return False
+    return True
+
+
+def try_page(page: Browser, folder: str, each: Page) -> None:
+    text = each.text()
+    title = "</title>" if each.name == "hostile" else each.name
+    each.check(page, made(folder, each.name, text, "--title", title), text)
+
+
+def tries(words: list[str], folder: str, page: Browser) -> list[tuple[str, Callable[[], None]]]:
+    """All that is tried, or those of some names."""
+    pages = programs()
+    pages.append(Page("hostile", hostile_lines, check_hostile))
+    pages.append(Page("many", many_lines, check_many))
+
+    found: list[tuple[str, Callable[[], None]]] = [
+        (each.name, partial(try_page, page, folder, each)) for each in pages
+    ]
+    found += [("page/make", check_make), ("the script", partial(check_script, folder))]
+    return [each for each in found if not words or each[0] in words]
+
+
+def main(words: list[str]) -> int:
+    program = browser.find()
+    if program is None:
+        print("skipped: no chromium")
+        return 0
+    with tempfile.TemporaryDirectory() as folder:
+        page = Browser(program)
+        try:
+            results = [attempt(name, check) for name, check in tries(words, folder, page)]
+        finally:
+            page.close()
+    print(f"{sum(results)} passed, {len(results) - sum(results)} failed")
+    return 0 if all(results) else 1
+
+
+if __name__ == "__main__":
+    sys.exit(main(sys.argv[1:]))
