@@ -4,8 +4,8 @@ line by line. What it shows is compared with what the lines of JSON say (shown.p
 and what stands around them, ways step by step, facts before and behind each line, marks, the
 graph. Then filters, searching, links, sizes of windows, contrast, and names that try to be markup.
 A page may log nothing and ask nothing of a network. TACVIEW=/path/to/program takes another program
-than ./tacview, and words are the names of pages that are tried alone.
-Prints `N passed, M failed`."""
+than ./tacview, and words are the names of pages that are tried alone. Prints `N passed, M failed`.
+`checks/page --time FILE..` tells instead how long pages take to open, and then a key."""
 
 from __future__ import annotations
 
@@ -15,6 +15,7 @@ import shutil
 import subprocess
 import sys
 import tempfile
+import time
 from collections.abc import Callable
 from functools import partial
 
@@ -620,10 +621,30 @@ def tries(words: list[str], folder: str, page: Browser) -> list[tuple[str, Calla
     return [each for each in found if not words or each[0] in words]
 
 
+def tell_times(page: Browser, paths: list[str]) -> None:
+    """Prints the size of each page, when it was loaded and drawn, and how long a key takes."""
+    page.size(1400, 900)
+    for path in paths:
+        opened = page.open(os.path.realpath(path))
+        began, keys = time.monotonic(), 20
+        for _ in range(keys):
+            page.press("j")
+        key = (time.monotonic() - began) / keys
+        size = os.path.getsize(path) / 1e6
+        print(f"{path}: {size:.1f} MB, opens in {opened:.2f} s, a key takes {key * 1000:.0f} ms")
+
+
 def main(words: list[str]) -> int:
     program = browser.find()
     if program is None:
         print("skipped: no chromium")
+        return 0
+    if words[:1] == ["--time"]:
+        page = Browser(program)
+        try:
+            tell_times(page, words[1:])
+        finally:
+            page.close()
         return 0
     with tempfile.TemporaryDirectory() as folder:
         page = Browser(program)
