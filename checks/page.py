@@ -408,11 +408,44 @@ M:
 print y
 end
 """
-# One line; no remark; what is never reached in a procedure of its own; doubt behind a loop.
+# What stands around remarks, also several lines and names.
+SETS = b"""proc main
+read a
+read b
+w = 1
+if a goto L
+x = a + b
+w = 2
+goto M
+L:
+y = a + b
+x = a + b
+w = 3
+M:
+z = a + b
+print z
+print x
+print w
+w = 4
+if w == b goto N
+return
+print a
+N:
+w = 5
+end
+"""
+# One line without a remark; doubt before a call that does not come back, and what is never reached
+# behind it, behind a jump, and in a procedure of its own.
 ONE = b"proc main\nskip\nend\n"
 ODD = b"""proc main
 x = 1
-L: goto L
+call spin
+x = 2
+end
+proc spin
+L: if x goto L
+goto L
+print x
 end
 proc lonely
 x = y + 1
@@ -438,7 +471,8 @@ def example(name: str) -> bytes:
 def programs() -> list[Page]:
     """Pages of whole programs."""
     names = [name[:-4] for name in sorted(os.listdir(EXAMPLES)) if name.endswith(".tac")]
-    sources = {name: example(name) for name in names} | {"passes": PASSES, "one": ONE, "odd": ODD}
+    sources = {name: example(name) for name in names}
+    sources |= {"passes": PASSES, "sets": SETS, "one": ONE, "odd": ODD}
     tried: list[tuple[str, bytes, list[str]]] = [
         *((name, source, ["--paths"]) for name, source in sources.items()),
         ("one procedure", PASSES, ["--procedure", "h", "--paths"]),
@@ -566,7 +600,8 @@ def check_make() -> None:
         (good + b'{"type":"\xff"}\n', "line 2 is not UTF-8"),
     ]:
         same("a refusal", refused(text), f"page/make: {said}\n")
-    assert "--title TEXT" in refused(good, "--no-such-word")
+    wrong = refused(good, "--no-such-word")
+    assert "--title TEXT" in wrong and wrong.count("\n") == 1, wrong
     large = good + b'{"type":"point","x":"' + b"x" * 15_000_000 + b'"}\n'
     done = subprocess.run([MAKE], input=large, capture_output=True)
     assert done.returncode == 0 and len(done.stdout) > len(large), done.returncode
