@@ -91,6 +91,12 @@ class Browser:
 
     def close(self) -> None:
         """Ends the browser with all its processes, and takes its folder away."""
+        del self.session  # what follows is the browser's, and not the page's
+        try:
+            self.send("Browser.close", {})
+            self.started.wait(PATIENCE / 6)
+        except (Broken, OSError, subprocess.TimeoutExpired):
+            pass
         try:
             os.killpg(self.started.pid, signal.SIGKILL)
         except ProcessLookupError:
