@@ -20,6 +20,7 @@ from .remark import in_source_order
 from .shares import Making, all_made, complete, copies_of, linked
 from .sources import Lines
 from .words import Words, help_text
+from .workers import Processes
 
 if TYPE_CHECKING:
     from .analysis import Outcome
@@ -126,11 +127,12 @@ def check(words: Words) -> int:
             prepare_tacview()
         return told(words, making, merged(words, making))
     given = inputs_given(words)
+    workers = Processes(words.processes)
     if target is not None and len({one.name for one in given}) != 1:
         raise BadWords("--emit takes one C file")
     if target is None or not words.is_linked:
         prepare_tacview()
-    shares = all_made(making, given, words.processes, cache_of(words, making))
+    shares = all_made(making, given, workers, cache_of(words, making))
     if target is not None:
         return emit(target, words.values["-MD"], making, shares[0])
     return told(words, making, shares)

@@ -6,13 +6,15 @@ import gc
 import os
 import tempfile
 from collections import Counter
+from contextlib import closing
 from dataclasses import dataclass, field
 from typing import TYPE_CHECKING
 
 from gimple import inputs
 
-from .analysis import ON_REQUEST, Outcome, Task, analyse, processes, take_up, told_in
+from .analysis import ON_REQUEST, Outcome, Task, analyse, told_in
 from .compiling import files_read, left_out, run_gcc
+from .progress import Progress
 from .remark import KINDS
 from .sources import Sources, text_of
 
@@ -21,6 +23,7 @@ if TYPE_CHECKING:
 
     from .cache import Cache
     from .compiling import Input
+    from .workers import Workers
 
 
 @dataclass(frozen=True)
@@ -110,20 +113,22 @@ def named_in(code: Code) -> list[str]:
 
 
 def all_made(
-    making: Making, given: list[Input], count: int, cache: Cache | None = None
+    making: Making, given: list[Input], workers: Workers, cache: Cache | None = None
 ) -> list[Share]:
-    """The shares of all sources in the order of their names, by so many processes."""
+    """The shares of all sources in the order of their names."""
     by_source: dict[str, list[Input]] = {}
     for one in dict.fromkeys(given):
         by_source.setdefault(one.name, []).append(one)
     groups = [by_source[name] for name in sorted(by_source)]
-    if len(groups) == 1:
-        return [found_or_made(making, groups[0], cache, count)]
-    if count == 1:
-        return [made_next(making, group, cache) for group in groups]
-    with processes(min(count, len(groups)), take_up) as pool:
-        tasks = [(making, group, cache) for group in groups]
-        return pool.starmap(made_next, tasks, chunksize=1)
+    shares: dict[int, Share] = {}
+    with Progress(len(groups)) as progress, closing(workers.made(making, groups, cache)) as made:
+        for done in made:
+            if done:
+                number, share = done
+                shares[number] = share
+                progress.take(share)
+            progress.tell()
+    return [shares[number] for number in range(len(groups))]
 
 
 def made_next(making: Making, given: list[Input], cache: Cache | None) -> Share:

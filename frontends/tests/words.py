@@ -22,6 +22,7 @@ sys.path.insert(0, os.path.join(HERE, ".."))
 from checking import analysis, shares
 from checking.compiling import Input
 from checking.remark import KINDS
+from checking.workers import Processes
 
 if TYPE_CHECKING:
     from checking.analysis import Outcome
@@ -383,7 +384,7 @@ def in_parts(files: list[str], processes: int = 1, **sizes: int) -> Outcome:
     """What comes of files as one program where less is taken to be a large one."""
     usual = {name: getattr(analysis, name) for name in sizes}
     making = shares.Making(True, False, frozenset(KINDS))
-    given = shares.all_made(making, [Input(file) for file in files], 1)
+    given = shares.all_made(making, [Input(file) for file in files], Processes(1))
     vars(analysis).update(sizes)
     outcome = shares.linked(given, False, making, processes)
     vars(analysis).update(usual)
