@@ -27,6 +27,7 @@ if TYPE_CHECKING:
     from .cache import Cache
     from .remark import Remark
     from .shares import Share
+    from .workers import Workers
 
 
 def say(text: str) -> None:
@@ -127,7 +128,7 @@ def check(words: Words) -> int:
             prepare_tacview()
         return told(words, making, merged(words, making))
     given = inputs_given(words)
-    workers = Processes(words.processes)
+    workers = workers_of(words)
     if target is not None and len({one.name for one in given}) != 1:
         raise BadWords("--emit takes one C file")
     if target is None or not words.is_linked:
@@ -136,6 +137,16 @@ def check(words: Words) -> int:
     if target is not None:
         return emit(target, words.values["-MD"], making, shares[0])
     return told(words, making, shares)
+
+
+def workers_of(words: Words) -> Workers:
+    """Who makes the shares: a cluster where the words name one, else processes of this machine."""
+    address = words.values["--cluster"]
+    if address is None:
+        return Processes(words.processes)
+    from .cluster import Cluster
+
+    return Cluster(address)
 
 
 def cache_of(words: Words, making: Making) -> Cache | None:

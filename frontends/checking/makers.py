@@ -95,6 +95,14 @@ def viewer() -> str:
     return sum_of_files([path, *filter(os.path.isfile, beside)])
 
 
+def makers(is_linked: bool) -> dict[str, str]:
+    """What shares are made by, each with what tells it from others of its name."""
+    found = {"check-c": f"{version()} of the sources {build()}", "gcc": compiler()}
+    if not is_linked:
+        found["tacview"] = f"of the sum {viewer()[:16]}" if viewer() else "missing"
+    return found
+
+
 def surroundings() -> list[str]:
     """What else in the environment makes gcc read other files."""
     return [f"{name}={os.environ[name]}" for name in ENVIRONMENT if name in os.environ]

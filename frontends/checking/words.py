@@ -39,6 +39,7 @@ output, as a compiler writes warnings. Each file is a program by itself, unless 
                      C file of the database is there
   --cache FOLDER     keep there what came of each C file, and take it from there while all that was
                      read for it is as it was
+  --cluster ADDRESS  have the workers of a Dask scheduler look at the C files
   --all              also remarks on what has no name in the source (gcc's temporaries, address
                      arithmetic), on arguments, and on jumps
   --keep FOLDER      leave the program, its map and tacview's answer there; of several programs the
@@ -56,7 +57,8 @@ NO_COLOR takes the colours away, TACVIEW=/path/to/program another program in pla
 GCC=/path/to/gcc another compiler.
 
 Status: 0 where the remarks were written, 1 where there are some under --error, 2 for bad words, 3
-where a file could not be analysed or the remarks not be written; standard error says why.
+where a file could not be analysed, a cluster not be used, or the remarks not be written; standard
+error says why.
 """
 FLAGS = ("--all", "--error", "--verbose", "--whole", "--together", "--merge")
 VALUES = (
@@ -68,6 +70,7 @@ VALUES = (
     "--since",
     "--emit",
     "--cache",
+    "--cluster",
     "-p",
     "-j",
 )
@@ -84,6 +87,7 @@ TOGETHER = {
         "--since",
     ),
     "--cache": ("--merge", "--keep"),
+    "--cluster": ("--merge", "--emit"),
 }
 FORMATS = ("text", "json", "sarif")
 
@@ -126,8 +130,10 @@ class Words:
             for other in others:
                 if self.has(word) and self.has(other):
                     raise BadWords(f"{other} is of no use with {word}")
-        if self.flags["--merge"] and not self.is_linked and self.has("--keep"):
-            raise BadWords("--keep is of no use with --merge, but where sources are one program")
+        for word in ("--merge", "--cluster"):
+            if self.has(word) and not self.is_linked and self.has("--keep"):
+                told = f"--keep is of no use with {word}, but where sources are one program"
+                raise BadWords(told)
         if self.flags["--merge"] and self.options:
             raise BadWords(f"{self.options[0]} is for gcc: give it to --emit")
         if not self.files and (self.flags["--merge"] or not self.values["-p"]):
