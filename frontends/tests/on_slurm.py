@@ -59,8 +59,9 @@ class Slurm:
         key = os.path.join(self.folder, "munge.key")
         with open(os.open(key, os.O_CREAT | os.O_WRONLY, 0o600), "wb") as file:
             file.write(os.urandom(128))
-        words = [f"--{word}-file={self.folder}/munge.{word}" for word in ("key", "pid", "log", "seed")]
-        words += [f"--socket={self.folder}/munge.socket"]
+        words = [f"--socket={self.folder}/munge.socket"]
+        for word in ("key", "pid", "log", "seed"):
+            words.append(f"--{word}-file={self.folder}/munge.{word}")
         for command in (["munged", "-F", "-f", *words], ["slurmctld", "-D"], ["slurmd", "-D"]):
             with open(os.path.join(self.folder, f"{command[0]}.said"), "wb") as said:
                 self.processes.append(

@@ -77,6 +77,7 @@ CASES = [
     ("-fsyntax-only one.c", 2, r"-fsyntax-only has gcc write no code"),
     ("-j 0 one.c", 2, r"-j takes a number"),
     ("-j", 2, r"-j takes a word behind it"),
+    ("--cluster x one.c", 2, r"--cluster (needs Dask's distributed|x: missing port number)"),
     ("other.txt", 2, r"other.txt is no C file"),
     ("folder.c", 2, r"folder.c is a folder"),
     ("-p nowhere", 2, r"nowhere: No such file or directory"),
