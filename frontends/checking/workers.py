@@ -2,10 +2,12 @@
 
 from __future__ import annotations
 
+import gc
 from collections.abc import Generator
 from typing import TYPE_CHECKING, Protocol
 
-from .analysis import processes, take_up
+from .analysis import take_up
+from .compiling import Unusable
 from .shares import found_or_made, made_next
 
 if TYPE_CHECKING:
@@ -13,9 +15,10 @@ if TYPE_CHECKING:
     from .compiling import Input
     from .shares import Making, Share
 
+# What is told where a process is gone; a run by one process tells which file it is.
+GONE = "a process of this run was killed, as where memory is out: take fewer with -j"
 # Shares with the numbers of their sources, or None where there is none yet.
 Made = Generator["tuple[int, Share] | None", None, None]
-
 
 
 class Workers(Protocol):
@@ -41,12 +44,31 @@ class Processes:
             for number, group in enumerate(groups):
                 yield number, made_next(making, group, cache)
         else:
-            tasks = [(number, making, group, cache) for number, group in enumerate(groups)]
-            with processes(min(self.count, len(groups)), take_up) as pool:
-                yield from pool.imap_unordered(numbered, tasks, chunksize=1)
+            yield from by_several(min(self.count, len(groups)), making, groups, cache)
 
 
-def numbered(task: tuple[int, Making, list[Input], Cache | None]) -> tuple[int, Share]:
-    """The share of a source with the source's number."""
-    number, making, group, cache = task
-    return number, made_next(making, group, cache)
+def by_several(
+    count: int, making: Making, groups: list[list[Input]], cache: Cache | None
+) -> Made:
+    """The shares of all sources, by so many processes; none is left where one is gone, or where
+    the run is given up.
+    """
+    # they take a while, and many runs need none
+    from concurrent.futures import ProcessPoolExecutor, as_completed
+    from concurrent.futures.process import BrokenProcessPool
+    from multiprocessing import active_children, get_context
+
+    gc.freeze()  # a collection would write to all that is shared
+    with ProcessPoolExecutor(count, get_context("fork"), take_up) as pool:
+        try:
+            numbers = {
+                pool.submit(made_next, making, group, cache): number
+                for number, group in enumerate(groups)
+            }
+            for future in as_completed(numbers):
+                yield numbers[future], future.result()
+        except BrokenProcessPool:
+            raise Unusable([GONE]) from None
+        finally:
+            for child in active_children():
+                child.terminate()

@@ -453,6 +453,28 @@ def wrong_ends(folder: str) -> Iterator[str]:
             yield f"an interrupt of {words}: status {started.returncode}: {told}"
 
 
+def wrong_losses(folder: str) -> Iterator[str]:
+    """What is wrong where one of a run's processes is killed: it ends, and says so."""
+    slow, begun = os.path.join(folder, "slow"), os.path.join(folder, "begun")
+    with open(slow, "w", encoding="utf-8") as file:
+        file.write(f"#!/bin/sh\n: >'{begun}'\nexec sleep 2\n")
+    os.chmod(slow, 0o755)
+    with subprocess.Popen(
+        [sys.executable, CHECK, "-j2", "one.c", "library.c"],
+        cwd=folder,
+        stderr=subprocess.PIPE,
+        text=True,
+        env=dict(os.environ, TACVIEW=slow),
+    ) as started:
+        while started.poll() is None and not os.path.exists(begun):
+            time.sleep(0.1)
+        with open(f"/proc/{started.pid}/task/{started.pid}/children", encoding="ascii") as file:
+            os.kill(int(file.read().split()[0]), signal.SIGKILL)
+        told = started.communicate(timeout=60)[1]
+    if started.returncode != 3 or "a process of this run was killed" not in told:
+        yield f"a process is killed: status {started.returncode}: {told}"
+
+
 def differences() -> list[list[str]]:
     """What is wrong, for each group of trials the lines that say so."""
     wrong = []
@@ -469,6 +491,7 @@ def differences() -> list[list[str]]:
         wrong_parts,
         wrong_large,
         wrong_ends,
+        wrong_losses,
     )
     for group in groups:
         with tempfile.TemporaryDirectory() as folder:
