@@ -3,7 +3,6 @@
 from __future__ import annotations
 
 import gc
-from collections.abc import Generator
 from typing import TYPE_CHECKING, Protocol
 
 from .analysis import take_up
@@ -11,14 +10,17 @@ from .compiling import Unusable
 from .shares import found_or_made, made_next
 
 if TYPE_CHECKING:
+    from collections.abc import Generator
+
     from .cache import Cache
     from .compiling import Input
     from .shares import Making, Share
 
+    # Shares with the numbers of their sources, or None where there is none yet.
+    Made = Generator[tuple[int, Share] | None, None, None]
+
 # What is told where a process is gone; a run by one process tells which file it is.
 GONE = "a process of this run was killed, as where memory is out: take fewer with -j"
-# Shares with the numbers of their sources, or None where there is none yet.
-Made = Generator["tuple[int, Share] | None", None, None]
 
 
 class Workers(Protocol):
@@ -47,9 +49,7 @@ class Processes:
             yield from by_several(min(self.count, len(groups)), making, groups, cache)
 
 
-def by_several(
-    count: int, making: Making, groups: list[list[Input]], cache: Cache | None
-) -> Made:
+def by_several(count: int, making: Making, groups: list[list[Input]], cache: Cache | None) -> Made:
     """The shares of all sources, by so many processes; none is left where one is gone, or where
     the run is given up.
     """

@@ -203,10 +203,13 @@ def wrong_machines(site: Site, sources: list[str]) -> Iterator[str]:
     for name in ("env", "sh", "uname", "python3"):
         os.symlink(site.python if name == "python3" else str(shutil.which(name)), f"{bare}/{name}")
     paths[bare] = "gcc: No such file or directory"
+    here = {name: value for name, value in os.environ.items() if name != "GCC"}
     for path, says in paths.items():
         site.start(1, PATH=path)
         command = site.command(sources[:2], ["--cluster", site.address])
-        found = told(subprocess.run(command, cwd=site.home, capture_output=True, check=False))
+        found = told(
+            subprocess.run(command, cwd=site.home, capture_output=True, check=False, env=here)
+        )
         yield from unless_refused(path, found, 3, f"{host}: {says}")
         site.stop()
 
