@@ -218,6 +218,7 @@ def check(seed: int, counts: Counter[str]) -> None:
     """Checks each path of a program, and what stands around its remarks."""
     source = text_of(seed)
     rows = rows_of(source, "--paths")
+    unset = [dict(row) for row in rows if row.get("kind") == "unset"]
     program, graph = Program(rows), Graph(rows)
     doubts = [row for row in rows if row["type"] == "doubt"]
     rows = rows[: len(rows) - len(doubts)]
@@ -225,7 +226,6 @@ def check(seed: int, counts: Counter[str]) -> None:
     for row in rows:
         if row["type"] == "remark":
             check_remark(program, graph, row, counts)
-    unset = [row for row in rows if row.get("kind") == "unset"]
     if unset:
         check_picture(source, unset[seed % len(unset)])
     check_doubts(graph, doubts, counts)
