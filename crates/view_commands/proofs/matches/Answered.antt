@@ -1,12 +1,12 @@
 -- What `tacview` answers to the words, by what `clap` answered
-use Rattle.std.proofs.Common.{◌≡◌, ◌⊎◌, subst, sym, inl, inr, true, Bool, List, Result, Ok, Err}
-use Rattle.std.specs.Prelude.{[], ◌∷◌, IfOk, IfErr, if◌then◌else◌}
+use Rattle.std.proofs.Common.{◌≡◌, ◌⊎◌, subst, sym, inl, inr, true, List, Result, Ok, Err}
+use Rattle.std.specs.Prelude.{[], ◌∷◌, IfOk, IfErr}
 use Rattle.std.specs.Borrow.{Bor}
 use Rattle.clap.specs.Kinds.{Kinds, or_else}
 use Rattle.clap.specs.Words.{FailsBy, HasKind, Row, Text, fault_of, kind_of, matches_of, takes}
 use Rattle.clap.specs.declared.builder.possible_value.PossibleValue.{PossibleValue}
 use Rattle.clap.specs.declared.error.Error.{Error}
-use Rattle.clap.specs.declared.error.kind.ErrorKind.TheVariants.{InvalidValue, OutOfMemory}
+use Rattle.clap.specs.declared.error.kind.ErrorKind.TheVariants.{OutOfMemory}
 use Rattle.flow_runs.specs.Words.{AreKindsOf}
 use Rattle.view_commands.specs.Commands.{AnswersWords, NamesOptions, option_kinds, tacview_command}
 use Rattle.view_commands.specs.Kinds.{formats, sizes}

@@ -1,4 +1,4 @@
-use Rattle.std.proofs.Common.{◌≡◌, ◌∙◌, ap, sym, Some}
+use Rattle.std.proofs.Common.{◌∙◌, ap, sym}
 use Rattle.flow_paths.specs.Pictures.{first_use, is_named}
 use Rattle.flow_paths.proofs.lists.Pictured.{is_first, passed_over}
 use Rattle.flow_paths.proofs.asked_use.use_named.Goals as goal

@@ -1,4 +1,4 @@
-use Rattle.std.proofs.Common.{◌≡◌, ◌∙◌, sym, ap, Some, None, codes, is_some}
+use Rattle.std.proofs.Common.{◌≡◌, ◌∙◌, sym, ap, None, codes, is_some}
 use Rattle.std.specs.Prelude.{option_map}
 use Rattle.clap.specs.Words.{found_of, rows_of, first_of}
 use Rattle.clap.proofs.WalkLemmas.{first_value-rows}

@@ -1,4 +1,4 @@
-use Rattle.std.proofs.Common.{◌≡◌, ◌∙◌, ℕ, Bool, ◌&&◌, List, [], ◌∷◌, Option, Some, None, ap, ap₂, subst, sym}
+use Rattle.std.proofs.Common.{◌≡◌, ◌∙◌, ℕ, Bool, ◌&&◌, List, [], Some, None, ap₂, subst, sym}
 use Rattle.std.specs.Prelude.{nat_le, nat_lt}
 use Rattle.std.specs.List.{filter}
 use Rattle.std.proofs.lemmas.List.Elements.{All-cons, All-nil}
@@ -15,7 +15,7 @@ use Rattle.flow_views.proofs.texts.SameTexts.{same_open}
 use Rattle.flow_why.specs.Witnesses.{IsWitness}
 use Rattle.flow_why.specs.declared.hop.Hop.{Hop}
 use Rattle.tac_program.specs.Programs.{Program}
-use Rattle.flow_paths.specs.Pictures.{IsDotWithPath, LacksUse, asked_use, first_use, is_named, is_point_shown, marked_dot}
+use Rattle.flow_paths.specs.Pictures.{IsDotWithPath, LacksUse, first_use, is_named, is_point_shown, marked_dot}
 use Rattle.flow_paths.specs.code.Doubted.{is_shown}
 use Rattle.flow_paths.specs.code.UnsetPaths.{IsUnsetUse, hops_at}
 use Rattle.flow_paths.proofs.lists.Pictured.{asked_is, named_holds, none_found, one_witness}
