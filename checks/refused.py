@@ -48,7 +48,9 @@ WORDS = {
     "tacview": [
         "--format dot",
         "--format dot --facts all",
+        "--because 4:c",
         "--format json",
+        "--format json --paths",
         "--format json --procedure main",
         "--format report",
     ],
