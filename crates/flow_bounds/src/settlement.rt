@@ -62,9 +62,9 @@ fn tell_all(alloc: Global, asking: Asking<'_, '_, '_>, told: &mut [Told]) -> Res
 /// What bounds tell of bits that are asked of a problem: what is told is true, and of some bits nothing is told.
 ///
 /// The columns of a problem are taken 64 at a time. Of each the procedures that touch one of them are looked at, and all others are taken as one:
-/// from above as if each way through them were open, from below by paths that are known. Where it takes more than a fifth of the time of solving
-/// all bits, beside what it spares, it is given up. The conditions: routes and bits are the problem's, and there are fewer than 2^32 bits.
-/// Fails only where memory runs out.
+/// from above as if each way through them were open, from below by paths that are known. Where it takes more than a fifth of the work of solving
+/// all bits, by its own count and beside what it spares, it is given up. The conditions: routes and bits are the problem's, and there are
+/// fewer than 2^32 bits. Fails only where memory runs out.
 pub fn settle<'x>(
     alloc: Global,
     problem: &'x Problem<'_, '_>,

@@ -2,7 +2,8 @@
 
 ghost use Rattle.std.specs.Prelude.{◌≡◌, ◌<◌, ◌+◌, ◌-◌, ◌^◌, true, false, IfErr, OnOk};
 ghost use Rattle.std.specs.Io.KnownBytes.{Keeps};
-ghost use Rattle.flow_runs.specs.Faults.{UnlessWrite, WhereNoGraph, WhereNoProcedure, WhereNoRemark, WhereRefused, WhereWrite, read_faults_in, write_faults_in};
+ghost use Rattle.flow_runs.specs.Faults.{UnlessWrite, WhereNoGraph, WhereNoProcedure, WhereNoRemark};
+ghost use Rattle.flow_runs.specs.Faults.{WhereRefused, WhereWrite, read_faults_in, write_faults_in};
 ghost use Rattle.flow_runs.specs.Runs.{PullsOverLimit, PullsRefused, WritesAnswer, WritesBeginning};
 ghost use Rattle.tac_program.specs.declared.limits.Limits.TheVariants.{Standard};
 ghost use Rattle.flow_commands.specs.Runs.{IsShown, needs_graph};
