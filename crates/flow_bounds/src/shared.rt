@@ -15,8 +15,8 @@ use flow_regions::{
 use gen_kill::Problem;
 use std::alloc::Global;
 
-/// What is made once for all groups of a problem: by column whether it is asked, and the points that touch it then, by procedure its points and ranks, tables, and how points are
-/// reached.
+/// What is made once for all groups of a problem: by column whether it is asked, and the points that touch it then, by procedure its points and
+/// ranks, tables, and how points are reached.
 #[derive(Drop)]
 pub(crate) struct Base {
     pub marked: Vec<bool>,
@@ -64,13 +64,13 @@ pub(crate) fn base_of(
     if !are_many(problem, marked.as_slice()) {
         return Ok(None);
     }
+    if !are_local(alloc, problem, marked.as_slice())? {
+        return Ok(None);
+    }
     let Some(touches) = touches_of(alloc, problem, marked.as_slice())? else {
         return Ok(None);
     };
     let listed = points_by_procedure(alloc, links)?;
-    if !are_local(problem, links, marked.as_slice(), &touches, &listed) {
-        return Ok(None);
-    }
     let ranks = ranks_of(alloc, links)?;
     let tables = tables(alloc, links)?;
     let found = find(alloc, links)?;

@@ -36,7 +36,7 @@ struct Asked {
     numbers: Vec<u32>,
 }
 
-// Puts the bit of a place of a query's word, if it is asked.
+// Puts the bit of a place of a query's word, if the problem has it.
 fn put_bit(
     problem: &Problem<'_, '_>,
     asked: &mut Asked,
@@ -50,7 +50,7 @@ fn put_bit(
     ensures { OnOk result (AreAsksOf problem.now asked.new.asks.items) }
 {
     let column = query.word.saturating_mul(64).saturating_add(place);
-    if !is_one(query.bits, place) || column >= problem.bits() {
+    if column >= problem.bits() {
         return Ok(());
     }
     asked.asks.push(Ask {
@@ -61,7 +61,7 @@ fn put_bit(
     Ok(())
 }
 
-// Puts the bits that a query asks.
+// Puts the bits that a query asks, at most so many.
 fn put_bits(
     problem: &Problem<'_, '_>,
     asked: &mut Asked,
@@ -72,8 +72,14 @@ fn put_bits(
     requires before { AreAsksOf problem.now asked.old.asks.items }
     ensures { OnOk result (AreAsksOf problem.now asked.new.asks.items) }
 {
-    for place in 0..64 {
+    let mut rest = query.bits;
+    for _ in 0..MOST {
+        let place = rest.trailing_zeros();
+        if place >= 64 {
+            return Ok(());
+        }
         put_bit(problem, &mut *asked, query, number, place)?;
+        rest = without_bit(rest, place);
     }
     Ok(())
 }

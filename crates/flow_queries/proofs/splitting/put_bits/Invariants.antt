@@ -1,5 +1,5 @@
 use Rattle.flow_bounds.specs.Asked.{AreAsksOf}
 use Rattle.flow_queries.proofs.splitting.put_bits.Given as goal
 
-abbrev pub invariant-loop-place : goal.invariant-loop-place
-invariant-loop-place l = AreAsksOf l.problem l.asked.asks.items
+abbrev pub invariant-loop : goal.invariant-loop
+invariant-loop l = AreAsksOf l.problem l.asked.asks.items
