@@ -9,7 +9,7 @@ ghost use Rattle.flow_reasons.specs.code.Marks.{IsMet, Meets};
 
 use crate::OutOfMemory;
 use flow_graph::Graph;
-use flow_why::{PointBit, PointWhy, Ways};
+use flow_why::{PointBit, PointWhy, Space, Ways};
 use std::alloc::Global;
 
 /// Whether some valid path to a point has a bit.
@@ -27,24 +27,6 @@ pub(crate) fn path_has(
 {
     let why = PointWhy::of(alloc, ways, graph, bit)?;
     Ok(why.has(at))
-}
-
-// Whether a statement is met.
-fn meets(
-    alloc: Global,
-    ways: &Ways,
-    graph: &Graph<'_>,
-    stops: &[bool],
-    at: u32,
-    point: u32,
-) -> Result<bool, OutOfMemory>
-    requires graph { graph.now ≡ ways.now.linked.program }
-    requires at { at < point_count ways.now.linked.program }
-    ensures { IfOk result (λ has. (has ≡ true) ↔ Meets ways.now.linked stops.now at point) }
-{
-    let gens = [point];
-    let bit = PointBit::new(&gens, stops, false);
-    path_has(alloc, ways, graph, &bit, at)
 }
 
 /// Puts a number last where it is one of those that are wanted.
@@ -70,29 +52,44 @@ pub(crate) struct Search<'a, 'p> {
     pub at: u32,
 }
 
+// Whether a statement is met.
+fn meets(
+    alloc: Global,
+    search: &Search<'_, '_>,
+    space: Space,
+    point: u32,
+) -> Result<(bool, Space), OutOfMemory>
+    requires graph { search.now.graph.now ≡ search.now.ways.now.linked.program }
+    requires at { search.now.at < point_count search.now.ways.now.linked.program }
+    requires space { space ≡ point_count search.now.ways.now.linked.program }
+    ensures has { IfOk result (λ found. (found.0 ≡ true) ↔ Meets search.now.ways.now.linked search.now.stops.now search.now.at point) }
+    ensures space { IfOk result (λ found. found.1 ≡ point_count search.now.ways.now.linked.program) }
+{
+    let gens = [point];
+    let bit = PointBit::new(&gens, search.stops, false);
+    space.path_has(alloc, search.ways, search.graph, &bit, search.at)
+}
+
 // Whether a statement is marked and met.
 fn is_met(
     alloc: Global,
     search: &Search<'_, '_>,
     wanted: &[bool],
+    space: Space,
     point: u32,
-) -> Result<bool, OutOfMemory>
+) -> Result<(bool, Space), OutOfMemory>
     requires graph { search.now.graph.now ≡ search.now.ways.now.linked.program }
     requires at { search.now.at < point_count search.now.ways.now.linked.program }
+    requires space { space ≡ point_count search.now.ways.now.linked.program }
     requires below { point < length wanted.now }
-    ensures { IfOk result (λ has. (has ≡ true) ↔ IsMet search.now.ways.now.linked wanted.now search.now.stops.now search.now.at point) }
+    ensures has { IfOk result (λ found. (found.0 ≡ true)
+        ↔ IsMet search.now.ways.now.linked wanted.now search.now.stops.now search.now.at point) }
+    ensures space { IfOk result (λ found. found.1 ≡ point_count search.now.ways.now.linked.program) }
 {
     if !wanted[point as usize] {
-        return Ok(false);
+        return Ok((false, space));
     }
-    meets(
-        alloc,
-        search.ways,
-        search.graph,
-        search.stops,
-        search.at,
-        point,
-    )
+    meets(alloc, search, space, point)
 }
 
 /// Those of some marked statements that are met.
@@ -107,8 +104,10 @@ pub(crate) fn met_points(
     ensures { IfOk result (λ list. AreAll (IsMet search.now.ways.now.linked wanted.now search.now.stops.now search.now.at) list.items) }
 {
     let mut list = Vec::new(alloc);
+    let mut space = Space::of(alloc, search.ways)?;
     for point in 0..search.graph.points() {
-        let has = is_met(alloc, search, wanted, point)?;
+        let (has, left) = is_met(alloc, search, wanted, space, point)?;
+        space = left;
         put_if(&mut list, point, has)?;
     }
     Ok(list)

@@ -1,1 +1,2 @@
+pub mod Blanking
 pub mod Indexed

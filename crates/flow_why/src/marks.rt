@@ -1,6 +1,6 @@
 // Marked points in the order in which they were marked.
-ghost use Rattle.std.specs.Prelude.{◌≡◌, ◌<◌, ◌≤◌, ◌↔◌, ℕ, [], true, IfOk, OnOk, MatchOption, length};
-ghost use Rattle.flow_why.specs.code.Found.{AreTaken, IsNext, IsOrderly, IsPlaceOf, IsPut, IsThere, mark_at, one_taken};
+ghost use Rattle.std.specs.Prelude.{◌≡◌, ◌+◌, ◌<◌, ◌≤◌, ◌↔◌, ℕ, [], true, IfOk, OnOk, MatchOption, length, slice_index};
+ghost use Rattle.flow_why.specs.code.Found.{AreTaken, IsNext, IsOrderly, IsPlaceOf, IsPut, IsThere, mark_at, no_marks, one_taken, point_at};
 
 use crate::OutOfMemory;
 use crate::mark::Mark;
@@ -36,6 +36,18 @@ impl Drop for Marks {
     }
 }
 
+// Makes the places of marked points 0 again, where those of others are.
+fn blank_again(places: &mut Vec<u32>, found: &[Mark])
+    requires within { (i : ℕ) → i < length found.now → point_at found.now i < length places.old.items }
+    requires marked { (x i : ℕ) → x < length places.old.items → slice_index places.old.items x ≡ i + 1 → (i < length found.now) × (point_at found.now i ≡ x) }
+    ensures count { length places.new.items ≡ length places.old.items }
+    ensures blank { (x : ℕ) → x < length places.old.items → slice_index places.new.items x ≡ 0 }
+{
+    for mark in found {
+        places[mark.point as usize] = 0;
+    }
+}
+
 impl Marks {
     /// No marks of so many points.
     pub fn blank(alloc: Global, points: u32) -> Result<Self, OutOfMemory>
@@ -48,6 +60,15 @@ impl Marks {
             places,
             taken: 0,
         })
+    }
+
+    /// Takes all marks away. Time goes with how many there are.
+    pub fn clear(&mut self)
+        ensures { self.new ≡ no_marks self.old.points }
+    {
+        blank_again(&mut self.places, self.found.as_slice());
+        self.found.clear();
+        self.taken = 0;
     }
 
     /// Whether a point is marked.

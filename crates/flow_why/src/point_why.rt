@@ -23,8 +23,8 @@ use flow_graph::Graph;
 use std::alloc::Global;
 use std::marker::Model;
 
-// The frame of a search for a bit of one's own.
-fn point_frame<'a, 'p>(
+/// The frame of a search for a bit of one's own.
+pub(crate) fn point_frame<'a, 'p>(
     ways: &'a Ways,
     graph: &'a Graph<'p>,
     bit: &'a PointBit<'a>,

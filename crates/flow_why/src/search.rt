@@ -1,6 +1,6 @@
 // The three lists of a search.
 ghost use Rattle.std.specs.Prelude.{◌≡◌, ◌<◌, ◌≤◌, ◌↔◌, true, [], IfOk, OnOk, MatchOption};
-ghost use Rattle.flow_why.specs.code.Found.{Ends, Has, IsPutIn, IsTaken, nothing_found, marks_of};
+ghost use Rattle.flow_why.specs.code.Found.{Ends, Has, IsPutIn, IsTaken, no_marks, nothing_found, marks_of};
 
 use crate::OutOfMemory;
 use crate::claim::Claim;
@@ -49,6 +49,19 @@ impl Search {
             generated,
             preserved,
         })
+    }
+
+    /// Takes all marks away.
+    pub fn clear(&mut self)
+        ensures { self.new ≡ record {
+            holds = no_marks self.old.holds.points;
+            generated = no_marks self.old.generated.points;
+            preserved = no_marks self.old.preserved.points;
+        } }
+    {
+        self.holds.clear();
+        self.generated.clear();
+        self.preserved.clear();
     }
 
     /// The list of a claim.
