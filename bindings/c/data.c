@@ -105,6 +105,9 @@ struct told {
     tacflow_remark remarks[3];
     tacflow_hop hops[6];
     tacflow_nearby nearby[3];
+    tacflow_bit bits[2];
+    tacflow_hop all_hops[7];
+    size_t all_hop_count;
     size_t edge_count;
     size_t remark_count;
     size_t hop_count;
@@ -113,7 +116,18 @@ struct told {
     uint32_t origin;
 };
 
-enum { CALLS = 8 };
+enum { CALLS = 9 };
+
+/* Asks about two bits, which are as they were where nothing is told. */
+static int call_whys(tacflow_handle *handle, struct told *told) {
+    static const tacflow_bit asked[2] = {{7, 3, 5, 5}, {2, 1, 5, 5}};
+    tacflow_bit bits[2];
+    memcpy(bits, asked, sizeof bits);
+    const int status = tacflow_whys(handle, TACFLOW_REACH, bits, 2, told->all_hops, 7, &told->all_hop_count);
+    if (status) expect_same("bits that were asked", asked, bits, sizeof bits);
+    else memcpy(told->bits, bits, sizeof bits);
+    return status;
+}
 
 static int call(int number, tacflow_handle *handle, struct told *told) {
     switch (number) {
@@ -124,6 +138,7 @@ static int call(int number, tacflow_handle *handle, struct told *told) {
     case 4: return tacflow_remarks(handle, told->remarks, 3, &told->remark_count);
     case 5: return tacflow_around(handle, &remarks_by_hand[1], told->nearby, 3, &told->nearby_count);
     case 6: return tacflow_doubt_origin(handle, 0, &told->origin);
+    case 7: return call_whys(handle, told);
     default: return tacflow_why(handle, TACFLOW_REACH, 7, 3, told->hops, 6, &told->hop_count, &told->has);
     }
 }
@@ -148,6 +163,9 @@ static void by_hand(void) {
     expect("no origin of doubt", 1, told.origin == TACFLOW_NO_POINT);
     expect("a path's hops", 5, (int)told.hop_count), expect("a path", 1, (int)told.has);
     expect_same("a path", whys_by_hand[0].hops, told.hops, sizeof whys_by_hand[0].hops);
+    expect("the hops of two paths", 7, (int)told.all_hop_count), expect("the first one's end", 5, (int)told.bits[0].end);
+    expect("both have paths", 2, (int)(told.bits[0].has + told.bits[1].has)), expect("the second one's end", 7, (int)told.bits[1].end);
+    expect_same("the first path", whys_by_hand[0].hops, told.all_hops, 5 * sizeof *told.all_hops);
     told.edge_count = 7, told.edges[1] = before.edges[0];
     expect("edges of a call", TACFLOW_OK, tacflow_edges(&handle, 1, 2, told.edges, 1, &told.edge_count));
     expect("one edge", 1, (int)told.edge_count);
@@ -186,6 +204,53 @@ static void whys(void) {
     }
     expect("closed", TACFLOW_OK, tacflow_close(&handle));
     expect("blocks after paths", 0, (int)blocks);
+}
+
+/* All paths of an analysis at once, in just so much room and in room for one hop less. */
+static void whys_of(tacflow_handle *handle, int analysis) {
+    enum { ROWS = sizeof whys_by_hand / sizeof *whys_by_hand };
+    tacflow_bit bits[ROWS], asked[ROWS];
+    tacflow_hop wanted[6 * ROWS], hops[6 * ROWS];
+    size_t rows = 0, room = 0, count = 7, end = 0;
+    for (size_t row = 0; row < ROWS; row++) {
+        if (whys_by_hand[row].analysis != analysis) continue;
+        asked[rows++] = (tacflow_bit){whys_by_hand[row].point, whys_by_hand[row].bit, 7, 7};
+        memcpy(&wanted[room], whys_by_hand[row].hops, whys_by_hand[row].count * sizeof *wanted);
+        room += whys_by_hand[row].count;
+    }
+    memcpy(bits, asked, sizeof bits);
+    if (room) {
+        expect("paths in little room", TACFLOW_BAD_ROOM, tacflow_whys(handle, analysis, bits, rows, hops, room - 1, &count));
+        expect("hops of all", (int)room, (int)count), expect_same("bits not told", asked, bits, rows * sizeof *bits);
+    }
+    expect("paths", TACFLOW_OK, tacflow_whys(handle, analysis, bits, rows, hops, room, &count));
+    expect("hops of all paths", (int)room, (int)count), expect_same("hops of all paths", wanted, hops, room * sizeof *hops);
+    for (size_t row = 0, bit = 0; row < ROWS; row++) {
+        if (whys_by_hand[row].analysis != analysis) continue;
+        end += whys_by_hand[row].count;
+        expect("whether it has a path", (int)whys_by_hand[row].has, (int)bits[bit].has), expect("its end", (int)end, (int)bits[bit].end);
+        expect("its point", (int)asked[bit].point, (int)bits[bit].point), expect("its bit", (int)asked[bit].bit, (int)bits[bit].bit), bit++;
+    }
+}
+
+static void all_whys(void) {
+    tacflow_handle handle = opened(calls);
+    tacflow_bit bad[2] = {{7, 3, 7, 7}, {8, 0, 7, 7}};
+    tacflow_hop hops[6];
+    size_t count = 7;
+    for (int analysis = 0; analysis < 4; analysis++) whys_of(&handle, analysis);
+    expect("no bits", TACFLOW_OK, tacflow_whys(&handle, TACFLOW_BUSY, NULL, 0, NULL, 0, &count)), expect("no hops", 0, (int)count);
+    count = 7;
+    expect("no analysis", TACFLOW_BAD_ANALYSIS, tacflow_whys(&handle, 4, NULL, 0, NULL, 0, &count));
+    expect("a bad point", TACFLOW_BAD_RANGE, tacflow_whys(&handle, TACFLOW_REACH, bad, 2, hops, 6, &count));
+    bad[1] = (tacflow_bit){0, 4, 7, 7};
+    expect("a bad bit", TACFLOW_BAD_RANGE, tacflow_whys(&handle, TACFLOW_REACH, bad, 2, hops, 6, &count));
+    expect("no bits", TACFLOW_BAD_POINTER, tacflow_whys(&handle, TACFLOW_REACH, NULL, 1, hops, 6, &count));
+    expect("no hops", TACFLOW_BAD_POINTER, tacflow_whys(&handle, TACFLOW_REACH, bad, 1, NULL, 6, &count));
+    expect("no number of hops", TACFLOW_BAD_POINTER, tacflow_whys(&handle, TACFLOW_REACH, bad, 1, hops, 6, NULL));
+    expect("not told", 7, (int)count), expect("not told", 7, (int)bad[0].has);
+    expect("closed", TACFLOW_OK, tacflow_close(&handle));
+    expect("blocks after all paths", 0, (int)blocks);
 }
 
 /* What stands around each remark, in room for one more, and where something does in room for one less. */
@@ -458,6 +523,7 @@ int main(int argc, char **argv) {
     }
     by_hand();
     whys();
+    all_whys();
     arounds();
     origins();
     doubt();

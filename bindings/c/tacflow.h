@@ -248,6 +248,14 @@ typedef struct {
     uint32_t effect; /* enum tacflow_effect, of a call that is passed; or TACFLOW_NONE */
 } tacflow_hop;
 
+/* A bit at a point that tacflow_whys is asked about, and what it tells of it. */
+typedef struct {
+    uint32_t point;
+    uint32_t bit;
+    uint32_t has; /* told: 1 where a valid path brings the bit there, else 0 */
+    size_t end;   /* told: its hops are those behind the ones of the bit before it, up to this number of hops */
+} tacflow_bit;
+
 /* The longest name has so many bytes. */
 #define TACFLOW_LONGEST_NAME 64
 
@@ -547,6 +555,8 @@ uint32_t tacflow_c_around(tacflow_handle *handle, const tacflow_remark *remark, 
 uint32_t tacflow_c_doubt_origin(tacflow_handle *handle, uint32_t point, uint32_t *origin);
 uint32_t tacflow_c_why(tacflow_handle *handle, uint32_t analysis, uint32_t point, uint32_t bit, tacflow_hop *hops, size_t room, size_t *count,
                        uint32_t *has);
+uint32_t tacflow_c_whys(tacflow_handle *handle, uint32_t analysis, tacflow_bit *bits, size_t bit_count, tacflow_hop *hops, size_t room,
+                        size_t *count);
 uint32_t tacflow_c_listing_of(tacflow_handle *handle, uint8_t *bytes, size_t room, size_t *size);
 uint32_t tacflow_c_report_of(tacflow_handle *handle, uint8_t *bytes, size_t room, size_t *size);
 
@@ -767,6 +777,21 @@ static inline int tacflow_why(tacflow_handle *handle, int analysis, uint32_t poi
     hops = (tacflow_hop *)tacflow_some(hops, room, &nothing);
     if (!handle || !hops || !count || !has) return TACFLOW_BAD_POINTER;
     return (int)tacflow_c_why(handle, (uint32_t)analysis, point, bit, hops, room, count, has);
+}
+
+/* The same of many bits of an analysis at once, in any order: of each *has* is told, and where its hops end. Those of all bits stand one after
+ * the other: the first bit's are 0..bits[0].end, those of bit n bits[n - 1].end..bits[n].end. Room and count as for tacflow_edges; where there is
+ * too little room nothing is told of the bits. What stands alike in tacflow_why is as there.
+ *
+ * What every bit needs of the program is made once. Each bit then takes one search, and bits that are equal and stand one after the other
+ * take one together: who asks about a bit at many points puts them side by side. */
+static inline int tacflow_whys(tacflow_handle *handle, int analysis, tacflow_bit *bits, size_t bit_count, tacflow_hop *hops, size_t room,
+                               size_t *count) {
+    uint64_t nothing = 0;
+    bits = (tacflow_bit *)tacflow_some(bits, bit_count, &nothing);
+    hops = (tacflow_hop *)tacflow_some(hops, room, &nothing);
+    if (!handle || !bits || !hops || !count) return TACFLOW_BAD_POINTER;
+    return (int)tacflow_c_whys(handle, (uint32_t)analysis, bits, bit_count, hops, room, count);
 }
 
 static inline int tacflow_listing_of(tacflow_handle *handle, char *bytes, size_t room, size_t *size) {

@@ -155,6 +155,17 @@ class RawHop(ctypes.Structure):
     ]
 
 
+class RawBit(ctypes.Structure):
+    """tacflow_bit."""
+
+    _fields_ = [
+        ("point", ctypes.c_uint32),
+        ("bit", ctypes.c_uint32),
+        ("has", ctypes.c_uint32),
+        ("end", ctypes.c_size_t),
+    ]
+
+
 class RawHandle(ctypes.Structure):
     """tacflow_handle, closed as it is made."""
 
@@ -256,5 +267,7 @@ DOUBT_ORIGIN = call_of("doubt_origin", NUMBER, ctypes.POINTER(NUMBER))
 # analysis, point, bit, hops, room, count, whether there is a path
 HOPS = (ctypes.POINTER(RawHop), COUNT, ctypes.POINTER(COUNT), ctypes.POINTER(NUMBER))
 WHY = call_of("why", NUMBER, NUMBER, NUMBER, *HOPS)
+# analysis, bits, how many, hops, room, count
+WHYS = call_of("whys", NUMBER, ctypes.POINTER(RawBit), COUNT, *HOPS[:3])
 LISTING = call_of("listing_of", *TEXT)
 REPORT = call_of("report_of", *TEXT)

@@ -680,6 +680,40 @@ class Program:
         hops = self._ask_list(call, library.RawHop, most, hop_of, *fact)
         return list(hops) if has.value else None
 
+    def whys(
+        self, analysis: Analysis | str | int, bits: Iterable[tuple[int, int]]
+    ) -> list[list[Hop] | None]:
+        """Why bits are in the sets of points, as `why` tells it of one.
+
+        What every bit needs of the program is made once. Each bit then takes one search, and equal
+        ones that stand one after the other take one together.
+
+        Args:
+            analysis: the analysis, or its word.
+            bits: pairs of a point and a bit of the analysis, in any order.
+
+        Returns:
+            Of each pair, in their order, the hops, or None where no valid path brings the bit.
+
+        Raises:
+            BadAnalysis: there is no such analysis.
+            BadRange: the program lacks a point, or the analysis a bit.
+            ClosedProgram: the program is closed.
+            OutOfMemory: memory was refused.
+        """
+        which = analysis_of(analysis)
+        facts = [self._fact_of(which, point, bit) for point, bit in bits]
+        asked = room(library.RawBit, len(facts))
+        for raw, (_, point, bit) in zip(asked, facts):
+            raw.point, raw.bit = point, bit
+        words = (int(which), asked, len(facts))
+        hops = self._ask_list(library.WHYS, library.RawHop, HOPS, hop_of, *words)
+        ends = [0, *(raw.end for raw, _ in zip(asked, facts))]
+        return [
+            [hops[at] for at in range(first, raw.end)] if raw.has else None
+            for raw, first in zip(asked, ends[: len(facts)])
+        ]
+
     def _fact_of(self, analysis: Analysis | str | int, point: int, bit: int) -> tuple[int, ...]:
         which = analysis_of(analysis)
         if point not in range(self.sizes.points):

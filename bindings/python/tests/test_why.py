@@ -198,6 +198,20 @@ class ByHand(unittest.TestCase):
             for analysis, point, bit, wanted in BY_HAND:
                 self.assertEqual(program.why(analysis, point, bit), wanted, (analysis, point, bit))
 
+    def test_paths_at_once(self) -> None:
+        with tacflow.open(CALLS) as program:
+            for which in Analysis:
+                own = [row[1:] for row in BY_HAND if tacflow.Analysis[row[0].upper()] == which]
+                paths = program.whys(which, [(point, bit) for point, bit, _ in own])
+                self.assertEqual(paths, [wanted for *_, wanted in own], which)
+
+    def test_one_path_twice(self) -> None:
+        text = "proc main\n  read x\n" + "  skip\n" * 5_000 + "  print x\nend\n"
+        with tacflow.open(text) as program:
+            wanted = [step(point, point + 1) for point in range(5_001)]
+            paths = program.whys("reach", iter([(5_001, 1), (0, 1), (5_001, 1)]))
+            self.assertEqual(paths, [wanted, None, wanted])
+
     def test_page(self) -> None:
         with tacflow.open(TWO_CALLEES) as program:
             wanted = [passed(0, 0, 1, PRESERVES, 2), enter(1, 1, 6), step(6, 7)]
@@ -226,8 +240,14 @@ class ByHand(unittest.TestCase):
             for analysis, bit in (("reach", 4), ("live", 2), ("busy", 2), ("avail", -1)):
                 with self.assertRaisesRegex(tacflow.BadRange, f"{analysis} has no bit {bit}"):
                     program.why(analysis, 0, bit)
-        with self.assertRaises(tacflow.ClosedProgram):
-            program.why("reach", 0, 0)
+            with self.assertRaisesRegex(tacflow.BadAnalysis, "there are reach, live"):
+                program.whys("dead", [])
+            for point, bit in ((8, 0), (0, 4), (-1, 0), (0, -1)):
+                with self.assertRaises(tacflow.BadRange):
+                    program.whys("reach", [(7, 0), (point, bit)])
+        for ask in (program.why, lambda *words: program.whys(words[0], [words[1:]])):
+            with self.assertRaises(tacflow.ClosedProgram):
+                ask("reach", 0, 0)
 
 
 class Walked(unittest.TestCase):

@@ -760,6 +760,25 @@ impl Program {
         Ok(hops.map(|hops| hops.into_iter().map(hop).collect()))
     }
 
+    /// Why bits of an analysis are in the sets of points, as [`Program::why`] tells it of one: of each pair of a point and a bit the hops of a
+    /// path, or none, in the order of the pairs. What every bit needs of the program is made once; each bit then takes one search, and equal
+    /// ones that stand one after the other take one together.
+    ///
+    /// # Errors
+    ///
+    /// `BadRange` where the program lacks a point or the analysis a bit; `OutOfMemory` where memory was refused.
+    pub fn whys(&self, analysis: Analysis, bits: &[(u32, u32)]) -> Result<Vec<Option<Vec<Hop>>>, Error> {
+        let mut asked: Vec<_> = bits.iter().map(|&(point, bit)| raw::RawBit { point, bit, ..raw::RawBit::default() }).collect();
+        let hops = self.kept.handles.ask(|handle| handle.whys(analysis, &mut asked))?;
+        let mut from = 0;
+        let paths = asked.iter().map(|bit| {
+            let own = hops[from..bit.end].iter().copied().map(hop).collect();
+            from = bit.end;
+            (bit.has == 1).then_some(own)
+        });
+        Ok(paths.collect())
+    }
+
     /// The facts of an analysis.
     ///
     /// # Errors

@@ -161,6 +161,15 @@ pub(crate) struct RawHop {
 }
 
 #[repr(C)]
+#[derive(Clone, Copy, Default)]
+pub(crate) struct RawBit {
+    pub point: u32,
+    pub bit: u32,
+    pub has: u32,
+    pub end: usize,
+}
+
+#[repr(C)]
 struct RawHandle {
     is_open: bool,
     at: *mut c_void,
@@ -236,6 +245,15 @@ extern "C" {
         room: usize,
         count: *mut usize,
         has: *mut u32,
+    ) -> u32;
+    fn tacflow_c_whys(
+        handle: *mut RawHandle,
+        analysis: u32,
+        bits: *mut RawBit,
+        bit_count: usize,
+        hops: *mut RawHop,
+        room: usize,
+        count: *mut usize,
     ) -> u32;
     fn tacflow_c_ask(handle: *mut RawHandle, queries: *const Query, count: usize, words: *mut u64, word_count: usize) -> u32;
     fn tacflow_c_listing_of(handle: *mut RawHandle, bytes: *mut u8, room: usize, size: *mut usize) -> u32;
@@ -509,6 +527,16 @@ impl Handle {
             unsafe { tacflow_c_why(handle, analysis as u32, point, bit, hops.as_mut_ptr(), hops.len(), count, &mut has) }
         })?;
         Ok((has == 1).then_some(hops))
+    }
+
+    /// The hops of paths of all bits, one after the other; of each bit it is told whether it has a path, and where its hops end.
+    pub fn whys(&mut self, analysis: Analysis, bits: &mut [RawBit]) -> Result<Vec<RawHop>, Error> {
+        self.made(HOPS, |handle, hops: &mut [RawHop], count| {
+            // SAFETY: the pointers and lengths are of slices and values that outlive the call.
+            unsafe {
+                tacflow_c_whys(handle, analysis as u32, bits.as_mut_ptr(), bits.len(), hops.as_mut_ptr(), hops.len(), count)
+            }
+        })
     }
 
     fn text(&mut self, call: TextCall) -> Result<Vec<u8>, Error> {

@@ -142,14 +142,23 @@ fn whys() {
         (Analysis::Reach, 0, 0, Some(vec![])),
         (Analysis::Reach, 0, 2, None),
     ];
+    for analysis in [Analysis::Reach, Analysis::Live, Analysis::Avail] {
+        let own = || rows.iter().filter(|row| row.0 == analysis);
+        let bits: Vec<_> = own().map(|row| (row.1, row.2)).collect();
+        assert_eq!(program.whys(analysis, &bits), Ok(own().map(|row| row.3.clone()).collect()), "{analysis:?}");
+    }
     for (analysis, point, bit, wanted) in rows {
         assert_eq!(program.why(analysis, point, bit), Ok(wanted), "{analysis:?} {point} {bit}");
     }
+    assert_eq!(program.whys(Analysis::Busy, &[]), Ok(vec![]));
+    assert_eq!(program.whys(Analysis::Busy, &[(0, 1), (0, 2)]), Err(Error::BadRange));
     assert_eq!(program.why(Analysis::Reach, 8, 0), Err(Error::BadRange));
     assert_eq!(program.why(Analysis::Busy, 0, 2), Err(Error::BadRange));
     let long = Program::read(format!("proc main\n  read x\n{}  print x\nend\n", "  skip\n".repeat(5_000))).expect("a program");
     let hops = long.why(Analysis::Reach, 5_001, 1).expect("an answer").expect("a path");
     assert!(hops.iter().copied().eq((0..5_001).map(|point| step(point, point + 1))));
+    let twice = long.whys(Analysis::Reach, &[(5_001, 1), (0, 1), (5_001, 1)]);
+    assert_eq!(twice, Ok(vec![Some(hops.clone()), None, Some(hops)]));
 }
 
 // The program of `CALLS` without a text.

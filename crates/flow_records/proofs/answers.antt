@@ -1,3 +1,4 @@
 pub mod Graphs
+pub mod ManyWhys
 pub mod Numbered
 pub mod Whys

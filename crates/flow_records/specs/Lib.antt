@@ -12,3 +12,5 @@ pub mod Rooms
 pub mod Statements
 pub mod Texts
 pub mod Why
+pub mod Whys
+pub mod code

@@ -24,6 +24,7 @@ mod statements;
 mod text;
 mod texts;
 mod why;
+mod whys;
 
 pub use around::{NumberedNearby, around_of_kept, doubt_origin_of_kept};
 pub use calls::{
@@ -46,3 +47,4 @@ pub use statements::NumberedStatement;
 pub use text::find_limits;
 pub use texts::{listing_of_text, put_listing, report_of_text};
 pub use why::{NumberedFact, NumberedHop, why_of_kept};
+pub use whys::{NumberedWhy, whys_of_kept};

@@ -55,7 +55,8 @@ fn effect_of(effect: Effect) -> u32
     }
 }
 
-fn hop_of(hop: Hop) -> NumberedHop
+/// A hop by its numbers.
+pub(crate) fn hop_of(hop: Hop) -> NumberedHop
     ensures { result ≡ hop_part hop }
 {
     match hop {

@@ -14,13 +14,14 @@ ghost use Rattle.flow_records.specs.Remarks.{AreNumberedRemarks};
 ghost use Rattle.flow_records.specs.Statements.{statement_part};
 ghost use Rattle.flow_records.specs.Numbers.{end_of};
 ghost use Rattle.flow_records.specs.Why.{IsWhyFault, IsWhyKept, TellsWhy};
+ghost use Rattle.flow_records.specs.Whys.{AreWhys, IsWhysFault};
 
 use crate::handle::Handle;
 use crate::statuses::asked_status;
 use flow_records::{
     NumberedEdge, NumberedFact, NumberedHop, NumberedNearby, NumberedRemark, NumberedStatement,
-    around_of_kept, doubt_origin_of_kept, doubtful_of_kept, edges_of_kept, paths_of_kept,
-    remarks_of_kept, statements_of_kept, why_of_kept,
+    NumberedWhy, around_of_kept, doubt_origin_of_kept, doubtful_of_kept, edges_of_kept,
+    paths_of_kept, remarks_of_kept, statements_of_kept, why_of_kept, whys_of_kept,
 };
 use std::alloc::Global;
 
@@ -228,6 +229,33 @@ pub extern "C" fn tacflow_c_why(
     };
     let shared = handle.take(alloc);
     let answer = why_of_kept(alloc, shared.kept(), fact, hops, count, has);
+    handle.put(shared);
+    asked_status(answer)
+}
+
+/// Why bits of an analysis are in the sets of points of a handle's program, as `tacflow_c_why` tells it of one: of each that is asked whether a
+/// valid path brings it, and where its hops end among those of all, which stand one after the other. Where there is too little room the number
+/// of hops alone is told.
+#[unsafe(no_mangle)]
+#[tactic(auto, using(crate::proofs::answers::Asked::closed, crate::proofs::answers::Asked::asked))]
+pub extern "C" fn tacflow_c_whys(
+    alloc: Global,
+    handle: &mut Handle,
+    analysis: u32,
+    asked: &mut [NumberedWhy],
+    hops: &mut [NumberedHop],
+    count: &mut usize,
+) -> u32
+    ensures { IsAsked result handle.old.held.value handle.new.held.value
+        (λ program. HoldsList (AreWhys program analysis asked.old asked.new) hops.old hops.new count.new)
+        (λ fault. (asked.new ≡ asked.old) × IsListKept hops.old hops.new count.old count.new fault)
+        (IsWhysFault analysis asked.old (length hops.old) count.new) }
+{
+    if !handle.is_open {
+        return 8;
+    }
+    let shared = handle.take(alloc);
+    let answer = whys_of_kept(alloc, shared.kept(), analysis, asked, hops, count);
     handle.put(shared);
     asked_status(answer)
 }

@@ -1,0 +1,2 @@
+-- What the code's own loops say.
+pub mod Whys
