@@ -26,7 +26,7 @@ use crate::token::{Keyword, Token};
 use std::alloc::Global;
 
 /// Where the line that begins at `start` ends, behind its line feed.
-fn line_stop(text: &[u8], start: usize) -> usize
+pub fn line_stop(text: &[u8], start: usize) -> usize
     requires { start < length text.now }
     ensures line { lines (drop start text.now) ≡ slice_range text.now start result ∷ lines (drop result text.now) }
     ensures after { start < result }

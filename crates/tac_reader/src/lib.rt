@@ -11,9 +11,9 @@ pub mod laws;
 mod occurrences;
 mod procedure;
 mod reader;
-mod section;
+pub mod section;
 
-pub use reader::{read, read_within};
+pub use reader::{located_refusal, read, read_within};
 pub use tac_lines::{OutOfMemory, ReadFault, Refusal, RefusalKind};
 pub use tac_listing::{listing, write_binary_expression, write_unary_expression};
 pub use tac_program::{Callees, Label, Limits, Op, Operand, Proc, Program, Span, Stmt, StmtKind};

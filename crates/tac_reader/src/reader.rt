@@ -42,7 +42,7 @@ fn column_of(before: &[u8]) -> u32
 }
 
 /// The refusal of a fault: its place as line and column.
-fn located_refusal(text: &[u8], fault: Fault) -> Refusal
+pub fn located_refusal(text: &[u8], fault: Fault) -> Refusal
     requires { length text.now < 2 ^ 31 }
     ensures { result ≡ refusal_at text.now fault }
 {

@@ -1,0 +1,21 @@
+use Rattle.std.proofs.Common.{◌∙◌, ◌++◌, ap, take, List, [], flat_map}
+use Rattle.tac_faults.proofs.Lists.{told_more}
+use Rattle.tac_faults.specs.Listed.{most_told}
+use Rattle.tac_lines.specs.Forms.{callees_of}
+use Rattle.tac_lines.specs.declared.fault.Fault.{Fault}
+use Rattle.tac_lines.specs.declared.refusal.RefusalKind.TheVariants.{DuplicateCallee}
+use Rattle.tac_reader.specs.Faults.{repeated}
+use Rattle.tac_reader.specs.Sections.{Section, statements_of}
+use Rattle.tac_reader.specs.code.SectionViews.{section_view}
+use Rattle.tac_faults.proofs.names.tell_calls.Goals as goal
+
+abbrev faults : Section → List Fault
+faults s = flat_map (λ c. repeated DuplicateCallee [] (callees_of c)) (statements_of s.body)
+
+pub loop-section-preserved : goal.loop-section-preserved
+loop-section-preserved c =
+    let old = c.loop-section.found.items in
+    told_more faults (section_view c.args.text.now) most_told c.args.sections.now c.loop-section.section-index c.section-item.result old
+    c.tell_section_calls.new.found.items _ c.loop-section-test.true
+    (c.in_ok-tell_section_calls.ensures ∙ ap (λ s. take most_told (old ++ faults (section_view c.args.text.now s))) c.section-item.is)
+    c.loop-section.invariant
