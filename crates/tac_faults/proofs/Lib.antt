@@ -1,3 +1,5 @@
+pub mod HintLists
+pub mod HintTexts
 pub mod Lists
 pub mod NameLists
 pub mod TextFaults

@@ -1,2 +1,3 @@
+pub mod Hints
 pub mod Laws
 pub mod Listed

@@ -76,7 +76,7 @@ fn tell_unknown(
 }
 
 /// The procedures' names.
-fn titles(alloc: Global, sections: &[Section<'_>]) -> Result<Vec<Token>, OutOfMemory>
+pub fn titles(alloc: Global, sections: &[Section<'_>]) -> Result<Vec<Token>, OutOfMemory>
     ensures { IfOk result (λ found. (text : List ℕ) → tokens_view text found.items ≡ titles_of (sections_view text sections.now)) }
 {
     let mut found = Vec::with_capacity(alloc, sections.len())?;

@@ -15,9 +15,9 @@ mod statement;
 mod token;
 
 pub use fault::{Fault, Stop};
-pub use form::Form;
+pub use form::{Form, Slot, fits_at};
 pub use formed::{Lines, Statement, counted};
-pub use line::{label_at, row_fault, stop_of};
+pub use line::{behind_labels, label_at, row_fault, stop_of};
 pub use piece::{front, number_value};
 pub use refusal::{ReadFault, Refusal, RefusalKind};
 pub use statement::{Role, cells, has_only_variables};

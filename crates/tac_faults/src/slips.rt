@@ -1,0 +1,95 @@
+// What is told on the mend of a fault, as data.
+
+ghost use Rattle.std.specs.Prelude.{◌≡◌};
+ghost use Rattle.tac_faults.specs.Hints.Choices.{or_hint};
+
+use tac_lines::Keyword;
+
+/// A part of a text: the bytes `start..stop`, from 0.
+#[derive(Clone, Copy, Debug, PartialEq, Eq)]
+pub struct Bytes {
+    pub start: u32,
+    pub stop: u32,
+}
+
+/// What stands at a fault, where it is one of the usual slips.
+#[derive(Clone, Copy)]
+pub enum Hint {
+    /// None of these.
+    None,
+    /// A byte order mark at the text's start.
+    ByteOrderMark,
+    /// A carriage return that does not stand before a line feed.
+    CarriageReturn,
+    /// A semicolon.
+    Semicolon,
+    /// A brace.
+    Brace,
+    /// A quotation mark.
+    Quote,
+    /// A parenthesis, but for a call's.
+    Parenthesis,
+    /// `f(`: the name before it.
+    Call(Bytes),
+    /// `a[`: the name before it.
+    Index(Bytes),
+    /// A number with a point: all of it.
+    Float(Bytes),
+    /// Bytes that are not ASCII: as many as stand together.
+    NotAscii(Bytes),
+    /// A name with a byte before it that begins none, as `$t1`: all of it.
+    NoName(Bytes),
+    /// Another byte that begins nothing.
+    Byte(Bytes),
+    /// A number that is too large: all of it.
+    LargeNumber(Bytes),
+    /// A name that is too long, and by how many bytes.
+    LongName(Bytes, u32),
+    /// A comment as other languages have it, from its first byte to the line's end.
+    Comment(Bytes),
+    /// A name that is a keyword but for capitals, and that keyword.
+    Capitals(Keyword, Bytes),
+    /// A name that is a keyword but for one slip, and that keyword: one byte more, fewer or other, or two
+    /// neighbours swapped.
+    Misspelt(Keyword, Bytes),
+    /// A second operator in a statement.
+    SecondOperator(Bytes),
+    /// The line goes on no further than this token, and is not whole.
+    Unfinished(Bytes),
+    /// `=` in a test, where `==` is meant.
+    EqualsInTest(Bytes),
+    /// `then` in a test.
+    Then(Bytes),
+    /// What stands behind `return`.
+    Returned(Bytes),
+    /// `end` or `proc` behind a label.
+    LabelBefore(Bytes),
+    /// A statement outside a procedure: its first token.
+    Outside(Bytes),
+    /// A unary operator where an operand is wanted, and the operand.
+    Negative(Bytes),
+    /// A reserved word where a name is wanted.
+    Reserved(Bytes),
+    /// More callees in a call than eight: how many more.
+    ManyCallees(usize),
+    /// `end` lacks: the line of the procedure that is open, from 1, and its words.
+    EndLacks(u32, Bytes),
+    /// The nearest name that there is: where it stands first.
+    Nearest(Bytes),
+    /// The first of that name: its line, from 1, and where it stands.
+    First(u32, Bytes),
+    /// More bytes than the limits allow: how many more.
+    LongText(usize),
+    /// More procedures than the limits allow: how many more.
+    ManyProcedures(usize),
+}
+
+/// The first hint, or where it is none the second.
+pub fn or_hint_of(first: Hint, second: Hint) -> Hint
+    ensures { result ≡ or_hint first second }
+{
+    match first {
+        Hint::None => second,
+        _ => first,
+    }
+}
