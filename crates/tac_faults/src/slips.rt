@@ -13,7 +13,7 @@ pub struct Bytes {
 }
 
 /// What stands at a fault, where it is one of the usual slips.
-#[derive(Clone, Copy)]
+#[derive(Clone, Copy, PartialEq, Eq)]
 pub enum Hint {
     /// None of these.
     None,
