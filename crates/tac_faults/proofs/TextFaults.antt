@@ -28,13 +28,13 @@ module _ (text : List ℕ) where
   rest start = rows_from start (lines (drop start text))
 
   abbrev Agrees : ℕ → Bool → Type 0
-  Agrees start inside = head_of (first_faults inside (length text) (rest start)) ≡ first_by_place (line_faults inside (length text) (rest start))
+  Agrees start inside = head_of (first_faults text inside (rest start)) ≡ first_by_place (line_faults inside (length text) (rest start))
 
   -- a line, by its first fault
   line_step : (start stop : ℕ) (inside : Bool) → lines (drop start text) ≡ slice_range text start stop ∷ lines (drop stop text) → start < stop
       → stop ≤ length text → ((after : Bool) → Agrees stop after) → Agrees start inside
   line_step start stop inside cut after within later =
-      ap (λ r. head_of (first_faults inside (length text) r)) step ∙ by_first (first_by_place (row_faults inside row)) refl
+      ap (λ r. head_of (first_faults text inside r)) step ∙ by_first (first_by_place (row_faults inside row)) refl
     where
       row : Row
       row = row_from start zero (slice_range text start stop)
@@ -43,23 +43,23 @@ module _ (text : List ℕ) where
       step = rows_step text start stop row cut after within refl
 
       by_first : (o : Option Fault) → first_by_place (row_faults inside row) ≡ o
-          → head_of (first_faults inside (length text) (row ∷ rest stop)) ≡ first_by_place (line_faults inside (length text) (rest start))
+          → head_of (first_faults text inside (row ∷ rest stop)) ≡ first_by_place (line_faults inside (length text) (rest start))
       by_first None e =
-          ap (λ p. head_of (fault_list p ++ first_faults (inside_next inside row p) (length text) (rest stop))) e
+          ap (λ p. head_of (fault_list p ++ first_faults text (inside_next text inside row p) (rest stop))) e
           ∙ later (inside_after inside row)
           ∙ sym (ap (λ r. first_by_place (line_faults inside (length text) r)) step
           ∙ ap first_by_place (no_fault_step inside (inside_after inside row) (length text) row (rest stop) (none_first (row_faults inside row) e) refl))
       by_first (Some f) e =
-          ap (λ p. head_of (fault_list p ++ first_faults (inside_next inside row p) (length text) (rest stop))) e
+          ap (λ p. head_of (fault_list p ++ first_faults text (inside_next text inside row p) (rest stop))) e
           ∙ sym (first_of_text text start stop inside row f (line_faults inside (length text) (rest start)) cut after within refl e refl)
 
   past : (start : ℕ) (inside : Bool) → length text ≤ start → Agrees start inside
   past start inside h =
-      ap (λ t. head_of (first_faults inside (length text) (rows_from start (lines t)))) (drop_all start text h)
+      ap (λ t. head_of (first_faults text inside (rows_from start (lines t)))) (drop_all start text h)
       ∙ ended inside
       ∙ sym (ap (λ t. first_by_place (line_faults inside (length text) (rows_from start (lines t)))) (drop_all start text h))
     where
-      ended : (i : Bool) → head_of (first_faults i (length text) []) ≡ first_by_place (line_faults i (length text) [])
+      ended : (i : Bool) → head_of (first_faults text i []) ≡ first_by_place (line_faults i (length text) [])
       ended true = refl
       ended false = refl
 
@@ -92,7 +92,7 @@ module _ (text : List ℕ) where
     by_end (inl h) later = further start inside h later
     by_end (inr h) later = past start inside h
 
-  pub first_is : head_of (first_faults false (length text) (rows text)) ≡ first_by_place (line_faults false (length text) (rows text))
+  pub first_is : head_of (first_faults text false (rows text)) ≡ first_by_place (line_faults false (length text) (rows text))
   first_is = agrees (length text) 0 false (omega arith)
 
 -- What is told, by what the length, the lines and the names show.
@@ -115,7 +115,7 @@ head_is : (limits : Limits) (text : List ℕ) → head_of (faults_within limits 
 unfolding choice one
 head_is limits text =
     let long : Bool = nat_lt (longest_text limits) (length text) in
-    head_choice long (first_faults false (length text) (rows text)) (name_faults limits (sections text))
+    head_choice long (first_faults text false (rows text)) (name_faults limits (sections text))
     ∙ ap (λ o. one long o (head_of (name_faults limits (sections text)))) (first_is text)
 
 first_told : (text : List ℕ) (fs : List Fault) → slice_get (map (refusal_at text) (take most_told fs)) 0 ≡ option_map (refusal_at text) (head_of fs)
@@ -140,9 +140,9 @@ pub names_told : (limits : Limits) (text : List ℕ) → length text ≤ longest
     → first_by_place (line_faults false (length text) (rows text)) ≡ None → faults_within limits text ≡ name_faults limits (sections text)
 unfolding choice
 names_told limits text short none =
-    ap (λ b. choice b (first_faults false (length text) (rows text)) (name_faults limits (sections text)))
+    ap (λ b. choice b (first_faults text false (rows text)) (name_faults limits (sections text)))
     (le-ltb (longest_text limits) (length text) short)
-    ∙ go (first_faults false (length text) (rows text)) (first_is text ∙ none)
+    ∙ go (first_faults text false (rows text)) (first_is text ∙ none)
   where
     go : (fs : List Fault) → head_of fs ≡ None → or_else fs (name_faults limits (sections text)) ≡ name_faults limits (sections text)
     go [] e = refl
@@ -150,12 +150,12 @@ names_told limits text short none =
 
 pub lines_told : (limits : Limits) (text : List ℕ) (f : Fault) → length text ≤ longest_text limits
     → first_by_place (line_faults false (length text) (rows text)) ≡ Some f
-    → faults_within limits text ≡ first_faults false (length text) (rows text)
+    → faults_within limits text ≡ first_faults text false (rows text)
 unfolding choice
 lines_told limits text f short some =
-    ap (λ b. choice b (first_faults false (length text) (rows text)) (name_faults limits (sections text)))
+    ap (λ b. choice b (first_faults text false (rows text)) (name_faults limits (sections text)))
     (le-ltb (longest_text limits) (length text) short)
-    ∙ go (first_faults false (length text) (rows text)) (first_is text ∙ some)
+    ∙ go (first_faults text false (rows text)) (first_is text ∙ some)
   where
     go : (fs : List Fault) → head_of fs ≡ Some f → or_else fs (name_faults limits (sections text)) ≡ fs
     go [] e = absurd (cc e)
@@ -164,21 +164,21 @@ lines_told limits text f short some =
 pub length_told : (limits : Limits) (text : List ℕ) → longest_text limits < length text → faults_within limits text ≡ at kind.TextTooLong 0
 unfolding choice
 length_told limits text long =
-    ap (λ b. choice b (first_faults false (length text) (rows text)) (name_faults limits (sections text)))
+    ap (λ b. choice b (first_faults text false (rows text)) (name_faults limits (sections text)))
     (lt-ltb (longest_text limits) (length text) long)
 
 -- One line more.
 pub line_more : (text : List ℕ) (start stop : ℕ) (inside after : Bool) (row : Row) (fault : Option Fault)
     → lines (drop start text) ≡ slice_range text start stop ∷ lines (drop stop text) → start < stop → stop ≤ length text
-    → row_from start zero (slice_range text start stop) ≡ row → fault ≡ first_by_place (row_faults inside row) → inside_next inside row fault ≡ after
-    → first_faults inside (length text) (rows_from start (lines (drop start text)))
-    ≡ fault_list fault ++ first_faults after (length text) (rows_from stop (lines (drop stop text)))
+    → row_from start zero (slice_range text start stop) ≡ row → fault ≡ first_by_place (row_faults inside row) → inside_next text inside row fault ≡ after
+    → first_faults text inside (rows_from start (lines (drop start text)))
+    ≡ fault_list fault ++ first_faults text after (rows_from stop (lines (drop stop text)))
 line_more text start stop inside after row fault cut behind within e found next =
-    ap (first_faults inside (length text)) (rows_step text start stop row cut behind within e)
-    ∙ ap (λ o. fault_list o ++ first_faults (inside_next inside row o) (length text) (rows_from stop (lines (drop stop text)))) (sym found)
-    ∙ ap (λ i. fault_list fault ++ first_faults i (length text) (rows_from stop (lines (drop stop text)))) next
+    ap (first_faults text inside) (rows_step text start stop row cut behind within e)
+    ∙ ap (λ o. fault_list o ++ first_faults text (inside_next text inside row o) (rows_from stop (lines (drop stop text)))) (sym found)
+    ∙ ap (λ i. fault_list fault ++ first_faults text i (rows_from stop (lines (drop stop text)))) next
 
 -- The end of the text.
 pub lines_end : (text : List ℕ) (start : ℕ) (inside : Bool) → length text ≤ start
-    → first_faults inside (length text) (rows_from start (lines (drop start text))) ≡ (if inside then at kind.Unclosed (length text) else [])
-lines_end text start inside h = ap (λ t. first_faults inside (length text) (rows_from start (lines t))) (drop_all start text h)
+    → first_faults text inside (rows_from start (lines (drop start text))) ≡ (if inside then at kind.Unclosed (length text) else [])
+lines_end text start inside h = ap (λ t. first_faults text inside (rows_from start (lines t))) (drop_all start text h)

@@ -1,6 +1,6 @@
 // The tokens of a line.
 
-ghost use Rattle.std.specs.Prelude.{◌≡◌, ◌≤◌, ◌<◌, ◌^◌, ◌++◌, [], ◌∷◌, length, slice_range, IfOk, OnOk};
+ghost use Rattle.std.specs.Prelude.{◌≡◌, ◌≤◌, ◌<◌, ◌^◌, ◌++◌, [], ◌∷◌, length, slice_range, IfOk, IfSome, OnOk};
 ghost use Rattle.tac_lines.specs.Tokens.{row_from};
 ghost use Rattle.tac_lines.specs.code.Views.{tokens_view};
 
@@ -25,7 +25,8 @@ pub fn read_row(
     requires order { start ≤ stop }
     requires within { stop ≤ length text.now }
     requires small { length text.now < 2 ^ 32 }
-    ensures { IfOk result
+    ensures within { IfOk result (λ bad. IfSome bad (λ place. place < stop)) }
+    ensures row { IfOk result
         (λ bad. row_from start 0 (slice_range text.now start stop) ≡ record { tokens = tokens_view text.now row.new.items; bad = bad }) }
 {
     row.clear();

@@ -76,21 +76,10 @@ pub static BYTES: [(&[u8], &[Told]); 14] = [
             }),
         )],
     ),
-    // The mark hides `proc`, so that the text goes on outside a procedure.
+    // The mark does not hide `proc`.
     (
         b"\xef\xbb\xbfproc main\nend\n",
-        &[
-            (1, 1, RefusalKind::BadByte, Hint::ByteOrderMark),
-            (
-                2,
-                1,
-                RefusalKind::Syntax,
-                Hint::Outside(Bytes {
-                    start: 13,
-                    stop: 16,
-                }),
-            ),
-        ],
+        &[(1, 1, RefusalKind::BadByte, Hint::ByteOrderMark)],
     ),
     (
         b"proc main\nx = 1\ry = 2\nend\n",
@@ -157,7 +146,7 @@ pub static BYTES: [(&[u8], &[Told]); 14] = [
 ];
 
 /// Slips of lines.
-pub static LINES: [(&[u8], &[Told]); 26] = [
+pub static LINES: [(&[u8], &[Told]); 27] = [
     (
         b"proc main\nx = y + z + w\nend\n",
         &[(
@@ -291,7 +280,7 @@ pub static LINES: [(&[u8], &[Told]); 26] = [
         )],
     ),
     (
-        b"PROC main\nproc main\nend\n",
+        b"PROC main\nx = 1\nend\n",
         &[(
             1,
             1,
@@ -375,27 +364,42 @@ pub static LINES: [(&[u8], &[Told]); 26] = [
             ),
         )],
     ),
-    // An `end` that is none closes nothing.
+    // A misspelt `end` that stands alone closes a procedure, and a misspelt `proc` before one word opens one.
     (
         b"proc main\nEND\n",
+        &[(
+            2,
+            4,
+            RefusalKind::Syntax,
+            Hint::Capitals(
+                Keyword::End,
+                Bytes {
+                    start: 10,
+                    stop: 13,
+                },
+            ),
+        )],
+    ),
+    (
+        b"prco p\nend\nproc main\nedn\n",
         &[
             (
-                2,
-                4,
+                1,
+                1,
                 RefusalKind::Syntax,
-                Hint::Capitals(
-                    Keyword::End,
-                    Bytes {
-                        start: 10,
-                        stop: 13,
-                    },
-                ),
+                Hint::Misspelt(Keyword::Proc, Bytes { start: 0, stop: 4 }),
             ),
             (
-                3,
-                1,
-                RefusalKind::Unclosed,
-                Hint::EndLacks(1, Bytes { start: 0, stop: 9 }),
+                4,
+                4,
+                RefusalKind::Syntax,
+                Hint::Misspelt(
+                    Keyword::End,
+                    Bytes {
+                        start: 21,
+                        stop: 24,
+                    },
+                ),
             ),
         ],
     ),

@@ -1,7 +1,7 @@
 use Rattle.std.proofs.Common.{◌∙◌, ap, sym, List}
 use Rattle.tac_faults.proofs.Lists.{told_then}
 use Rattle.tac_faults.proofs.TextFaults.{line_more}
-use Rattle.tac_faults.specs.Listed.{inside_next, most_told}
+use Rattle.tac_faults.specs.Listed.{most_told}
 use Rattle.tac_lines.specs.LineFaults.{first_by_place, row_faults}
 use Rattle.tac_lines.specs.Tokens.{Row}
 use Rattle.tac_lines.specs.code.Views.{fault_list, tokens_view}
@@ -18,10 +18,9 @@ loop-at-preserved c =
     record {
       within = line.within;
       told = told_then most_told c.loop-at.found.items c.tell_found.new.found.items (fault_list fault) _ _ _ c.in_ok-tell_found.ensures
-          (line_more text c.loop-at.at c.line_stop-stop.result inside c.inside_next-inside.result (row c.read_row.new.row.items) fault
-          line.line line.after line.within c.in_ok-bad.ensures
+          (line_more text c.loop-at.at c.line_stop-stop.result inside c.in_ok-next.next (row c.read_row.new.row.items) fault
+          line.line line.after line.within c.in_ok-bad.ensures.row
           (c.row_fault-fault.ensures ∙ ap (λ ts. first_by_place (row_faults inside (row ts))) c.deref.ensures.value)
-          (ap (λ ts. inside_next inside (row ts) fault) (sym c.deref-in-loop-at.ensures.value)
-          ∙ c.inside_next-inside.ensures text c.in_ok-bad.bad))
+          (sym c.in_ok-next.ensures))
           c.loop-at.invariant.told;
     }

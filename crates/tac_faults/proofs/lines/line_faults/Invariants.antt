@@ -8,8 +8,8 @@ use Rattle.tac_faults.proofs.lines.line_faults.Given as goal
 abbrev pub invariant-loop-at : goal.invariant-loop-at
 invariant-loop-at l = record {
   within : l.at ≤ length l.text;
-  told : take most_told (l.found.items ++ first_faults l.inside (length l.text) (rows_from l.at (lines (drop l.at l.text))))
-      ≡ take most_told (first_faults false (length l.text) (rows l.text));
+  told : take most_told (l.found.items ++ first_faults l.text l.inside (rows_from l.at (lines (drop l.at l.text))))
+      ≡ take most_told (first_faults l.text false (rows l.text));
 }
 
 abbrev pub decreases-loop-at : goal.decreases-loop-at

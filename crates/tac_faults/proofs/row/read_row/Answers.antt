@@ -4,8 +4,8 @@ use Rattle.tac_lines.proofs.tokens.RowSteps.{row_step, step_some, step_gap, row_
 use Rattle.tac_faults.proofs.row.read_row.Goals as goal
 use Rattle.tac_faults.proofs.row.read_row.Goals.{in-Some-kind+in_ok-push_token-in-Some, in_default}
 
-pub returns-in-None : goal.returns-in-None
-returns-in-None c =
+pub returns-in-None-clause-row : goal.returns-in-None-clause-row
+returns-in-None-clause-row c =
     row_stops c.args.text.now c.loop-at.at c.args.stop _ (tokens_view c.args.text.now c.loop-at.row.items)
     c.loop-at-test.true c.requires.within c.in-None.ensures.piece c.loop-at.invariant.rest
 

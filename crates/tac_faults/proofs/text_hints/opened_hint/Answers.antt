@@ -17,7 +17,7 @@ loop-left-preserved c =
       within = line.within;
       number = omega (arith, before.number, line.after);
       left = opened_more text c.loop-left.left c.loop-left.at c.line_stop-stop.result c.loop-left.line row c.loop-left.hint
-          c.opened_line-hint.result _ c.loop-left-test.true line.line line.after line.within c.in_ok-read_row.ensures
+          c.opened_line-hint.result _ c.loop-left-test.true line.line line.after line.within c.in_ok-read_row.ensures.row
           (ap (λ ts. opened_line c.loop-left.line (tokens_view text ts) c.loop-left.hint) (sym c.deref.ensures.value)
           ∙ c.opened_line-hint.ensures text)
           before.left;
