@@ -1,5 +1,5 @@
 -- Lines that are asked which procedure they open, one after another.
-use Rattle.std.proofs.Common.{◌≡◌, ℕ, zero, suc, ◌+◌, ◌-◌, ◌<◌, ◌≤◌, List, [], ◌∷◌, length, take, drop, refl, sym, ap, ◌∙◌, arith, slice_range, sub-one}
+use Rattle.std.proofs.Common.{◌≡◌, ℕ, zero, suc, ◌+◌, ◌-◌, ◌<◌, ◌≤◌, List, [], ◌∷◌, length, take, drop, refl, sym, ap, ◌∙◌, arith, slice_range}
 use Rattle.std.proofs.lemmas.List.{drop_all}
 use Rattle.tac_lines.specs.Text.{lines}
 use Rattle.tac_lines.specs.Tokens.{Row, row_from, rows_from}

@@ -1,6 +1,6 @@
 -- The first faults of a text's lines, and that of the whole text.
 use Rattle.std.proofs.Common.{◌≡◌, ℕ, zero, suc, ◌+◌, ◌-◌, ◌<◌, ◌≤◌, ◌⊎◌, inl, inr, Bool, true, false, List, [], ◌∷◌, ◌++◌, length, map, take, drop}
-use Rattle.std.proofs.Common.{refl, sym, ap, ◌∙◌, arith, Option, Some, None, slice_range, length-drop, if◌then◌else◌, nat_lt, option_map, slice_get, ◌↔◌}
+use Rattle.std.proofs.Common.{refl, sym, ap, ◌∙◌, arith, Option, Some, None, slice_range, length-drop, if◌then◌else◌, nat_lt, option_map, slice_get}
 use Rattle.std.specs.List.{prefix_len}
 use Rattle.std.proofs.lemmas.List.{drop_all, take_rest}
 use Rattle.std.proofs.lemmas.Bool.{cases_lt, le-ltb, lt-ltb}
@@ -19,7 +19,7 @@ use Rattle.tac_lines.proofs.lines.FirstFault.{none_first}
 use Rattle.tac_lines.proofs.lines.LineSteps.{line_ended, line_last}
 use Rattle.tac_program.specs.Limits.{longest_text}
 use Rattle.tac_program.specs.declared.limits.Limits.{Limits}
-use Rattle.tac_reader.specs.Faults.{fault_within, head_of, name_faults, refusal_at, refusal_within}
+use Rattle.tac_reader.specs.Faults.{fault_within, head_of, name_faults, refusal_at}
 use Rattle.tac_reader.specs.Sections.{sections}
 
 -- The first fault of the text by place is the first one of the first line that has one.

@@ -1,3 +1,4 @@
+pub mod Examples
 pub mod Hints
 pub mod Laws
 pub mod Listed

@@ -2,6 +2,7 @@
 #![tactic(auto)]
 
 mod byte_hints;
+pub mod examples;
 mod faults;
 pub mod laws;
 mod line_hints;

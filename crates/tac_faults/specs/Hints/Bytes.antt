@@ -1,9 +1,8 @@
 -- What is told of a byte that begins no token.
-use Rattle.std.specs.Prelude.{ℕ, ◌+◌, ◌-◌, Bool, ◌&&◌, ◌||◌, ◌==◌, List, length, nat_le, slice_index, if◌then◌else◌}
+use Rattle.std.specs.Prelude.{ℕ, ◌+◌, ◌-◌, Bool, ◌&&◌, ◌==◌, List, length, nat_le, slice_index, if◌then◌else◌}
 use Rattle.tac_lines.specs.Forms.{operand, variable}
 use Rattle.tac_lines.specs.Tokens.{Token}
 use Rattle.tac_program.specs.Spelling.{is_digit, is_name_byte}
-use Rattle.tac_faults.specs.declared.slips.Bytes.{Bytes}
 use Rattle.tac_faults.specs.declared.slips.Hint.{Hint}
 use Rattle.tac_faults.specs.declared.slips.Hint.TheVariants as hint
 use Rattle.tac_faults.specs.Hints.Choices.{or_hint}

@@ -1,7 +1,7 @@
 -- What is told of a line that is no line form.
-use Rattle.std.specs.Prelude.{ℕ, ◌+◌, ◌-◌, Bool, true, false, not, ◌&&◌, ◌||◌, ◌==◌, List, [], ◌∷◌, length, count_by, Option, Some, None, find, nat_le}
+use Rattle.std.specs.Prelude.{ℕ, ◌+◌, ◌-◌, Bool, false, ◌&&◌, ◌||◌, ◌==◌, List, [], ◌∷◌, length, count_by, Option, Some, None, find, nat_le}
 use Rattle.std.specs.Prelude.{nat_lt, slice_get, slice_index, bytes_eq, codes, if◌then◌else◌}
-use Rattle.tac_lines.specs.Forms.{Slot, binary, fills, key, operand, unary, variable}
+use Rattle.tac_lines.specs.Forms.{binary, fills, key, operand, unary, variable}
 use Rattle.tac_lines.specs.Tokens.{Token, Word, name, number, fixed, stop_of}
 use Rattle.tac_lines.specs.code.Views.{keyword_text}
 use Rattle.tac_lines.specs.declared.token.Keyword.{Keyword}

@@ -1,5 +1,5 @@
 -- What is told of a name that is there already, or that there is not.
-use Rattle.std.specs.Prelude.{ℕ, ◌-◌, Bool, ◌==◌, List, [], ◌∷◌, length, take, find, Option, Some, None, bytes_eq, codes}
+use Rattle.std.specs.Prelude.{ℕ, ◌-◌, ◌==◌, List, length, take, find, Option, Some, None, bytes_eq, codes}
 use Rattle.tac_lines.specs.Forms.{callees_of}
 use Rattle.tac_lines.specs.Text.{line_after}
 use Rattle.tac_lines.specs.Tokens.{Token, spelling_of}

@@ -1,9 +1,6 @@
 -- Names that are meant by others.
-use Rattle.std.specs.Prelude.{ℕ, Bool, true, false, ◌&&◌, ◌||◌, ◌==◌, List, [], ◌∷◌, map, Option, find, bytes_eq, if◌then◌else◌}
+use Rattle.std.specs.Prelude.{ℕ, Bool, false, ◌&&◌, ◌||◌, ◌==◌, List, [], ◌∷◌, map, bytes_eq, if◌then◌else◌}
 use Rattle.std.specs.Char.{to_ascii_lowercase}
-use Rattle.tac_lines.specs.code.Views.{keyword_text}
-use Rattle.tac_lines.specs.declared.token.Keyword.{Keyword}
-use Rattle.tac_lines.specs.declared.token.Keyword.TheVariants as keyword
 
 -- The first two bytes are swapped, and the others are the same.
 abbrev pub is_swapped : List ℕ → List ℕ → Bool

@@ -1,5 +1,5 @@
 -- What stands at a place of a line.
-use Rattle.std.specs.Prelude.{ℕ, ◌+◌, Bool, false, List, [], Option, Some, None, drop, slice_get, nat_lt}
+use Rattle.std.specs.Prelude.{ℕ, ◌+◌, Bool, false, List, [], Some, None, drop, slice_get, nat_lt}
 use Rattle.std.specs.List.{prefix_len}
 use Rattle.tac_lines.specs.Forms.{Slot, fills}
 use Rattle.tac_lines.specs.Tokens.{Token, Word, name, number, fixed}

@@ -1,11 +1,10 @@
 -- What is told on the mend of a fault.
-use Rattle.std.specs.Prelude.{ℕ, zero, suc, ◌+◌, ◌-◌, Bool, false, ◌&&◌, ◌==◌, List, [], ◌∷◌, length, take, Option, Some, None, nat_lt, codes}
+use Rattle.std.specs.Prelude.{ℕ, zero, suc, ◌+◌, ◌-◌, Bool, false, ◌&&◌, ◌==◌, List, [], ◌∷◌, length, take, Some, None, nat_lt, codes}
 use Rattle.std.specs.Prelude.{if◌then◌else◌}
 use Rattle.tac_lines.specs.Forms.{behind_labels, key}
 use Rattle.tac_lines.specs.LineFaults.{first_by_place, line_faults}
 use Rattle.tac_lines.specs.Text.{lines}
 use Rattle.tac_lines.specs.Tokens.{Row, Token, row_from, rows, stop_of}
-use Rattle.tac_lines.specs.declared.fault.Fault.{Fault}
 use Rattle.tac_lines.specs.declared.refusal.Refusal.{Refusal}
 use Rattle.tac_lines.specs.declared.refusal.RefusalKind.{RefusalKind}
 use Rattle.tac_lines.specs.declared.refusal.RefusalKind.TheVariants as kind

@@ -1,5 +1,4 @@
-use Rattle.std.proofs.Common.{◌≡◌, ◌++◌, drop, map, take}
-use Rattle.tac_faults.specs.Listed.{most_told}
+use Rattle.std.proofs.Common.{◌≡◌, ◌++◌, drop, map}
 use Rattle.tac_reader.specs.Faults.{refusal_at}
 use Rattle.tac_faults.proofs.faults.located.Given as goal
 

@@ -4,7 +4,6 @@ use Rattle.tac_lines.specs.code.Views.{tokens_view}
 use Rattle.tac_reader.specs.code.SectionViews.{sections_view}
 use Rattle.tac_faults.specs.Hints.Choices.{any_hint}
 use Rattle.tac_faults.specs.Hints.Names.{callee_hint, name_hint}
-use Rattle.tac_faults.specs.declared.slips.Hint.{Hint}
 use Rattle.tac_faults.proofs.name_hints.name_hint.Goals as goal
 
 pub returns-in-UnknownProcedure : goal.returns-in-UnknownProcedure

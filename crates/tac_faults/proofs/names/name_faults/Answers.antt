@@ -1,4 +1,4 @@
-use Rattle.std.proofs.Common.{◌≡◌, ◌∙◌, ◌++◌, [], ap, take, drop, flat_map, List, ℕ}
+use Rattle.std.proofs.Common.{◌∙◌, ◌++◌, [], ap, take, drop, flat_map, List}
 use Rattle.tac_faults.proofs.Lists.{told_seven}
 use Rattle.tac_faults.specs.Listed.{most_told}
 use Rattle.tac_lines.specs.LineFaults.{at}

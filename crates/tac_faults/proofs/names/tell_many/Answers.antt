@@ -1,4 +1,4 @@
-use Rattle.std.proofs.Common.{◌∙◌, ◌++◌, ap, arith, flat_map, min, take}
+use Rattle.std.proofs.Common.{◌∙◌, ◌++◌, ap, flat_map, min, take}
 use Rattle.std.proofs.lemmas.List.{drop_all}
 use Rattle.tac_faults.proofs.Lists.{told_all, told_more}
 use Rattle.tac_faults.proofs.NameLists.{last_titles}

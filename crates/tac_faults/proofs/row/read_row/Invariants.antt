@@ -1,4 +1,4 @@
-use Rattle.std.proofs.Common.{length, ◌-◌, ◌≡◌, ◌≤◌, zero, slice_range}
+use Rattle.std.proofs.Common.{◌-◌, ◌≡◌, ◌≤◌, zero, slice_range}
 use Rattle.tac_lines.specs.Tokens.{row_from}
 use Rattle.tac_lines.specs.code.Views.{tokens_view}
 use Rattle.tac_lines.proofs.tokens.RowSteps.{joined}

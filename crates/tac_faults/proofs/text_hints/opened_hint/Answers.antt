@@ -1,7 +1,6 @@
-use Rattle.std.proofs.Common.{List, ap, arith, sym, ◌<◌, ◌≡◌, ◌≤◌, ◌∙◌, length, zero, suc, ℕ}
+use Rattle.std.proofs.Common.{ap, arith, sym, ◌∙◌}
 use Rattle.tac_lines.specs.Tokens.{Row}
 use Rattle.tac_lines.specs.code.Views.{tokens_view}
-use Rattle.tac_lines.specs.declared.token.Token.{Token}
 use Rattle.tac_faults.proofs.HintTexts.{opened_more, opened_none, opened_past}
 use Rattle.tac_faults.specs.Hints.Texts.{opened_line}
 use Rattle.tac_faults.proofs.text_hints.opened_hint.Goals as goal
