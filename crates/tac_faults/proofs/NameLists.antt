@@ -121,7 +121,8 @@ module _ (kind : RefusalKind) (text : List ℕ) (tokens : List Lexed) where
 pub last_titles : (text : List ℕ) (titles : List Lexed) (p most : ℕ) → most ≡ min (length titles) p
     → tokens_view text (take (length titles - most) (drop most titles)) ≡ drop p (tokens_view text titles)
 last_titles text titles p most e = by_order (cases_lt (length titles) p) where
-  by_order : (length titles < p) ⊎ (p ≤ length titles) → tokens_view text (take (length titles - most) (drop most titles)) ≡ drop p (tokens_view text titles)
+  by_order : (length titles < p) ⊎ (p ≤ length titles)
+      → tokens_view text (take (length titles - most) (drop most titles)) ≡ drop p (tokens_view text titles)
   by_order (inl h) =
       ap (tokens_view text) (take_rest titles most ∙ drop_all most titles (omega (arith, e, h)))
       ∙ sym (drop_all p (tokens_view text titles) (omega (arith, h, length-map titles (token_view text))))

@@ -48,7 +48,8 @@ module _ (text : List ℕ) where
           ap (λ p. head_of (fault_list p ++ first_faults text (inside_next text inside row p) (rest stop))) e
           ∙ later (inside_after inside row)
           ∙ sym (ap (λ r. first_by_place (line_faults inside (length text) r)) step
-          ∙ ap first_by_place (no_fault_step inside (inside_after inside row) (length text) row (rest stop) (none_first (row_faults inside row) e) refl))
+          ∙ ap first_by_place
+          (no_fault_step inside (inside_after inside row) (length text) row (rest stop) (none_first (row_faults inside row) e) refl))
       by_first (Some f) e =
           ap (λ p. head_of (fault_list p ++ first_faults text (inside_next text inside row p) (rest stop))) e
           ∙ sym (first_of_text text start stop inside row f (line_faults inside (length text) (rest start)) cut after within refl e refl)
@@ -170,7 +171,8 @@ length_told limits text long =
 -- One line more.
 pub line_more : (text : List ℕ) (start stop : ℕ) (inside after : Bool) (row : Row) (fault : Option Fault)
     → lines (drop start text) ≡ slice_range text start stop ∷ lines (drop stop text) → start < stop → stop ≤ length text
-    → row_from start zero (slice_range text start stop) ≡ row → fault ≡ first_by_place (row_faults inside row) → inside_next text inside row fault ≡ after
+    → row_from start zero (slice_range text start stop) ≡ row → fault ≡ first_by_place (row_faults inside row)
+    → inside_next text inside row fault ≡ after
     → first_faults text inside (rows_from start (lines (drop start text)))
     ≡ fault_list fault ++ first_faults text after (rows_from stop (lines (drop stop text)))
 line_more text start stop inside after row fault cut behind within e found next =

@@ -1,12 +1,14 @@
 // What is told of a line that is no line form.
 
 ghost use Rattle.std.specs.Prelude.{◌≡◌, ◌+◌, ◌<◌, ◌≤◌, ◌^◌, ◌-◌, ℕ, List, find, length, count_by, codes};
-ghost use Rattle.tac_faults.specs.Hints.Lines.{all_keywords, begun_by as of_begun, callees_hint as of_callees, capitals_hint, comment_hint as of_comment};
+ghost use Rattle.tac_faults.specs.Hints.Lines.{begun_by as of_begun, callees_hint as of_callees, comment_hint as of_comment};
 ghost use Rattle.tac_faults.specs.Hints.Lines.{equals_hint as of_equals, first_hint as of_first, goto_hint as of_goto, is_foreign as foreign};
-ghost use Rattle.tac_faults.specs.Hints.Lines.{is_keyword as keyword_in, is_test as test_in, keyword_hint as of_keyword, labelled_hint as of_labelled};
-ghost use Rattle.tac_faults.specs.Hints.Lines.{later_hint as of_later, misspelt_hint, negative_hint as of_negative, operator_hint as of_operator};
+ghost use Rattle.tac_faults.specs.Hints.Lines.{is_keyword as keyword_in, is_test as test_in, keyword_hint as of_keyword};
+ghost use Rattle.tac_faults.specs.Hints.Lines.{labelled_hint as of_labelled};
+ghost use Rattle.tac_faults.specs.Hints.Lines.{later_hint as of_later, negative_hint as of_negative, operator_hint as of_operator};
 ghost use Rattle.tac_faults.specs.Hints.Lines.{reserved_hint as of_reserved, returned_hint as of_returned, second_hint as of_second};
-ghost use Rattle.tac_faults.specs.Hints.Lines.{statement_hint as of_statement, taken_hint as of_taken, then_hint as of_then, unfinished_hint as of_unfinished};
+ghost use Rattle.tac_faults.specs.Hints.Lines.{statement_hint as of_statement, taken_hint as of_taken, then_hint as of_then};
+ghost use Rattle.tac_faults.specs.Hints.Lines.{unfinished_hint as of_unfinished};
 ghost use Rattle.tac_faults.specs.Hints.Lines.{wants_name as name_wanted, wants_operand as operand_wanted};
 ghost use Rattle.tac_faults.specs.Hints.Places.{stands as stands_in};
 ghost use Rattle.tac_faults.specs.Hints.Near.{is_near as near, is_same_but_for_capitals as same_letters};

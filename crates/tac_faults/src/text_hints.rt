@@ -2,7 +2,8 @@
 
 ghost use Rattle.std.specs.Prelude.{◌≡◌, ◌+◌, ◌-◌, ◌<◌, ◌≤◌, ◌^◌, ℕ, List, length, slice_range, take, IfOk};
 ghost use Rattle.tac_faults.specs.Hints.Texts.{hint_of, kind_hint as of_kind, line_hint as of_line, names_hint as of_names, nth_line};
-ghost use Rattle.tac_faults.specs.Hints.Texts.{long_name_hint as of_long_name, opened_hint as of_opened, opened_line as of_opened_line, place_of as place_in};
+ghost use Rattle.tac_faults.specs.Hints.Texts.{long_name_hint as of_long_name, opened_hint as of_opened, opened_line as of_opened_line};
+ghost use Rattle.tac_faults.specs.Hints.Texts.{place_of as place_in};
 ghost use Rattle.tac_faults.specs.Hints.Texts.{opens_again as opening, syntax_hint as of_syntax, token_hint as of_token};
 ghost use Rattle.tac_lines.specs.Text.{lines};
 ghost use Rattle.tac_lines.specs.Tokens.{rows};

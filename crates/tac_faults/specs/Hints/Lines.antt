@@ -76,7 +76,8 @@ returned_hint ts =
 
 abbrev pub begun_by : List Token → Hint
 begun_by ts =
-    if stands variable ts 0 && (stands operand ts 1 || is_keyword ts 1 || nat_le (length ts) 1) then keyword_hint all_keywords (name_at ts 0) (bytes_at ts 0)
+    if stands variable ts 0 && (stands operand ts 1 || is_keyword ts 1 || nat_le (length ts) 1)
+    then keyword_hint all_keywords (name_at ts 0) (bytes_at ts 0)
     else hint.None
 
 abbrev pub second_hint : List Token → Hint
@@ -115,7 +116,8 @@ negative_hint ts n =
 
 abbrev pub operator_hint : List Token → ℕ → Hint
 operator_hint ts n =
-    if nat_le 2 n && stands binary ts n && stands operand ts (n - 1) && (stands (key (codes "=")) ts 1 || is_test ts || stands (key (codes "print")) ts 0)
+    if nat_le 2 n && stands binary ts n && stands operand ts (n - 1)
+    && (stands (key (codes "=")) ts 1 || is_test ts || stands (key (codes "print")) ts 0)
     then hint.SecondOperator (bytes_at ts n) else hint.None
 
 -- A call lists at most eight procedures, with seven bars between them.

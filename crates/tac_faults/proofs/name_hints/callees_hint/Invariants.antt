@@ -7,5 +7,6 @@ use Rattle.tac_faults.proofs.name_hints.callees_hint.Given as goal
 
 -- The hint so far or that of the rest is that of all.
 abbrev pub invariant-loop-section : goal.invariant-loop-section
-invariant-loop-section l = or_hint l.hint (any_hint (callee_hint (tokens_view l.text l.titles) l.place) (sections_view l.text (drop l.section-index l.sections)))
+invariant-loop-section l = or_hint l.hint
+    (any_hint (callee_hint (tokens_view l.text l.titles) l.place) (sections_view l.text (drop l.section-index l.sections)))
     ≡ any_hint (callee_hint (tokens_view l.text l.titles) l.place) (sections_view l.text l.sections)

@@ -17,5 +17,6 @@ loop-section-preserved c known is_known =
     let old = c.loop-section.found.items in
     told_more (faults known) (section_view c.args.text.now) most_told c.args.sections.now c.loop-section.section-index c.section-item.result old
     c.tell_section_callees.new.found.items _ c.loop-section-test.true
-    (c.in_ok-tell_section_callees.ensures known is_known ∙ ap (λ s. take most_told (old ++ faults known (section_view c.args.text.now s))) c.section-item.is)
+    (c.in_ok-tell_section_callees.ensures known is_known
+    ∙ ap (λ s. take most_told (old ++ faults known (section_view c.args.text.now s))) c.section-item.is)
     (c.loop-section.invariant known is_known)

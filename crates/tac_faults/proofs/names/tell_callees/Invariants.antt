@@ -10,5 +10,8 @@ use Rattle.tac_faults.proofs.names.tell_callees.Given as goal
 -- The faults so far and those of the other procedures are all.
 abbrev pub invariant-loop-section : goal.invariant-loop-section
 invariant-loop-section l = (known : List Token) → l.procedures ≡ each_once (names_in known)
-    → take most_told (l.found.items ++ flat_map (λ s. unknown UnknownProcedure known (callees_in s)) (sections_view l.text (drop l.section-index l.sections)))
-    ≡ take most_told (l.fn.found.items ++ flat_map (λ s. unknown UnknownProcedure known (callees_in s)) (sections_view l.text l.sections))
+    → take most_told
+    (l.found.items ++ flat_map (λ s. unknown UnknownProcedure known (callees_in s))
+    (sections_view l.text (drop l.section-index l.sections)))
+    ≡ take most_told (l.fn.found.items
+    ++ flat_map (λ s. unknown UnknownProcedure known (callees_in s)) (sections_view l.text l.sections))

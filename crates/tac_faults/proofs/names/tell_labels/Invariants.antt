@@ -8,5 +8,8 @@ use Rattle.tac_faults.proofs.names.tell_labels.Given as goal
 
 -- The faults so far and those of the other procedures are all.
 abbrev pub invariant-loop-section : goal.invariant-loop-section
-invariant-loop-section l = take most_told (l.found.items ++ flat_map (λ s. repeated DuplicateLabel [] (labels_in s)) (sections_view l.text (drop l.section-index l.sections)))
-    ≡ take most_told (l.fn.found.items ++ flat_map (λ s. repeated DuplicateLabel [] (labels_in s)) (sections_view l.text l.sections))
+invariant-loop-section l = take most_told
+    (l.found.items ++ flat_map (λ s. repeated DuplicateLabel [] (labels_in s))
+    (sections_view l.text (drop l.section-index l.sections)))
+    ≡ take most_told (l.fn.found.items
+    ++ flat_map (λ s. repeated DuplicateLabel [] (labels_in s)) (sections_view l.text l.sections))

@@ -12,4 +12,5 @@ use Rattle.tac_faults.proofs.names.tell_section_calls.Given as goal
 abbrev pub invariant-loop-at : goal.invariant-loop-at
 invariant-loop-at l = take most_told (l.found.items ++ flat_map (λ c. repeated DuplicateCallee [] (callees_of c))
     (statements_of (map (range_view l.text l.section.lines.tokens.now) (drop l.at l.section.lines.ranges.now))))
-    ≡ take most_told (l.fn.found.items ++ flat_map (λ c. repeated DuplicateCallee [] (callees_of c)) (statements_of (lines_view l.text l.section.lines)))
+    ≡ take most_told (l.fn.found.items
+    ++ flat_map (λ c. repeated DuplicateCallee [] (callees_of c)) (statements_of (lines_view l.text l.section.lines)))
