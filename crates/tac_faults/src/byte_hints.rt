@@ -1,8 +1,8 @@
 // What is told of a byte that begins no token.
 
 ghost use Rattle.std.specs.Prelude.{◌≡◌, ◌+◌, ◌<◌, ◌^◌, length};
-ghost use Rattle.tac_faults.specs.Hints.Bytes.{begun_hint as of_begun, byte_hint as of_byte, float_hint as of_float, lone_hint as of_lone};
-ghost use Rattle.tac_faults.specs.Hints.Bytes.{mark_hint as of_mark, called_hint as of_called};
+ghost use Rattle.tac_faults.specs.Hints.Bytes.{begun_hint as of_begun, byte_hint as of_byte, float_hint as of_float, fraction_hint as of_fraction};
+ghost use Rattle.tac_faults.specs.Hints.Bytes.{called_hint as of_called, lone_hint as of_lone, mark_hint as of_mark};
 ghost use Rattle.tac_lines.specs.code.Views.{tokens_view};
 
 use crate::places::{
@@ -10,7 +10,7 @@ use crate::places::{
     stands,
 };
 use crate::slips::{Bytes, Hint, or_hint_of};
-use tac_lines::{Slot, Token};
+use tac_lines::{Keyword, Slot, Token};
 
 /// The byte order mark at the text's start.
 fn mark_hint(text: &[u8], place: usize) -> Hint
@@ -23,12 +23,12 @@ fn mark_hint(text: &[u8], place: usize) -> Hint
     }
 }
 
-/// Behind a name `(` or `[`.
+/// Behind a name `(` or `[`; a procedure's own name is called nowhere.
 fn called_hint(text: &[u8], before: &[Token], place: usize) -> Hint
     ensures { result ≡ of_called text.now (tokens_view text.now before.now) place }
 {
     let last = before.len().saturating_sub(1);
-    if !stands(Slot::Variable, before, last) {
+    if !stands(Slot::Variable, before, last) || stands(Slot::Keyword(Keyword::Proc), before, 0) {
         return Hint::None;
     }
     let byte = byte_at(text, place);
@@ -56,6 +56,22 @@ fn float_hint(text: &[u8], before: &[Token], place: usize) -> Hint
     {
         Hint::Float(Bytes {
             start: number.start,
+            stop: digit_stop(text, place + 1) as u32,
+        })
+    } else {
+        Hint::None
+    }
+}
+
+/// A point before digits alone.
+fn fraction_hint(text: &[u8], place: usize) -> Hint
+    requires within { place < length text.now }
+    requires small { length text.now < 2 ^ 32 }
+    ensures { result ≡ of_fraction text.now place }
+{
+    if byte_at(text, place) == b'.' && is_digit(byte_at(text, place + 1)) {
+        Hint::Float(Bytes {
+            start: place as u32,
             stop: digit_stop(text, place + 1) as u32,
         })
     } else {
@@ -112,6 +128,7 @@ pub fn byte_hint(text: &[u8], before: &[Token], place: usize) -> Hint
 {
     let hint = or_hint_of(mark_hint(text, place), called_hint(text, before, place));
     let hint = or_hint_of(hint, float_hint(text, before, place));
+    let hint = or_hint_of(hint, fraction_hint(text, place));
     let hint = or_hint_of(hint, lone_hint(byte_at(text, place)));
     or_hint_of(hint, begun_hint(text, place))
 }

@@ -154,6 +154,8 @@ fn labelled_hint(tokens: &[Token]) -> Hint
 {
     if is_key(Keyword::End, tokens, 0) || is_key(Keyword::Proc, tokens, 0) {
         Hint::LabelBefore(bytes_at(tokens, 0))
+    } else if stands(Slot::Equals, tokens, 0) {
+        Hint::ColonEquals(bytes_at(tokens, 0))
     } else {
         Hint::None
     }

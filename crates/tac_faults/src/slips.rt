@@ -33,7 +33,7 @@ pub enum Hint {
     Call(Bytes),
     /// `a[`: the name before it.
     Index(Bytes),
-    /// A number with a point: all of it.
+    /// A number with a point, or a point and digits: all of it.
     Float(Bytes),
     /// Bytes that are not ASCII: as many as stand together.
     NotAscii(Bytes),
@@ -64,6 +64,8 @@ pub enum Hint {
     Returned(Bytes),
     /// `end` or `proc` behind a label.
     LabelBefore(Bytes),
+    /// `=` behind a label, as in `x := 1`.
+    ColonEquals(Bytes),
     /// A statement outside a procedure: its first token.
     Outside(Bytes),
     /// A unary operator where an operand is wanted, and the operand.

@@ -7,7 +7,7 @@ use tac_lines::{Keyword, RefusalKind};
 pub type Told = (u32, u32, RefusalKind, Hint);
 
 /// Slips of bytes, in the order of `docs/LANGUAGE.md`.
-pub static BYTES: [(&[u8], &[Told]); 14] = [
+pub static BYTES: [(&[u8], &[Told]); 16] = [
     (
         b"proc main\nx = a $ b\nend\n",
         &[(
@@ -47,6 +47,22 @@ pub static BYTES: [(&[u8], &[Told]); 14] = [
                 stop: 17,
             }),
         )],
+    ),
+    (
+        b"proc main\nx = .5\nend\n",
+        &[(
+            2,
+            5,
+            RefusalKind::BadByte,
+            Hint::Float(Bytes {
+                start: 14,
+                stop: 16,
+            }),
+        )],
+    ),
+    (
+        b"proc main() {\nend\n",
+        &[(1, 10, RefusalKind::BadByte, Hint::Parenthesis)],
     ),
     (
         b"proc main\nprint \"hi\"\nend\n",
@@ -146,7 +162,7 @@ pub static BYTES: [(&[u8], &[Told]); 14] = [
 ];
 
 /// Slips of lines.
-pub static LINES: [(&[u8], &[Told]); 27] = [
+pub static LINES: [(&[u8], &[Told]); 28] = [
     (
         b"proc main\nx = y + z + w\nend\n",
         &[(
@@ -228,6 +244,18 @@ pub static LINES: [(&[u8], &[Told]); 27] = [
             Hint::LabelBefore(Bytes {
                 start: 13,
                 stop: 16,
+            }),
+        )],
+    ),
+    (
+        b"proc main\nx := 1\nend\n",
+        &[(
+            2,
+            4,
+            RefusalKind::Syntax,
+            Hint::ColonEquals(Bytes {
+                start: 13,
+                stop: 14,
             }),
         )],
     ),

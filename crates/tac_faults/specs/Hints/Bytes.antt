@@ -1,6 +1,6 @@
 -- What is told of a byte that begins no token.
-use Rattle.std.specs.Prelude.{ℕ, ◌+◌, ◌-◌, Bool, ◌&&◌, ◌==◌, List, length, nat_le, slice_index, if◌then◌else◌}
-use Rattle.tac_lines.specs.Forms.{operand, variable}
+use Rattle.std.specs.Prelude.{ℕ, ◌+◌, ◌-◌, Bool, not, ◌&&◌, ◌==◌, List, length, nat_le, slice_index, codes, if◌then◌else◌}
+use Rattle.tac_lines.specs.Forms.{key, operand, variable}
 use Rattle.tac_lines.specs.Tokens.{Token}
 use Rattle.tac_program.specs.Spelling.{is_digit, is_name_byte}
 use Rattle.tac_faults.specs.declared.slips.Hint.{Hint}
@@ -16,10 +16,10 @@ abbrev pub mark_hint : List ℕ → ℕ → Hint
 mark_hint text place =
     if place == 0 && slice_index text 0 == 239 && slice_index text 1 == 187 && slice_index text 2 == 191 then hint.ByteOrderMark else hint.None
 
--- Behind a name `(` or `[`.
+-- Behind a name `(` or `[`; a procedure's own name is called nowhere.
 abbrev pub called_hint : List ℕ → List Token → ℕ → Hint
 called_hint text before place =
-    if stands variable before (length before - 1) then
+    if stands variable before (length before - 1) && not (stands (key (codes "proc")) before 0) then
     (if slice_index text place == 40 then hint.Call (bytes_at before (length before - 1))
     else if slice_index text place == 91 then hint.Index (bytes_at before (length before - 1)) else hint.None) else hint.None
 
@@ -29,6 +29,12 @@ float_hint text before place =
     if slice_index text place == 46 && stands operand before (length before - 1) && (bytes_at before (length before - 1)).stop == place
     && is_digit (slice_index text (bytes_at before (length before - 1)).start)
     then hint.Float (bytes (bytes_at before (length before - 1)).start (run_stop is_digit text (place + 1))) else hint.None
+
+-- A point before digits alone.
+abbrev pub fraction_hint : List ℕ → ℕ → Hint
+fraction_hint text place =
+    if slice_index text place == 46 && is_digit (slice_index text (place + 1)) then hint.Float (bytes place (run_stop is_digit text (place + 1)))
+    else hint.None
 
 -- A byte that is enough.
 abbrev pub lone_hint : ℕ → Hint
@@ -52,5 +58,5 @@ begun_hint text place =
 -- Of a bad byte at a place, by the tokens of its line before it.
 abbrev pub byte_hint : List ℕ → List Token → ℕ → Hint
 byte_hint text before place =
-    or_hint (or_hint (or_hint (or_hint (mark_hint text place) (called_hint text before place)) (float_hint text before place))
-    (lone_hint (slice_index text place))) (begun_hint text place)
+    or_hint (or_hint (or_hint (or_hint (or_hint (mark_hint text place) (called_hint text before place)) (float_hint text before place))
+    (fraction_hint text place)) (lone_hint (slice_index text place))) (begun_hint text place)

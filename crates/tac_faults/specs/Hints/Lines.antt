@@ -63,7 +63,8 @@ first_hint ts =
 -- Behind labels the first token is wrong.
 abbrev pub labelled_hint : List Token → Hint
 labelled_hint ts =
-    if stands (key (codes "end")) ts 0 || stands (key (codes "proc")) ts 0 then hint.LabelBefore (bytes_at ts 0) else hint.None
+    if stands (key (codes "end")) ts 0 || stands (key (codes "proc")) ts 0 then hint.LabelBefore (bytes_at ts 0)
+    else if stands (key (codes "=")) ts 0 then hint.ColonEquals (bytes_at ts 0) else hint.None
 
 -- The second token is wrong behind a keyword that is used as a name, behind `return`, and behind a misspelt keyword.
 abbrev pub taken_hint : List Token → Hint
