@@ -107,6 +107,7 @@ CALLS = {
         "group",
     },
     "slice_board_tests": {"Board::open, its rows or its cut"},
+    "tac_faults_tests": {"refusals", "hint"},
     "tac_reader_tests": {"read", "listing", "write_unary_expression", "write_binary_expression"},
     "text_pieces_tests": {"deliver", "pull_all", "pull_all, a longer block"},
     "view_commands_tests": {"run of tacview"},

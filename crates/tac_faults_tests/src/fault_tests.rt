@@ -1,35 +1,11 @@
-// Each text has the faults and the hints that are worked beside it; the calls are made once more where they are refused memory.
+// Each text has the faults and the hints that are worked beside it.
 
 use crate::slips::{BYTES, LINES, NAMES, Told};
 use std::alloc::Global;
 use std::process::Abort;
-use std::test::Fail;
-use tac_faults::{Hint, hint, refusals};
-use tac_lines::{OutOfMemory, Refusal};
+use tac_faults::{hint, refusals};
+use tac_lines::OutOfMemory;
 use tac_program::Limits;
-use test_support::again;
-use test_support::refusal_probes::{Refused, named};
-
-fn told(alloc: Global, text: &[u8], refused: &mut Refused) -> Result<Vec<Refusal>, OutOfMemory> {
-    Ok(again!(
-        *refused,
-        "refusals",
-        refusals(alloc, Limits::Standard, text)
-    ))
-}
-
-fn told_hint(
-    alloc: Global,
-    text: &[u8],
-    refusal: Refusal,
-    refused: &mut Refused,
-) -> Result<Hint, OutOfMemory> {
-    Ok(again!(
-        *refused,
-        "hint",
-        hint(alloc, Limits::Standard, text, refusal)
-    ))
-}
 
 /// The one comparison, since each that is written out is proved again.
 fn check(rt: &impl Abort, row: usize, place: usize, is_same: bool) {
@@ -43,12 +19,11 @@ fn check_text(
     row: usize,
     text: &[u8],
     want: &[Told],
-    refused: &mut Refused,
 ) -> Result<(), OutOfMemory> {
-    let found = told(alloc, text, refused)?;
+    let found = refusals(alloc, Limits::Standard, text)?;
     check(rt, row, found.len(), found.len() == want.len());
     for (place, refusal) in found.iter().enumerate() {
-        let hint = told_hint(alloc, text, *refusal, refused)?;
+        let hint = hint(alloc, Limits::Standard, text, *refusal)?;
         let is_same = match want.get(place) {
             Some((line, column, kind, wanted)) => {
                 refusal.line == *line
@@ -63,25 +38,28 @@ fn check_text(
     Ok(())
 }
 
-fn check_texts(rt: &impl Abort, alloc: Global, rows: &[(&[u8], &[Told])]) -> Result<(), Fail> {
-    let mut refused = None;
+fn check_texts(
+    rt: &impl Abort,
+    alloc: Global,
+    rows: &[(&[u8], &[Told])],
+) -> Result<(), OutOfMemory> {
     for (row, (text, want)) in rows.iter().enumerate() {
-        check_text(rt, alloc, row, text, want, &mut refused)?;
+        check_text(rt, alloc, row, text, want)?;
     }
-    named(refused)
+    Ok(())
 }
 
 #[test]
-fn slips_of_bytes(rt: HostRuntime) -> Result<(), Fail> {
+fn slips_of_bytes(rt: HostRuntime) -> Result<(), OutOfMemory> {
     check_texts(&rt, rt.alloc(), &BYTES)
 }
 
 #[test]
-fn slips_of_lines(rt: HostRuntime) -> Result<(), Fail> {
+fn slips_of_lines(rt: HostRuntime) -> Result<(), OutOfMemory> {
     check_texts(&rt, rt.alloc(), &LINES)
 }
 
 #[test]
-fn slips_of_names(rt: HostRuntime) -> Result<(), Fail> {
+fn slips_of_names(rt: HostRuntime) -> Result<(), OutOfMemory> {
     check_texts(&rt, rt.alloc(), &NAMES)
 }

@@ -7,4 +7,6 @@ mod fault_tests;
 #[cfg(test)]
 mod long_tests;
 #[cfg(test)]
+mod refusal_tests;
+#[cfg(test)]
 mod slips;
