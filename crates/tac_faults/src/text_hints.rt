@@ -238,7 +238,7 @@ fn kind_hint(
 /// What stands at a fault that `refusals` tells of a text within these limits, and what a sentence on its mend
 /// needs; `Hint::None` where it is none of the usual slips.
 ///
-/// Takes as long as reading the text. `OutOfMemory` is answered only where memory was refused.
+/// Goes over the text a fixed number of times. `OutOfMemory` is answered only where memory was refused.
 pub fn hint(
     alloc: Global,
     limits: Limits,
