@@ -157,7 +157,7 @@ impl ReportAnswers {
     }
 
     /// Whether the analysis has a valid path at the point.
-    pub(crate) fn has_path(&self, analysis: Analysis, point: u32) -> bool
+    pub fn has_path(&self, analysis: Analysis, point: u32) -> bool
         requires { point < length (flags_of self.now.replies analysis) }
         ensures { result ≡ (facts_in self.now.replies analysis).has_path point }
     {
