@@ -245,9 +245,10 @@ class ByHand(unittest.TestCase):
             for point, bit in ((8, 0), (0, 4), (-1, 0), (0, -1)):
                 with self.assertRaises(tacflow.BadRange):
                     program.whys("reach", [(7, 0), (point, bit)])
-        for ask in (program.why, lambda *words: program.whys(words[0], [words[1:]])):
-            with self.assertRaises(tacflow.ClosedProgram):
-                ask("reach", 0, 0)
+        with self.assertRaises(tacflow.ClosedProgram):
+            program.why("reach", 0, 0)
+        with self.assertRaises(tacflow.ClosedProgram):
+            program.whys("reach", [(0, 0)])
 
 
 class Walked(unittest.TestCase):
