@@ -138,11 +138,7 @@ fn whys_over(
 }
 
 // The analysis of a number, where the program has all points that are asked, and it all bits.
-fn analysis_of_all(
-    graph: &Graph<'_>,
-    number: u32,
-    asked: &[NumberedWhy],
-) -> Result<Analysis, Fault>
+fn analysis_of_all(graph: &Graph<'_>, number: u32, asked: &[NumberedWhy]) -> Result<Analysis, Fault>
     ensures analysis { IfOk result (λ analysis. analysis_of number ≡ Some analysis) }
     ensures there { IfOk result (λ analysis. AreAskedIn (all_bits graph.now analysis) asked.now) }
     ensures fault { IfErr result (IsAskedFault graph.now number asked.now) }

@@ -22,7 +22,7 @@ mod why;
 pub use hop::{Effect, Hop};
 pub use point_bit::PointBit;
 pub use point_why::PointWhy;
-pub use std::alloc::AllocError as OutOfMemory;
 pub use space::Space;
+pub use std::alloc::AllocError as OutOfMemory;
 pub use ways::Ways;
 pub use why::Why;

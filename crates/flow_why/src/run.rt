@@ -226,7 +226,11 @@ fn gen_all(alloc: Global, frame: &Frame<'_, '_, '_>, search: &mut Search) -> Res
 }
 
 /// Fills a blank search.
-pub(crate) fn run(alloc: Global, frame: &Frame<'_, '_, '_>, search: &mut Search) -> Result<(), OutOfMemory>
+pub(crate) fn run(
+    alloc: Global,
+    frame: &Frame<'_, '_, '_>,
+    search: &mut Search,
+) -> Result<(), OutOfMemory>
     requires frame { IsFrame frame.now }
     requires blank { search.old ≡ nothing_found (point_count frame.now.links.now.program) }
     ensures marks { OnOk result (AreMarks (question_of frame.now) search.new) }

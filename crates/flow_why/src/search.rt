@@ -54,9 +54,9 @@ impl Search {
     /// Takes all marks away.
     pub fn clear(&mut self)
         ensures { self.new ≡ record {
-            holds = no_marks self.old.holds.points;
-            generated = no_marks self.old.generated.points;
-            preserved = no_marks self.old.preserved.points;
+          holds = no_marks self.old.holds.points;
+          generated = no_marks self.old.generated.points;
+          preserved = no_marks self.old.preserved.points;
         } }
     {
         self.holds.clear();

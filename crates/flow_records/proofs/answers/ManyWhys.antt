@@ -60,12 +60,16 @@ module _ (form : Selection) (asked : NumberedWhy) (all : form.chosen ≡ None) (
       why = λ number is. record {
         point = refl;
         bit = refl;
-        why = inr (refl, record {
-          analysis = form.analysis;
-          is_analysis = is;
-          there = is_there number;
-          none = subst (λ (t : Transfer). SomePathHas (may_shape form.program form.analysis) t asked.point → ⊥) transfer_is none;
-        }, refl);
+        why = inr (
+          refl,
+          record {
+            analysis = form.analysis;
+            is_analysis = is;
+            there = is_there number;
+            none = subst (λ (t : Transfer). SomePathHas (may_shape form.program form.analysis) t asked.point → ⊥) transfer_is none;
+          },
+          refl,
+        );
       };
     }
 
@@ -81,16 +85,19 @@ module _ (form : Selection) (asked : NumberedWhy) (all : form.chosen ≡ None) (
       why = λ number is. record {
         point = refl;
         bit = refl;
-        why = inl (refl, record {
-          hops = path;
-          are = record {
-            analysis = form.analysis;
-            is_analysis = is;
-            there = is_there number;
-            witness = subst (λ (t : Transfer). IsWitness (may_shape form.program form.analysis) t asked.point path) transfer_is witness;
-          };
-          same = refl;
-        });
+        why = inl (
+          refl,
+          record {
+            hops = path;
+            are = record {
+              analysis = form.analysis;
+              is_analysis = is;
+              there = is_there number;
+              witness = subst (λ (t : Transfer). IsWitness (may_shape form.program form.analysis) t asked.point path) transfer_is witness;
+            };
+            same = refl;
+          },
+        );
       };
     }
 
@@ -108,15 +115,20 @@ module _ (program : Program) (analysis : ℕ) (a t : NumberedWhy) (own : List Nu
   )
   one_behind start [] (b ∷ told) hops none end = absurd none
   one_behind start (b ∷ asked) [] hops none end = absurd none
-  one_behind start (b ∷ asked) (u ∷ told) hops (first, others, are, one, ends, rest) end =
-      (first, others ++ own, ap (λ (h : List NumberedHop). h ++ own) are ∙ append_assoc first others own, one, ends,
-      one_behind u.end asked told others rest (end ∙ behind))
+  one_behind start (b ∷ asked) (u ∷ told) hops (first, others, are, one, ends, rest) end = (
+    first,
+    others ++ own,
+    ap (λ (h : List NumberedHop). h ++ own) are ∙ append_assoc first others own,
+    one,
+    ends,
+    one_behind u.end asked told others rest (end ∙ behind),
+  )
     where
-    behind : start + length (hops ++ own) ≡ u.end + length (others ++ own)
-    behind =
-        let long : length (hops ++ own) ≡ length first + length (others ++ own) =
-        ap (λ (h : List NumberedHop). length (h ++ own)) are ∙ (ap length (append_assoc first others own) ∙ length-append first (others ++ own)) in
-        omega (arith, long, ends)
+      behind : start + length (hops ++ own) ≡ u.end + length (others ++ own)
+      behind =
+          let long : length (hops ++ own) ≡ length first + length (others ++ own) =
+          ap (λ (h : List NumberedHop). length (h ++ own)) are ∙ (ap length (append_assoc first others own) ∙ length-append first (others ++ own)) in
+          omega (arith, long, ends)
 
 -- so many are told, and one more
 pub one_more : (form : Selection) (number : ℕ) (asked : List NumberedWhy) (n : ℕ) (a : NumberedWhy) (whys whys_more : List NumberedWhy)
@@ -129,10 +141,10 @@ one_more form number asked n a whys whys_more hops hops_more longer more before 
     (one_behind form.program number a more.told more.own (more.why number is) 0 (take n asked) whys hops (before is)
     end)))
   where
-  end : more.told.end ≡ 0 + length (hops ++ more.own)
-  end =
-      let long : more.told.end ≡ length (hops ++ more.own) = more.end ∙ ap length more.hops_are in
-      omega (arith, long)
+    end : more.told.end ≡ 0 + length (hops ++ more.own)
+    end =
+        let long : more.told.end ≡ length (hops ++ more.own) = more.end ∙ ap length more.hops_are in
+        omega (arith, long)
 
 -- as many are told as are asked
 pub as_many : (program : Program) (analysis start : ℕ) (asked told : List NumberedWhy) (hops : List NumberedHop)

@@ -23,11 +23,14 @@ module _ (found : List Mark) (n : ℕ) (places : List ℕ) (are : AreLeft found 
       | inr other ↦
           let inside : x < length places = subst (λ m. x < m) (length-set places (point_at found n) 0) within in
           let before : get_or places x 0 ≡ i + 1 = sym (get_or-set_other places (point_at found n) x 0 0 other) ∙ at in
-          let here = are.left x i inside before in
-          (here.0, elim (cases_eq i n) [
-            | inl first ↦ absurd (other (sym here.2 ∙ ap (point_at found) first))
-            | inr later ↦ omega (arith, here.1, later)
-          ], here.2)
+          let here = are.left x i inside before in (
+            here.0,
+            elim (cases_eq i n) [
+              | inl first ↦ absurd (other (sym here.2 ∙ ap (point_at found) first))
+              | inr later ↦ omega (arith, here.1, later)
+            ],
+            here.2,
+          )
     ];
   }
 
@@ -61,10 +64,10 @@ none_indexed found places taken new is count blank = record {
   within = λ i low. absurd (omega (arith, low));
   placed = λ i low. absurd (omega (arith, low));
   marked = λ x i low at.
-  let zero_place : get_or new x 0 ≡ 0 = blank x (subst (λ n. x < n) count low) in
-  absurd (omega (arith, zero_place, at));
+      let zero_place : get_or new x 0 ≡ 0 = blank x (subst (λ n. x < n) count low) in
+      absurd (omega (arith, zero_place, at));
   room =
-  let none : blank_places new ≡ length new = all_blank new (λ x low. blank x (subst (λ n. x < n) count low)) in
-  omega (arith, none);
+      let none : blank_places new ≡ length new = all_blank new (λ x low. blank x (subst (λ n. x < n) count low)) in
+      omega (arith, none);
   up_to = omega arith;
 }

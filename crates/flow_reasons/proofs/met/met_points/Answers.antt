@@ -7,9 +7,11 @@ use Rattle.flow_reasons.proofs.met.met_points.Goals as goal
 
 pub loop-point-preserved : goal.loop-point-preserved
 loop-point-preserved c =
-    let search = c.args.search.now in
-    (one_step (IsMet search.ways.now.linked c.args.wanted.now search.stops.now search.at) c.loop-point.point c.loop-point.list.items
-    c.loop-point.invariant.0 c.in_ok-has.has c.put_if.new.numbers.items c.in_ok-has.ensures.has c.in_ok-put_if.ensures, c.in_ok-has.ensures.space)
+    let search = c.args.search.now in (
+      one_step (IsMet search.ways.now.linked c.args.wanted.now search.stops.now search.at) c.loop-point.point c.loop-point.list.items
+          c.loop-point.invariant.0 c.in_ok-has.has c.put_if.new.numbers.items c.in_ok-has.ensures.has c.in_ok-put_if.ensures,
+      c.in_ok-has.ensures.space,
+    )
 
 pub returns : goal.returns
 returns c =

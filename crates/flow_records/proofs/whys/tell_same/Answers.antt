@@ -16,9 +16,12 @@ loop-at-init c =
     let old = c.args.told.now in
     let new = c.tell.new.told in
     let more = subst (λ (s : Selection). IsToldMore s (slice_index_or asked from no_why) old.whys.items new.whys.items old.hops.items new.hops.items)
-    form c.in_ok-tell.ensures in
-    (omega arith, omega (arith, c.requires.from), λ number before. one_more c.args.problem.now number asked from
-    (slice_index_or asked from no_why) old.whys.items new.whys.items old.hops.items new.hops.items (longer asked from c.requires.from) more before)
+    form c.in_ok-tell.ensures in (
+      omega arith,
+      omega (arith, c.requires.from),
+      λ number before. one_more c.args.problem.now number asked from
+          (slice_index_or asked from no_why) old.whys.items new.whys.items old.hops.items new.hops.items (longer asked from c.requires.from) more before,
+    )
 
 pub tell-requires-in-loop-at-clause-there : goal.tell-requires-in-loop-at-clause-there
 tell-requires-in-loop-at-clause-there c =
@@ -35,7 +38,10 @@ loop-at-preserved c =
     let new = c.tell-in-loop-at.new.told in
     let kept = c.loop-at.invariant in
     let more = subst (λ (s : Selection). IsToldMore s (slice_index_or asked at no_why) old.whys.items new.whys.items old.hops.items new.hops.items)
-    form c.in_ok-tell-2.ensures in
-    (omega (arith, kept.0), omega (arith, c.loop-at-test.true), λ number before. one_more c.args.problem.now number asked at
-    (slice_index_or asked at no_why) old.whys.items new.whys.items old.hops.items new.hops.items (longer asked at c.loop-at-test.true) more
-    (kept.2 number before))
+    form c.in_ok-tell-2.ensures in (
+      omega (arith, kept.0),
+      omega (arith, c.loop-at-test.true),
+      λ number before. one_more c.args.problem.now number asked at
+          (slice_index_or asked at no_why) old.whys.items new.whys.items old.hops.items new.hops.items (longer asked at c.loop-at-test.true) more
+          (kept.2 number before),
+    )

@@ -1,7 +1,6 @@
 use Rattle.std.proofs.Common.{◌<◌, ◌≤◌, ℕ, length}
 use Rattle.flow_records.specs.code.Whys.{AreToldTo}
 use Rattle.flow_records.proofs.whys.tell_same.Given as goal
-
 use Rattle.std.proofs.Common.{◌-◌}
 
 abbrev pub decreases-loop-at : goal.decreases-loop-at

@@ -9,8 +9,8 @@ loop-mark-init c = (
   refl,
   record {
     left = λ x i within at.
-    let here = c.requires.marked x i within at in
-    (here.0, omega arith, here.1);
+        let here = c.requires.marked x i within at in
+        (here.0, omega arith, here.1);
   },
 )
 
