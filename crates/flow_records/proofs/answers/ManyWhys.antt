@@ -1,5 +1,5 @@
 -- What is told of many bits, one after the other.
-use Rattle.std.proofs.Common.{◌≡◌, ◌∙◌, ◌+◌, ◌<◌, ◌++◌, ◌∷◌, [], inl, inr, ℕ, zero, suc, List, Option, Some, None, MatchOption, length, map, take}
+use Rattle.std.proofs.Common.{◌≡◌, ◌∙◌, ◌+◌, ◌<◌, ◌++◌, ◌∷◌, [], inl, inr, ℕ, suc, List, Option, Some, None, MatchOption, length, map, take}
 use Rattle.std.proofs.Common.{Result, Ok, Err, OnOk, slice_get, slice_index_or, option_map, unwrap_or, refl, sym, ap, subst, arith}
 use Rattle.std.proofs.Math.Seq.{take-suc}
 use Rattle.std.proofs.lemmas.Bool.{cases_eq}
@@ -12,8 +12,7 @@ use Rattle.flow_why.specs.Witnesses.{IsWitness}
 use Rattle.flow_why.specs.declared.hop.Hop.{Hop}
 use Rattle.gen_kill.specs.Selections.{Selection, bit_in, column_transfer}
 use Rattle.tac_program.specs.Programs.{Program}
-use Rattle.flow_records.specs.Numbers.{analysis_of}
-use Rattle.flow_records.specs.Why.{AreNumberedHops, HasNoPath, IsThere, hop_part}
+use Rattle.flow_records.specs.Why.{IsThere, hop_part}
 use Rattle.flow_records.specs.Whys.{AreWhysFrom, IsToldWhy, fact_of}
 use Rattle.flow_records.specs.code.Whys.{AreToldTo, IsAskedIn, IsToldMore}
 use Rattle.flow_records.specs.declared.why.NumberedHop.{NumberedHop}

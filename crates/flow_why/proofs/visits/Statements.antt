@@ -21,11 +21,10 @@ use Rattle.flow_graph.specs.declared.analysis.Analysis.TheVariants.{Reach, Live,
 use Rattle.flow_links.specs.Shapes.{LinkedProgram, directed_shape}
 use Rattle.gen_kill.specs.Selections.{Selection, bit_of, column_gens}
 use Rattle.flow_why.specs.PointBits.{StatementBit, step_statement}
-use Rattle.flow_why.specs.code.Frames.{GeneratesAt, IsColumnFrame, IsAskedOf, IsFrame, IsPointFrame, question_of, step_begin, step_end}
+use Rattle.flow_why.specs.code.Frames.{GeneratesAt, IsColumnFrame, IsFrame, IsPointFrame, question_of, step_begin, step_end}
 use Rattle.flow_why.specs.code.Frames.{transfer_for, transfer_of_asked}
 use Rattle.flow_why.specs.code.Found.{Found}
 use Rattle.flow_why.specs.code.Visits.{AreGensVisited, IsEdgeGenVisited, IsGenVisited, IsStatementGenVisited}
-use Rattle.flow_why.specs.declared.frame.Asked.{Asked}
 use Rattle.flow_why.specs.declared.frame.Asked.TheVariants.{Paths}
 use Rattle.flow_why.specs.declared.frame.Frame.{Frame}
 use Rattle.flow_why.proofs.visits.Reasons.{statement_low}

@@ -1,10 +1,8 @@
-use Rattle.std.proofs.Common.{◌≡◌, ◌∙◌, ◌+◌, ◌<◌, ◌++◌, ◌∷◌, [], List, length, suc, slice_index_or, take, ap, arith, subst, sym}
-use Rattle.std.proofs.Math.Seq.{take-suc}
+use Rattle.std.proofs.Common.{◌≡◌, slice_index_or, ap, arith, subst, sym}
 use Rattle.std.proofs.lemmas.Option.{slice_get-get_or}
 use Rattle.flow_why.specs.code.Ways.{AskedBit}
 use Rattle.gen_kill.specs.Selections.{Selection}
 use Rattle.flow_records.specs.code.Whys.{IsAskedIn, IsToldMore}
-use Rattle.flow_records.specs.declared.whys.NumberedWhy.{NumberedWhy}
 use Rattle.flow_records.proofs.answers.ManyWhys.{longer, no_why, one_more}
 use Rattle.flow_records.proofs.whys.tell_same.Goals as goal
 

@@ -1,5 +1,5 @@
 use Rattle.std.proofs.Common.{◌<◌, sym, subst}
-use Rattle.flow_why.specs.code.Found.{IsPlaceOf, IsThere, MarkList, marks_of, point_at}
+use Rattle.flow_why.specs.code.Found.{IsPlaceOf, IsThere, MarkList, marks_of}
 use Rattle.flow_why.specs.code.Frames.{question_of}
 use Rattle.flow_why.specs.code.Trails.{AreHops}
 use Rattle.flow_why.proofs.solutions.Passing.{found_passes, never_found}

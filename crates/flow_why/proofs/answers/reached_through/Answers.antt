@@ -1,5 +1,5 @@
 use Rattle.std.proofs.Common.{◌<◌, sym, subst}
-use Rattle.flow_why.specs.code.Found.{Has, marks_of}
+use Rattle.flow_why.specs.code.Found.{Has}
 use Rattle.flow_why.specs.code.Frames.{question_of}
 use Rattle.flow_why.specs.code.Trails.{AreInnerHops}
 use Rattle.flow_why.specs.declared.claim.Claim.TheVariants as claim

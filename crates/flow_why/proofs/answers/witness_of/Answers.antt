@@ -1,7 +1,5 @@
-use Rattle.std.proofs.Common.{◌<◌, ◌≤◌, ◌*◌, length, sym, subst}
-use Rattle.flow_graph.specs.Paths.{SomePathHas}
-use Rattle.flow_why.specs.Witnesses.{IsWitness}
-use Rattle.flow_why.specs.code.Found.{IsPlaceOf, IsThere, MarkList, marks_of, point_at}
+use Rattle.std.proofs.Common.{◌<◌, sym, subst}
+use Rattle.flow_why.specs.code.Found.{IsPlaceOf, IsThere, MarkList}
 use Rattle.flow_why.specs.code.Frames.{question_of}
 use Rattle.flow_why.specs.code.Trails.{AreHops}
 use Rattle.flow_why.specs.declared.claim.Claim.TheVariants as claim

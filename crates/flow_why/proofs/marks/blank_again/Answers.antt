@@ -1,4 +1,4 @@
-use Rattle.std.proofs.Common.{◌≡◌, ◌<◌, ◌≤◌, ◌∙◌, length, ap, arith, refl, subst, sym}
+use Rattle.std.proofs.Common.{◌<◌, ◌≤◌, ◌∙◌, length, arith, refl, subst, sym}
 use Rattle.std.proofs.Math.ListN.{length-set}
 use Rattle.flow_why.specs.code.Found.{point_at}
 use Rattle.flow_why.proofs.found.Blanking.{all_blanked, one_blanked}

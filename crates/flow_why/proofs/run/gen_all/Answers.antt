@@ -1,4 +1,4 @@
-use Rattle.std.proofs.Common.{◌≡◌, ◌<◌, ap, subst, sym}
+use Rattle.std.proofs.Common.{ap, subst}
 use Rattle.flow_why.specs.code.Frames.{IsAskedOf, transfer_of_asked}
 use Rattle.flow_why.proofs.visits.Statements.{paths_visited}
 use Rattle.flow_why.proofs.run.gen_all.Goals as goal

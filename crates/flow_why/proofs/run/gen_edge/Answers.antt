@@ -1,12 +1,10 @@
-use Rattle.std.proofs.Common.{◌≡◌, ◌∙◌, ap, sym, subst, Contains, ℕ}
+use Rattle.std.proofs.Common.{◌≡◌, ◌∙◌, ap, sym, subst, Contains}
 use Rattle.flow_graph.specs.Edges.{edges}
 use Rattle.flow_graph.specs.declared.edge.Edge.TheVariants.{Step}
 use Rattle.flow_graph.specs.Paths.{IsEdge, source_of}
 use Rattle.flow_links.specs.Shapes.{directed_shape}
 use Rattle.flow_why.specs.PointBits.{step_statement}
-use Rattle.flow_why.specs.code.Frames.{GeneratesAt, question_of, step_begin, step_end}
-use Rattle.flow_why.specs.code.Found.{Found}
-use Rattle.flow_why.specs.code.Visits.{IsEdgeGenVisited, IsGenVisited}
+use Rattle.flow_why.specs.code.Frames.{GeneratesAt, step_begin, step_end}
 use Rattle.flow_why.proofs.visits.Statements.{statement_is, step_there}
 use Rattle.flow_why.proofs.run.gen_edge.Goals as goal
 

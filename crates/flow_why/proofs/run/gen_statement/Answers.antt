@@ -1,4 +1,4 @@
-use Rattle.std.proofs.Common.{◌≡◌, ◌<◌, ◌≤◌, get_or, arith, sym, subst, ap, ◌∙◌, Contains, ℕ}
+use Rattle.std.proofs.Common.{◌≡◌, ◌<◌, get_or, arith, sym, subst, ap, ◌∙◌, Contains}
 use Rattle.std.proofs.lemmas.List.Elements.{Contains-get_or}
 use Rattle.tac_program.specs.Programs.{Program}
 use Rattle.tac_program.specs.Sound.{IsSound}

@@ -1,4 +1,4 @@
-use Rattle.std.proofs.Common.{IfOk, MatchOption, sym, subst}
+use Rattle.std.proofs.Common.{IfOk, MatchOption, subst}
 use Rattle.flow_graph.specs.Paths.{SomePathHas}
 use Rattle.flow_links.specs.Shapes.{directed_shape}
 use Rattle.flow_why.specs.PointBits.{AskedPoints, asked_transfer}

@@ -1,4 +1,4 @@
-use Rattle.std.proofs.Common.{IfOk, MatchOption, sym, subst}
+use Rattle.std.proofs.Common.{IfOk, MatchOption, subst}
 use Rattle.flow_graph.specs.Problems.{may_shape}
 use Rattle.gen_kill.specs.Selections.{column_transfer}
 use Rattle.flow_why.specs.Witnesses.{IsNeverPassed, IsThroughWitness}

@@ -1,6 +1,5 @@
-use Rattle.std.proofs.Common.{IfOk, MatchOption, ◌≤◌, ◌*◌, length, IfSome, sym, subst}
+use Rattle.std.proofs.Common.{IfOk, MatchOption, subst}
 use Rattle.flow_graph.specs.Paths.{SomePathHas}
-use Rattle.flow_graph.specs.Points.{point_count}
 use Rattle.flow_graph.specs.Problems.{may_shape}
 use Rattle.gen_kill.specs.Selections.{column_transfer}
 use Rattle.flow_why.specs.Witnesses.{IsWitness}
