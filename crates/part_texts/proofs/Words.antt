@@ -1,0 +1,25 @@
+-- The words of a first line, and the numbers of parts.
+use Rattle.std.proofs.Common.{◌≡◌, refl, ℕ, zero, suc, ◌+◌, ◌-◌, ◌<◌, Bool, true, false, cond, List, [], ◌∷◌, Option, Some, None, sym, ap, ◌∙◌, arith}
+use Rattle.std.specs.List.{find, onto_first, range_with_len, slice_split}
+use Rattle.part_texts.specs.Lines.{is_space}
+use Rattle.part_texts.specs.Parts.{heading_of}
+
+-- more than six words
+pub more_words : (a b c d e f : List ℕ) (text : List ℕ) → heading_of (a ∷ b ∷ c ∷ d ∷ e ∷ f ∷ slice_split is_space text) ≡ None
+more_words a b c d e f [] = refl
+more_words a b c d e f (x ∷ text) = by (is_space x)
+  where
+    by_words : (words : List (List ℕ)) → heading_of (a ∷ b ∷ c ∷ d ∷ e ∷ f ∷ onto_first x words) ≡ None
+    by_words [] = refl
+    by_words (w ∷ words) = refl
+
+    by : (test : Bool) → heading_of (a ∷ b ∷ c ∷ d ∷ e ∷ f ∷ cond test ([] ∷ slice_split is_space text) (onto_first x (slice_split is_space text))) ≡ None
+    by true = refl
+    by false = by_words (slice_split is_space text)
+
+pub find_more : (p : ℕ → Bool) (first count : ℕ) → 0 < count → p first ≡ false
+    → find p (range_with_len first count) ≡ find p (range_with_len (first + 1) (count - 1))
+find_more p first zero some out = absurd (omega (arith, some))
+find_more p first (suc count) some out =
+    let e : count ≡ suc count - 1 = omega arith in
+    ap (λ b. cond b (Some first) (find p (range_with_len (first + 1) count))) out ∙ ap (λ n. find p (range_with_len (first + 1) n)) e

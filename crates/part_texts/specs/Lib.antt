@@ -1,0 +1,5 @@
+pub mod Lines
+pub mod Merges
+pub mod Orders
+pub mod Parts
+pub mod code

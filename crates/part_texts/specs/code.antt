@@ -1,0 +1,2 @@
+-- How the code's own values stand for parts.
+pub mod ReadParts

@@ -1,0 +1,15 @@
+//! Texts of parts of a report that several machines made: what is read of them, and the report that they make.
+#![tactic(auto)]
+
+mod cuts;
+mod fault;
+mod heading;
+mod line;
+mod merges;
+mod number;
+mod read;
+
+pub use fault::{MergeFault, PartFault};
+pub use heading::MOST_PARTS;
+pub use merges::merge;
+pub use std::alloc::AllocError as OutOfMemory;
