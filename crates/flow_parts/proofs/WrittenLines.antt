@@ -1,0 +1,51 @@
+-- Lines of remarks that are in a part, point by point.
+use Rattle.std.proofs.Common.{◌≡◌, refl, ℕ, suc, zero, ◌+◌, Bool, true, false, List, [], ◌∷◌, ◌++◌, cond, if◌then◌else◌, filter, flat_map, map, sym, ap, ◌∙◌, append_assoc}
+use Rattle.std.specs.List.{range_with_len}
+use Rattle.std.proofs.lemmas.List.Folds.{flat_map-map}
+use Rattle.std.proofs.lemmas.Grind.{flat_map-append}
+use Rattle.std.proofs.lemmas.List.Elements.{filter-append}
+use Rattle.flow_graph.specs.Points.{points}
+use Rattle.tac_program.specs.Programs.{Program}
+use Rattle.flow_reports.specs.Reports.{Knowledge, remark_line, remarks_at}
+use Rattle.flow_reports.specs.Listed.{placed_at, remarks_of}
+use Rattle.flow_reports.specs.declared.listed.PlacedRemark.{PlacedRemark}
+use Rattle.flow_reports.specs.declared.remark.Remark.{Remark}
+use Rattle.flow_parts.specs.Cuts.{is_in_part}
+use Rattle.flow_parts.specs.Parts.{part_lines, part_remarks}
+
+-- the texts of those that pass a test
+passing : {A B : Type 0} (text_of : A → List B) (test : A → Bool) (xs : List A)
+    → flat_map (λ x. if test x then text_of x else []) xs ≡ flat_map text_of (filter test xs)
+passing text_of test [] = refl
+passing text_of test (x ∷ xs) = by_test (test x) (passing text_of test xs)
+  where
+    by_test : (b : Bool) → flat_map (λ x. if test x then text_of x else []) xs ≡ flat_map text_of (filter test xs)
+        → (if b then text_of x else []) ++ flat_map (λ x. if test x then text_of x else []) xs ≡ flat_map text_of (cond b (x ∷ filter test xs) (filter test xs))
+    by_test true rest = ap (λ ys. text_of x ++ ys) rest
+    by_test false rest = rest
+
+-- what is written at a point
+abbrev pub lines_in : Program → Knowledge → (count part : ℕ) → ℕ → List ℕ
+lines_in program known count part point =
+    flat_map (λ remark. if is_in_part program count part remark then remark_line program point remark else []) (remarks_at program known point)
+
+lines_at_points : (program : Program) (known : Knowledge) (count part : ℕ) (ps : List ℕ) → flat_map (lines_in program known count part) ps
+    ≡ flat_map (λ placed. if is_in_part program count part placed.remark then remark_line program placed.point placed.remark else [])
+    (flat_map (λ point. placed_at point (remarks_at program known point)) ps)
+lines_at_points program known count part [] = refl
+lines_at_points program known count part (point ∷ ps) =
+    ap (λ t. lines_in program known count part point ++ t) (lines_at_points program known count part ps)
+    ∙ ap (λ t. t ++ flat_map all (flat_map (λ p. placed_at p (remarks_at program known p)) ps)) (sym (flat_map-map all place (remarks_at program known point)))
+    ∙ sym (flat_map-append all (placed_at point (remarks_at program known point)) (flat_map (λ p. placed_at p (remarks_at program known p)) ps))
+  where
+    all : PlacedRemark → List ℕ
+    all = λ placed. if is_in_part program count part placed.remark then remark_line program placed.point placed.remark else []
+
+    place : Remark → PlacedRemark
+    place = λ remark. record { point = point; remark = remark }
+
+pub lines_are : (program : Program) (known : Knowledge) (count part : ℕ)
+    → flat_map (lines_in program known count part) (points program) ≡ part_lines program (part_remarks program known count part)
+lines_are program known count part =
+    lines_at_points program known count part (points program)
+    ∙ passing (λ (placed : PlacedRemark). remark_line program placed.point placed.remark) (λ placed. is_in_part program count part placed.remark) (remarks_of program known)

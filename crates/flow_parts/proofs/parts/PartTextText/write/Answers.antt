@@ -1,0 +1,7 @@
+use Rattle.text_pieces.proofs.sinks.Taking.{takes_as, takes_then}
+use Rattle.flow_parts.proofs.parts.PartTextText.write.Goals as goal
+
+pub returns : goal.returns
+returns g c =
+    takes_as _ _ _ _ (takes_then _ _ _ _ _ (takes_then _ _ _ _ _ (takes_then _ _ _ _ _ c.write_heading.ensures c.write_counts.ensures)
+    c.write_lines.ensures) c.write_end.ensures) c.self.view_is

@@ -1,0 +1,10 @@
+use Rattle.std.proofs.Common.{flat_map}
+use Rattle.std.specs.List.{range_with_len}
+use Rattle.flow_reports.specs.code.Findings.{knowledge_of}
+use Rattle.text_pieces.specs.Pieces.{Writes}
+use Rattle.flow_parts.proofs.WrittenLines.{lines_in}
+use Rattle.flow_parts.proofs.parts.write_lines.Given as goal
+
+abbrev pub invariant-loop-point : goal.invariant-loop-point
+invariant-loop-point g l =
+    Writes g.K.Sink l.fn.out l.out (flat_map (lines_in l.found.graph.now (knowledge_of l.found) l.share.count l.share.part) (range_with_len 0 l.point))

@@ -1,0 +1,12 @@
+//! Parts of a report that several machines make: the text of each, and that together they are the report.
+#![tactic(auto)]
+
+mod digests;
+mod laws;
+mod part_lines;
+mod parts;
+
+pub use digests::digest;
+pub use laws::parts_are_the_report;
+pub use parts::{PartText, part_here};
+pub use std::alloc::AllocError as OutOfMemory;
