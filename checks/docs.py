@@ -28,11 +28,11 @@ Plant = tuple[str, Callable[[str], None], str]
 WIDTH = 140
 # How long a document may be; all others below docs/ may have OTHER_SIZE lines.
 SIZES = {
-    "docs/ARCHITECTURE.md": 205,
+    "docs/ARCHITECTURE.md": 208,
     "docs/TRUST.md": 200,
     "docs/PROVING.md": 378,
     "docs/GLOSSARY.md": 80,
-    "README.md": 180,
+    "README.md": 182,
 }
 OTHER_SIZE = 300
 CRATE_PAGE = (10, 60)

@@ -1,5 +1,7 @@
 -- The remarks of all parts, point by point and kind by kind.
-use Rattle.std.proofs.Common.{◌≡◌, refl, lit<, ℕ, zero, suc, ◌+◌, ◌-◌, ◌<◌, ◌≤◌, ◌==◌, ◌&&◌, Bool, true, false, not, cond, if◌then◌else◌, List, [], ◌∷◌, ◌++◌, Option, Some, None, length, filter, flat_map, map, sym, ap, ◌∙◌, subst, arith, append-nil, eq-eqb, nat_le, nat_lt, option_and_then, ◌⊎◌, inl, inr}
+use Rattle.std.proofs.Common.{◌≡◌, refl, lit<, ℕ, zero, suc, ◌+◌, ◌-◌, ◌<◌, ◌≤◌, ◌==◌, ◌&&◌, Bool, true, false, not, cond, if◌then◌else◌, List, []}
+use Rattle.std.proofs.Common.{◌∷◌, ◌++◌, Option, Some, None, length, filter, flat_map, map, sym, ap, ◌∙◌, subst, arith, append-nil, eq-eqb, nat_le}
+use Rattle.std.proofs.Common.{nat_lt, option_and_then, ◌⊎◌, inl, inr}
 use Rattle.std.specs.List.{range_with_len}
 use Rattle.std.proofs.lemmas.Bool.{cases_lt, eqb-true, ne_eqb}
 use Rattle.std.proofs.lemmas.List.Elements.{filter-append}
@@ -25,24 +27,25 @@ use Rattle.flow_parts.specs.Parts.{part_remarks}
 use Rattle.flow_parts.proofs.Numbers.{below_range, rises_range, whole}
 
 -- lists that are told of others
-filter_map : {A B : Type 0} (test : B → Bool) (tell : A → B) (xs : List A) → filter test (map tell xs) ≡ map tell (filter (λ x. test (tell x)) xs)
+pub filter_map : {A B : Type 0} (test : B → Bool) (tell : A → B) (xs : List A) → filter test (map tell xs) ≡ map tell (filter (λ x. test (tell x)) xs)
 filter_map test tell [] = refl
 filter_map test tell (x ∷ xs) = by (test (tell x)) (filter_map test tell xs)
   where
     by : (b : Bool) → filter test (map tell xs) ≡ map tell (filter (λ y. test (tell y)) xs)
-        → cond b (tell x ∷ filter test (map tell xs)) (filter test (map tell xs)) ≡ map tell (cond b (x ∷ filter (λ y. test (tell y)) xs) (filter (λ y. test (tell y)) xs))
+        → cond b (tell x ∷ filter test (map tell xs)) (filter test (map tell xs))
+        ≡ map tell (cond b (x ∷ filter (λ y. test (tell y)) xs) (filter (λ y. test (tell y)) xs))
     by true rest = ap (λ ys. tell x ∷ ys) rest
     by false rest = rest
 
-map_append : {A B : Type 0} (tell : A → B) (xs ys : List A) → map tell (xs ++ ys) ≡ map tell xs ++ map tell ys
+pub map_append : {A B : Type 0} (tell : A → B) (xs ys : List A) → map tell (xs ++ ys) ≡ map tell xs ++ map tell ys
 map_append tell [] ys = refl
 map_append tell (x ∷ xs) ys = ap (λ zs. tell x ∷ zs) (map_append tell xs ys)
 
-flat_map_map : {A B : Type 0} (tell : A → B) (f : ℕ → List A) (ks : List ℕ) → flat_map (λ k. map tell (f k)) ks ≡ map tell (flat_map f ks)
+pub flat_map_map : {A B : Type 0} (tell : A → B) (f : ℕ → List A) (ks : List ℕ) → flat_map (λ k. map tell (f k)) ks ≡ map tell (flat_map f ks)
 flat_map_map tell f [] = refl
 flat_map_map tell f (k ∷ ks) = ap (λ ys. map tell (f k) ++ ys) (flat_map_map tell f ks) ∙ sym (map_append tell (f k) (flat_map f ks))
 
-filters_meet : {A : Type 0} (p q : A → Bool) (xs : List A) → filter p (filter q xs) ≡ filter q (filter p xs)
+pub filters_meet : {A : Type 0} (p q : A → Bool) (xs : List A) → filter p (filter q xs) ≡ filter q (filter p xs)
 filters_meet p q [] = refl
 filters_meet p q (x ∷ xs) = by (p x) (q x) refl refl (filters_meet p q xs)
   where
@@ -51,10 +54,12 @@ filters_meet p q (x ∷ xs) = by (p x) (q x) refl refl (filters_meet p q xs)
     by true true e f rest =
         ap (λ c. filter p (cond c (x ∷ filter q xs) (filter q xs))) f ∙ ap (λ c. cond c (x ∷ filter p (filter q xs)) (filter p (filter q xs))) e
         ∙ ap (λ ys. x ∷ ys) rest
-        ∙ sym (ap (λ c. filter q (cond c (x ∷ filter p xs) (filter p xs))) e ∙ ap (λ c. cond c (x ∷ filter q (filter p xs)) (filter q (filter p xs))) f)
+        ∙ sym (ap (λ c. filter q (cond c (x ∷ filter p xs) (filter p xs))) e
+        ∙ ap (λ c. cond c (x ∷ filter q (filter p xs)) (filter q (filter p xs))) f)
     by true false e f rest =
         ap (λ c. filter p (cond c (x ∷ filter q xs) (filter q xs))) f ∙ rest
-        ∙ sym (ap (λ c. filter q (cond c (x ∷ filter p xs) (filter p xs))) e ∙ ap (λ c. cond c (x ∷ filter q (filter p xs)) (filter q (filter p xs))) f)
+        ∙ sym (ap (λ c. filter q (cond c (x ∷ filter p xs) (filter p xs))) e
+        ∙ ap (λ c. cond c (x ∷ filter q (filter p xs)) (filter q (filter p xs))) f)
     by false true e f rest =
         ap (λ c. filter p (cond c (x ∷ filter q xs) (filter q xs))) f ∙ ap (λ c. cond c (x ∷ filter p (filter q xs)) (filter p (filter q xs))) e
         ∙ rest ∙ sym (ap (λ c. filter q (cond c (x ∷ filter p xs) (filter p xs))) e)
@@ -82,10 +87,12 @@ made_whole program count size make xs some same up below =
     ∙ ap (map make) ((λ i. flat_map (λ part. filter (λ x. same part x i) xs) (range_with_len 1 count)) ∙ whole size count xs some up below)
 
 -- that a statement is never reached is in part 1
-later_lack : (program : Program) (count from n : ℕ) → 1 < from → flat_map (λ part. filter (is_in_part program count part) (NeverReached ∷ [])) (range_with_len from n) ≡ []
+later_lack : (program : Program) (count from n : ℕ) → 1 < from
+    → flat_map (λ part. filter (is_in_part program count part) (NeverReached ∷ [])) (range_with_len from n) ≡ []
 later_lack program count from zero later = refl
 later_lack program count from (suc n) later =
-    ap (λ b. cond b (NeverReached ∷ []) [] ++ flat_map (λ part. filter (is_in_part program count part) (NeverReached ∷ [])) (range_with_len (from + 1) n))
+    ap (λ b. cond b (NeverReached ∷ []) [] ++ flat_map (λ part. filter (is_in_part program count part) (NeverReached ∷ []))
+    (range_with_len (from + 1) n))
     (ne_eqb from 1 (λ same. absurd (omega (arith, same, later))))
     ∙ later_lack program count (from + 1) n (omega (arith, later))
 
@@ -102,7 +109,8 @@ kept_kind kind make c is [] = by (c == kind)
     by true = refl
     by false = refl
 kept_kind kind make c is (x ∷ xs) =
-    ap (λ k. cond (k == kind) (make x ∷ filter (λ remark. kind_of remark == kind) (map make xs)) (filter (λ remark. kind_of remark == kind) (map make xs))) (is x)
+    ap (λ k. cond (k == kind) (make x ∷ filter (λ remark. kind_of remark == kind) (map make xs))
+        (filter (λ remark. kind_of remark == kind) (map make xs))) (is x)
     ∙ ap (λ ys. cond (c == kind) (make x ∷ ys) ys) (kept_kind kind make c is xs) ∙ by (c == kind)
   where
     by : (b : Bool) → cond b (make x ∷ (if b then map make xs else [])) (if b then map make xs else []) ≡ (if b then make x ∷ map make xs else [])
@@ -139,12 +147,14 @@ single : (size bit : ℕ) (b : Bool) → bit < size → Rises (λ x. x) 0 (if b 
 single size bit true below = ((omega arith, tt), (below, tt))
 single size bit false below = (tt, tt)
 
-unset_whole : (program : Program) (known : Knowledge) (count point : ℕ) → 0 < count → IsWhole program count (map (λ v. Unset v) (unset_at program known point))
+unset_whole : (program : Program) (known : Knowledge) (count point : ℕ) → 0 < count
+    → IsWhole program count (map (λ v. Unset v) (unset_at program known point))
 unset_whole program known count point some =
     made_whole program count (length program.variable_names) (λ v. Unset v) (unset_at program known point) some (λ part x. refl)
     (rises_range _ 0 0 (length program.variable_names) (omega arith)) (below_range _ _ 0 (length program.variable_names) (omega arith))
 
-computed_whole : (program : Program) (known : Knowledge) (count point : ℕ) → 0 < count → IsWhole program count (map (λ e. Computed e) (computed_at program known point))
+computed_whole : (program : Program) (known : Knowledge) (count point : ℕ) → 0 < count
+    → IsWhole program count (map (λ e. Computed e) (computed_at program known point))
 computed_whole program known count point some = by (evaluated_at program point) refl
   where
     by : (o : Option ℕ) → evaluated_at program point ≡ o
@@ -154,10 +164,12 @@ computed_whole program known count point some = by (evaluated_at program point) 
         let one = single (bits program Avail) bit (known.avail.contains point bit) (evaluated_there program point bit is) in
         made_whole program count (bits program Avail) (λ e. Computed e) _ some (λ part x. refl) one.0 one.1
 
-busy_whole : (program : Program) (known : Knowledge) (count point : ℕ) → 0 < count → IsWhole program count (map (λ e. VeryBusy e) (busy_at program known point))
+busy_whole : (program : Program) (known : Knowledge) (count point : ℕ) → 0 < count
+    → IsWhole program count (map (λ e. VeryBusy e) (busy_at program known point))
 busy_whole program known count point some = by _
   where
-    by : (b : Bool) → IsWhole program count (map (λ e. VeryBusy e) (if b then filter (known.busy.contains point) (range_with_len 0 (bits program Busy)) else []))
+    by : (b : Bool) → IsWhole program count
+        (map (λ e. VeryBusy e) (if b then filter (known.busy.contains point) (range_with_len 0 (bits program Busy)) else []))
     by true =
         made_whole program count (bits program Busy) (λ e. VeryBusy e) _ some (λ part x. refl)
         (rises_range _ 0 0 (bits program Busy) (omega arith)) (below_range _ _ 0 (bits program Busy) (omega arith))
@@ -223,7 +235,8 @@ kind_whole program known count point kind sound below some = by (kind_at program
 abbrev IsWholePlaced : Program → ℕ → List PlacedRemark → Type 0
 IsWholePlaced program count placed = flat_map (λ part. filter (λ p. is_in_part program count part p.remark) placed) (range_with_len 1 count) ≡ placed
 
-placed_whole : (program : Program) (count point : ℕ) (remarks : List Remark) → IsWhole program count remarks → IsWholePlaced program count (placed_at point remarks)
+placed_whole : (program : Program) (count point : ℕ) (remarks : List Remark) → IsWhole program count remarks
+    → IsWholePlaced program count (placed_at point remarks)
 placed_whole program count point remarks are =
     let place : Remark → PlacedRemark = λ remark. record { point = point; remark = remark } in
     (λ i. flat_map (λ part. filter_map (λ p. is_in_part program count part p.remark) place remarks i) (range_with_len 1 count))
@@ -262,8 +275,10 @@ points_whole program known count point kind from zero sound some all = none_of_n
 points_whole program known count point kind from (suc n) sound some all =
     by (from == point) refl (points_whole program known count point kind (from + 1) n sound some (omega (arith, all)))
   where
-    by : (b : Bool) → (from == point) ≡ b → IsWholePlaced program count (filter (is_of point kind) (flat_map (block program known) (range_with_len (from + 1) n)))
-        → IsWholePlaced program count (filter (is_of point kind) (block program known from ++ flat_map (block program known) (range_with_len (from + 1) n)))
+    by : (b : Bool) → (from == point) ≡ b
+        → IsWholePlaced program count (filter (is_of point kind) (flat_map (block program known) (range_with_len (from + 1) n)))
+        → IsWholePlaced program count
+        (filter (is_of point kind) (block program known from ++ flat_map (block program known) (range_with_len (from + 1) n)))
     by true here others =
         let same : from ≡ point = eqb-true from point here in
         let below : from < point_count program = omega (arith, all) in
@@ -272,9 +287,11 @@ points_whole program known count point kind from (suc n) sound some all =
         let is : filter (is_of point kind) (block program known from ++ flat_map (block program known) (range_with_len (from + 1) n))
         ≡ placed_at from (filter (λ remark. kind_of remark == kind) (remarks_at program known from)) =
         filter-append (is_of point kind) (block program known from) (flat_map (block program known) (range_with_len (from + 1) n))
-        ∙ ap (λ xs. filter (is_of point kind) (block program known from) ++ xs) (later_none program known point kind (from + 1) n (omega (arith, same)))
+        ∙ ap (λ xs. filter (is_of point kind) (block program known from) ++ xs)
+        (later_none program known point kind (from + 1) n (omega (arith, same)))
         ∙ append-nil (filter (is_of point kind) (block program known from))
-        ∙ subst (λ p. filter (is_of p kind) (block program known from) ≡ placed_at from (filter (λ remark. kind_of remark == kind) (remarks_at program known from)))
+        ∙ subst (λ p. filter (is_of p kind) (block program known from)
+        ≡ placed_at from (filter (λ remark. kind_of remark == kind) (remarks_at program known from)))
         same (at_point from kind (remarks_at program known from)) in
         subst (IsWholePlaced program count) (sym is) whole_here
     by false other others =
@@ -288,5 +305,6 @@ points_whole program known count point kind from (suc n) sound some all =
 
 pub parts_are : PartsAreTheReport
 parts_are program known count sound some point kind =
-    (λ i. flat_map (λ part. filters_meet (is_of point kind) (λ placed. is_in_part program count part placed.remark) (remarks_of program known) i) (range_with_len 1 count))
+    (λ i. flat_map (λ part. filters_meet (is_of point kind) (λ placed. is_in_part program count part placed.remark) (remarks_of program known) i)
+    (range_with_len 1 count))
     ∙ points_whole program known count point kind 0 (point_count program) sound (omega (arith, some)) (omega arith)

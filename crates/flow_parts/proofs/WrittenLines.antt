@@ -1,5 +1,6 @@
 -- Lines of remarks that are in a part, point by point.
-use Rattle.std.proofs.Common.{◌≡◌, refl, ℕ, suc, zero, ◌+◌, Bool, true, false, List, [], ◌∷◌, ◌++◌, cond, if◌then◌else◌, filter, flat_map, map, sym, ap, ◌∙◌, append_assoc}
+use Rattle.std.proofs.Common.{◌≡◌, refl, ℕ, suc, zero, ◌+◌, Bool, true, false, List, [], ◌∷◌, ◌++◌, cond, if◌then◌else◌, filter, flat_map, map, sym}
+use Rattle.std.proofs.Common.{ap, ◌∙◌, append_assoc}
 use Rattle.std.specs.List.{range_with_len}
 use Rattle.std.proofs.lemmas.List.Folds.{flat_map-map}
 use Rattle.std.proofs.lemmas.Grind.{flat_map-append}
@@ -20,7 +21,8 @@ passing text_of test [] = refl
 passing text_of test (x ∷ xs) = by_test (test x) (passing text_of test xs)
   where
     by_test : (b : Bool) → flat_map (λ x. if test x then text_of x else []) xs ≡ flat_map text_of (filter test xs)
-        → (if b then text_of x else []) ++ flat_map (λ x. if test x then text_of x else []) xs ≡ flat_map text_of (cond b (x ∷ filter test xs) (filter test xs))
+        → (if b then text_of x else []) ++ flat_map (λ x. if test x then text_of x else []) xs
+        ≡ flat_map text_of (cond b (x ∷ filter test xs) (filter test xs))
     by_test true rest = ap (λ ys. text_of x ++ ys) rest
     by_test false rest = rest
 
@@ -35,7 +37,8 @@ lines_at_points : (program : Program) (known : Knowledge) (count part : ℕ) (ps
 lines_at_points program known count part [] = refl
 lines_at_points program known count part (point ∷ ps) =
     ap (λ t. lines_in program known count part point ++ t) (lines_at_points program known count part ps)
-    ∙ ap (λ t. t ++ flat_map all (flat_map (λ p. placed_at p (remarks_at program known p)) ps)) (sym (flat_map-map all place (remarks_at program known point)))
+    ∙ ap (λ t. t ++ flat_map all (flat_map (λ p. placed_at p (remarks_at program known p)) ps))
+    (sym (flat_map-map all place (remarks_at program known point)))
     ∙ sym (flat_map-append all (placed_at point (remarks_at program known point)) (flat_map (λ p. placed_at p (remarks_at program known p)) ps))
   where
     all : PlacedRemark → List ℕ
@@ -48,4 +51,5 @@ pub lines_are : (program : Program) (known : Knowledge) (count part : ℕ)
     → flat_map (lines_in program known count part) (points program) ≡ part_lines program (part_remarks program known count part)
 lines_are program known count part =
     lines_at_points program known count part (points program)
-    ∙ passing (λ (placed : PlacedRemark). remark_line program placed.point placed.remark) (λ placed. is_in_part program count part placed.remark) (remarks_of program known)
+    ∙ passing (λ (placed : PlacedRemark). remark_line program placed.point placed.remark) (λ placed. is_in_part program count part placed.remark)
+    (remarks_of program known)

@@ -2,6 +2,7 @@
 #![tactic(auto)]
 
 mod digests;
+pub mod examples;
 mod laws;
 mod part_lines;
 mod parts;

@@ -1,5 +1,6 @@
 -- Texts that are cut around a byte.
-use Rattle.std.proofs.Common.{◌≡◌, ◌==◌, ℕ, suc, ◌+◌, ◌-◌, ◌<◌, ◌≤◌, Bool, true, false, List, ◌∷◌, [], length, get_or, take, drop, arith, sym, ◌∙◌, ap, subst, take_all}
+use Rattle.std.proofs.Common.{◌≡◌, ◌==◌, ℕ, suc, ◌+◌, ◌-◌, ◌<◌, ◌≤◌, Bool, true, false, List, ◌∷◌, [], length, get_or, take, drop, arith, sym, ◌∙◌}
+use Rattle.std.proofs.Common.{ap, subst, take_all}
 use Rattle.std.specs.List.{after_first, before_first, position_or_len, slice_split, All}
 use Rattle.std.proofs.lemmas.List.{length-drop}
 use Rattle.std.proofs.lemmas.List.Sums.{position_or_len_is, fails_before_first}
@@ -14,7 +15,8 @@ cut_at : (test : ℕ → Bool) (text : List ℕ) (i : ℕ) → i < length text �
     → IsCut test text (take i text) (take (length text - (i + 1)) (drop (i + 1) text))
 cut_at test text i within at =
     let before : take i text ≡ before_first test text = ap (λ p. take p text) (sym at) in
-    let after : take (length text - (i + 1)) (drop (i + 1) text) ≡ after_first test text = take_rest text (i + 1) ∙ ap (λ p. drop (p + 1) text) (sym at) in
+    let after : take (length text - (i + 1)) (drop (i + 1) text) ≡ after_first test text = take_rest text (i + 1)
+        ∙ ap (λ p. drop (p + 1) text) (sym at) in
     record {
       is_before = before;
       is_after = after;

@@ -1,5 +1,6 @@
 -- Lines that are read one after another.
-use Rattle.std.proofs.Common.{◌≡◌, rules, refl, ℕ, suc, ◌∷◌, [], ◌++◌, List, Bool, true, false, not, Option, Some, None, Result, Ok, Err, length, ◌==◌, ◌&&◌, bytes_eq, if◌then◌else◌, sym, ap, ◌∙◌, cond, subst, append_assoc}
+use Rattle.std.proofs.Common.{◌≡◌, rules, refl, ℕ, suc, ◌∷◌, [], ◌++◌, List, Bool, true, false, not, Option, Some, None, Result, Ok, Err, length}
+use Rattle.std.proofs.Common.{◌==◌, ◌&&◌, bytes_eq, if◌then◌else◌, sym, ap, ◌∙◌, cond, subst, append_assoc}
 use Rattle.std.specs.List.{slice_split, onto_first}
 use Rattle.part_texts.specs.Lines.{Line, is_line_feed, read_line}
 use Rattle.part_texts.specs.Parts.{end_words, fault_behind, is_end, read_lines, with_line}
@@ -16,7 +17,8 @@ pub behind_none : (found : Result (List Line) PartFault) → behind [] found ≡
 behind_none (Ok others) = refl
 behind_none (Err fault) = refl
 
-pub behind_more : (lines : List Line) (line : Line) (found : Result (List Line) PartFault) → behind (lines ++ line ∷ []) found ≡ behind lines (with_line line found)
+pub behind_more : (lines : List Line) (line : Line) (found : Result (List Line) PartFault) → behind (lines ++ line ∷ []) found
+    ≡ behind lines (with_line line found)
 behind_more lines line (Ok others) = ap Ok (append_assoc lines (line ∷ []) others)
 behind_more lines line (Err fault) = refl
 
@@ -73,7 +75,8 @@ after_line part line after =
     (fault_of_more after)
 
 -- the steps of a reader, line by line
-pub reads_end : (part : ℕ) (text line after : List ℕ) → IsCut is_line_feed text line after → bytes_eq line (end_words part) && (length after == 0) ≡ true
+pub reads_end : (part : ℕ) (text line after : List ℕ) → IsCut is_line_feed text line after
+    → bytes_eq line (end_words part) && (length after == 0) ≡ true
     → read_lines part (slice_split is_line_feed text) ≡ Ok []
 reads_end part text line after cut last = ap (read_lines part) cut.split ∙ after_line part line after
     ∙ ap (λ b. stepped b (read_line part line) (read_lines part (slice_split is_line_feed after)) NoPart) last

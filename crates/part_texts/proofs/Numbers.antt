@@ -1,5 +1,6 @@
 -- Numbers that digits write.
-use Rattle.std.proofs.Common.{◌≡◌, refl, lit≤, nat_le, nat_lt, if◌then◌else◌, Some, None, ◌==◌, ℕ, suc, ◌+◌, ◌-◌, ◌*◌, ◌<◌, ◌≤◌, Bool, true, false, List, ◌∷◌, [], length, get_or, take, drop, arith, sym, ◌∙◌, ap, subst, ◌&&◌}
+use Rattle.std.proofs.Common.{◌≡◌, refl, lit≤, nat_le, nat_lt, if◌then◌else◌, Some, None, ◌==◌, ℕ, suc, ◌+◌, ◌-◌, ◌*◌, ◌<◌, ◌≤◌, Bool, true, false}
+use Rattle.std.proofs.Common.{List, ◌∷◌, [], length, get_or, take, drop, arith, sym, ◌∙◌, ap, subst, ◌&&◌}
 use Rattle.std.specs.Char.{digit_value, is_ascii_digit}
 use Rattle.std.specs.Int.{is_in_range, IsInRange}
 use Rattle.std.specs.List.{list_all}
@@ -19,10 +20,12 @@ pub all_more : (digits : List ℕ) (i : ℕ) → i < length digits → list_all 
     → list_all is_digit (take (i + 1) digits) ≡ true
 all_more digits i within all digit = list_all_more is_digit digits i 0 within ∙ (rw all digit)
 
-pub value_more : (digits : List ℕ) (i value : ℕ) → i < length digits → value ≡ digits_value 10 (take i digits) → is_ascii_digit (get_or digits i 0) ≡ true
+pub value_more : (digits : List ℕ) (i value : ℕ) → i < length digits → value ≡ digits_value 10 (take i digits)
+    → is_ascii_digit (get_or digits i 0) ≡ true
     → 10 * value + (get_or digits i 0 - 48) ≡ digits_value 10 (take (i + 1) digits)
 value_more digits i value within is digit =
-    let more : digits_value 10 (take (i + 1) digits) ≡ digits_value 10 (take i digits) * 10 + digit_value (get_or digits i 0) = digits_value_more 10 digits i within in
+    let more : digits_value 10 (take (i + 1) digits)
+        ≡ digits_value 10 (take i digits) * 10 + digit_value (get_or digits i 0) = digits_value_more 10 digits i within in
     let one : digit_value (get_or digits i 0) + 48 ≡ get_or digits i 0 = digit_value_digit _ (digit_is _ digit) in
     omega (arith, more, one, is)
 
@@ -32,6 +35,7 @@ too_large most digits i large =
     let larger : nat_le (digits_value 10 digits) most ≡ false = search (arith) in
     by_both (nat_lt 0 (length digits) && list_all is_digit digits) larger
   where
-    by_both : (b : Bool) → nat_le (digits_value 10 digits) most ≡ false → (if b && nat_le (digits_value 10 digits) most then Some (digits_value 10 digits) else None) ≡ None
+    by_both : (b : Bool) → nat_le (digits_value 10 digits) most ≡ false
+        → (if b && nat_le (digits_value 10 digits) most then Some (digits_value 10 digits) else None) ≡ None
     by_both true larger = ap (λ b. if b then Some (digits_value 10 digits) else None) larger
     by_both false larger = refl

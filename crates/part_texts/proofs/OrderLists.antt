@@ -1,5 +1,6 @@
 -- Lists in order by a number.
-use Rattle.std.proofs.Common.{◌≡◌, refl, ℕ, zero, suc, ◌+◌, ◌<◌, ◌≤◌, ◌==◌, Bool, true, false, not, List, [], ◌∷◌, ◌++◌, cond, if◌then◌else◌, filter, map, length, get_or, nat_le, nat_lt, ◌&&◌, sym, ap, ◌∙◌, subst, arith, ◌⊎◌, inl, inr}
+use Rattle.std.proofs.Common.{◌≡◌, refl, ℕ, zero, suc, ◌+◌, ◌<◌, ◌≤◌, ◌==◌, Bool, true, false, not, List, [], ◌∷◌, ◌++◌, cond, if◌then◌else◌, filter}
+use Rattle.std.proofs.Common.{map, length, get_or, nat_le, nat_lt, ◌&&◌, sym, ap, ◌∙◌, subst, arith, ◌⊎◌, inl, inr}
 use Rattle.std.specs.List.Sorted.{IsNonDecreasingBy, IsStableByKey, ties}
 use Rattle.std.specs.Ordering.{is_lt, nat_cmp}
 use Rattle.std.specs.declared.cmp.Ordering.TheVariants.{Less, Equal, Greater}
@@ -13,7 +14,8 @@ rises_put f x low (y ∷ ys) le up = by_case (cases_lt (f y) (f x)) (λ less. ri
   where
     by_case : (f y < f x) ⊎ (f x ≤ f y) → (f y < f x → Rises f (f y) (put_by f x ys)) → Rises f low (put_by f x (y ∷ ys))
     by_case (inl less) rest = subst (λ b. Rises f low (if b then x ∷ y ∷ ys else y ∷ put_by f x ys)) (sym (lt-leb (f x) (f y) less)) (up.0, rest less)
-    by_case (inr first) rest = subst (λ b. Rises f low (if b then x ∷ y ∷ ys else y ∷ put_by f x ys)) (sym (le-leb (f x) (f y) first)) (le, (first, up.1))
+    by_case (inr first) rest = subst (λ b. Rises f low (if b then x ∷ y ∷ ys else y ∷ put_by f x ys)) (sym (le-leb (f x) (f y) first))
+        (le, (first, up.1))
 
 pub rises_in_order : {A : Type 0} (f : A → ℕ) (xs : List A) → Rises f 0 (in_order_by f xs)
 rises_in_order f [] = tt
@@ -36,7 +38,8 @@ exchanged x y rest true true both = absurd (cc both)
 exchanged x y rest true false both = refl
 exchanged x y rest false c both = refl
 
-piece_put : {A : Type 0} (f : A → ℕ) (j : ℕ) (x : A) (ys : List A) → filter (between f j (j + 1)) (put_by f x ys) ≡ filter (between f j (j + 1)) (x ∷ ys)
+piece_put : {A : Type 0} (f : A → ℕ) (j : ℕ) (x : A) (ys : List A) → filter (between f j (j + 1)) (put_by f x ys)
+    ≡ filter (between f j (j + 1)) (x ∷ ys)
 piece_put f j x [] = refl
 piece_put f j x (y ∷ ys) = by_case (piece_put f j x ys) (cases_lt (f y) (f x))
   where
@@ -48,18 +51,21 @@ piece_put f j x (y ∷ ys) = by_case (piece_put f j x ys) (cases_lt (f y) (f x))
         ∙ exchanged x y (filter (between f j (j + 1)) ys) (between f j (j + 1) y) (between f j (j + 1) x) (apart f j x y less)
     by_case rest (inr first) = ap (λ b. filter (between f j (j + 1)) (if b then x ∷ y ∷ ys else y ∷ put_by f x ys)) (le-leb (f x) (f y) first)
 
-pub piece_in_order : {A : Type 0} (f : A → ℕ) (j : ℕ) (xs : List A) → filter (between f j (j + 1)) (in_order_by f xs) ≡ filter (between f j (j + 1)) xs
+pub piece_in_order : {A : Type 0} (f : A → ℕ) (j : ℕ) (xs : List A) → filter (between f j (j + 1)) (in_order_by f xs)
+    ≡ filter (between f j (j + 1)) xs
 piece_in_order f j [] = refl
 piece_in_order f j (x ∷ xs) =
     piece_put f j x (in_order_by f xs) ∙ ap (λ zs. cond (between f j (j + 1) x) (x ∷ zs) zs) (piece_in_order f j xs)
 
 -- A list that rises, with the same elements of each number in the same order, is the list in order.
-pub in_order_is : {A : Type 0} (f : A → ℕ) (xs ys : List A) → Rises f 0 ys → ((j : ℕ) → filter (between f j (j + 1)) ys ≡ filter (between f j (j + 1)) xs)
+pub in_order_is : {A : Type 0} (f : A → ℕ) (xs ys : List A) → Rises f 0 ys
+    → ((j : ℕ) → filter (between f j (j + 1)) ys ≡ filter (between f j (j + 1)) xs)
     → ys ≡ in_order_by f xs
 in_order_is f xs ys up same = told_by_pieces f ys (in_order_by f xs) up (rises_in_order f xs) (λ j. same j ∙ sym (piece_in_order f j xs))
 
 -- a stable sort by a number
-rises_of : {A : Type 0} (f : A → ℕ) (low : ℕ) (xs : List A) → ((j : ℕ) (d : A) → j < length xs → low ≤ f (get_or xs j d)) → IsNonDecreasingBy f xs → Rises f low xs
+rises_of : {A : Type 0} (f : A → ℕ) (low : ℕ) (xs : List A) → ((j : ℕ) (d : A) → j < length xs → low ≤ f (get_or xs j d))
+    → IsNonDecreasingBy f xs → Rises f low xs
 rises_of f low [] least up = tt
 rises_of f low (x ∷ xs) least up = (
   least 0 x (omega arith),
@@ -84,7 +90,8 @@ tie_is f j x y same =
         ap (λ b. not b && not (nat_lt (f y) (f x))) (le-ltb (f x) (f y) (omega (arith, same, below)))
         ∙ ap (λ b. not b) (lt-ltb (f y) (f x) (omega (arith, same, below))) ∙ sym (between_below f j (j + 1) y below)
     by_case (inr from) (inl above) =
-        ap (λ b. not b && not (nat_lt (f y) (f x))) (lt-ltb (f x) (f y) (omega (arith, same, above))) ∙ sym (between_above f j (j + 1) y (omega (arith, above)))
+        ap (λ b. not b && not (nat_lt (f y) (f x))) (lt-ltb (f x) (f y) (omega (arith, same, above)))
+        ∙ sym (between_above f j (j + 1) y (omega (arith, above)))
     by_case (inr from) (inr to) =
         ap (λ b. not b && not (nat_lt (f y) (f x))) (le-ltb (f x) (f y) (omega (arith, same, to)))
         ∙ ap (λ b. not b) (le-ltb (f y) (f x) (omega (arith, same, from)))
@@ -98,7 +105,7 @@ first_passes p (x ∷ xs) z zs same = by_test (p x) refl same (first_passes p xs
     by_test true passes found rest = let e : x ≡ z = cc found in ap p (sym e) ∙ passes
     by_test false passes found rest = rest found
 
-number_is : {A : Type 0} (f : A → ℕ) (j : ℕ) (z : A) → between f j (j + 1) z ≡ true → f z ≡ j
+pub number_is : {A : Type 0} (f : A → ℕ) (j : ℕ) (z : A) → between f j (j + 1) z ≡ true → f z ≡ j
 number_is f j z passes =
     let parts : (nat_le j (f z) ≡ true) × (nat_lt (f z) (j + 1) ≡ true) = and_parts _ _ passes in
     let low : j ≤ f z = leb-true _ _ parts.0 in

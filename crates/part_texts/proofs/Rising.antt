@@ -1,5 +1,6 @@
 -- Lists whose elements rise by a number: cut by it, and told apart by their pieces.
-use Rattle.std.proofs.Common.{◌≡◌, refl, ℕ, zero, suc, ◌+◌, ◌<◌, ◌≤◌, Bool, true, false, List, [], ◌∷◌, ◌++◌, cond, filter, flat_map, nat_le, nat_lt, ◌&&◌, sym, ap, ◌∙◌, subst, arith, ◌⊎◌, inl, inr}
+use Rattle.std.proofs.Common.{◌≡◌, refl, ℕ, zero, suc, ◌+◌, ◌<◌, ◌≤◌, Bool, true, false, List, [], ◌∷◌, ◌++◌, cond, filter, flat_map, nat_le, nat_lt}
+use Rattle.std.proofs.Common.{◌&&◌, sym, ap, ◌∙◌, subst, arith, ◌⊎◌, inl, inr}
 use Rattle.std.specs.List.{range_with_len}
 use Rattle.std.proofs.lemmas.Bool.{cases_lt, lt-ltb, le-ltb, le-leb, lt-leb}
 
@@ -63,10 +64,12 @@ pub join_pieces : {A : Type 0} (f : A → ℕ) (low mid high from : ℕ) (xs : L
 join_pieces f low mid high from [] lower higher up = refl
 join_pieces f low mid high from (x ∷ xs) lower higher up = by_case (join_pieces f low mid high (f x) xs lower higher up.1) (cases_lt (f x) mid)
   where
-    by_case : filter (between f low mid) xs ++ filter (between f mid high) xs ≡ filter (between f low high) xs → (f x < mid) ⊎ (mid ≤ f x) → filter (between f low mid) (x ∷ xs) ++ filter (between f mid high) (x ∷ xs) ≡ filter (between f low high) (x ∷ xs)
+    by_case : filter (between f low mid) xs ++ filter (between f mid high) xs ≡ filter (between f low high) xs → (f x < mid) ⊎ (mid ≤ f x)
+        → filter (between f low mid) (x ∷ xs) ++ filter (between f mid high) (x ∷ xs) ≡ filter (between f low high) (x ∷ xs)
     by_case rest (inl below) =
         let less : f x < high = omega (arith, below) in
-        let same : between f low mid x ≡ between f low high x = ap (λ b. nat_le low (f x) && b) (lt-ltb (f x) mid below ∙ sym (lt-ltb (f x) high less)) in
+        let same : between f low mid x
+            ≡ between f low high x = ap (λ b. nat_le low (f x) && b) (lt-ltb (f x) mid below ∙ sym (lt-ltb (f x) high less)) in
         ap (λ ys. filter (between f low mid) (x ∷ xs) ++ ys) (filter_out (between f mid high) x xs (between_below f mid high x below))
         ∙ ap (λ b. cond b (x ∷ filter (between f low mid) xs) (filter (between f low mid) xs) ++ filter (between f mid high) xs) same
         ∙ onto (between f low high x)
@@ -96,8 +99,10 @@ rises_far cut rise j (suc k) =
     subst (λ n. cut j ≤ cut n) e (omega (arith, a, b))
 
 -- all pieces of a cut
-pub pieces : {A : Type 0} (f : A → ℕ) (cut : ℕ → ℕ) (rise : (j : ℕ) → cut j ≤ cut (j + 1)) (from : ℕ) (xs : List A) → Rises f from xs → (first count : ℕ)
-    → flat_map (λ j. filter (between f (cut j) (cut (j + 1))) xs) (range_with_len first count) ≡ filter (between f (cut first) (cut (first + count))) xs
+pub pieces : {A : Type 0} (f : A → ℕ) (cut : ℕ → ℕ) (rise : (j : ℕ) → cut j ≤ cut (j + 1)) (from : ℕ) (xs : List A) → Rises f from xs
+    → (first count : ℕ)
+    → flat_map (λ j. filter (between f (cut j) (cut (j + 1))) xs) (range_with_len first count)
+    ≡ filter (between f (cut first) (cut (first + count))) xs
 pieces f cut rise from xs up first zero =
     let e : first ≡ first + 0 = omega arith in
     subst (λ n. [] ≡ filter (between f (cut first) (cut n)) xs) e (sym (no_piece f (cut first) xs))

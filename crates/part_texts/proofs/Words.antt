@@ -13,7 +13,8 @@ more_words a b c d e f (x ∷ text) = by (is_space x)
     by_words [] = refl
     by_words (w ∷ words) = refl
 
-    by : (test : Bool) → heading_of (a ∷ b ∷ c ∷ d ∷ e ∷ f ∷ cond test ([] ∷ slice_split is_space text) (onto_first x (slice_split is_space text))) ≡ None
+    by : (test : Bool) → heading_of
+        (a ∷ b ∷ c ∷ d ∷ e ∷ f ∷ cond test ([] ∷ slice_split is_space text) (onto_first x (slice_split is_space text))) ≡ None
     by true = refl
     by false = by_words (slice_split is_space text)
 

@@ -1,5 +1,6 @@
 -- The lines of a part of a report.
-use Rattle.std.specs.Prelude.{ℕ, ◌+◌, ◌*◌, Bool, List, drop, length, Option, Some, None, option_map, option_and_then, ◌==◌, ◌&&◌, nat_eq, nat_le, nat_lt}
+use Rattle.std.specs.Prelude.{ℕ, ◌+◌, ◌*◌, Bool, List, drop, length, Option, Some, None, option_map, option_and_then, ◌==◌, ◌&&◌, nat_eq, nat_le}
+use Rattle.std.specs.Prelude.{nat_lt}
 use Rattle.std.specs.Prelude.{bytes_eq, codes, if◌then◌else◌}
 use Rattle.std.specs.List.{after_first, before_first, ends_with, list_all, starts_with}
 use Rattle.std.specs.Str.Parse.{digits_value}

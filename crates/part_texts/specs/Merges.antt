@@ -1,5 +1,6 @@
 -- The report that parts make.
-use Rattle.std.specs.Prelude.{ℕ, ◌++◌, Bool, List, [], ◌∷◌, Option, Some, None, Result, Ok, Err, length, ◌==◌, ◌&&◌, not, flat_map, bytes_eq, codes, if◌then◌else◌}
+use Rattle.std.specs.Prelude.{ℕ, ◌++◌, Bool, List, [], ◌∷◌, Option, Some, None, Result, Ok, Err, length, ◌==◌, ◌&&◌, not, flat_map, bytes_eq, codes}
+use Rattle.std.specs.Prelude.{if◌then◌else◌}
 use Rattle.std.specs.List.{find, list_any, range_with_len}
 use Rattle.part_texts.specs.Lines.{place}
 use Rattle.part_texts.specs.Orders.{in_order_by}

@@ -2,6 +2,7 @@
 #![tactic(auto)]
 
 mod cuts;
+pub mod examples;
 mod fault;
 mod heading;
 mod line;

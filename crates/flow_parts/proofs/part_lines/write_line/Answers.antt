@@ -22,7 +22,8 @@ returns g c =
     let program : Program = c.args.found.now.graph.now in
     let remark : Remark = c.args.remark in
     takes_as _ _ _ (remark_line program c.args.point remark)
-    (takes_then _ _ _ _ _ (takes_then _ _ _ _ _ (takes_then _ _ _ _ _ (takes_then _ _ _ _ _ (takes_then _ _ _ _ _ c.write_number.ensures c.write.ensures)
+    (takes_then _ _ _ _ _
+    (takes_then _ _ _ _ _ (takes_then _ _ _ _ _ (takes_then _ _ _ _ _ (takes_then _ _ _ _ _ c.write_number.ensures c.write.ensures)
     c.write-2.ensures) c.write-3.ensures) c.write-4.ensures) c.write-5.ensures)
     (pieces (decimal c.line.result) (decimal (line_at program c.args.point)) (codes ": ") c.words_before_name.result.now (words_before remark)
     c.name.result.now (remark_name program remark) c.words_behind_name.result.now (words_behind remark) (codes "\n") (remark_text program remark)

@@ -10,12 +10,14 @@ use Rattle.flow_parts.proofs.parts.write_lines.Goals as goal
 pub loop-point-preserved : goal.loop-point-preserved
 loop-point-preserved g c =
     takes_as _ _ _ _ (takes_then _ _ _ _ _ c.loop-point.invariant c.write_remarks.ensures)
-    (sym (flat_map-range_more (lines_in c.args.found.now.graph.now (knowledge_of c.args.found.now) c.args.share.count c.args.share.part) c.loop-point.point))
+    (sym (flat_map-range_more
+    (lines_in c.args.found.now.graph.now (knowledge_of c.args.found.now) c.args.share.count c.args.share.part) c.loop-point.point))
 
 pub returns : goal.returns
 returns g c =
     let all : c.loop-point.point ≡ point_count c.args.found.now.graph.now =
     omega (arith, c.loop-point-test.false, c.loop-point.auto.point-end, c.points-point-end.ensures.count) in
     takes_as _ _ _ _ c.loop-point.invariant
-    (ap (λ n. flat_map (lines_in c.args.found.now.graph.now (knowledge_of c.args.found.now) c.args.share.count c.args.share.part) (range_with_len 0 n)) all
+    (ap (λ n. flat_map (lines_in c.args.found.now.graph.now (knowledge_of c.args.found.now) c.args.share.count c.args.share.part)
+    (range_with_len 0 n)) all
     ∙ lines_are c.args.found.now.graph.now (knowledge_of c.args.found.now) c.args.share.count c.args.share.part)

@@ -7,4 +7,5 @@ use Rattle.flow_parts.proofs.parts.write_lines.Given as goal
 
 abbrev pub invariant-loop-point : goal.invariant-loop-point
 invariant-loop-point g l =
-    Writes g.K.Sink l.fn.out l.out (flat_map (lines_in l.found.graph.now (knowledge_of l.found) l.share.count l.share.part) (range_with_len 0 l.point))
+    Writes g.K.Sink l.fn.out l.out
+    (flat_map (lines_in l.found.graph.now (knowledge_of l.found) l.share.count l.share.part) (range_with_len 0 l.point))

@@ -17,6 +17,8 @@ returns c =
     let stable : IsStableByKey (λ (line : PartLine). place (line_of line)) nat_cmp c.loop-part.lines.items c.sort_by_key.new.self.items =
     c.in_ok-sort_by_key.ensures.stable (λ line. place (line_of line)) (answers_always _ _ _ (λ f a r q k. search rules)) in
     let whole : map line_of c.loop-part.lines.items ≡ flat_map (λ p. p.lines) (map part_in c.args.parts.now) =
-    sym (append-nil _) ∙ ap (λ ps. map line_of c.loop-part.lines.items ++ flat_map (λ p. p.lines) (map part_in ps)) (sym (drop_of_length-le _ c.loop-part-test.false))
+    sym (append-nil _) ∙ ap (λ ps. map line_of c.loop-part.lines.items ++ flat_map (λ p. p.lines) (map part_in ps))
+    (sym (drop_of_length-le _ c.loop-part-test.false))
     ∙ c.loop-part.invariant in
-    ap (map line_of) (sorted_is (λ line. place (line_of line)) c.loop-part.lines.items _ up stable) ∙ map_in_order place line_of c.loop-part.lines.items ∙ ap (in_order_by place) whole
+    ap (map line_of) (sorted_is (λ line. place (line_of line)) c.loop-part.lines.items _ up stable)
+    ∙ map_in_order place line_of c.loop-part.lines.items ∙ ap (in_order_by place) whole

@@ -8,7 +8,8 @@ pub returns-then-value-from : goal.returns-then-value-from
 returns-then-value-from c = sym (too_large c.args.most c.args.digits.now (c.loop-digit.digit-index + 1)
     (let e = value_more c.args.digits.now c.loop-digit.digit-index c.loop-digit.value c.loop-digit-test.true c.loop-digit.invariant.is
     (sym (c.if-not-is_ascii_digit.ensures.value)) in
-    subst (λ n. c.args.most < n) (ap (λ n. 10 * c.loop-digit.value + n) c.from.ensures ∙ e) (omega (arith, c.if-value-from.true, c.from-in-loop-digit.ensures))))
+    subst (λ n. c.args.most < n) (ap (λ n. 10 * c.loop-digit.value + n) c.from.ensures ∙ e)
+    (omega (arith, c.if-value-from.true, c.from-in-loop-digit.ensures))))
 
 pub loop-digit-preserved : goal.loop-digit-preserved
 loop-digit-preserved c = record {
