@@ -1,3 +1,5 @@
+mod MergeLists
+mod Merging
 mod Numbers
 mod Wholes
 mod WrittenLines

@@ -110,7 +110,7 @@ kept_kind kind make c is [] = by (c == kind)
     by false = refl
 kept_kind kind make c is (x ∷ xs) =
     ap (λ k. cond (k == kind) (make x ∷ filter (λ remark. kind_of remark == kind) (map make xs))
-        (filter (λ remark. kind_of remark == kind) (map make xs))) (is x)
+    (filter (λ remark. kind_of remark == kind) (map make xs))) (is x)
     ∙ ap (λ ys. cond (c == kind) (make x ∷ ys) ys) (kept_kind kind make c is xs) ∙ by (c == kind)
   where
     by : (b : Bool) → cond b (make x ∷ (if b then map make xs else [])) (if b then map make xs else []) ≡ (if b then make x ∷ map make xs else [])

@@ -1,3 +1,4 @@
 pub mod Cuts
-pub mod Parts
+pub mod MergeLaws
 pub mod PartLaws
+pub mod Parts
