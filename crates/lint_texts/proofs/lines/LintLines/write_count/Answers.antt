@@ -1,0 +1,11 @@
+use Rattle.std.proofs.Common.{◌++◌, codes, ap}
+use Rattle.lint_texts.specs.LintTexts.{remark_count}
+use Rattle.text_pieces.proofs.sinks.Taking.{takes_as, takes_then}
+use Rattle.lint_texts.proofs.lines.LintLines.write_count.Goals as goal
+
+pub returns : goal.returns
+returns g c =
+    takes_as _ _ _ _
+    (takes_then _ _ _ _ _ (takes_then _ _ _ _ _ (takes_then _ _ _ _ _ c.write.ensures c.write-2.ensures) c.write_remark_count.ensures)
+    c.write-3.ensures)
+    (ap (λ n. c.args.self.now.file.now ++ codes ": " ++ remark_count n ++ codes "\n") c.wanted_count.ensures)

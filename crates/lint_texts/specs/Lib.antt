@@ -1,0 +1,2 @@
+pub mod LintTexts
+pub mod code

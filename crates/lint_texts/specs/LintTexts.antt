@@ -1,0 +1,134 @@
+-- The text of what a linter tells of a program.
+use Rattle.std.specs.Prelude.{◌≡◌, ◌↔◌, ℕ, ◌+◌, ◌-◌, ◌<◌, Bool, true, false, not, ◌&&◌, List, [], ◌++◌, flat_map, Option, Some, None}
+use Rattle.std.specs.Prelude.{if◌then◌else◌, codes, decimal, count_by, nat_eq, nat_lt}
+use Rattle.std.specs.List.{prefix_len, range_with_len}
+use Rattle.flow_graph.specs.Analyses.{HasPathAt}
+use Rattle.flow_graph.specs.Points.{kind_at, point_count}
+use Rattle.flow_graph.specs.declared.analysis.Analysis.TheVariants.{Reach, Avail, Busy}
+use Rattle.flow_lints.specs.Lints.{IsLinted}
+use Rattle.flow_lints.specs.declared.lint.Lint.{Lint}
+use Rattle.flow_lints.specs.declared.lint.Lint.TheVariants.{NeverCalled, Told}
+use Rattle.flow_lints.specs.declared.lint.Linted.{Linted}
+use Rattle.flow_lints.specs.declared.lint.PlacedLint.{PlacedLint}
+use Rattle.flow_reports.specs.declared.remark.Remark.{Remark}
+use Rattle.flow_reports.specs.declared.remark.Remark.TheVariants.{NeverReached, Unset, Computed, VeryBusy, Dead}
+use Rattle.flow_texts.specs.Tables.{bit_text, line_at, variable_text}
+use Rattle.lint_texts.specs.declared.kinds.Kinds.{Kinds}
+use Rattle.tac_program.specs.Names.{name_at}
+use Rattle.tac_program.specs.Programs.{Program}
+
+-- the kinds that are told where nothing else is asked for
+abbrev pub usual_kinds : Kinds
+usual_kinds = record { never_called = true; never_reached = true; unset = true; computed = false; busy = false; dead = true }
+
+-- whether a remark is of a kind that is wanted, and whether a lint is
+abbrev pub is_remark_wanted : Kinds → Remark → Bool
+is_remark_wanted kinds NeverReached = kinds.never_reached
+is_remark_wanted kinds (Unset variable) = kinds.unset
+is_remark_wanted kinds (Computed bit) = kinds.computed
+is_remark_wanted kinds (VeryBusy bit) = kinds.busy
+is_remark_wanted kinds (Dead variable) = kinds.dead
+
+abbrev pub is_wanted : Kinds → Lint → Bool
+is_wanted kinds (NeverCalled procedure) = kinds.never_called
+is_wanted kinds (Told remark) = is_remark_wanted kinds remark
+
+-- what a kind is called
+abbrev pub remark_kind : Remark → List ℕ
+remark_kind NeverReached = codes "never-reached"
+remark_kind (Unset variable) = codes "unset"
+remark_kind (Computed bit) = codes "computed"
+remark_kind (VeryBusy bit) = codes "busy"
+remark_kind (Dead variable) = codes "dead"
+
+abbrev pub kind_text : Lint → List ℕ
+kind_text (NeverCalled procedure) = codes "never-called"
+kind_text (Told remark) = remark_kind remark
+
+-- whether a statement stands at the point, and no valid path leads there
+abbrev pub is_unreached : Program → (ℕ → Bool) → ℕ → Bool
+is_unreached program reached point = elim (kind_at program point) [ Some statement ↦ not (reached point) | None ↦ false ]
+
+-- The last point of the statements in a row that are never reached, of which one stands at the point: those behind it up to the next point
+-- that is reached or is the end of its procedure.
+abbrev pub last_unreached : Program → (ℕ → Bool) → ℕ → ℕ
+last_unreached program reached point =
+    point + prefix_len (is_unreached program reached) (range_with_len (point + 1) (point_count program - (point + 1)))
+
+abbrev pub unreached_words : Program → ℕ → ℕ → List ℕ
+unreached_words program point last =
+    if nat_eq last point then codes "this statement is never reached"
+    else codes "no statement from here to line " ++ decimal (line_at program last) ++ codes " is ever reached"
+
+abbrev pub remark_words : Program → (ℕ → Bool) → ℕ → Remark → List ℕ
+remark_words program reached point NeverReached = unreached_words program point (last_unreached program reached point)
+remark_words program reached point (Unset variable) = variable_text program variable ++ codes " may be used before it is set"
+remark_words program reached point (Computed bit) = bit_text program Avail bit ++ codes " is already computed"
+remark_words program reached point (VeryBusy bit) = bit_text program Busy bit ++ codes " is very busy"
+remark_words program reached point (Dead variable) = codes "the value assigned to " ++ variable_text program variable ++ codes " is never used"
+
+abbrev pub lint_words : Program → (ℕ → Bool) → ℕ → Lint → List ℕ
+lint_words program reached point (NeverCalled procedure) = codes "procedure " ++ name_at program.procedure_names procedure ++ codes " is never called"
+lint_words program reached point (Told remark) = remark_words program reached point remark
+
+-- `FILE:LINE: `
+abbrev pub place_words : List ℕ → Program → ℕ → List ℕ
+place_words file program point = file ++ codes ":" ++ decimal (line_at program point) ++ codes ": "
+
+-- `FILE:LINE: KIND: WORDS`
+abbrev pub lint_line : List ℕ → Program → (ℕ → Bool) → PlacedLint → List ℕ
+lint_line file program reached placed =
+    place_words file program placed.point ++ kind_text placed.lint ++ codes ": " ++ lint_words program reached placed.point placed.lint
+    ++ codes "\n"
+
+-- the line of a lint that is wanted
+abbrev pub wanted_line : List ℕ → Kinds → Program → (ℕ → Bool) → PlacedLint → List ℕ
+wanted_line file kinds program reached placed = if is_wanted kinds placed.lint then lint_line file program reached placed else []
+
+abbrev pub untold_words : ℕ → List ℕ
+untold_words count = if nat_eq count 1 then codes "1 dead assignment is not told" else decimal count ++ codes " dead assignments are not told"
+
+abbrev pub endless_words : Program → Option ℕ → List ℕ
+endless_words program (Some point) = codes " (from line " ++ decimal (line_at program point) ++ codes " on)"
+endless_words program None = []
+
+-- `FILE: note: N dead assignments are not told, since the program may never end (from line L on)`
+abbrev pub untold_line : List ℕ → Program → Linted → List ℕ
+untold_line file program linted =
+    file ++ codes ": note: " ++ untold_words linted.left_out ++ codes ", since the program may never end" ++ endless_words program linted.endless
+    ++ codes "\n"
+
+-- that line, where dead assignments are wanted and some are left out
+abbrev pub wanted_note : List ℕ → Kinds → Program → Linted → List ℕ
+wanted_note file kinds program linted = if kinds.dead && nat_lt 0 linted.left_out then untold_line file program linted else []
+
+abbrev pub remark_count : ℕ → List ℕ
+remark_count count = if nat_eq count 0 then codes "no remarks" else if nat_eq count 1 then codes "1 remark" else decimal count ++ codes " remarks"
+
+-- `FILE: N remarks`
+abbrev pub count_line : List ℕ → ℕ → List ℕ
+count_line file count = file ++ codes ": " ++ remark_count count ++ codes "\n"
+
+-- The text of a file of this name: a line for each lint that is wanted, in their order, the note on dead assignments, and how many lines have
+-- a lint.
+abbrev pub lint_text_of : List ℕ → Kinds → Program → (ℕ → Bool) → Linted → List ℕ
+lint_text_of file kinds program reached linted =
+    flat_map (wanted_line file kinds program reached) linted.lints.items
+    ++ wanted_note file kinds program linted
+    ++ count_line file (count_by (λ placed. is_wanted kinds placed.lint) linted.lints.items)
+
+-- at each point of the program: whether some valid path leads there
+abbrev pub TellReached : Program → (ℕ → Bool) → Type 0
+TellReached program reached = (point : ℕ) → point < point_count program → (reached point ≡ true) ↔ HasPathAt program Reach point
+
+-- The text tells these lints of the program.
+pub record IsLintText (file : List ℕ) (kinds : Kinds) (program : Program) (linted : Linted) (text : List ℕ) : Type 0 where
+  pub reached : ℕ → Bool
+  pub are_reached : TellReached program reached
+  pub is_text : text ≡ lint_text_of file kinds program reached linted
+
+-- The text tells what is told of the program: its lints are over the meets over all valid paths.
+pub record TellsLints (file : List ℕ) (kinds : Kinds) (program : Program) (text : List ℕ) : Type 0 where
+  pub linted : Linted
+  pub is_linted : IsLinted program linted
+  pub is_text : IsLintText file kinds program linted text

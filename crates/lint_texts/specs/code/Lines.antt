@@ -1,0 +1,33 @@
+-- What the text of lints is written of.
+use Rattle.std.specs.Prelude.{ℕ, ◌<◌, Bool, Option, Some, None}
+use Rattle.std.specs.List.{All}
+use Rattle.flow_graph.specs.Points.{point_count}
+use Rattle.flow_graph.specs.Universes.{bits}
+use Rattle.flow_graph.specs.declared.analysis.Analysis.TheVariants.{Reach, Avail}
+use Rattle.flow_lints.specs.declared.lint.Linted.{Linted}
+use Rattle.flow_reports.specs.code.Answered.{facts_in}
+use Rattle.flow_reports.specs.code.Reported.{TellReport}
+use Rattle.flow_texts.specs.Tables.{bit_text}
+use Rattle.lint_texts.specs.declared.lines.LintLines.{LintLines}
+use Rattle.tac_program.specs.Programs.{Program}
+use Rattle.text_pieces.specs.code.Lists.{AreTexts}
+
+-- the program has the point, where there is one
+abbrev pub IsPointIn : Program → Option ℕ → Type 0
+IsPointIn program (Some point) = point < point_count program
+IsPointIn program None = Unit {0}
+
+-- The program has the points at which something is told.
+pub record ArePlaced (program : Program) (linted : Linted) : Type 0 where
+  pub lints : All (λ placed. placed.point < point_count program) linted.lints.items
+  pub endless : IsPointIn program linted.endless
+
+-- The answers tell a report on the program, which has the points of the lints, and the texts are those of its expressions.
+pub record AreLintLines (lines : LintLines) : Type 0 where
+  pub answers : TellReport lines.graph.now lines.answers.now
+  pub placed : ArePlaced lines.graph.now lines.linted.now
+  pub expressions : AreTexts (bit_text lines.graph.now Avail) (bits lines.graph.now Avail) lines.expressions.texts
+
+-- which points are reached, as the answers tell
+abbrev pub reached_in : LintLines → ℕ → Bool
+reached_in lines = (facts_in lines.answers.now.replies Reach).has_path

@@ -1,0 +1,320 @@
+// The lines of lints.
+
+ghost use Rattle.std.specs.Prelude.{◌≡◌, ◌<◌, ◌++◌, codes, count_by, decimal, flat_map};
+ghost use Rattle.flow_graph.specs.Points.{point_count};
+ghost use Rattle.flow_graph.specs.declared.analysis.Analysis.TheVariants.{Avail};
+ghost use Rattle.flow_texts.specs.Tables.{bit_text, variable_text};
+ghost use Rattle.lint_texts.specs.LintTexts.{count_line, endless_words, is_unreached as is_unreached_at, is_wanted, last_unreached, lint_line};
+ghost use Rattle.lint_texts.specs.LintTexts.{lint_text_of, lint_words, place_words, remark_count, remark_words, unreached_words};
+ghost use Rattle.lint_texts.specs.LintTexts.{untold_line, untold_words, wanted_line, wanted_note};
+ghost use Rattle.lint_texts.specs.code.Lines.{AreLintLines, IsPointIn, reached_in};
+ghost use Rattle.tac_program.specs.Names.{name_at};
+ghost use Rattle.text_pieces.specs.Pieces.{CanWrite, Writes};
+
+use crate::kinds::{Kinds, kind_name};
+use flow_graph::{Analysis, Graph};
+use flow_lints::{Lint, Linted, PlacedLint};
+use flow_reports::{Remark, ReportAnswers};
+use flow_texts::{line, write_number};
+use itoa::Buffer;
+use text_pieces::{Pieces, Sink, TextBlock};
+
+// Writes how many dead assignments are not told.
+fn write_untold<K: Sink>(out: &mut Pieces<'_, K>, count: u32)
+    requires { CanWrite K.Sink out.old }
+    ensures { Writes K.Sink out.old out.new (untold_words count) }
+{
+    if count == 1 {
+        out.write(b"1 dead assignment is not told");
+    } else {
+        write_number(out, count);
+        out.write(b" dead assignments are not told");
+    }
+}
+
+// Writes a number in decimal.
+fn write_size<K: Sink>(out: &mut Pieces<'_, K>, number: usize)
+    requires { CanWrite K.Sink out.old }
+    ensures { Writes K.Sink out.old out.new (decimal number) }
+{
+    out.write(Buffer::new().format(number).as_bytes());
+}
+
+// Writes how many remarks there are.
+fn write_remark_count<K: Sink>(out: &mut Pieces<'_, K>, count: usize)
+    requires { CanWrite K.Sink out.old }
+    ensures { Writes K.Sink out.old out.new (remark_count count) }
+{
+    if count == 0 {
+        out.write(b"no remarks");
+    } else if count == 1 {
+        out.write(b"1 remark");
+    } else {
+        write_size(out, count);
+        out.write(b" remarks");
+    }
+}
+
+/// What the text of lints is written of.
+#[derive(Drop)]
+pub(crate) struct LintLines<'a> {
+    pub file: &'a [u8],
+    pub kinds: Kinds,
+    pub graph: &'a Graph<'a>,
+    pub answers: &'a ReportAnswers,
+    pub linted: &'a Linted,
+    pub expressions: TextBlock,
+}
+
+impl LintLines<'_> {
+    // Whether a statement stands at a point, and is never reached.
+    fn is_unreached(&self, point: u32) -> bool
+        requires lines { AreLintLines self.now }
+        requires point { point < point_count self.now.graph.now }
+        ensures { result ≡ is_unreached_at self.now.graph.now (reached_in self.now) point }
+    {
+        match self.graph.stmt(point) {
+            Some(_) => !self.answers.has_path(Analysis::Reach, point),
+            None => false,
+        }
+    }
+
+    // The last point of the statements that are never reached, from a point on.
+    fn last_unreached(&self, point: u32) -> u32
+        requires lines { AreLintLines self.now }
+        requires point { point < point_count self.now.graph.now }
+        ensures last { result ≡ last_unreached self.now.graph.now (reached_in self.now) point }
+        ensures within { result < point_count self.now.graph.now }
+    {
+        let points = self.graph.points();
+        for next in point + 1..points {
+            if !self.is_unreached(next) {
+                return next - 1;
+            }
+        }
+        points - 1
+    }
+
+    // Writes that statements from a point on are never reached.
+    fn write_unreached<K: Sink>(&self, out: &mut Pieces<'_, K>, point: u32)
+        requires ready { CanWrite K.Sink out.old }
+        requires lines { AreLintLines self.now }
+        requires point { point < point_count self.now.graph.now }
+        ensures { Writes K.Sink out.old out.new
+            (unreached_words self.now.graph.now point (last_unreached self.now.graph.now (reached_in self.now) point)) }
+    {
+        let last = self.last_unreached(point);
+        if last == point {
+            out.write(b"this statement is never reached");
+        } else {
+            out.write(b"no statement from here to line ");
+            write_number(out, line(self.graph, last));
+            out.write(b" is ever reached");
+        }
+    }
+
+    // The name of a variable: no bytes where it is none of the program.
+    fn variable(&self, variable: u32) -> &[u8]
+        ensures { result.now ≡ variable_text self.now.graph.now variable }
+    {
+        self.graph
+            .program()
+            .variable_names()
+            .name_or_empty(variable)
+    }
+
+    // The name of a procedure: no bytes where it is none of the program.
+    fn procedure(&self, procedure: u32) -> &[u8]
+        ensures { result.now ≡ name_at self.now.graph.now.procedure_names procedure }
+    {
+        self.graph
+            .program()
+            .procedure_names()
+            .name_or_empty(procedure)
+    }
+
+    // The text of an expression: no bytes where it is none of the program.
+    fn expression(&self, expression: u32) -> &[u8]
+        requires { AreLintLines self.now }
+        ensures { result.now ≡ bit_text self.now.graph.now Avail expression }
+    {
+        if expression < self.graph.bits(Analysis::Avail) {
+            self.expressions.text(expression)
+        } else {
+            b""
+        }
+    }
+
+    // Writes what is said of a statement.
+    fn write_remark<K: Sink>(&self, out: &mut Pieces<'_, K>, point: u32, remark: Remark)
+        requires ready { CanWrite K.Sink out.old }
+        requires lines { AreLintLines self.now }
+        requires point { point < point_count self.now.graph.now }
+        ensures { Writes K.Sink out.old out.new (remark_words self.now.graph.now (reached_in self.now) point remark) }
+    {
+        match remark {
+            Remark::NeverReached => self.write_unreached(out, point),
+            Remark::Unset { variable } => {
+                out.write(self.variable(variable));
+                out.write(b" may be used before it is set");
+            }
+            Remark::Computed { expression } => {
+                out.write(self.expression(expression));
+                out.write(b" is already computed");
+            }
+            Remark::VeryBusy { expression } => {
+                out.write(self.expression(expression));
+                out.write(b" is very busy");
+            }
+            Remark::Dead { variable } => {
+                out.write(b"the value assigned to ");
+                out.write(self.variable(variable));
+                out.write(b" is never used");
+            }
+        }
+    }
+
+    // Writes what a lint says.
+    fn write_words<K: Sink>(&self, out: &mut Pieces<'_, K>, placed: PlacedLint)
+        requires ready { CanWrite K.Sink out.old }
+        requires lines { AreLintLines self.now }
+        requires point { placed.point < point_count self.now.graph.now }
+        ensures { Writes K.Sink out.old out.new (lint_words self.now.graph.now (reached_in self.now) placed.point placed.lint) }
+    {
+        match placed.lint {
+            Lint::NeverCalled { procedure } => {
+                out.write(b"procedure ");
+                out.write(self.procedure(procedure));
+                out.write(b" is never called");
+            }
+            Lint::Told { remark } => self.write_remark(out, placed.point, remark),
+        }
+    }
+
+    // Writes where a lint stands.
+    fn write_place<K: Sink>(&self, out: &mut Pieces<'_, K>, placed: PlacedLint)
+        requires ready { CanWrite K.Sink out.old }
+        requires point { placed.point < point_count self.now.graph.now }
+        ensures { Writes K.Sink out.old out.new (place_words self.now.file.now self.now.graph.now placed.point) }
+    {
+        out.write(self.file);
+        out.write(b":");
+        write_number(out, line(self.graph, placed.point));
+        out.write(b": ");
+    }
+
+    // Writes the line of a lint.
+    fn write_line<K: Sink>(&self, out: &mut Pieces<'_, K>, placed: PlacedLint)
+        requires ready { CanWrite K.Sink out.old }
+        requires lines { AreLintLines self.now }
+        requires point { placed.point < point_count self.now.graph.now }
+        ensures { Writes K.Sink out.old out.new (lint_line self.now.file.now self.now.graph.now (reached_in self.now) placed) }
+    {
+        self.write_place(out, placed);
+        out.write(kind_name(placed.lint));
+        out.write(b": ");
+        self.write_words(out, placed);
+        out.write(b"\n");
+    }
+
+    // Writes the line of a lint, where it is wanted.
+    fn write_wanted<K: Sink>(&self, out: &mut Pieces<'_, K>, placed: PlacedLint)
+        requires ready { CanWrite K.Sink out.old }
+        requires lines { AreLintLines self.now }
+        requires point { placed.point < point_count self.now.graph.now }
+        ensures { Writes K.Sink out.old out.new (wanted_line self.now.file.now self.now.kinds self.now.graph.now (reached_in self.now) placed) }
+    {
+        if self.kinds.wants(placed.lint) {
+            self.write_line(out, placed);
+        }
+    }
+
+    // Writes the lines of all lints that are wanted.
+    fn write_lints<K: Sink>(&self, out: &mut Pieces<'_, K>)
+        requires ready { CanWrite K.Sink out.old }
+        requires lines { AreLintLines self.now }
+        ensures { Writes K.Sink out.old out.new
+            (flat_map (wanted_line self.now.file.now self.now.kinds self.now.graph.now (reached_in self.now)) self.now.linted.now.lints.items) }
+    {
+        let lints = self.linted.lints.as_slice();
+        for placed in lints {
+            self.write_wanted(out, *placed);
+        }
+    }
+
+    // Writes from which line on the program may never end.
+    fn write_endless<K: Sink>(&self, out: &mut Pieces<'_, K>)
+        requires ready { CanWrite K.Sink out.old }
+        requires point { IsPointIn self.now.graph.now self.now.linted.now.endless }
+        ensures { Writes K.Sink out.old out.new (endless_words self.now.graph.now self.now.linted.now.endless) }
+    {
+        if let Some(point) = self.linted.endless {
+            out.write(b" (from line ");
+            write_number(out, line(self.graph, point));
+            out.write(b" on)");
+        }
+    }
+
+    // Writes that dead assignments are not told.
+    fn write_untold_line<K: Sink>(&self, out: &mut Pieces<'_, K>)
+        requires ready { CanWrite K.Sink out.old }
+        requires lines { AreLintLines self.now }
+        ensures { Writes K.Sink out.old out.new (untold_line self.now.file.now self.now.graph.now self.now.linted.now) }
+    {
+        out.write(self.file);
+        out.write(b": note: ");
+        write_untold(out, self.linted.left_out);
+        out.write(b", since the program may never end");
+        self.write_endless(out);
+        out.write(b"\n");
+    }
+
+    // Writes that dead assignments are not told, where that is wanted and so.
+    fn write_note<K: Sink>(&self, out: &mut Pieces<'_, K>)
+        requires ready { CanWrite K.Sink out.old }
+        requires lines { AreLintLines self.now }
+        ensures { Writes K.Sink out.old out.new (wanted_note self.now.file.now self.now.kinds self.now.graph.now self.now.linted.now) }
+    {
+        if self.kinds.dead && 0 < self.linted.left_out {
+            self.write_untold_line(out);
+        }
+    }
+
+    // How many lints are wanted.
+    fn wanted_count(&self) -> usize
+        ensures { result ≡ count_by (λ placed. is_wanted self.now.kinds placed.lint) self.now.linted.now.lints.items }
+    {
+        let lints = self.linted.lints.as_slice();
+        let mut count = 0;
+        for placed in lints {
+            if self.kinds.wants(placed.lint) {
+                count += 1;
+            }
+        }
+        count
+    }
+
+    // Writes how many remarks there are.
+    fn write_count<K: Sink>(&self, out: &mut Pieces<'_, K>)
+        requires ready { CanWrite K.Sink out.old }
+        ensures { Writes K.Sink out.old out.new
+            (count_line self.now.file.now (count_by (λ placed. is_wanted self.now.kinds placed.lint) self.now.linted.now.lints.items)) }
+    {
+        out.write(self.file);
+        out.write(b": ");
+        write_remark_count(out, self.wanted_count());
+        out.write(b"\n");
+    }
+
+    /// Writes the text.
+    pub(crate) fn write<K: Sink>(&self, out: &mut Pieces<'_, K>)
+        requires ready { CanWrite K.Sink out.old }
+        requires lines { AreLintLines self.now }
+        ensures { Writes K.Sink out.old out.new
+            (lint_text_of self.now.file.now self.now.kinds self.now.graph.now (reached_in self.now) self.now.linted.now) }
+    {
+        self.write_lints(out);
+        self.write_note(out);
+        self.write_count(out);
+    }
+}
