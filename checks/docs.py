@@ -28,7 +28,7 @@ Plant = tuple[str, Callable[[str], None], str]
 WIDTH = 140
 # How long a document may be; all others below docs/ may have OTHER_SIZE lines.
 SIZES = {
-    "docs/ARCHITECTURE.md": 208,
+    "docs/ARCHITECTURE.md": 210,
     "docs/TRUST.md": 200,
     "docs/PROVING.md": 378,
     "docs/GLOSSARY.md": 80,
