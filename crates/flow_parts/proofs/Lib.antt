@@ -1,5 +1,9 @@
+mod Joining
 mod MergeLists
+mod MergedTexts
 mod Merging
 mod Numbers
+mod ReadingBack
+mod ReadingParts
 mod Wholes
 mod WrittenLines

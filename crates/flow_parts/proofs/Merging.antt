@@ -243,7 +243,7 @@ stands_is : (m : ℕ) (xs : List ℕ) → stands m xs ≡ sum_by (λ k. if k == 
 stands_is m [] = refl
 stands_is m (x ∷ xs) = ap (λ n. (if x == m then 1 else 0) + n) (stands_is m xs) ∙ sym (sum_by-cons (λ k. if k == m then 1 else 0) x xs)
 
-stands_same : (m : ℕ) (xs ys : List ℕ) → IsPermutation xs ys → stands m ys ≡ stands m xs
+pub stands_same : (m : ℕ) (xs ys : List ℕ) → IsPermutation xs ys → stands m ys ≡ stands m xs
 stands_same m xs ys moved = stands_is m ys ∙ sum_by-IsPermutation (λ k. if k == m then 1 else 0) xs ys moved ∙ sym (stands_is m xs)
 
 none_of_none : {A : Type 0} (ks : List ℕ) → flat_map {X = ℕ} {A = A} (λ k. []) ks ≡ []

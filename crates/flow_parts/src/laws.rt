@@ -1,6 +1,6 @@
 // Laws on the parts of a report.
 
-ghost use Rattle.flow_parts.specs.MergeLaws.{MergedPartsAreTheReport};
+ghost use Rattle.flow_parts.specs.MergeLaws.{MergedPartsAreTheReport, MergedTextsAreTheReport};
 ghost use Rattle.flow_parts.specs.PartLaws.{PartsAreTheReport};
 
 /// The remarks of all parts are those of the report, point by point and kind by kind.
@@ -12,3 +12,9 @@ pub fn parts_are_the_report()
 pub fn merged_parts_are_the_report()
     ensures { MergedPartsAreTheReport }
 {}
+
+/// The texts of all parts, merged in whatever order, are the report.
+pub fn merged_texts_are_the_report()
+    ensures { MergedTextsAreTheReport }
+{
+}

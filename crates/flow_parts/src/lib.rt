@@ -8,6 +8,6 @@ mod part_lines;
 mod parts;
 
 pub use digests::digest;
-pub use laws::{merged_parts_are_the_report, parts_are_the_report};
+pub use laws::{merged_parts_are_the_report, merged_texts_are_the_report, parts_are_the_report};
 pub use parts::{PartText, part_here};
 pub use std::alloc::AllocError as OutOfMemory;
