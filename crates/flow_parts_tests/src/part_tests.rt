@@ -1,0 +1,86 @@
+// Parts of a worked program.
+
+use flow_graph::Graph;
+use flow_parts::{digest, part_here};
+use flow_reports::report_here;
+use part_texts::merge;
+use std::alloc::Global;
+use std::process::Abort;
+use std::test::Fail;
+use tac_reader::read;
+use test_support::worked_programs::remarks;
+
+// It has one group of variables and one of expressions, which are in part 2 of 2.
+const ONE: &[u8] =
+    b"part 1 of 2 of 0a\npoints 14, variables 6, definitions 13, expressions 2\n17: never reached\nend 1\n";
+
+const TWO: &[u8] =
+    b"part 2 of 2 of 0a\npoints 14, variables 6, definitions 13, expressions 2\n6: a + b is already computed\n\
+    7: a * b is very busy\n12: assignment to x is dead\n15: count may be used before it is set\nend 2\n";
+
+const REPORT: &[u8] =
+    b"points 14, variables 6, definitions 13, expressions 2\n6: a + b is already computed\n7: a * b is very busy\n\
+    12: assignment to x is dead\n15: count may be used before it is set\n17: never reached\n";
+
+#[test]
+fn parts_of_remarks(rt: HostRuntime) -> Result<(), Fail> {
+    let alloc = rt.alloc();
+    let program = read(alloc, remarks::TEXT.as_bytes())?;
+    let graph = Graph::build(alloc, &program)?;
+    let one = part_here(alloc, &graph, b"0a", 2, 1)?;
+    assert_eq!(rt; one.as_slice(), ONE);
+    let two = part_here(alloc, &graph, b"0a", 2, 2)?;
+    assert_eq!(rt; two.as_slice(), TWO);
+    match merge(alloc, &[two.as_slice(), one.as_slice()])? {
+        Ok(text) => assert_eq!(rt; text.as_slice(), REPORT),
+        Err(_) => return Err(Fail::from("a fault")),
+    }
+    Ok(())
+}
+
+// A program that adds to each of 1,100 variables, one on a line from line 2 on. None is set, and no sum is read.
+fn many_variables(alloc: Global) -> Result<String, Fail> {
+    let mut text = String::from_str(alloc, "proc main\n")?;
+    for number in 0u32..1_100 {
+        let line = format!(in alloc; "  r = v{number} + 1\n")?;
+        text.push_str(&line)?;
+    }
+    text.push_str("end\n")?;
+    Ok(text)
+}
+
+// The variables and the expressions are three groups each. `r` is the first variable, so that v511 is the first of part 2.
+#[test]
+fn parts_of_many_variables(rt: HostRuntime) -> Result<(), Fail> {
+    let alloc = rt.alloc();
+    let text = many_variables(alloc)?;
+    let program = read(alloc, text.as_bytes())?;
+    let graph = Graph::build(alloc, &program)?;
+    let one = part_here(alloc, &graph, b"0a", 3, 1)?;
+    let two = part_here(alloc, &graph, b"0a", 3, 2)?;
+    let three = part_here(alloc, &graph, b"0a", 3, 3)?;
+    assert!(rt; one.ends_with(b"\n1101: assignment to r is dead\nend 1\n"));
+    let two_begins =
+        b"part 2 of 3 of 0a\npoints 1101, variables 1101, definitions 2201, expressions 1100\n\
+        513: v511 may be used before it is set\n";
+    assert!(rt; two.starts_with(two_begins));
+    assert!(rt; two.ends_with(b"1024: v1022 may be used before it is set\nend 2\n"));
+    assert!(rt; three.ends_with(b"1101: v1099 may be used before it is set\nend 3\n"));
+    let report = report_here(alloc, &graph)?;
+    match merge(alloc, &[three.as_slice(), one.as_slice(), two.as_slice()])? {
+        Ok(text) => assert_eq!(rt; text.as_slice(), report.as_slice()),
+        Err(_) => return Err(Fail::from("a fault")),
+    }
+    Ok(())
+}
+
+// The digest that FIPS 180 gives.
+#[test]
+fn digest_of_letters(rt: HostRuntime) -> Result<(), Fail> {
+    let digits = digest(rt.alloc(), b"abc")?;
+    assert_eq!(rt;
+        digits.as_slice(),
+        b"a9993e364706816aba3e25717850c26c9cd0d89d".as_slice()
+    );
+    Ok(())
+}
