@@ -73,7 +73,7 @@ goes_with made digest counts count one (b ∷ before) k none =
     let same_counts : bytes_eq (made k).counts (made b).counts ≡ true = same_bytes _ _ (one.counts_is k ∙ sym (one.counts_is b)) in
     let same_count : ((made k).heading.count == (made b).heading.count) ≡ true = eq-eqb _ _ (one.count_is k ∙ sym (one.count_is b)) in
     let absent : is_there (map made (b ∷ before)) (made k).heading.part ≡ false =
-        ap (is_there (map made (b ∷ before))) (one.number k) ∙ there_is made one.number k (b ∷ before) ∙ stands_none k (b ∷ before) none in
+    ap (is_there (map made (b ∷ before))) (one.number k) ∙ there_is made one.number k (b ∷ before) ∙ stands_none k (b ∷ before) none in
     chosen _ _ _ _ same_digest same_counts same_count absent
   where
     chosen : (d c n a : Bool) → d ≡ true → c ≡ true → n ≡ true → a ≡ false
@@ -92,18 +92,20 @@ joins made text_of digest counts count one before (k ∷ ks) reads few =
     let none : stands k before ≡ 0 = omega (arith, here, split, at_most) in
     let reading : read_part (text_of k) ≡ Ok (made k) = reads k (omega (arith, here)) in
     let takes : accepted (map made before) (text_of k) ≡ Ok (made k) =
-        ap (λ r. told (map made before) r) reading ∙ ap (unless_fault (made k)) (goes_with made digest counts count one before k none) in
+    ap (λ r. told (map made before) r) reading ∙ ap (unless_fault (made k)) (goes_with made digest counts count one before k none) in
     let regroup : before ++ k ∷ [] ++ ks ≡ before ++ k ∷ ks = append_assoc before (k ∷ []) ks in
     ap (λ r. next (map made before) (map text_of ks) r) takes
     ∙ ap (λ ps. joined ps (map text_of ks)) (sym (map-append made before (k ∷ [])))
     ∙ joins made text_of digest counts count one (before ++ k ∷ []) ks (λ j some. reads j (more j some))
-      (λ j. subst (λ ps. stands j ps ≤ 1) (sym regroup) (few j))
+    (λ j. subst (λ ps. stands j ps ≤ 1) (sym regroup) (few j))
     ∙ ap (λ ps. Ok (map made ps)) regroup
   where
     told : List Part → Result Part PartFault → Result Part PartFault
     told ps r = elim r [ Ok part ↦ unless_fault part (against ps part) | Err fault ↦ Err fault ]
+
     next : List Part → List (List ℕ) → Result Part PartFault → Result (List Part) MergeFault
     next ps others r = elim r [ Ok part ↦ joined (ps ++ part ∷ []) others | Err fault ↦ Err (InText (length ps) fault) ]
+
     more : (j : ℕ) → 0 < stands j ks → 0 < stands j (k ∷ ks)
     more j some = omega (arith, some)
 

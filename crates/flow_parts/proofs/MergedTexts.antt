@@ -52,11 +52,11 @@ texts_are program known digest count (k ∷ ks) sound rise fit is some few moved
     let feeds : Clear is_line_feed digest = each_more _ (λ b. is_line_feed b ≡ false) (λ b both. both.1) digest each in
     let same : (j : ℕ) → stands j (k ∷ ks) ≡ stands j (range_with_len 1 count) = λ j. stands_same j (range_with_len 1 count) (k ∷ ks) moved in
     let one : AreOfOne (read_as digest program known count) digest (counts_of program) count =
-        record { number = λ j. refl; count_is = λ j. refl; digest_is = λ j. refl; counts_is = λ j. refl } in
+    record { number = λ j. refl; count_is = λ j. refl; digest_is = λ j. refl; counts_is = λ j. refl } in
     merges (read_as digest program known count) (part_of digest program known count) digest (counts_of program) count one k ks
     (λ j there.
-      let within : (1 ≤ j) × (j < 1 + count) = bounds j 1 count (subst (λ n. 0 < n) (same j) there) in
-      part_back program known digest count j sound fit spaces feeds within.0 (omega (arith, within.1)) few)
+    let within : (1 ≤ j) × (j < 1 + count) = bounds j 1 count (subst (λ n. 0 < n) (same j) there) in
+    part_back program known digest count j sound fit spaces feeds within.0 (omega (arith, within.1)) few)
     (λ j. subst (λ n. n ≤ 1) (sym (same j)) (at_most j))
     (λ j from less. subst (λ n. 0 < n) (sym (same j)) (in_range j 1 count from less))
     ∙ ap Ok (merged_are program known digest count (k ∷ ks) sound rise some few moved)

@@ -63,7 +63,7 @@ before_there test c is xs ys clear = ap (λ n. take n (xs ++ c ∷ ys)) (first_t
 pub after_there : (test : ℕ → Bool) (c : ℕ) → test c ≡ true → (xs ys : List ℕ) → Clear test xs → after_first test (xs ++ c ∷ ys) ≡ ys
 after_there test c is xs ys clear =
     let e : position_or_len test (xs ++ c ∷ ys) + 1 ≡ suc (length xs) =
-        (let rest : position_or_len test (xs ++ c ∷ ys) ≡ length xs = first_there test c is xs ys clear in omega (arith, rest)) in
+    (let rest : position_or_len test (xs ++ c ∷ ys) ≡ length xs = first_there test c is xs ys clear in omega (arith, rest)) in
     ap (λ n. drop n (xs ++ c ∷ ys)) e ∙ drop_front xs c ys
 
 -- numbers are digits
@@ -78,6 +78,7 @@ onto_clear test digit (suc k) n acc clear =
   where
     here : test (digit_glyph false (n % 10)) ≡ false
     here = ap test (glyph_is (n % 10) (mod-lt n (lit< tt))) ∙ digit (n % 10) (mod-lt n (lit< tt))
+
     by : (b : Bool) → Clear test (digits_onto k 10 false (n / 10) (digit_glyph false (n % 10) ∷ acc))
         → Clear test (if b then digit_glyph false (n % 10) ∷ acc else digits_onto k 10 false (n / 10) (digit_glyph false (n % 10) ∷ acc))
     by true rest = (ap test (glyph_is (n % 10) (mod-lt n (lit< tt))) ∙ digit (n % 10) (mod-lt n (lit< tt)), clear)

@@ -261,9 +261,9 @@ line_back program fit part placed =
     let fits : line_at program placed.point < 2 ^ 32 = fit placed.point in
     let grouped : text ≡ number ++ 58 ∷ (32 ∷ words) = append_assoc number (codes ": ") words in
     let before : before_first is_colon text ≡ number =
-        ap (before_first is_colon) grouped ∙ before_there is_colon 58 refl number (32 ∷ words) (decimal_colons (line_at program placed.point)) in
+    ap (before_first is_colon) grouped ∙ before_there is_colon 58 refl number (32 ∷ words) (decimal_colons (line_at program placed.point)) in
     let after : after_first is_colon text ≡ 32 ∷ words =
-        ap (after_first is_colon) grouped ∙ after_there is_colon 58 refl number (32 ∷ words) (decimal_colons (line_at program placed.point)) in
+    ap (after_first is_colon) grouped ∙ after_there is_colon 58 refl number (32 ∷ words) (decimal_colons (line_at program placed.point)) in
     (λ i. told part text (read_number 4294967295 (before i)) (after i))
     ∙ ap (λ n. told part text n (32 ∷ words)) (number_back 4294967295 (line_at program placed.point) (omega (arith, fits)) (omega (arith, fits)))
     ∙ ap (λ k. option_map (λ kind. record { number = line_at program placed.point; kind = kind; part = part; text = text }) k)
@@ -305,12 +305,12 @@ lines_back program sound fit part (x ∷ xs) =
     let text : List ℕ = (line_in program part x).text in
     let rest : List ℕ = part_lines program xs ++ end_line part in
     let clear : Clear is_line_feed text =
-        clear_append is_line_feed (decimal (line_at program x.point) ++ codes ": ") (remark_text program x.remark)
-        (clear_append is_line_feed (decimal (line_at program x.point)) (codes ": ") (decimal_lines (line_at program x.point))
-        (clear_all is_line_feed (codes ": ") refl)) (remark_clear program sound x.remark) in
+    clear_append is_line_feed (decimal (line_at program x.point) ++ codes ": ") (remark_text program x.remark)
+    (clear_append is_line_feed (decimal (line_at program x.point)) (codes ": ") (decimal_lines (line_at program x.point))
+    (clear_all is_line_feed (codes ": ") refl)) (remark_clear program sound x.remark) in
     let long : length rest ≡ length (part_lines program xs ++ end_words part) + 1 =
-        ap length (sym (append_assoc (part_lines program xs) (end_words part) (codes "\n")))
-        ∙ length-append (part_lines program xs ++ end_words part) (codes "\n") in
+    ap length (sym (append_assoc (part_lines program xs) (end_words part) (codes "\n")))
+    ∙ length-append (part_lines program xs ++ end_words part) (codes "\n") in
     ap (λ t. read_lines part (slice_split is_line_feed t)) (line_group text (codes "\n") (part_lines program xs) (end_line part))
     ∙ ap (read_lines part) (split_there is_line_feed 10 refl text rest clear)
     ∙ line_then part text rest (line_in program part x) (omega (arith, long)) (line_back program fit part x)
@@ -349,11 +349,11 @@ part_back program known digest count k sound fit spaces feeds first last few =
     let lines : List ℕ = part_lines program (part_remarks program known count k) in
     let heading : Heading = record { part = k; count = count; digest = digest } in
     let head_clear : Clear is_line_feed head =
-        two_clear (codes "part " ++ decimal k ++ codes " of " ++ decimal count ++ codes " of ") digest
-        (two_clear (codes "part " ++ decimal k ++ codes " of " ++ decimal count) (codes " of ")
-        (two_clear (codes "part " ++ decimal k ++ codes " of ") (decimal count) (two_clear (codes "part " ++ decimal k) (codes " of ")
-        (two_clear (codes "part ") (decimal k) (clear_all is_line_feed (codes "part ") refl) (decimal_lines k))
-        (clear_all is_line_feed (codes " of ") refl)) (decimal_lines count)) (clear_all is_line_feed (codes " of ") refl)) feeds in
+    two_clear (codes "part " ++ decimal k ++ codes " of " ++ decimal count ++ codes " of ") digest
+    (two_clear (codes "part " ++ decimal k ++ codes " of " ++ decimal count) (codes " of ")
+    (two_clear (codes "part " ++ decimal k ++ codes " of ") (decimal count) (two_clear (codes "part " ++ decimal k) (codes " of ")
+    (two_clear (codes "part ") (decimal k) (clear_all is_line_feed (codes "part ") refl) (decimal_lines k))
+    (clear_all is_line_feed (codes " of ") refl)) (decimal_lines count)) (clear_all is_line_feed (codes " of ") refl)) feeds in
     ap read_part (part_group head (codes "\n") (counts_of program) lines (end_line k))
     ∙ ap read_rows (split_there is_line_feed 10 refl head (counts_of program ++ 10 ∷ (lines ++ end_line k)) head_clear
     ∙ ap (λ xs. head ∷ xs) (split_there is_line_feed 10 refl (counts_of program) (lines ++ end_line k) (counts_clear program)))

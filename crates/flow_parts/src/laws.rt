@@ -16,5 +16,4 @@ pub fn merged_parts_are_the_report()
 /// The texts of all parts, merged in whatever order, are the report.
 pub fn merged_texts_are_the_report()
     ensures { MergedTextsAreTheReport }
-{
-}
+{}

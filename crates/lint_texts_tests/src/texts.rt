@@ -54,11 +54,7 @@ fn joined(alloc: Global, lines: &[&'static str]) -> Result<Vec<u8>, OutOfMemory>
 }
 
 /// Compares what is written of each text with what is written by hand.
-pub fn check_rows<R: Abort + AllocGlobal>(
-    rt: &R,
-    kinds: Kinds,
-    rows: &[Row],
-) -> Result<(), Fail> {
+pub fn check_rows<R: Abort + AllocGlobal>(rt: &R, kinds: Kinds, rows: &[Row]) -> Result<(), Fail> {
     for (text, lines) in rows {
         let written = text_of(rt.alloc(), kinds, text)?;
         let wanted = joined(rt.alloc(), lines)?;

@@ -16,7 +16,7 @@ cut_at : (test : ℕ → Bool) (text : List ℕ) (i : ℕ) → i < length text �
 cut_at test text i within at =
     let before : take i text ≡ before_first test text = ap (λ p. take p text) (sym at) in
     let after : take (length text - (i + 1)) (drop (i + 1) text) ≡ after_first test text = take_rest text (i + 1)
-        ∙ ap (λ p. drop (p + 1) text) (sym at) in
+    ∙ ap (λ p. drop (p + 1) text) (sym at) in
     record {
       is_before = before;
       is_after = after;

@@ -25,7 +25,7 @@ pub value_more : (digits : List ℕ) (i value : ℕ) → i < length digits → v
     → 10 * value + (get_or digits i 0 - 48) ≡ digits_value 10 (take (i + 1) digits)
 value_more digits i value within is digit =
     let more : digits_value 10 (take (i + 1) digits)
-        ≡ digits_value 10 (take i digits) * 10 + digit_value (get_or digits i 0) = digits_value_more 10 digits i within in
+    ≡ digits_value 10 (take i digits) * 10 + digit_value (get_or digits i 0) = digits_value_more 10 digits i within in
     let one : digit_value (get_or digits i 0) + 48 ≡ get_or digits i 0 = digit_value_digit _ (digit_is _ digit) in
     omega (arith, more, one, is)
 

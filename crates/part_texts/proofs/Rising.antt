@@ -69,7 +69,7 @@ join_pieces f low mid high from (x ∷ xs) lower higher up = by_case (join_piece
     by_case rest (inl below) =
         let less : f x < high = omega (arith, below) in
         let same : between f low mid x
-            ≡ between f low high x = ap (λ b. nat_le low (f x) && b) (lt-ltb (f x) mid below ∙ sym (lt-ltb (f x) high less)) in
+        ≡ between f low high x = ap (λ b. nat_le low (f x) && b) (lt-ltb (f x) mid below ∙ sym (lt-ltb (f x) high less)) in
         ap (λ ys. filter (between f low mid) (x ∷ xs) ++ ys) (filter_out (between f mid high) x xs (between_below f mid high x below))
         ∙ ap (λ b. cond b (x ∷ filter (between f low mid) xs) (filter (between f low mid) xs) ++ filter (between f mid high) xs) same
         ∙ onto (between f low high x)

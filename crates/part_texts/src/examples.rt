@@ -54,8 +54,11 @@ pub fn order_examples()
 /// Whole parts, and parts that are cut short.
 pub fn part_examples()
     ensures whole { read_part (codes "part 1 of 1 of 0a\nc\n4: never reached\nend 1\n")
-        ≡ Ok (record { heading = record { part = 1; count = 1; digest = codes "0a" }; counts = codes "c";
-        lines = record { number = 4; kind = 0; part = 1; text = codes "4: never reached" } ∷ [] }) }
+        ≡ Ok (record {
+          heading = record { part = 1; count = 1; digest = codes "0a" };
+          counts = codes "c";
+          lines = record { number = 4; kind = 0; part = 1; text = codes "4: never reached" } ∷ [];
+        }) }
     ensures cut_at_line { read_part (codes "part 1 of 1 of 0a\nc\n4: never reached\n") ≡ Err CutShort }
     ensures cut_in_line { read_part (codes "part 1 of 1 of 0a\nc\n4: never rea") ≡ Err CutShort }
     ensures other_end { read_part (codes "part 1 of 1 of 0a\nc\nend 2\n") ≡ Err NoPart }

@@ -22,7 +22,7 @@ returns c = sym (ap (behind (map line_of c.loop-line.lines.items)) (reads_short 
 pub loop-line-preserved : goal.loop-line-preserved
 loop-line-preserved c = record {
   reads = ap (λ lines. behind lines (read_lines c.args.part (slice_split is_line_feed c.in-Some.behind.now)))
-  (ap (map line_of) c.in_ok-push-in-Some-read_line.ensures.items ∙ map-append line_of c.loop-line.lines.items (c.in-Some-read_line.found ∷ []))
+      (ap (map line_of) c.in_ok-push-in-Some-read_line.ensures.items ∙ map-append line_of c.loop-line.lines.items (c.in-Some-read_line.found ∷ []))
       ∙ behind_more (map line_of c.loop-line.lines.items) (line_of c.in-Some-read_line.found)
       (read_lines c.args.part (slice_split is_line_feed c.in-Some.behind.now))
       ∙ sym (ap (behind (map line_of c.loop-line.lines.items)) (reads_line _ _ _ _ _ c.in-Some.ensures
