@@ -39,7 +39,8 @@ impl Drop for Marks {
 // Makes the places of marked points 0 again, where those of others are.
 fn blank_again(places: &mut Vec<u32>, found: &[Mark])
     requires within { (i : ℕ) → i < length found.now → point_at found.now i < length places.old.items }
-    requires marked { (x i : ℕ) → x < length places.old.items → slice_index places.old.items x ≡ i + 1 → (i < length found.now) × (point_at found.now i ≡ x) }
+    requires marked { (x i : ℕ) → x < length places.old.items → slice_index places.old.items x ≡ i + 1
+        → (i < length found.now) × (point_at found.now i ≡ x) }
     ensures count { length places.new.items ≡ length places.old.items }
     ensures blank { (x : ℕ) → x < length places.old.items → slice_index places.new.items x ≡ 0 }
 {
